@@ -1,0 +1,52 @@
+/// One instruction as a code file has it: the number of an operation, and four fields.
+#[derive(Clone, Copy, Debug, PartialEq, Eq)]
+pub struct Instr {
+    pub op: u8,
+    pub a: u8,
+    pub b: u16,
+    pub c: u16,
+    pub d: u16,
+}
+
+/// What an instruction says to do, with the fields that its operation uses, in the order in which a
+/// listing has them. Registers come first, then an entry of a table or a count, then a mode, then
+/// the place of a jump.
+#[derive(Clone, Copy, Debug, PartialEq, Eq)]
+pub enum Instruction {
+    /// Ends with the output as the link.
+    Halt,
+    /// Ends without a link.
+    Fail,
+    /// Goes to a place.
+    Jump(u16),
+    /// Loads the text of a name, or Undefined, into a register.
+    Text(u8, u16),
+    /// Loads the members of a name into a register.
+    List(u8, u16),
+    /// Loads a comparison text into a register.
+    Const(u8, u16),
+    /// Loads the leading number of the second register's text into the first; jumps where it has none.
+    Number(u8, u16, u16),
+    /// Jumps where the register is Undefined.
+    Undef(u8, u16),
+    /// Jumps where the register's text is empty.
+    Empty(u8, u16),
+    /// Jumps where the register's list has no member.
+    NoList(u8, u16),
+    /// Jumps where the texts of two registers are not equal.
+    Differ(u8, u16, u16),
+    /// Jumps where the first register's number is below the second's.
+    Less(u8, u16, u16),
+    /// Appends a link text to the output.
+    Emit(u16),
+    /// Appends the register's text, written by a mode.
+    Put(u8, u16),
+    /// Appends the first items of the register's text, written by a mode.
+    Cut(u8, u16, u16),
+    /// Begins a loop over the second register's list, with the element in the first.
+    Each(u8, u16, u16),
+    /// Appends a link text to the output, but in the first turn of a loop.
+    Sep(u16),
+    /// Goes on with the loop's next member, or leaves the loop.
+    Next,
+}
