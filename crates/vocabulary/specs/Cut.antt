@@ -1,5 +1,5 @@
 -- The items of a text, of which a prefix takes the first (RFC 6570, section 2.4.1).
-use Rattle.std.specs.Prelude.{ℕ, List, [], ◌∷◌, ◌++◌, Bool, true, false, ◌&&◌, nat_le, nat_lt, take, if◌then◌else◌}
+use Rattle.std.specs.Prelude.{ℕ, List, [], ◌∷◌, ◌++◌, Bool, false, ◌&&◌, nat_le, nat_lt, take, if◌then◌else◌}
 use Rattle.std.specs.List.{flat_map}
 use Rattle.vocabulary.specs.Texts.{Text, is_triplet}
 use Rattle.vocabulary.specs.declared.writing.Writing.{Writing}

@@ -1,11 +1,16 @@
 -- Texts, and the classes of their bytes (RFC 3986, sections 2.1 to 2.3; RFC 6570, section 1.5).
-use Rattle.std.specs.Prelude.{ℕ, List, [], ◌∷◌, Bool, true, false, ◌&&◌, ◌||◌, ◌==◌, nat_eq, codes}
+use Rattle.std.specs.Prelude.{ℕ, List, [], ◌∷◌, Bool, false, ◌&&◌, ◌||◌, ◌==◌, nat_eq, codes, map}
+use Rattle.std.specs.Borrow.{Bor}
 use Rattle.std.specs.List.{list_any}
 use Rattle.std.specs.Char.{is_ascii_alphanumeric, is_digit}
 
 -- a text is the list of its bytes
 abbrev pub Text : Type 0
 Text = List ℕ
+
+-- the texts that references point to
+abbrev pub texts_of : List (Bor Text) → List Text
+texts_of references = map (λ reference. reference.now) references
 
 -- a letter, a digit, or one of `-._~`
 unfoldable pub is_unreserved : ℕ → Bool

@@ -1,5 +1,5 @@
 -- URI text: what a link may consist of (RFC 3986, sections 2.1 to 2.3).
-use Rattle.std.specs.Prelude.{◌≡◌, ℕ, List, [], ◌∷◌, ◌++◌, true}
+use Rattle.std.specs.Prelude.{◌≡◌, ℕ, [], ◌∷◌, ◌++◌, true}
 use Rattle.vocabulary.specs.Texts.{Text, is_hexadecimal}
 use Rattle.vocabulary.specs.Writing.{is_unreserved_or_reserved}
 

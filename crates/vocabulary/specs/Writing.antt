@@ -1,5 +1,5 @@
 -- How a text is written into a link (RFC 6570, sections 1.5 and 3.2.1).
-use Rattle.std.specs.Prelude.{ℕ, ◌+◌, ◌/◌, ◌%◌, List, [], ◌∷◌, ◌++◌, Bool, ◌||◌, nat_lt, if◌then◌else◌}
+use Rattle.std.specs.Prelude.{ℕ, ◌+◌, ◌/◌, ◌%◌, [], ◌∷◌, ◌++◌, Bool, ◌||◌, nat_lt, if◌then◌else◌}
 use Rattle.vocabulary.specs.Texts.{Text, is_unreserved, is_reserved, is_triplet}
 use Rattle.vocabulary.specs.declared.writing.Writing.{Writing}
 use Rattle.vocabulary.specs.declared.writing.Writing.TheVariants.{U, UR}

@@ -3,6 +3,7 @@
 #![tactic(auto)]
 
 mod code;
+pub mod laws;
 mod writing;
 
 pub use code::{Instr, Instruction};

@@ -1,0 +1,7 @@
+pub mod EnvironmentGrowth
+pub mod UriTexts
+pub mod Written
+pub mod Cuts
+pub mod UriAscii
+pub mod CodePoints
+pub mod Environments
