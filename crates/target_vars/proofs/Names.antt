@@ -1,0 +1,37 @@
+-- Each name stays there once.
+use Rattle.std.proofs.Common.{◌≡◌, [], ◌∷◌, ◌++◌, Bool, true, false, is_some, bytes_eq, refl, sym, ap, ◌∙◌, subst}
+use Rattle.std.proofs.lemmas.Slice.Eq.{bytes_eq-Decides}
+use Rattle.vocabulary.specs.Texts.{Text}
+use Rattle.vocabulary.specs.Environment.{Environment, Entry, Several, is_there, with_member}
+use Rattle.vocabulary.proofs.Environments.{look_up-empty, look_up-other, other_in_front, absent_behind, is_there-append, with_member-new, with_member-same, with_member-other, is_there-with_member}
+use Rattle.target_vars.specs.EnvValue.{EachNameOnce}
+
+differs_back : (a b : Text) → bytes_eq a b ≡ false → bytes_eq b a ≡ false
+differs_back a b differs = by_cases (bytes_eq b a) refl
+  where
+    by_cases : (r : Bool) → bytes_eq b a ≡ r → r ≡ false
+    by_cases true is = let yes : bytes_eq a b ≡ true = (bytes_eq-Decides a b).1 (sym ((bytes_eq-Decides b a).0 is)) in cc
+    by_cases false is = refl
+
+pub once-push : (env : Environment) (e : Entry) → EachNameOnce env → is_there env e.name ≡ false → EachNameOnce (env ++ e ∷ [])
+once-push [] e once absent = (ap is_some (look_up-empty e.name), tt)
+once-push (x ∷ env) e once absent =
+    let alone : is_there (e ∷ []) x.name ≡ false = ap is_some (look_up-other e [] x.name (differs_back x.name e.name (other_in_front x env e.name absent)) ∙ look_up-empty x.name) in
+    (is_there-append env (e ∷ []) x.name once.0 alone, once-push env e once.1 (absent_behind x env e.name absent))
+
+once_longer : (env : Environment) (name t : Text) → is_there env name ≡ true → EachNameOnce env → EachNameOnce (with_member env name t)
+once_longer [] name t there once = let none : is_there [] name ≡ false = ap is_some (look_up-empty name) in absurd (cc)
+once_longer (e ∷ env) name t there once = by_cases (bytes_eq e.name name) refl (once_longer env name t)
+  where
+    by_cases : (b : Bool) → bytes_eq e.name name ≡ b → (is_there env name ≡ true → EachNameOnce env → EachNameOnce (with_member env name t)) → EachNameOnce (with_member (e ∷ env) name t)
+    by_cases true same behind = subst EachNameOnce (sym (with_member-same e env name t same)) (once.0, once.1)
+    by_cases false other behind =
+        let there' : is_there env name ≡ true = ap is_some (sym (look_up-other e env name other)) ∙ there in
+        subst EachNameOnce (sym (with_member-other e env name t other)) (is_there-with_member env name t e.name there' ∙ once.0, behind there' once.1)
+
+pub once-with_member : (env : Environment) (name t : Text) → EachNameOnce env → EachNameOnce (with_member env name t)
+once-with_member env name t once = by_cases (is_there env name) refl
+  where
+    by_cases : (b : Bool) → is_there env name ≡ b → EachNameOnce (with_member env name t)
+    by_cases true there = once_longer env name t there once
+    by_cases false absent = subst EachNameOnce (sym (with_member-new env name t absent)) (once-push env (record { name = name; meaning = Several (t ∷ []) }) once absent)

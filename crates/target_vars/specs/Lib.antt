@@ -1,0 +1,2 @@
+pub mod EnvValue
+pub mod Layout

@@ -1,0 +1,33 @@
+use std::alloc::{AllocError, AllocFailed};
+use thiserror::Error;
+
+/// Why a text or a member was not added.
+#[derive(Clone, Copy, Debug, PartialEq, Eq, Error)]
+pub enum VarsError {
+    #[error("TooLarge")]
+    TooLarge,
+    #[error("NoMemory")]
+    NoMemory,
+}
+
+impl From<AllocError> for VarsError {
+    ghost use Rattle.target_vars.specs.declared.error.VarsError.TheVariants.{NoMemory};
+    ghost use Rattle.std.specs.Prelude.{◌≡◌};
+
+    ghost from_gives = { λ _ e. e ≡ NoMemory };
+
+    fn from(_error: AllocError) -> VarsError {
+        VarsError::NoMemory
+    }
+}
+
+impl<T: Drop> From<AllocFailed<T>> for VarsError {
+    ghost use Rattle.target_vars.specs.declared.error.VarsError.TheVariants.{NoMemory};
+    ghost use Rattle.std.specs.Prelude.{◌≡◌};
+
+    ghost from_gives = { λ _ e. e ≡ NoMemory };
+
+    fn from(_failed: AllocFailed<T>) -> VarsError {
+        VarsError::NoMemory
+    }
+}

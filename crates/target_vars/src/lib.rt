@@ -1,0 +1,11 @@
+//! The environment: the variables that templates, guards and code look up by name.
+#![tactic(auto)]
+
+mod env;
+mod error;
+mod place;
+#[cfg(test)]
+mod tests;
+
+pub use env::{Env, MAX_BYTES, MAX_MEMBERS};
+pub use error::VarsError;

@@ -1,0 +1,90 @@
+use crate::{Env, VarsError};
+use std::test::Fail;
+
+#[test]
+fn first_text_stays(rt: HostRuntime) -> Result<(), Fail> {
+    let mut env = Env::new(rt.alloc());
+    assert_eq!(rt; env.put_text("a", "x"), Ok(true));
+    assert_eq!(rt; env.put_text("a", "y"), Ok(false));
+    assert_eq!(rt; env.add_member("a", "z"), Ok(false));
+    assert_eq!(rt; env.add_member("b", "q"), Ok(true));
+    assert_eq!(rt; env.text("a"), Some("x"));
+    assert_eq!(rt; env.text("b"), None);
+    assert_eq!(rt; env.count("a"), 0);
+    assert_eq!(rt; env.member("b", 0), Some("q"));
+    assert_eq!(rt; (env.bytes(), env.members()), (2, 1));
+
+    let too_long = "x".repeat(rt.alloc(), 1_048_575)?;
+    assert_eq!(rt; env.put_text("c", &too_long), Err(VarsError::TooLarge));
+    assert_eq!(rt; (env.text("c"), env.bytes()), (None, 2));
+    let longest = "x".repeat(rt.alloc(), 1_048_574)?;
+    assert_eq!(rt; env.put_text("c", &longest), Ok(true));
+    assert_eq!(rt; env.bytes(), 1_048_576);
+    Ok(())
+}
+
+#[test]
+fn whole_size(rt: HostRuntime) -> Result<(), Fail> {
+    let mut env = Env::new(rt.alloc());
+    let too_long = "x".repeat(rt.alloc(), 1_048_577)?;
+    assert_eq!(rt; env.put_text("a", &too_long), Err(VarsError::TooLarge));
+    let longest = "x".repeat(rt.alloc(), 1_048_576)?;
+    assert_eq!(rt; env.put_text("a", &longest), Ok(true));
+    Ok(())
+}
+
+#[test]
+fn too_many_members(rt: HostRuntime) -> Result<(), Fail> {
+    let mut env = Env::new(rt.alloc());
+    for _ in 0..65_535 {
+        assert_eq!(rt; env.add_member("a", ""), Ok(true));
+    }
+    assert_eq!(rt; env.add_member("a", ""), Err(VarsError::TooLarge));
+    assert_eq!(rt; env.add_member("b", ""), Err(VarsError::TooLarge));
+    assert_eq!(rt; (env.count("a"), env.members()), (65_535, 65_535));
+    Ok(())
+}
+
+#[test]
+fn members_stand_in_the_order_in_which_they_came(rt: HostRuntime) -> Result<(), Fail> {
+    let mut env = Env::new(rt.alloc());
+    let added = [
+        ("rft.au", "Müller"),
+        ("rft_id", "info:doi/10.1000/182"),
+        ("rft.au", "佐藤"),
+        ("rft_id", ""),
+        ("rft.au", "Ångström"),
+    ];
+    for (name, text) in added {
+        assert_eq!(rt; env.add_member(name, text), Ok(true));
+    }
+    let listed = [
+        ("rft.au", 0, Some("Müller")),
+        ("rft.au", 1, Some("佐藤")),
+        ("rft.au", 2, Some("Ångström")),
+        ("rft.au", 3, None),
+        ("rft_id", 0, Some("info:doi/10.1000/182")),
+        ("rft_id", 1, Some("")),
+        ("rft_id", 2, None),
+        ("rft.title", 0, None),
+    ];
+    for (name, i, member) in listed {
+        assert_eq!(rt; env.member(name, i), member);
+    }
+    assert_eq!(rt; env.put_text("rft.au", "late"), Ok(false));
+    assert_eq!(rt; (env.count("rft.au"), env.count("rft_id")), (3, 2));
+    assert_eq!(rt; (env.bytes(), env.members()), (43, 5));
+    Ok(())
+}
+
+#[test]
+fn errors_print_their_kind(rt: HostRuntime) -> Result<(), Fail> {
+    let kinds = [
+        (VarsError::TooLarge, "TooLarge"),
+        (VarsError::NoMemory, "NoMemory"),
+    ];
+    for (kind, printed) in kinds {
+        assert_eq!(rt; format!(in rt.alloc(); "{kind}")?.as_str(), printed);
+    }
+    Ok(())
+}
