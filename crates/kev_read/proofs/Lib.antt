@@ -1,0 +1,4 @@
+pub mod DecodedLength
+pub mod ValueBytes
+pub mod ValuesOfKey
+pub mod FillingLemmas

@@ -1,0 +1,8 @@
+use Rattle.std.proofs.Common.{◌≡◌, take}
+use Rattle.kev_read.specs.Filling.{filled}
+use Rattle.vocabulary.specs.Texts.{texts_of}
+use Rattle.kev_read.proofs.filling.fill.Given as goal
+
+-- the pairs so far were added
+abbrev pub invariant-loop-pair : goal.invariant-loop-pair
+invariant-loop-pair l = l.env.entries ≡ filled (texts_of l.lists) l.fn.env.entries (take l.pair-index l.pairs)

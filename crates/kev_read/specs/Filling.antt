@@ -1,0 +1,46 @@
+-- What the pairs of a request make of an environment.
+use Rattle.std.specs.Prelude.{◌≡◌, ◌↔◌, ◌⊎◌, ◌+◌, ◌<◌, Bool, false, ◌||◌, MatchBool, List, ◌∷◌, ◌++◌, length, map, fold, codes, if◌then◌else◌}
+use Rattle.std.specs.Borrow.{Bor}
+use Rattle.std.specs.Str.{bytes_eq}
+use Rattle.vocabulary.specs.Texts.{Text}
+use Rattle.vocabulary.specs.Environment.{Environment, is_there, is_among, byte_count, member_count, with_text, with_member}
+use Rattle.target_vars.specs.EnvValue.{stands_for_text}
+use Rattle.target_vars.specs.declared.env.TheConstants.{MAX_BYTES, MAX_MEMBERS}
+use Rattle.target_vars.specs.declared.error.VarsError.{VarsError}
+use Rattle.target_vars.specs.declared.error.VarsError.TheVariants.{TooLarge}
+use Rattle.kev_read.specs.Pairs.{KeyValue}
+
+-- Authors and identifiers may be repeated in a request (Z39.88-2004), so they are always lists; so is each key
+-- that is declared one.
+abbrev pub is_list : List Text → Text → Bool
+is_list lists key = bytes_eq key (codes "rft.au") || bytes_eq key (codes "rft_id") || is_among key lists
+
+-- the environment after one pair
+abbrev pub fill_one : List Text → Environment → KeyValue → Environment
+fill_one lists env pair =
+    if is_list lists pair.key then with_member env pair.key pair.value else with_text env pair.key pair.value
+
+-- the environment after each pair, in order
+abbrev pub filled : List Text → Environment → List KeyValue → Environment
+filled lists env pairs = fold (fill_one lists) env pairs
+
+-- the pair would be added, and pass a limit of the environment
+abbrev pub MemberIsTooLarge : Environment → KeyValue → Type 0
+MemberIsTooLarge env pair =
+    (stands_for_text env pair.key ≡ false)
+    × ((MAX_BYTES < byte_count env + length pair.value) ⊎ (MAX_MEMBERS < member_count env + 1))
+
+abbrev pub TextIsTooLarge : Environment → KeyValue → Type 0
+TextIsTooLarge env pair = (is_there env pair.key ≡ false) × (MAX_BYTES < byte_count env + length pair.value)
+
+abbrev pub IsTooLarge : List Text → Environment → KeyValue → Type 0
+IsTooLarge lists env pair = MatchBool (is_list lists pair.key) (MemberIsTooLarge env pair) (TextIsTooLarge env pair)
+
+-- the environment is as the pairs before a refused one left it
+pub record StopsAtPair (lists : List Text) (old : Environment) (pairs : List KeyValue) (new : Environment) (e : VarsError) : Type 0 where
+  pub before : List KeyValue
+  pub refused : KeyValue
+  pub after : List KeyValue
+  pub in_order : pairs ≡ before ++ refused ∷ after
+  pub reached : new ≡ filled lists old before
+  pub too_large : (e ≡ TooLarge) ↔ IsTooLarge lists new refused

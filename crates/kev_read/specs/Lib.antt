@@ -1,0 +1,4 @@
+pub mod Pairs
+pub mod ReadQuery
+pub mod Refusal
+pub mod Filling

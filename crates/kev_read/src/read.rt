@@ -1,0 +1,54 @@
+ghost use Rattle.std.specs.Prelude.{◌≡◌, ◌≤◌, ◌<◌, ◌⊎◌, length, IfOk, IfErr, Some, None};
+ghost use Rattle.kev_read.specs.Pairs.{pairs_of};
+ghost use Rattle.kev_read.specs.ReadQuery.{IsBounded};
+ghost use Rattle.kev_read.specs.Refusal.{refusal};
+
+use crate::error::KevError;
+use crate::pair::Pair;
+use crate::request::Request;
+use form_urlencoded::parse;
+use std::alloc::Global;
+
+/// The largest query that is read, in bytes.
+pub const MAX_QUERY_BYTES: usize = 65_536;
+
+/// The largest number of pairs in a request.
+pub const MAX_PAIRS: usize = 4_096;
+
+/// Reads a query in the key/encoded-value form of ANSI/NISO Z39.88-2004.
+///
+/// The pairs are those of [`form_urlencoded::parse`]: what stands between two `&`, unless it is
+/// empty, decoded, with U+FFFD for bytes that are not UTF-8. The versions are compared decoded.
+pub fn read_kev(alloc: Global, query: &[u8]) -> Result<Request, KevError>
+    ensures accepted { IfOk result (λ _. refusal query.now ≡ None) }
+    ensures pairs { IfOk result (λ request. request.pairs ≡ pairs_of query.now) }
+    ensures query_bytes { IfOk result (λ request. request.query_bytes ≡ length query.now) }
+    ensures bounded { IfOk result IsBounded }
+    ensures refused { IfErr result (λ e. (e ≡ KevError.NoMemory) ⊎ (refusal query.now ≡ Some e)) }
+{
+    if query.len() > MAX_QUERY_BYTES {
+        return Err(KevError::TooLong);
+    }
+    let request = Request::new(read_pairs(alloc, query)?, query.len());
+    if request.states_other_version() {
+        return Err(KevError::WrongVersion);
+    }
+    Ok(request)
+}
+
+fn read_pairs(alloc: Global, query: &[u8]) -> Result<Vec<Pair>, KevError>
+    ensures pairs { IfOk result (λ pairs. pairs.items ≡ pairs_of query.now) }
+    ensures within { IfOk result (λ pairs. length pairs.items ≤ 4096) }
+    ensures refused { IfErr result (λ e. (e ≡ KevError.NoMemory)
+        ⊎ ((e ≡ KevError.TooManyPairs) × (4096 < length (pairs_of query.now)))) }
+{
+    let mut pairs = Vec::new(alloc);
+    for pair in parse(alloc, query) {
+        if pairs.len() == MAX_PAIRS {
+            return Err(KevError::TooManyPairs);
+        }
+        let (key, value) = pair?;
+        pairs.push(Pair::new(key.into_owned(alloc)?, value.into_owned(alloc)?))?;
+    }
+    Ok(pairs)
+}

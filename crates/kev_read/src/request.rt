@@ -1,0 +1,112 @@
+ghost use Rattle.std.specs.Prelude.{◌≡◌, ◌≤◌, ◌+◌, ◌*◌, [], length, IfErr, OnOk};
+ghost use Rattle.std.specs.Option.{option_copied};
+ghost use Rattle.vocabulary.specs.Environment.{byte_count, member_count};
+ghost use Rattle.target_vars.specs.declared.env.TheConstants.{MAX_BYTES, MAX_MEMBERS};
+ghost use Rattle.kev_read.specs.Pairs as spec;
+ghost use Rattle.kev_read.specs.Filling.{filled, StopsAtPair};
+ghost use Rattle.vocabulary.specs.Texts.{texts_of};
+ghost use Rattle.kev_read.specs.Refusal.{is_other_version, states_other_version};
+
+use crate::filling::fill;
+use crate::pair::Pair;
+use crate::values::Values;
+use std::marker::Model;
+use target_vars::{Env, VarsError};
+
+/// The version of OpenURL that is read.
+const VERSION: &str = "Z39.88-2004";
+
+/// An OpenURL request: its pairs of key and value (ANSI/NISO Z39.88-2004, key/encoded-value form), in
+/// the order of the query.
+///
+/// Every key is kept, under its own name; a pair without `=` has the empty value. Contracts also see
+/// how many bytes the query had.
+#[derive(Debug, Drop)]
+pub struct Request {
+    pairs: Vec<Pair>,
+    // Bounds what the pairs add to an environment.
+    query_bytes: usize,
+}
+
+impl Model for Request {
+    ghost use Rattle.kev_read.specs.ReadQuery.{ReadQuery, IsBounded};
+
+    ghost Value = { ReadQuery };
+
+    ghost view = { λ request. record { pairs = request.pairs.items; query_bytes = request.query_bytes } };
+
+    ghost invariant = { λ request. IsBounded record { pairs = request.pairs.items; query_bytes = request.query_bytes } };
+}
+
+impl Request {
+    ghost use Rattle.std.specs.Prelude.{vec_len};
+    ghost use Rattle.kev_read.specs.ReadQuery.{IsBounded};
+
+    pub(crate) fn new(pairs: Vec<Pair>, query_bytes: usize) -> Request
+        requires { IsBounded record { pairs = pairs.items; query_bytes = query_bytes } }
+        ensures { result ≡ record { pairs = pairs.items; query_bytes = query_bytes } }
+    {
+        Request { pairs, query_bytes }
+    }
+
+    /// The first value of a key; `None` where no pair has the key.
+    pub fn first(&self, key: &str) -> Option<&str>
+        ensures { option_copied result ≡ spec.first_of self.now.pairs key.now }
+    {
+        self.all(key).next()
+    }
+
+    /// The values of a key, in the order of the query.
+    #[tactic(auto, using(crate::proofs::ValuesOfKey::all_of_few))]
+    pub fn all<'a, 'k>(&'a self, key: &'k str) -> Values<'a, 'k>
+        ensures values { result ≡ spec.all_of self.now.pairs key.now }
+        ensures few { length result ≤ 4096 }
+    {
+        Values::new(&self.pairs, key)
+    }
+
+    /// How many pairs there are, at most [`MAX_PAIRS`](crate::MAX_PAIRS).
+    pub fn pairs(&self) -> usize
+        ensures count { result ≡ length self.now.pairs }
+        ensures bounded { IsBounded self.now }
+    {
+        self.pairs.len()
+    }
+
+    /// Adds each pair to the environment, in order: as a member of its key's list where the key is
+    /// `rft.au`, `rft_id` or one of `lists`, and otherwise as a text, of which the first of a key stays.
+    ///
+    /// `TooLarge` where a pair would pass a limit of the environment, `NoMemory` where a growth was
+    /// refused; the pairs before the refused one stay added.
+    pub fn fill(&self, lists: &[&str], env: &mut Env) -> Result<(), VarsError>
+        ensures ok { OnOk result (env.new.entries ≡ filled (texts_of lists.now) env.old.entries self.now.pairs) }
+        ensures err { IfErr result (StopsAtPair (texts_of lists.now) env.old.entries self.now.pairs env.new.entries) }
+
+        // What the environment grows by at most, whatever the answer.
+        ensures bytes { byte_count env.new.entries ≤ byte_count env.old.entries + 3 * self.now.query_bytes }
+        ensures members { member_count env.new.entries ≤ member_count env.old.entries + length self.now.pairs }
+
+        // Where that fits, only memory can be missing; into an empty environment it always fits.
+        ensures room { byte_count env.old.entries + 3 * self.now.query_bytes ≤ MAX_BYTES
+            → member_count env.old.entries + length self.now.pairs ≤ MAX_MEMBERS
+            → IfErr result (λ e. e ≡ VarsError.NoMemory) }
+        ensures empty { env.old.entries ≡ [] → IfErr result (λ e. e ≡ VarsError.NoMemory) }
+    {
+        fill(&self.pairs, lists, env)
+    }
+
+    pub(crate) fn states_other_version(&self) -> bool
+        ensures { result ≡ states_other_version self.now.pairs }
+    {
+        is_other_version(self.first("ctx_ver")) || is_other_version(self.first("url_ver"))
+    }
+}
+
+fn is_other_version(stated: Option<&str>) -> bool
+    ensures { result ≡ is_other_version (option_copied stated.entry) }
+{
+    match stated {
+        Some(version) => version != VERSION,
+        None => false,
+    }
+}
