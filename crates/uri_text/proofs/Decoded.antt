@@ -1,0 +1,79 @@
+-- Percent-decoding what was written.
+use Rattle.std.proofs.Common.{◌≡◌, ◌≢◌, ℕ, suc, ◌+◌, ◌*◌, ◌<◌, [], ◌∷◌, ◌++◌, Bool, true, false, ◌&&◌, ◌==◌, refl, sym, ap, ◌∙◌, subst, arith, append-nil}
+use Rattle.std.specs.Prelude.{All, if◌then◌else◌}
+use Rattle.std.specs.Char.{digit_value}
+use Rattle.std.proofs.lemmas.Bool.{and_parts, eqb-true, cond-false}
+use Rattle.std.proofs.lemmas.Bool.Decides.{nat_tests}
+use Rattle.percent_encoding.specs.Percent.{percent_decode, is_escape}
+use Rattle.percent_encoding.proofs.PercentLemmas.{percent_decode-nil, percent_decode_escape, percent_decode_not_percent, percent_decode-percent_encode_byte}
+use Rattle.vocabulary.specs.Texts.{Text, is_unreserved, is_reserved, is_triplet, is_hexadecimal}
+use Rattle.vocabulary.specs.Writing.{written_byte, is_unreserved_or_reserved, written_u, written_ur}
+use Rattle.uri_text.proofs.PercentBytes.{percent_encode_byte_triplet}
+
+abbrev AreBytes : Text → Type 0
+AreBytes t = All (λ b. b < 256) t
+
+first_byte : (b : ℕ) (t : Text) → AreBytes (b ∷ t) → b < 256
+first_byte b t h = h 0 b (omega arith)
+
+later_bytes : (b : ℕ) (t : Text) → AreBytes (b ∷ t) → AreBytes t
+later_bytes b t h = λ k d l. h (suc k) d (omega arith)
+
+-- the byte that was written comes first, unless `%` was copied
+decoded_byte : (stays : Bool) (b : ℕ) (rest : Text) → b < 256 → (stays ≡ true → b ≢ 37) → percent_decode (written_byte stays b ++ rest) ≡ b ∷ percent_decode rest
+decoded_byte true b rest small other = percent_decode_not_percent b rest (other refl)
+decoded_byte false b rest small other =
+    ap (λ x. percent_decode (x ++ rest)) (sym (percent_encode_byte_triplet b)) ∙ percent_decode-percent_encode_byte b rest small
+
+percent_is_written : (b : ℕ) → is_unreserved_or_reserved b ≡ true → b ≢ 37
+unfolding is_unreserved is_reserved
+percent_is_written b e p = let percent : is_unreserved_or_reserved 37 ≡ true = subst (λ x. is_unreserved_or_reserved x ≡ true) p e in absurd (cc)
+
+percent_is_no_unreserved : (b : ℕ) → is_unreserved b ≡ true → b ≢ 37
+unfolding is_unreserved
+percent_is_no_unreserved b e p = let percent : is_unreserved 37 ≡ true = subst (λ x. is_unreserved x ≡ true) p e in absurd (cc)
+
+pub decoded_u : (t : Text) → AreBytes t → percent_decode (written_u t) ≡ t
+unfolding written_u
+decoded_u [] h = percent_decode-nil
+decoded_u (b ∷ t) h =
+    decoded_byte (is_unreserved b) b (written_u t) (first_byte b t h) (percent_is_no_unreserved b)
+    ∙ ap (λ x. b ∷ x) (decoded_u t (later_bytes b t h))
+
+decoded_ur_byte : (b : ℕ) (rest : Text) → b < 256 → percent_decode (written_byte (is_unreserved_or_reserved b) b ++ rest) ≡ b ∷ percent_decode rest
+decoded_ur_byte b rest small = decoded_byte (is_unreserved_or_reserved b) b rest small (percent_is_written b)
+
+hexadecimal_value : (b : ℕ) → is_hexadecimal b ≡ true → digit_value b < 16
+hexadecimal_value b h = grind (arith, nat_tests)
+
+alone_ur : (b : ℕ) → b < 256 → percent_decode (written_byte (is_unreserved_or_reserved b) b) ≡ b ∷ []
+unfolding percent_decode
+alone_ur b small = ap percent_decode (sym (append-nil (written_byte (is_unreserved_or_reserved b) b))) ∙ decoded_ur_byte b [] small
+
+-- what is no triplet decodes byte by byte
+kept_first : (b high low : ℕ) (t : Text) → is_triplet b high low ≡ false → percent_decode (b ∷ high ∷ low ∷ t) ≡ b ∷ percent_decode (high ∷ low ∷ t)
+unfolding percent_decode
+kept_first b high low t e = cond-false (is_escape b high low) _ _ (grouped (b == 37) (is_hexadecimal high) (is_hexadecimal low) ∙ e)
+  where
+    grouped : (x y z : Bool) → ((x && y) && z) ≡ (x && (y && z))
+    grouped true y z = refl
+    grouped false y z = refl
+
+pub decoded_ur : (t : Text) → AreBytes t → percent_decode (written_ur t) ≡ percent_decode t
+unfolding written_ur percent_decode
+decoded_ur [] h = refl
+decoded_ur (b ∷ []) h = alone_ur b (first_byte b [] h)
+decoded_ur (b ∷ c ∷ []) h =
+    decoded_ur_byte b (written_byte (is_unreserved_or_reserved c) c) (first_byte b (c ∷ []) h)
+    ∙ ap (λ x. b ∷ x) (alone_ur c (first_byte c [] (later_bytes b (c ∷ []) h)))
+decoded_ur (b ∷ high ∷ low ∷ t) h =
+    by_test (is_triplet b high low) refl (decoded_ur t (later_bytes low t (later_bytes high (low ∷ t) (later_bytes b (high ∷ low ∷ t) h)))) (decoded_ur (high ∷ low ∷ t) (later_bytes b (high ∷ low ∷ t) h))
+  where
+    by_test : (x : Bool) → is_triplet b high low ≡ x → percent_decode (written_ur t) ≡ percent_decode t → percent_decode (written_ur (high ∷ low ∷ t)) ≡ percent_decode (high ∷ low ∷ t)
+        → percent_decode (if x then (b ∷ high ∷ low ∷ written_ur t) else (written_byte (is_unreserved_or_reserved b) b ++ written_ur (high ∷ low ∷ t))) ≡ percent_decode (b ∷ high ∷ low ∷ t)
+    by_test true e i j =
+        let parts = and_parts (b == 37) (is_hexadecimal high && is_hexadecimal low) e in
+        let digits = and_parts (is_hexadecimal high) (is_hexadecimal low) parts.1 in
+        let escaped = λ (rest : Text). percent_decode_escape b high low rest (eqb-true b 37 parts.0) (hexadecimal_value high digits.0) (hexadecimal_value low digits.1) in
+        escaped (written_ur t) ∙ (ap (λ x. (16 * digit_value high + digit_value low) ∷ x) i ∙ sym (escaped t))
+    by_test false e i j = decoded_ur_byte b (written_ur (high ∷ low ∷ t)) (first_byte b (high ∷ low ∷ t) h) ∙ (ap (λ x. b ∷ x) j ∙ sym (kept_first b high low t e))

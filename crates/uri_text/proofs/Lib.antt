@@ -1,0 +1,5 @@
+pub mod PercentBytes
+pub mod FirstItems
+pub mod Rests
+pub mod LeadingNumbers
+pub mod Decoded

@@ -1,0 +1,14 @@
+use Rattle.std.proofs.Common.{◌≡◌, ◌≤◌, ◌++◌, length, take, drop}
+use Rattle.vocabulary.specs.Cut.{cut}
+use Rattle.uri_text.specs.Items.{writing_of}
+use Rattle.uri_text.proofs.items.cut.Given as goal
+
+-- what is taken with what is still to take is the cut
+abbrev pub invariant-loop-left : goal.invariant-loop-left
+invariant-loop-left l = record {
+  within : l.end ≤ length l.text;
+  taken : cut (writing_of l.triplets) l.text l.n ≡ take l.end l.text ++ cut (writing_of l.triplets) (drop l.end l.text) l.left;
+}
+
+abbrev pub decreases-loop-left : goal.decreases-loop-left
+decreases-loop-left l = l.left

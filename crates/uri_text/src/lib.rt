@@ -1,0 +1,15 @@
+//! How a text is written into a link (RFC 6570): whole or cut to its first items, and each byte as
+//! it is or as a triplet.
+#![tactic(auto)]
+
+mod items;
+pub mod laws;
+mod number;
+#[cfg(test)]
+mod tests;
+mod triplet;
+mod writing;
+
+pub use items::cut;
+pub use number::leading_number;
+pub use writing::{encode, encode_u, encode_ur};

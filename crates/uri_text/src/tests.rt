@@ -1,0 +1,83 @@
+ghost use Rattle.std.specs.Prelude.{◌≤◌, length};
+
+use crate::{cut, encode, encode_u, encode_ur};
+use std::alloc::{AllocError, Global};
+use std::test::Fail;
+use vocabulary::Writing;
+
+const LONGEST: usize = 100;
+
+#[tactic(auto, using(vocabulary::proofs::Written::length_laws))]
+fn written(alloc: Global, text: &[u8], writing: Writing) -> Result<String, AllocError>
+    requires { length text.now ≤ LONGEST }
+{
+    let mut out = String::new(alloc);
+    out.reserve(3 * LONGEST)?;
+    encode(&mut out, text, writing);
+    Ok(out)
+}
+
+#[test]
+fn texts_are_written(rt: HostRuntime) -> Result<(), Fail> {
+    let cases = [
+        ("", "", ""),
+        ("Hello World!", "Hello%20World%21", "Hello%20World!"),
+        ("/foo/bar", "%2Ffoo%2Fbar", "/foo/bar"),
+        ("50%", "50%25", "50%25"),
+        ("%41%4", "%2541%254", "%41%254"),
+        ("%c3%A9", "%25c3%25A9", "%c3%A9"),
+        ("%%41", "%25%2541", "%25%41"),
+        ("é", "%C3%A9", "%C3%A9"),
+        ("\u{7f}\n", "%7F%0A", "%7F%0A"),
+        (
+            "-._~:/?#[]@!$&'()*+,;=",
+            "-._~%3A%2F%3F%23%5B%5D%40%21%24%26%27%28%29%2A%2B%2C%3B%3D",
+            "-._~:/?#[]@!$&'()*+,;=",
+        ),
+        (
+            "\"<>\\^`{|}",
+            "%22%3C%3E%5C%5E%60%7B%7C%7D",
+            "%22%3C%3E%5C%5E%60%7B%7C%7D",
+        ),
+    ];
+    for (text, by_u, by_ur) in cases {
+        assert!(rt; text.len() <= LONGEST);
+        let u = written(rt.alloc(), text.as_bytes(), Writing::U)?;
+        assert_eq!(rt; u.as_str(), by_u);
+        let ur = written(rt.alloc(), text.as_bytes(), Writing::UR)?;
+        assert_eq!(rt; ur.as_str(), by_ur);
+    }
+    Ok(())
+}
+
+#[test]
+#[tactic(auto, using(vocabulary::proofs::Written::length_laws))]
+fn writing_appends(rt: HostRuntime) -> Result<(), Fail> {
+    let mut out = String::from_str(rt.alloc(), "a=")?;
+    out.reserve(3)?;
+    encode_u(&mut out, b"&");
+    out.reserve(3)?;
+    encode_ur(&mut out, b"&");
+    assert_eq!(rt; out.as_str(), "a=%26&");
+    Ok(())
+}
+
+#[test]
+fn texts_are_cut(rt: HostRuntime) {
+    let cases = [
+        ("value", 3, "val", "val"),
+        ("value", 30, "value", "value"),
+        ("value", 0, "", ""),
+        ("éa", 1, "é", "é"),
+        ("a€𝄞b", 3, "a€𝄞", "a€𝄞"),
+        ("%41%42%43", 2, "%4", "%41%42"),
+        ("%4%41", 2, "%4", "%4"),
+        ("%4%41", 3, "%4%", "%4%41"),
+        ("%%41x", 2, "%%", "%%41"),
+        ("%C3%A9", 1, "%", "%C3"),
+    ];
+    for (text, n, by_points, by_triplets) in cases {
+        assert_eq!(rt; cut(text.as_bytes(), n, false), by_points.as_bytes());
+        assert_eq!(rt; cut(text.as_bytes(), n, true), by_triplets.as_bytes());
+    }
+}

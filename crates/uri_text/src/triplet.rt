@@ -1,0 +1,19 @@
+//! Triplets: `%` and two hexadecimal digits (RFC 3986, section 2.1).
+
+ghost use Rattle.std.specs.Prelude.{◌≡◌, ◌&&◌};
+ghost use Rattle.vocabulary.specs.Texts.{is_hexadecimal, begins_with_triplet};
+
+pub fn are_hexadecimal(high: u8, low: u8) -> bool
+    ensures { result ≡ (is_hexadecimal high && is_hexadecimal low) }
+{
+    high.is_ascii_hexdigit() && low.is_ascii_hexdigit()
+}
+
+pub fn begins_with_triplet(text: &[u8]) -> bool
+    ensures { result ≡ begins_with_triplet text.now }
+{
+    match text {
+        [b'%', high, low, ..] => are_hexadecimal(*high, *low),
+        _ => false,
+    }
+}
