@@ -1,0 +1,12 @@
+pub mod RunLemmas
+pub mod LiteralLemmas
+pub mod NameLemmas
+pub mod CharacterLemmas
+pub mod NumberLemmas
+pub mod SpecLemmas
+pub mod ExpressionLemmas
+pub mod TemplateLemmas
+pub mod PromiseLemmas
+pub mod LawLemmas
+pub mod ChoiceLemmas
+pub mod Examples

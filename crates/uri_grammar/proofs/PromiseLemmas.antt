@@ -1,0 +1,38 @@
+-- What the grammar promises of every tree.
+use Rattle.std.proofs.Common.{ℕ, ◌<◌, List, [], ◌∷◌, ◌++◌, length, ap, sym, subst, arith, length-append, All, encode_utf8_all}
+use Rattle.std.proofs.lemmas.List.Elements.{All-nil, All-cons}
+use Rattle.vocabulary.specs.Texts.{Text}
+use Rattle.vocabulary.specs.UriText.{IsUriText}
+use Rattle.vocabulary.proofs.UriTexts.{written_ur-uri}
+use Rattle.uri_grammar.specs.declared.parts.Part.{Part}
+use Rattle.uri_grammar.specs.declared.parts.Part.TheVariants.{Literal, Expression}
+use Rattle.uri_grammar.specs.declared.parts.Spec.{Spec}
+use Rattle.uri_grammar.specs.Specs.{IsSpec, SpellsSpecs}
+use Rattle.uri_grammar.specs.Templates.{Spells}
+use Rattle.uri_grammar.specs.Texts.{IsTemplate}
+use Rattle.uri_grammar.specs.Promises.{IsSoundSpec, IsSoundPart}
+use Rattle.uri_grammar.proofs.NameLemmas.{IsUriText-varname}
+use Rattle.uri_grammar.proofs.SpecLemmas.{modifier_range}
+
+sound_spec : (cs : List ℕ) (spec : Spec) → IsSpec cs spec → IsSoundSpec spec
+sound_spec cs spec h =
+    let range = modifier_range h.after spec.cut spec.explode h.modified in
+    record { is_name = h.is_name; uri_text = IsUriText-varname spec.name h.is_name.0; cut = range.0; uncut = range.1 }
+
+sound_specs : (specs : List Spec) (cs : List ℕ) → SpellsSpecs cs specs → All IsSoundSpec specs
+sound_specs [] cs h = All-nil IsSoundSpec
+sound_specs (s ∷ ss) cs h = All-cons IsSoundSpec s ss (sound_spec h.0 s h.4) (sound_specs ss h.1 h.5)
+
+some_spec : (specs : List Spec) (list : List ℕ) → SpellsSpecs (list ++ 44 ∷ []) specs → 0 < length specs
+some_spec [] list h = absurd (omega (arith, ap length h, length-append list (44 ∷ [])))
+some_spec (s ∷ ss) list h = omega arith
+
+sound_parts : (parts : List Part) (cs : List ℕ) → Spells cs parts → All IsSoundPart parts
+sound_parts [] cs h = All-nil IsSoundPart
+sound_parts (Literal text ∷ parts) cs h =
+    All-cons IsSoundPart (Literal text) parts (subst IsUriText (sym h.5) (written_ur-uri (encode_utf8_all h.0))) (sound_parts parts h.1 h.7)
+sound_parts (Expression op specs ∷ parts) cs h =
+    All-cons IsSoundPart (Expression op specs) parts (some_spec specs h.4.0 h.4.2, sound_specs specs (h.4.0 ++ 44 ∷ []) h.4.2) (sound_parts parts h.1 h.5)
+
+pub template_sound : (text : Text) (parts : List Part) → IsTemplate text parts → All IsSoundPart parts
+template_sound text parts h = sound_parts parts h.1 h.3

@@ -1,0 +1,67 @@
+-- Texts that are cut from the left in one way: at the first place of a character, and after a run of items.
+use Rattle.std.proofs.Common.{◌≡◌, ◌≢◌, ℕ, ◌<◌, List, [], ◌∷◌, ◌++◌, length, refl, ap, ◌∙◌, sym, subst, arith, append_assoc, append-nil}
+use Rattle.std.proofs.lemmas.List.Elements.{All-head, All-tail}
+use Rattle.uri_grammar.specs.Specs.{Lacks}
+
+-- equal texts are equal on both sides of a length
+pub append_same : (f g x y : List ℕ) → length f ≡ length g → f ++ x ≡ g ++ y → (f ≡ g) × (x ≡ y)
+append_same [] [] x y l e = (refl, e)
+append_same [] (b ∷ g) x y l e = absurd (omega arith)
+append_same (a ∷ f) [] x y l e = absurd (omega arith)
+append_same (a ∷ f) (b ∷ g) x y l e =
+    let head : a ≡ b = cc in
+    let tail : f ++ x ≡ g ++ y = cc in
+    let size : length f ≡ length g = omega arith in
+    let rest = append_same f g x y size tail in
+    (let same : f ≡ g = rest.0 in cc, rest.1)
+
+-- the first place of a character cuts a text in one way
+pub split_same : (c : ℕ) (xs ys a b : List ℕ) → Lacks c xs → Lacks c ys → xs ++ c ∷ a ≡ ys ++ c ∷ b → (xs ≡ ys) × (a ≡ b)
+split_same c [] [] a b h k e = (refl, cc)
+split_same c [] (y ∷ ys) a b h k e = absurd (All-head (λ x. x ≢ c) y ys k (let same : y ≡ c = cc in same))
+split_same c (x ∷ xs) [] a b h k e = absurd (All-head (λ x. x ≢ c) x xs h (let same : x ≡ c = cc in same))
+split_same c (x ∷ xs) (y ∷ ys) a b h k e =
+    let head : x ≡ y = cc in
+    let tail : xs ++ c ∷ a ≡ ys ++ c ∷ b = cc in
+    let rest = split_same c xs ys a b (All-tail (λ z. z ≢ c) x xs h) (All-tail (λ z. z ≢ c) y ys k) tail in
+    (let same : xs ≡ ys = rest.0 in cc, rest.1)
+
+-- no text without the character is cut at it
+pub lacks_split : (c : ℕ) (xs ys b : List ℕ) → Lacks c xs → xs ≡ ys ++ c ∷ b → ⊥
+lacks_split c [] [] b h e = cc
+lacks_split c [] (y ∷ ys) b h e = cc
+lacks_split c (x ∷ xs) [] b h e = All-head (λ z. z ≢ c) x xs h (let same : x ≡ c = cc in same)
+lacks_split c (x ∷ xs) (y ∷ ys) b h e = lacks_split c xs ys b (All-tail (λ z. z ≢ c) x xs h) (let tail : xs ≡ ys ++ c ∷ b = cc in tail)
+
+-- items, where a function tells how long the item at the front of a text is, and 0 where there is none
+pub data Run (item : List ℕ → ℕ) : List ℕ → Type 0 where
+  no_item : Run item []
+  next_item : (front rest : List ℕ) → 0 < length front → ((x : List ℕ) → item (front ++ x) ≡ length front) → Run item rest → Run item (front ++ rest)
+
+pub item-Run : (item : List ℕ → ℕ) (xs x : List ℕ) → Run item xs → 0 < length xs → 0 < item (xs ++ x)
+item-Run item xs x no_item l = absurd (omega arith)
+item-Run item xs x (next_item front rest pos is more) l =
+    let whole : item ((front ++ rest) ++ x) ≡ length front = ap item (append_assoc front rest x) ∙ is (rest ++ x) in
+    omega (arith, whole, pos)
+
+-- a run of items that no item follows is as long as it can be, and so is the only one
+pub run_same : (item : List ℕ → ℕ) (xs ys a b : List ℕ) → Run item xs → Run item ys → xs ++ a ≡ ys ++ b → item a ≡ 0 → item b ≡ 0 → (xs ≡ ys) × (a ≡ b)
+run_same item xs ys a b no_item no_item e p q = (refl, e)
+run_same item xs ys a b no_item (next_item g s k j rest) e p q =
+    let size : item a ≡ length g = ap item (e ∙ append_assoc g s b) ∙ j (s ++ b) in absurd (omega (arith, size, p, k))
+run_same item xs ys a b (next_item f r l i more) no_item e p q =
+    let size : item b ≡ length f = ap item (sym e ∙ append_assoc f r a) ∙ i (r ++ a) in absurd (omega (arith, size, q, l))
+run_same item xs ys a b (next_item f r l i more) (next_item g s k j rest) e p q =
+    let whole : f ++ (r ++ a) ≡ g ++ (s ++ b) = sym (append_assoc f r a) ∙ (e ∙ append_assoc g s b) in
+    let size : length f ≡ length g = sym (i (r ++ a)) ∙ (ap item whole ∙ j (s ++ b)) in
+    let fronts = append_same f g (r ++ a) (s ++ b) size whole in
+    let rests = run_same item r s a b more rest fronts.1 p q in
+    (let here : f ≡ g = fronts.0 in let there : r ≡ s = rests.0 in cc, rests.1)
+
+pub run-append : (item : List ℕ → ℕ) (xs ys : List ℕ) → Run item xs → Run item ys → Run item (xs ++ ys)
+run-append item xs ys no_item h = h
+run-append item xs ys (next_item f r l i more) h =
+    subst (λ (t : List ℕ). Run item t) (sym (append_assoc f r ys)) (next_item f (r ++ ys) l i (run-append item r ys more h))
+
+pub run_one : (item : List ℕ → ℕ) (xs : List ℕ) → 0 < length xs → ((x : List ℕ) → item (xs ++ x) ≡ length xs) → Run item xs
+run_one item xs l i = subst (λ (t : List ℕ). Run item t) (append-nil xs) (next_item xs [] l i no_item)

@@ -1,0 +1,202 @@
+-- Modifiers and specs: what the reader needs of them, and that a text is one spec at most.
+use Rattle.std.proofs.Common.{◌≡◌, ℕ, ◌+◌, ◌<◌, ◌≤◌, Bool, true, false, ◌⊎◌, ⊎_elim, inl, inr, List, [], ◌∷◌, ◌++◌, length, get_or, drop, take, refl, ap, ◌∙◌, sym, subst, arith, append_assoc, take-append-drop, length-append, ◌==◌, ◌&&◌, nat_eq, nat_lt, Some, None}
+use Rattle.std.proofs.Math.Seq.{take-add, take-append-add}
+use Rattle.std.proofs.lemmas.Bool.{cases_Bool, cond-true, cond-false, eqb-true, and_parts, ltb-true, lt-ltb, false≢true}
+use Rattle.std.proofs.lemmas.List.{drop_more, length-take-le, drop-append-le}
+use Rattle.vocabulary.specs.Number.{value_from}
+use Rattle.uri_grammar.specs.declared.error.TemplateError.{TemplateError}
+use Rattle.uri_grammar.specs.declared.error.TemplateErrorKind.{TemplateErrorKind}
+use Rattle.uri_grammar.specs.declared.parts.Spec.{Spec}
+use Rattle.uri_grammar.specs.Names.{varchar_len, next_len, BeginsWithVarname}
+use Rattle.uri_grammar.specs.Specs.{IsModifier, no_modifier, explode_modifier, prefix_modifier, IsSpec, Lacks, SpellsSpecs}
+use Rattle.uri_grammar.specs.Faults.{begins_with_modifier, IsNamed, IsSpecFault, bad_name, bad_modifier, IsListFault}
+use Rattle.uri_grammar.specs.Reading.{number_of, modifier_of, IsFault}
+use Rattle.uri_grammar.specs.Moved.{moved, moved_place}
+use Rattle.uri_grammar.proofs.NameLemmas.{longest_same, varchar_len-varname}
+use Rattle.uri_grammar.proofs.NumberLemmas.{max_length_range, number_of-some, number_of-max_length}
+
+-- ---- modifiers
+
+colon_same : (xs ys : List ℕ) → 58 ∷ xs ≡ 58 ∷ ys → xs ≡ ys
+colon_same xs ys e = cc
+
+nil_cons : (c : ℕ) (cs : List ℕ) → [] ≡ c ∷ cs → ⊥
+nil_cons c cs e = cc
+
+star_colon : (cs : List ℕ) → 42 ∷ [] ≡ 58 ∷ cs → ⊥
+star_colon cs e = cc
+
+same_nothing : (b : List ℕ) (n : ℕ) (y : Bool) → [] ≡ b → IsModifier b n y → (0 ≡ n) × (false ≡ y)
+same_nothing b n y e no_modifier = (refl, refl)
+same_nothing b n y e explode_modifier = absurd (nil_cons 42 [] e)
+same_nothing b n y e (prefix_modifier k p) = absurd (nil_cons 58 k e)
+
+same_explode : (b : List ℕ) (n : ℕ) (y : Bool) → 42 ∷ [] ≡ b → IsModifier b n y → (0 ≡ n) × (true ≡ y)
+same_explode b n y e no_modifier = absurd (nil_cons 42 [] (sym e))
+same_explode b n y e explode_modifier = (refl, refl)
+same_explode b n y e (prefix_modifier k p) = absurd (star_colon k e)
+
+same_prefix : (b j : List ℕ) (n : ℕ) (y : Bool) → 58 ∷ j ≡ b → IsModifier b n y → (value_from 0 j ≡ n) × (false ≡ y)
+same_prefix b j n y e no_modifier = absurd (nil_cons 58 j (sym e))
+same_prefix b j n y e explode_modifier = absurd (star_colon j (sym e))
+same_prefix b j n y e (prefix_modifier k p) = (ap (value_from 0) (colon_same j k e), refl)
+
+modifier_same : (a b : List ℕ) (m n : ℕ) (x y : Bool) → a ≡ b → IsModifier a m x → IsModifier b n y → (m ≡ n) × (x ≡ y)
+modifier_same a b m n x y e no_modifier k = same_nothing b n y e k
+modifier_same a b m n x y e explode_modifier k = same_explode b n y e k
+modifier_same a b m n x y e (prefix_modifier j p) k = same_prefix b j n y e k
+
+-- a name ends where a modifier begins
+modifier_ends : (a : List ℕ) (m : ℕ) (x : Bool) → IsModifier a m x → (next_len a ≡ 0) × ((a ≡ []) ⊎ (begins_with_modifier a ≡ true))
+modifier_ends a m x no_modifier = (refl, inl refl)
+modifier_ends a m x explode_modifier = (refl, inr refl)
+modifier_ends a m x (prefix_modifier digits p) = (colon digits, inr refl)
+  where
+    colon : (cs : List ℕ) → next_len (58 ∷ cs) ≡ 0
+    colon [] = refl
+    colon (c ∷ []) = refl
+    colon (c ∷ d ∷ cs) = refl
+
+-- a cut has four digits at most, and what explodes is not cut
+pub modifier_range : (a : List ℕ) (m : ℕ) (x : Bool) → IsModifier a m x → (m ≤ 9999) × (x ≡ true → m ≡ 0)
+modifier_range a m x no_modifier = (omega arith, λ _. refl)
+modifier_range a m x explode_modifier = (omega arith, λ _. refl)
+modifier_range a m x (prefix_modifier digits p) = ((max_length_range digits p).1, λ e. absurd (false≢true e))
+
+modifier_is : (cs : List ℕ) (m : ℕ) (x : Bool) → IsModifier cs m x → modifier_of cs ≡ Some (m, x)
+modifier_is cs m x no_modifier = refl
+modifier_is cs m x explode_modifier = refl
+modifier_is cs m x (prefix_modifier digits p) =
+    let is = number_of-max_length digits p in
+    cond-true (nat_lt 0 (number_of digits)) _ _ (lt-ltb 0 (number_of digits) is.0) ∙ ap (λ (n : ℕ). Some (n, false)) is.1
+
+explode_here : (c : ℕ) (cs : List ℕ) (p : ℕ × Bool) → c ≡ 42 → length cs ≡ 0 → p ≡ (0, true) → IsModifier (c ∷ cs) p.0 p.1
+explode_here c [] p e l q =
+    subst (λ (t : ℕ × Bool). IsModifier (c ∷ []) t.0 t.1) (sym q) (subst (λ (x : ℕ). IsModifier (x ∷ []) 0 true) (sym e) explode_modifier)
+explode_here c (d ∷ cs) p e l q = absurd (omega arith)
+
+prefix_here : (c : ℕ) (cs : List ℕ) (p : ℕ × Bool) → c ≡ 58 → 0 < number_of cs → p ≡ (number_of cs, false) → IsModifier (c ∷ cs) p.0 p.1
+prefix_here c cs p e l q =
+    let is = number_of-some cs l in
+    subst (λ (t : ℕ × Bool). IsModifier (c ∷ cs) t.0 t.1) (sym (q ∙ ap (λ (n : ℕ). (n, false)) is.1)) (subst (λ (x : ℕ). IsModifier (x ∷ cs) (value_from 0 cs) false) (sym e) (prefix_modifier cs is.0))
+
+some_same : (p q : ℕ × Bool) → Some p ≡ Some q → p ≡ q
+some_same p q e = cc
+
+some_none : (p : ℕ × Bool) → Some p ≡ None → ⊥
+some_none p e = cc
+
+pub modifier_of-some : (cs : List ℕ) (p : ℕ × Bool) → Some p ≡ modifier_of cs → IsModifier cs p.0 p.1
+modifier_of-some [] p e = subst (λ (t : ℕ × Bool). IsModifier [] t.0 t.1) (sym (some_same p (0, false) e)) no_modifier
+modifier_of-some (c ∷ cs) p e =
+    ⊎_elim
+    (λ t.
+    let parts = and_parts (c == 42) (nat_eq (length cs) 0) t in
+    explode_here c cs p (eqb-true c 42 parts.0) (eqb-true (length cs) 0 parts.1) (some_same p (0, true) (e ∙ cond-true (c == 42 && nat_eq (length cs) 0) _ _ t)))
+    (λ f. ⊎_elim
+    (λ t.
+    let parts = and_parts (c == 58) (nat_lt 0 (number_of cs)) t in
+    prefix_here c cs p (eqb-true c 58 parts.0) (ltb-true 0 (number_of cs) parts.1) (some_same p (number_of cs, false) (e ∙ (cond-false (c == 42 && nat_eq (length cs) 0) _ _ f ∙ cond-true (c == 58 && nat_lt 0 (number_of cs)) _ _ t))))
+    (λ g. absurd (some_none p (e ∙ (cond-false (c == 42 && nat_eq (length cs) 0) _ _ f ∙ cond-false (c == 58 && nat_lt 0 (number_of cs)) _ _ g))))
+    (cases_Bool (c == 58 && nat_lt 0 (number_of cs))))
+    (cases_Bool (c == 42 && nat_eq (length cs) 0))
+
+pub modifier_of-none : (cs : List ℕ) → None ≡ modifier_of cs → (n : ℕ) (explode : Bool) → IsModifier cs n explode → ⊥
+modifier_of-none cs e n explode h = some_none (n, explode) (sym (e ∙ modifier_is cs n explode h))
+
+-- ---- names before modifiers
+
+pub no_name : (cs : List ℕ) → varchar_len cs ≡ 0 → (name after : List ℕ) → IsNamed cs name after → ⊥
+no_name cs z name after h = omega (arith, z, ap varchar_len h.begins.whole, varchar_len-varname name after h.begins.is_varname)
+
+pub long_name : (cs name after : List ℕ) → BeginsWithVarname cs name after → 255 < length name → (other behind : List ℕ) → IsNamed cs other behind → ⊥
+long_name cs name after h l other behind k =
+    let short : length other ≤ 255 = k.short in
+    omega (arith, short, l, ap length (longest_same cs name after other behind h k.begins).0)
+
+pub bad_follower : (cs name after : List ℕ) → BeginsWithVarname cs name after → 0 < length after → begins_with_modifier after ≡ false → (other behind : List ℕ) → IsNamed cs other behind → ⊥
+bad_follower cs name after h l b other behind k =
+    let same : after ≡ behind = (longest_same cs name after other behind h k.begins).1 in
+    ⊎_elim
+    (λ (nil : behind ≡ []). omega (arith, l, ap length (same ∙ nil)))
+    (λ (begins : begins_with_modifier behind ≡ true). false≢true (sym b ∙ (ap begins_with_modifier same ∙ begins)))
+    k.follows
+
+named_same : (cs name after other behind : List ℕ) → IsNamed cs name after → IsNamed cs other behind → (name ≡ other) × (after ≡ behind)
+named_same cs name after other behind h k = longest_same cs name after other behind h.begins k.begins
+
+-- ---- specs
+
+spec_named : (cs : List ℕ) (spec : Spec) (h : IsSpec cs spec) → IsNamed cs spec.name h.after
+spec_named cs spec h =
+    let ends = modifier_ends h.after spec.cut spec.explode h.modified in
+    record { begins = record { whole = h.whole; is_varname = h.is_name.0; longest = ends.0 }; short = h.is_name.1; follows = ends.1 }
+
+spec_by_fields : (s t : Spec) → s.name ≡ t.name → s.cut ≡ t.cut → s.explode ≡ t.explode → s ≡ t
+spec_by_fields s t p q r =
+    let make : List ℕ → ℕ → Bool → Spec = λ n c x. record { name = n; cut = c; explode = x } in
+    ap (λ (n : List ℕ). make n s.cut s.explode) p ∙ (ap (λ (c : ℕ). make t.name c s.explode) q ∙ ap (λ (x : Bool). make t.name t.cut x) r)
+
+pub spec_same : (cs : List ℕ) (s t : Spec) → IsSpec cs s → IsSpec cs t → s ≡ t
+spec_same cs s t h k =
+    let same = named_same cs s.name h.after t.name k.after (spec_named cs s h) (spec_named cs t k) in
+    let rest = modifier_same h.after k.after s.cut t.cut s.explode t.explode same.1 h.modified k.modified in
+    spec_by_fields s t same.0 rest.0 rest.1
+
+-- a text with a fault is no spec
+pub spec_no_fault : (cs : List ℕ) (spec : Spec) (k : TemplateErrorKind) (d : ℕ) → IsSpec cs spec → IsSpecFault cs k d → ⊥
+spec_no_fault cs spec k d h (bad_name xs never) = never spec.name h.after (spec_named cs spec h)
+spec_no_fault cs spec k d h (bad_modifier xs other behind is never) =
+    let same = named_same cs spec.name h.after other behind (spec_named cs spec h) is in
+    never spec.cut spec.explode (subst (λ (t : List ℕ). IsModifier t spec.cut spec.explode) same.1 h.modified)
+
+pub spec_one_fault : (cs : List ℕ) (k l : TemplateErrorKind) (d e : ℕ) → IsSpecFault cs k d → IsSpecFault cs l e → (k ≡ l) × (d ≡ e)
+spec_one_fault cs k l d e (bad_name xs never) (bad_name ys other) = (refl, refl)
+spec_one_fault cs k l d e (bad_name xs never) (bad_modifier ys name after is other) = absurd (never name after is)
+spec_one_fault cs k l d e (bad_modifier xs name after is other) (bad_name ys never) = absurd (never name after is)
+spec_one_fault cs k l d e (bad_modifier xs name after is other) (bad_modifier ys next behind are never) =
+    (refl, ap length (named_same cs name after next behind is are).0)
+
+-- ---- lists of specs
+
+pub SpellsSpecs-more : (ss : List Spec) (front piece : List ℕ) (s : Spec) → SpellsSpecs front ss → Lacks 44 piece → IsSpec piece s → SpellsSpecs (front ++ (piece ++ 44 ∷ [])) (ss ++ s ∷ [])
+SpellsSpecs-more [] front piece s h l is = (piece, [], ap (λ (t : List ℕ). t ++ (piece ++ 44 ∷ [])) h, l, is, refl)
+SpellsSpecs-more (t ∷ ts) front piece s h l is =
+    (h.0, h.1 ++ (piece ++ 44 ∷ []), ap (λ (x : List ℕ). x ++ (piece ++ 44 ∷ [])) h.2 ∙ append_assoc h.0 (44 ∷ h.1) (piece ++ 44 ∷ []), h.3, h.4, SpellsSpecs-more ts h.1 piece s h.5 l is)
+
+pub spec_moves : (cs : List ℕ) (k : TemplateErrorKind) (d at n : ℕ) → IsSpecFault cs k d → moved_place k at n ≡ at + n
+spec_moves cs k d at n (bad_name xs h) = refl
+spec_moves cs k d at n (bad_modifier xs name after h i) = refl
+
+-- a comma behind a text cuts it as one within it does
+pub piece_cut : (rest : List ℕ) (end : ℕ) → end < length rest → get_or rest end 0 ≡ 44 → (x : List ℕ) × (rest ++ 44 ∷ [] ≡ take end rest ++ 44 ∷ x)
+piece_cut rest end l h =
+    let back : drop end rest ≡ 44 ∷ drop (end + 1) rest = drop_more rest end 0 l ∙ ap (λ (x : ℕ). x ∷ drop (end + 1) rest) h in
+    let whole : rest ≡ take end rest ++ 44 ∷ drop (end + 1) rest = sym (take-append-drop end rest) ∙ ap (λ (t : List ℕ). take end rest ++ t) back in
+    (drop (end + 1) rest ++ 44 ∷ [], ap (λ (t : List ℕ). t ++ 44 ∷ []) whole ∙ append_assoc (take end rest) (44 ∷ drop (end + 1) rest) (44 ∷ []))
+
+behind : (list rest : List ℕ) (done len : ℕ) → done ≤ length list → rest ≡ drop done list → (x : List ℕ) → rest ++ 44 ∷ [] ≡ take len rest ++ 44 ∷ x → drop done (list ++ 44 ∷ []) ≡ take len rest ++ 44 ∷ x
+behind list rest done len w r x e = drop-append-le done list (44 ∷ []) w ∙ (ap (λ (t : List ℕ). t ++ 44 ∷ []) (sym r) ∙ e)
+
+-- one more piece that is a spec
+pub specs_step : (list rest piece : List ℕ) (done len : ℕ) (ss : List Spec) (s : Spec) → done ≤ length list → rest ≡ drop done list → piece ≡ take len rest → len ≤ length rest → Lacks 44 (take len rest) → ((x : List ℕ) × (rest ++ 44 ∷ [] ≡ take len rest ++ 44 ∷ x)) → IsSpec piece s → SpellsSpecs (take done (list ++ 44 ∷ [])) ss → SpellsSpecs (take (done + (len + 1)) (list ++ 44 ∷ [])) (ss ++ s ∷ [])
+specs_step list rest piece done len ss s w r p within lacks cut is h =
+    let size : length (take len rest) ≡ len = length-take-le len rest within in
+    let front : take (len + 1) (take len rest ++ 44 ∷ cut.0) ≡ take len rest ++ 44 ∷ [] =
+    ap (λ (n : ℕ). take (n + 1) (take len rest ++ 44 ∷ cut.0)) (sym size) ∙ take-append-add (take len rest) (44 ∷ cut.0) 1 in
+    let all : take (done + (len + 1)) (list ++ 44 ∷ []) ≡ take done (list ++ 44 ∷ []) ++ (take len rest ++ 44 ∷ []) =
+    take-add done (len + 1) (list ++ 44 ∷ []) ∙ ap (λ (t : List ℕ). take done (list ++ 44 ∷ []) ++ t) (ap (λ (t : List ℕ). take (len + 1) t) (behind list rest done len w r cut.0 cut.1) ∙ front) in
+    subst (λ (t : List ℕ). SpellsSpecs t (ss ++ s ∷ [])) (sym all) (SpellsSpecs-more ss (take done (list ++ 44 ∷ [])) (take len rest) s h lacks (subst (λ (t : List ℕ). IsSpec t s) p is))
+
+-- a piece that is no spec
+pub specs_fault : (list rest piece : List ℕ) (done len : ℕ) (ss : List Spec) (e : TemplateError) → done ≤ length list → rest ≡ drop done list → piece ≡ take len rest → Lacks 44 (take len rest) → ((x : List ℕ) × (rest ++ 44 ∷ [] ≡ take len rest ++ 44 ∷ x)) → SpellsSpecs (take done (list ++ 44 ∷ [])) ss → IsFault e (IsSpecFault piece) → IsFault (moved e done) (IsListFault list)
+specs_fault list rest piece done len ss e w r p lacks cut h f =
+    let size : length (take done (list ++ 44 ∷ [])) ≡ done = length-take-le done (list ++ 44 ∷ []) (omega (arith, length-append list (44 ∷ []), w)) in
+    let whole : list ++ 44 ∷ [] ≡ take done (list ++ 44 ∷ []) ++ (take len rest ++ 44 ∷ cut.0) =
+    sym (take-append-drop done (list ++ 44 ∷ [])) ∙ ap (λ (t : List ℕ). take done (list ++ 44 ∷ []) ++ t) (behind list rest done len w r cut.0 cut.1) in
+    ⊎_elim
+    (λ m. inl (ap (λ (x : TemplateError). moved x done) m))
+    (λ g.
+    let place : moved_place e.kind e.at done ≡ length (take done (list ++ 44 ∷ [])) + e.at = spec_moves piece e.kind e.at e.at done g ∙ omega (arith, size) in
+    inr (take done (list ++ 44 ∷ []), take len rest, cut.0, ss, e.at, whole, h, lacks, subst (λ (t : List ℕ). IsSpecFault t e.kind e.at) p g, place))
+    f

@@ -1,0 +1,140 @@
+-- Parts one after another: what the reader needs of expressions, parts and their faults.
+use Rattle.std.proofs.Common.{◌≡◌, ℕ, ◌+◌, ◌<◌, ◌≤◌, ⊎_elim, inl, inr, suc, List, [], ◌∷◌, ◌++◌, length, get_or, drop, take, refl, ap, ◌∙◌, sym, subst, arith, append_assoc, append-nil, take-append-drop, true, encode_utf8_all}
+use Rattle.std.proofs.Math.Seq.{take-add, take-append-add}
+use Rattle.std.proofs.lemmas.Bool.{eqb-true}
+use Rattle.std.proofs.lemmas.List.{drop_more, length-take-le}
+use Rattle.vocabulary.specs.Writing.{written_ur}
+use Rattle.uri_grammar.specs.declared.error.TemplateError.{TemplateError}
+use Rattle.uri_grammar.specs.declared.error.TemplateErrorKind.{TemplateErrorKind}
+use Rattle.uri_grammar.specs.declared.error.TemplateErrorKind.TheVariants as kind
+use Rattle.uri_grammar.specs.declared.parts.Op.{Op}
+use Rattle.uri_grammar.specs.declared.parts.Part.{Part}
+use Rattle.uri_grammar.specs.declared.parts.Part.TheVariants.{Literal, Expression}
+use Rattle.uri_grammar.specs.declared.parts.Spec.{Spec}
+use Rattle.uri_grammar.specs.Literals.{AreLiterals}
+use Rattle.uri_grammar.specs.Specs.{Lacks}
+use Rattle.uri_grammar.specs.Expressions.{IsBody}
+use Rattle.uri_grammar.specs.Templates.{Spells}
+use Rattle.uri_grammar.specs.Faults.{IsBodyFault, begins_with_brace, IsPartFault, bad_literal, unclosed, empty_expression, bad_expression, IsFirstFault}
+use Rattle.uri_grammar.specs.Reading.{IsFault, IsExpression, EndsWithNoLiteral}
+use Rattle.uri_grammar.specs.Moved.{moved, moved_place}
+use Rattle.uri_grammar.proofs.ExpressionLemmas.{body_moves}
+
+-- ---- parts
+
+pub Spells-literal : (front raw : List ℕ) (parts : List Part) → Spells front parts → EndsWithNoLiteral parts → 0 < length raw → AreLiterals raw → Spells (front ++ raw) (parts ++ Literal (written_ur (encode_utf8_all raw)) ∷ [])
+Spells-literal front raw [] s e l h = (raw, [], ap (λ x. x ++ raw) s ∙ sym (append-nil raw), l, h, refl, tt, refl)
+Spells-literal front raw (Literal w ∷ []) s e l h = absurd e
+Spells-literal front raw (Literal w ∷ (Literal v ∷ parts)) s e l h = absurd s.6
+Spells-literal front raw (Literal w ∷ (Expression op specs ∷ parts)) s e l h =
+    (s.0, s.1 ++ raw, ap (λ x. x ++ raw) s.2 ∙ append_assoc s.0 s.1 raw, s.3, s.4, s.5, tt, Spells-literal s.1 raw (Expression op specs ∷ parts) s.7 e l h)
+Spells-literal front raw (Expression op specs ∷ []) s e l h =
+    (s.0, s.1 ++ raw, ap (λ x. x ++ raw) s.2 ∙ ap (λ x. 123 ∷ x) (append_assoc s.0 (125 ∷ s.1) raw), s.3, s.4, Spells-literal s.1 raw [] s.5 tt l h)
+Spells-literal front raw (Expression op specs ∷ (p ∷ parts)) s e l h =
+    (s.0, s.1 ++ raw, ap (λ x. x ++ raw) s.2 ∙ ap (λ x. 123 ∷ x) (append_assoc s.0 (125 ∷ s.1) raw), s.3, s.4, Spells-literal s.1 raw (p ∷ parts) s.5 e l h)
+
+pub Spells-expression : (front cs : List ℕ) (parts : List Part) (part : Part) → Spells front parts → IsExpression cs part → Spells (front ++ cs) (parts ++ part ∷ [])
+Spells-expression front cs [] (Literal w) s h = absurd h
+Spells-expression front cs [] (Expression op specs) s h = (h.0, [], ap (λ x. x ++ cs) s ∙ h.1, h.2, h.3, refl)
+Spells-expression front cs (Literal w ∷ []) (Literal v) s h = absurd h
+Spells-expression front cs (Literal w ∷ []) (Expression op specs) s h =
+    (s.0, s.1 ++ cs, ap (λ x. x ++ cs) s.2 ∙ append_assoc s.0 s.1 cs, s.3, s.4, s.5, tt, Spells-expression s.1 cs [] (Expression op specs) s.7 h)
+Spells-expression front cs (Literal w ∷ (Literal v ∷ parts)) part s h = absurd s.6
+Spells-expression front cs (Literal w ∷ (Expression op specs ∷ parts)) part s h =
+    (s.0, s.1 ++ cs, ap (λ x. x ++ cs) s.2 ∙ append_assoc s.0 s.1 cs, s.3, s.4, s.5, tt, Spells-expression s.1 cs (Expression op specs ∷ parts) part s.7 h)
+Spells-expression front cs (Expression op specs ∷ parts) part s h =
+    (s.0, s.1 ++ cs, ap (λ x. x ++ cs) s.2 ∙ ap (λ x. 123 ∷ x) (append_assoc s.0 (125 ∷ s.1) cs), s.3, s.4, Spells-expression s.1 cs parts part s.5 h)
+
+EndsWithNoLiteral-second : (p part : Part) → EndsWithNoLiteral (part ∷ []) → EndsWithNoLiteral (p ∷ part ∷ [])
+EndsWithNoLiteral-second (Literal w) part h = h
+EndsWithNoLiteral-second (Expression op specs) part h = h
+
+EndsWithNoLiteral-skip : (p q : Part) (parts : List Part) → EndsWithNoLiteral (q ∷ parts) → EndsWithNoLiteral (p ∷ q ∷ parts)
+EndsWithNoLiteral-skip (Literal w) q parts h = h
+EndsWithNoLiteral-skip (Expression op specs) q parts h = h
+
+pub EndsWithNoLiteral-expression : (parts : List Part) (part : Part) (cs : List ℕ) → IsExpression cs part → EndsWithNoLiteral (parts ++ part ∷ [])
+EndsWithNoLiteral-expression [] (Literal w) cs h = absurd h
+EndsWithNoLiteral-expression [] (Expression op specs) cs h = tt
+EndsWithNoLiteral-expression (p ∷ []) part cs h = EndsWithNoLiteral-second p part (EndsWithNoLiteral-expression [] part cs h)
+EndsWithNoLiteral-expression (p ∷ (q ∷ parts)) part cs h = EndsWithNoLiteral-skip p q (parts ++ part ∷ []) (EndsWithNoLiteral-expression (q ∷ parts) part cs h)
+
+-- ---- expressions
+
+length-take_within : (n : ℕ) (xs : List ℕ) → n < length xs → length (take n xs) ≡ n
+length-take_within n xs l = length-take-le n xs (omega arith)
+
+-- the text up to the brace at a place, and what follows it
+braced : (cs inner : List ℕ) (end : ℕ) → begins_with_brace cs ≡ true → inner ≡ drop 1 cs → end < length inner → get_or inner end 0 ≡ 125 → cs ≡ 123 ∷ take end inner ++ 125 ∷ drop (end + 1) inner
+braced [] inner end b e l h = cc
+braced (c ∷ cs) inner end b e l h =
+    let open_brace : c ≡ 123 = eqb-true c 123 b in
+    let rest : drop end inner ≡ 125 ∷ drop (end + 1) inner = drop_more inner end 0 l ∙ ap (λ x. x ∷ drop (end + 1) inner) h in
+    let whole : take end inner ++ 125 ∷ drop (end + 1) inner ≡ cs = ap (λ x. take end inner ++ x) (sym rest) ∙ (take-append-drop end inner ∙ e) in
+    ap (λ x. x ∷ cs) open_brace ∙ ap (λ x. 123 ∷ x) (sym whole)
+
+pub IsExpression-braced : (cs inner : List ℕ) (end : ℕ) (op : Op) (specs : List Spec) → begins_with_brace cs ≡ true → inner ≡ drop 1 cs → end < length inner → get_or inner end 0 ≡ 125 → Lacks 125 (take end inner) → IsBody (take end inner) op specs → IsExpression (take (end + 2) cs) (Expression op specs)
+IsExpression-braced cs inner end op specs b e l h lacks ok =
+    let whole = braced cs inner end b e l h in
+    let size : length (take end inner) ≡ end = length-take_within end inner l in
+    (take end inner, front cs (take end inner) (drop (end + 1) inner) end size whole, lacks, ok)
+  where
+    front : (cs body rest : List ℕ) (end : ℕ) → length body ≡ end → cs ≡ 123 ∷ body ++ 125 ∷ rest → take (end + 2) cs ≡ 123 ∷ body ++ 125 ∷ []
+    front cs body rest end size whole =
+        let n : end + 2 ≡ suc (length body + 1) = omega arith in
+        rw (whole, n) (ap (λ x. 123 ∷ x) (take-append-add body (125 ∷ rest) 1))
+
+-- ---- one step of reading
+
+pub Spells-more_literal : (cs raw : List ℕ) (done len : ℕ) (parts parts' : List Part) → raw ≡ take len (drop done cs) → len ≤ length (drop done cs) → 0 < len → AreLiterals (take len (drop done cs)) → parts' ≡ parts ++ Literal (written_ur (encode_utf8_all raw)) ∷ [] → EndsWithNoLiteral parts → Spells (take done cs) parts → Spells (take (done + len) cs) parts'
+Spells-more_literal cs raw done len parts parts' r w l a e n s =
+    let some : 0 < length (take len (drop done cs)) = omega (arith, length-take-le len (drop done cs) w) in
+    rw (take-add, e, r) (Spells-literal (take done cs) (take len (drop done cs)) parts s n some a)
+
+pub Spells-more_expression : (cs : List ℕ) (done len : ℕ) (part : Part) (parts parts' : List Part) → IsExpression (take len (drop done cs)) part → parts' ≡ parts ++ part ∷ [] → Spells (take done cs) parts → Spells (take (done + len) cs) parts'
+Spells-more_expression cs done len part parts parts' h e s =
+    rw (take-add, e) (Spells-expression (take done cs) (take len (drop done cs)) parts part s h)
+
+-- ---- faults
+
+part_moves : (cs : List ℕ) (k : TemplateErrorKind) (d at n : ℕ) → IsPartFault cs k d → moved_place k at n ≡ at + n
+part_moves cs k d at n (bad_literal xs l i b) = refl
+part_moves cs k d at n (unclosed xs l) = refl
+part_moves cs k d at n (empty_expression xs) = refl
+part_moves cs k d at n (bad_expression body rest k' d' l lack f) = body_moves body k d' at n f
+
+pub IsPartFault-body : (cs inner : List ℕ) (end : ℕ) (e : TemplateError) → begins_with_brace cs ≡ true → inner ≡ drop 1 cs → end < length inner → 0 < end → get_or inner end 0 ≡ 125 → Lacks 125 (take end inner) → IsFault e (IsBodyFault (take end inner)) → IsFault (moved e 1) (IsPartFault cs)
+IsPartFault-body cs inner end e b is l pos h lacks f =
+    ⊎_elim
+    (λ m. inl (ap (λ (x : TemplateError). moved x 1) m))
+    (λ g.
+    let whole = braced cs inner end b is l h in
+    let some : 0 < length (take end inner) = omega (arith, length-take_within end inner l, pos) in
+    let place : 1 + e.at ≡ moved_place e.kind e.at 1 = omega (arith, body_moves (take end inner) e.kind e.at e.at 1 g) in
+    inr (subst (λ (t : List ℕ). IsPartFault t e.kind (moved_place e.kind e.at 1)) (sym whole) (subst (λ (n : ℕ). IsPartFault (123 ∷ take end inner ++ 125 ∷ drop (end + 1) inner) e.kind n) place (bad_expression (take end inner) (drop (end + 1) inner) e.kind e.at some lacks g))))
+    f
+
+pub brace_behind : (cs : List ℕ) → begins_with_brace cs ≡ true → cs ≡ 123 ∷ drop 1 cs
+brace_behind [] b = cc
+brace_behind (c ∷ cs) b = ap (λ (x : ℕ). x ∷ cs) (eqb-true c 123 b)
+
+pub IsPartFault-unclosed : (cs inner : List ℕ) → begins_with_brace cs ≡ true → inner ≡ drop 1 cs → Lacks 125 inner → IsPartFault cs kind.Unclosed 0
+IsPartFault-unclosed cs inner b is l =
+    subst (λ (t : List ℕ). IsPartFault t kind.Unclosed 0) (sym (brace_behind cs b ∙ ap (λ (t : List ℕ). 123 ∷ t) (sym is))) (unclosed inner l)
+
+pub IsPartFault-empty : (cs inner : List ℕ) (end : ℕ) → begins_with_brace cs ≡ true → inner ≡ drop 1 cs → end < length inner → get_or inner end 0 ≡ 125 → end ≡ 0 → IsPartFault cs kind.EmptyExpression 0
+IsPartFault-empty cs inner end b is l h z =
+    let whole = braced cs inner end b is l h in
+    let nil : take end inner ≡ [] = ap (λ (n : ℕ). take n inner) z in
+    subst (λ (t : List ℕ). IsPartFault t kind.EmptyExpression 0) (sym (whole ∙ ap (λ (t : List ℕ). 123 ∷ t ++ 125 ∷ drop (end + 1) inner) nil)) (empty_expression (drop (end + 1) inner))
+
+-- a fault behind what was read is the first fault of the text
+pub IsFirstFault-after : (cs : List ℕ) (done : ℕ) (parts : List Part) (e : TemplateError) → Spells (take done cs) parts → IsFault e (IsPartFault (drop done cs)) → IsFault (moved e (length (encode_utf8_all (take done cs)))) (IsFirstFault cs)
+IsFirstFault-after cs done parts e s f =
+    ⊎_elim
+    (λ m. inl (ap (λ (x : TemplateError). moved x (length (encode_utf8_all (take done cs)))) m))
+    (λ g.
+    let place : moved_place e.kind e.at (length (encode_utf8_all (take done cs))) ≡ length (encode_utf8_all (take done cs)) + e.at =
+    part_moves (drop done cs) e.kind e.at e.at (length (encode_utf8_all (take done cs))) g ∙ omega arith in
+    inr (take done cs, drop done cs, parts, e.at, sym (take-append-drop done cs), s, g, place))
+    f

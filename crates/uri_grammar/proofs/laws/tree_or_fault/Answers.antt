@@ -1,0 +1,5 @@
+use Rattle.uri_grammar.proofs.ChoiceLemmas.{tree_or_fault}
+use Rattle.uri_grammar.proofs.laws.tree_or_fault.Goals as goal
+
+pub returns : goal.returns
+returns c = tree_or_fault

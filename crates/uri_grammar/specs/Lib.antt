@@ -1,0 +1,10 @@
+pub mod Literals
+pub mod Names
+pub mod Specs
+pub mod Expressions
+pub mod Templates
+pub mod Faults
+pub mod Texts
+pub mod Promises
+pub mod Reading
+pub mod Moved

@@ -1,0 +1,13 @@
+-- A fault seen from further left.
+use Rattle.std.specs.Prelude.{ℕ, ◌+◌}
+use Rattle.uri_grammar.specs.declared.error.TemplateError.{TemplateError}
+use Rattle.uri_grammar.specs.declared.error.TemplateErrorKind.{TemplateErrorKind}
+use Rattle.uri_grammar.specs.declared.error.TemplateErrorKind.TheVariants.{NoMemory}
+
+-- a fault's place is so many bytes further; want of memory has none
+abbrev pub moved_place : TemplateErrorKind → ℕ → ℕ → ℕ
+moved_place NoMemory at front = at
+moved_place other at front = at + front
+
+abbrev pub moved : TemplateError → ℕ → TemplateError
+moved e front = record { kind = e.kind; at = moved_place e.kind e.at front }

@@ -1,0 +1,35 @@
+//! What holds of every text: it has one tree or one first fault, and never both.
+
+ghost use Rattle.std.specs.Prelude.{◌≡◌, ◌⊎◌, ℕ, List, All};
+ghost use Rattle.std.specs.Str.{IsUtf8};
+ghost use Rattle.vocabulary.specs.Texts.{Text};
+ghost use Rattle.uri_grammar.specs.declared.error.TemplateErrorKind.{TemplateErrorKind};
+ghost use Rattle.uri_grammar.specs.declared.parts.Part.{Part};
+ghost use Rattle.uri_grammar.specs.Texts.{IsTemplate, IsRefused};
+ghost use Rattle.uri_grammar.specs.Promises.{IsSoundPart};
+
+/// A text has at most one tree.
+pub fn one_tree()
+    ensures { (text : Text) (parts others : List Part) → IsTemplate text parts → IsTemplate text others → parts ≡ others }
+{}
+
+/// A text with a tree has no fault.
+pub fn tree_without_fault()
+    ensures { (text : Text) (parts : List Part) (kind : TemplateErrorKind) (at : ℕ) → IsTemplate text parts → IsRefused text kind at → ⊥ }
+{}
+
+/// A text has at most one first fault.
+pub fn one_first_fault()
+    ensures { (text : Text) (kind other : TemplateErrorKind) (at place : ℕ) → IsRefused text kind at → IsRefused text other place → (kind ≡ other) × (at ≡ place) }
+{}
+
+/// A text has a tree or a fault.
+pub fn tree_or_fault()
+    ensures { (text : Text) → IsUtf8 text → ((parts : List Part) × IsTemplate text parts) ⊎ ((kind : TemplateErrorKind) × (at : ℕ) × IsRefused text kind at) }
+{}
+
+/// A tree keeps to what the code above counts on: URI text in its literals and names, a variable in each
+/// expression, cuts of at most 9,999.
+pub fn trees_are_sound()
+    ensures { (text : Text) (parts : List Part) → IsTemplate text parts → All IsSoundPart parts }
+{}

@@ -1,0 +1,23 @@
+//! The grammar of URI Templates (RFC 6570, section 2): a template's text, its tree, its first fault,
+//! and the laws of the grammar.
+//!
+//! Differences from RFC 6570: the apostrophe is a literal, a template has at most 8,192 bytes, and a name
+//! at most 255.
+#![tactic(auto)]
+
+pub use crate::error::{TemplateError, TemplateErrorKind};
+pub use crate::names::{MAX_NAME_BYTES, is_name};
+pub use crate::parts::{Op, Part, Spec, Specs, Text};
+pub use crate::template::{MAX_BYTES, Template};
+
+mod characters;
+mod error;
+mod expressions;
+pub mod laws;
+mod literals;
+mod names;
+mod parts;
+mod template;
+#[cfg(test)]
+mod tests;
+mod variables;

@@ -1,0 +1,121 @@
+ghost use Rattle.std.specs.Prelude.{◌≡◌, string_bytes};
+
+use std::marker::Model;
+
+/// A text of a tree, which contracts see as its bytes.
+#[derive(Debug, Drop)]
+pub struct Text {
+    string: String,
+}
+
+impl Model for Text {
+    ghost use Rattle.std.specs.Prelude.{string_bytes};
+    ghost use Rattle.vocabulary.specs.Texts.{Text};
+
+    ghost Value = { Text };
+
+    ghost view = { λ text. string_bytes text.string };
+}
+
+impl Text {
+    /// A text with the bytes of the string.
+    pub fn new(string: String) -> Text
+        ensures { result ≡ string_bytes string }
+    {
+        Text { string }
+    }
+
+    /// The text, lent.
+    pub fn as_str(&self) -> &str
+        ensures { result.now ≡ self.now }
+    {
+        self.string.as_str()
+    }
+
+    /// The text, handed out.
+    pub fn into_string(self) -> String
+        ensures { string_bytes result ≡ self }
+    {
+        self.string
+    }
+}
+
+/// How an expression writes its values (RFC 6570, section 2.2).
+#[derive(Clone, Copy, Debug, PartialEq, Eq)]
+pub enum Op {
+    /// No operator.
+    Simple,
+    /// `+`
+    Plus,
+    /// `#`
+    Hash,
+    /// `.`
+    Dot,
+    /// `/`
+    Slash,
+    /// `;`
+    Semicolon,
+    /// `?`
+    Question,
+    /// `&`
+    Ampersand,
+}
+
+/// A variable of an expression and its modifier (RFC 6570, sections 2.3 and 2.4).
+#[derive(Debug, Drop)]
+pub struct Spec {
+    /// At most 255 bytes, all of them ASCII. Triplets in it are not decoded.
+    pub name: Text,
+    /// The most code points of the value that are taken, 1 to 9,999; 0 where there is no prefix.
+    pub cut: u16,
+    /// Whether the variable has the modifier `*`.
+    pub explode: bool,
+}
+
+/// The variables of an expression, which contracts see as a list.
+#[derive(Debug, Drop)]
+pub struct Specs {
+    list: Vec<Spec>,
+}
+
+impl Model for Specs {
+    ghost use Rattle.std.specs.Prelude.{List};
+    ghost use Rattle.uri_grammar.specs.declared.parts.Spec.{Spec};
+
+    ghost Value = { List Spec };
+
+    ghost view = { λ specs. specs.list.items };
+}
+
+impl Specs {
+    /// The variables in the order of the list.
+    pub fn new(list: Vec<Spec>) -> Specs
+        ensures { result ≡ list.items }
+    {
+        Specs { list }
+    }
+
+    /// The variables in their order, lent.
+    pub fn as_slice(&self) -> &[Spec]
+        ensures { result.now ≡ self.now }
+    {
+        &self.list
+    }
+
+    /// The variables in their order, handed out.
+    pub fn into_vec(self) -> Vec<Spec>
+        ensures { result.items ≡ self }
+    {
+        self.list
+    }
+}
+
+/// A part of a template.
+#[derive(Debug, Drop)]
+pub enum Part {
+    /// A run of literals in its written form: reserved and unreserved characters and triplets are
+    /// copied, any other character is written as the triplets of its UTF-8 (RFC 6570, section 3.1).
+    Literal(Text),
+    /// What stands between braces.
+    Expression { op: Op, specs: Specs },
+}

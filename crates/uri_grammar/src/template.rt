@@ -1,0 +1,100 @@
+ghost use Rattle.std.specs.Prelude.{◌≡◌, ◌≤◌, ◌⊎◌, All, IfOk, IfErr, length, encode_utf8_all};
+ghost use Rattle.uri_grammar.specs.Templates.{Spells};
+ghost use Rattle.uri_grammar.specs.Faults.{IsFirstFault};
+ghost use Rattle.uri_grammar.specs.Reading.{IsFault};
+ghost use Rattle.uri_grammar.specs.Texts.{IsTemplate, IsRefused};
+ghost use Rattle.uri_grammar.specs.Promises.{IsSoundPart};
+ghost use Rattle.uri_grammar.specs.declared.error.TheConstants.{NO_MEMORY};
+
+use crate::characters::byte_len;
+use crate::error::{TemplateError, TemplateErrorKind};
+use crate::expressions::expression;
+use crate::literals::{literal, literals_len};
+use crate::parts::{Part, Text};
+use std::alloc::Global;
+use std::marker::Model;
+
+/// The most bytes that a template has.
+pub const MAX_BYTES: usize = 8192;
+
+/// A template: its text and its tree (RFC 6570, section 2).
+#[derive(Debug, Drop)]
+pub struct Template {
+    text: Text,
+    parts: Vec<Part>,
+}
+
+impl Model for Template {
+    ghost use Rattle.uri_grammar.specs.Texts.{Parsed, IsTemplate};
+
+    ghost Value = { Parsed };
+
+    ghost view = { λ template. record { text = template.text; parts = template.parts.items } };
+
+    ghost invariant = { λ template. IsTemplate template.text template.parts.items };
+}
+
+impl Template {
+    /// Reads a template of at most 8,192 bytes. Any other text is refused whole, by the kind and the
+    /// place of its first fault.
+    pub fn parse(alloc: Global, text: &str) -> Result<Template, TemplateError>
+        ensures text { IfOk result (λ template. template.text ≡ text.now) }
+        ensures ok { IfOk result (λ template. IsTemplate text.now template.parts) }
+        ensures err { IfErr result (λ e. (e ≡ NO_MEMORY) ⊎ IsRefused text.now e.kind e.at) }
+    {
+        if text.len() > MAX_BYTES {
+            return Err(TemplateError::new(TemplateErrorKind::TooLong, MAX_BYTES));
+        }
+        let chars: Vec<char> = text.chars().collect(alloc)?;
+        match read(alloc, &chars) {
+            Ok(parts) => Ok(Template {
+                text: Text::new(String::from_str(alloc, text)?),
+                parts,
+            }),
+            Err(e) => Err(e),
+        }
+    }
+
+    /// The text that was parsed.
+    pub fn text(&self) -> &str
+        ensures { result.now ≡ self.now.text }
+    {
+        self.text.as_str()
+    }
+
+    /// The tree: literals, none empty and none beside another, and expressions.
+    pub fn parts(&self) -> &[Part]
+        ensures parts { result.now ≡ self.now.parts }
+        ensures spelled { IsTemplate self.now.text self.now.parts }
+        ensures sound { All IsSoundPart self.now.parts }
+    {
+        &self.parts
+    }
+}
+
+// The parts that the characters spell, read from the left.
+fn read(alloc: Global, chars: &[char]) -> Result<Vec<Part>, TemplateError>
+    requires { length (encode_utf8_all chars.now) ≤ 8192 }
+    ensures ok { IfOk result (λ parts. Spells chars.now parts.items) }
+    ensures err { IfErr result (λ e. IsFault e (IsFirstFault chars.now)) }
+{
+    let mut parts = Vec::new(alloc);
+    let mut done = 0;
+    while done < chars.len() {
+        let (front, rest) = chars.split_at(done);
+        let len = literals_len(rest);
+        if len > 0 {
+            parts.push(literal(alloc, rest.split_at(len).0)?)?;
+            done += len;
+        } else {
+            match expression(alloc, rest) {
+                Ok((part, len)) => {
+                    parts.push(part)?;
+                    done += len;
+                }
+                Err(e) => return Err(e.after(byte_len(front))),
+            }
+        }
+    }
+    Ok(parts)
+}
