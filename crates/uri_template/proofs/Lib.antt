@@ -1,0 +1,4 @@
+pub mod Led
+pub mod UriExpansions
+pub mod Undefined
+mod Examples

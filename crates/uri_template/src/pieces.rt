@@ -1,0 +1,158 @@
+//! The piece of a variable (RFC 6570, section 3.2.1).
+
+ghost use Rattle.std.specs.Prelude.{◌≡◌, ◌≤◌, ◌<◌, ◌==◌, ◌++◌, [], length, map, slice_index_or, OnOk, string_bytes};
+ghost use Rattle.vocabulary.specs.Writing.{written};
+ghost use Rattle.vocabulary.specs.Environment.{members_in};
+ghost use Rattle.uri_template.specs.Expansion.{item, prefix, joined_by, list_piece};
+ghost use Rattle.uri_template.specs.Pieces.{list_head, member_text, member_sep, lead};
+
+use crate::style::Style;
+use crate::variables::Variables;
+use std::alloc::AllocError;
+use target_vars::MAX_BYTES;
+use uri_grammar::Spec;
+use uri_text::{cut, encode};
+use vocabulary::Writing;
+
+#[tactic(auto, using(vocabulary::proofs::Written::length_laws))]
+fn push_written(out: &mut String, text: &[u8], writing: Writing) -> Result<(), AllocError>
+    requires { length text.now ≤ MAX_BYTES }
+    ensures { OnOk result (string_bytes out.new ≡ string_bytes out.old ++ written writing text.now) }
+{
+    out.reserve(3 * text.len())?;
+    encode(out, text, writing);
+    Ok(())
+}
+
+// A value, with its name where values are named.
+fn push_item(out: &mut String, style: &Style, name: &str, value: &[u8]) -> Result<(), AllocError>
+    requires { length value.now ≤ MAX_BYTES }
+    ensures { OnOk result (string_bytes out.new ≡ string_bytes out.old ++ item style.now name.now value.now) }
+{
+    if !style.named {
+        return push_written(out, value, style.writing);
+    }
+    out.push_str(name)?;
+    if value.is_empty() {
+        return out.push_str(style.ifemp);
+    }
+    out.push_str("=")?;
+    push_written(out, value, style.writing)
+}
+
+// The first n items of a value; 0 is no prefix.
+fn prefix(text: &str, n: u16, writing: Writing) -> &[u8]
+    ensures value { result.now ≡ prefix writing n text.now }
+    ensures within { length result.now ≤ length text.now }
+{
+    if n == 0 {
+        return text.as_bytes();
+    }
+    match writing {
+        Writing::U => cut(text.as_bytes(), n as usize, false),
+        Writing::UR => cut(text.as_bytes(), n as usize, true),
+    }
+}
+
+/// Appends the piece of a variable that stands for a text, with `lead` in front.
+pub fn push_text(
+    out: &mut String,
+    lead: &str,
+    style: &Style,
+    spec: &Spec,
+    text: &str,
+) -> Result<(), AllocError>
+    requires { length text.now ≤ MAX_BYTES }
+    ensures { OnOk result (string_bytes out.new
+        ≡ string_bytes out.old ++ (lead.now ++ item style.now spec.now.name (prefix style.now.writing spec.now.cut text.now))) }
+{
+    out.push_str(lead)?;
+    push_item(
+        out,
+        style,
+        spec.name.as_str(),
+        prefix(text, spec.cut, style.writing),
+    )
+}
+
+// A member: an item of its own where the list is exploded.
+fn push_member(out: &mut String, style: &Style, spec: &Spec, member: &str) -> Result<(), AllocError>
+    requires { length member.now ≤ MAX_BYTES }
+    ensures { OnOk result (string_bytes out.new ≡ string_bytes out.old ++ member_text style.now spec.now.name spec.now.explode member.now) }
+{
+    if spec.explode {
+        push_item(out, style, spec.name.as_str(), member.as_bytes())
+    } else {
+        push_written(out, member.as_bytes(), style.writing)
+    }
+}
+
+// What stands between two members.
+fn member_sep(style: &Style, explode: bool) -> &'static str
+    ensures { result.now ≡ member_sep style.now explode }
+{
+    if explode { style.sep } else { "," }
+}
+
+// Member `i`, with the separator in front unless it is the first.
+fn push_nth<V: Variables>(
+    out: &mut String,
+    style: &Style,
+    spec: &Spec,
+    variables: &V,
+    i: usize,
+) -> Result<(), AllocError>
+    requires { i < length (members_in (V.look variables.now spec.now.name)) }
+    ensures { OnOk result (string_bytes out.new ≡ string_bytes out.old
+        ++ (lead [] (member_sep style.now spec.now.explode) (i == 0)
+        ++ member_text style.now spec.now.name spec.now.explode (slice_index_or (members_in (V.look variables.now spec.now.name)) i []))) }
+{
+    if i > 0 {
+        out.push_str(member_sep(style, spec.explode))?;
+    }
+    let member = variables.member(spec.name.as_str(), i).unwrap();
+    push_member(out, style, spec, member)
+}
+
+fn push_members<V: Variables>(
+    out: &mut String,
+    style: &Style,
+    spec: &Spec,
+    variables: &V,
+) -> Result<(), AllocError>
+    ensures { OnOk result (string_bytes out.new ≡ string_bytes out.old
+        ++ joined_by (member_sep style.now spec.now.explode)
+        (map (member_text style.now spec.now.name spec.now.explode) (members_in (V.look variables.now spec.now.name)))) }
+{
+    for i in 0..variables.count(spec.name.as_str()) {
+        push_nth(out, style, spec, variables, i)?;
+    }
+    Ok(())
+}
+
+// The name before the members of a list that is not exploded.
+fn push_head(out: &mut String, style: &Style, spec: &Spec) -> Result<(), AllocError>
+    ensures { OnOk result (string_bytes out.new ≡ string_bytes out.old ++ list_head style.now spec.now.name spec.now.explode) }
+{
+    if spec.explode || !style.named {
+        return Ok(());
+    }
+    out.push_str(spec.name.as_str())?;
+    out.push_str("=")
+}
+
+/// Appends the piece of a variable that stands for a list, with `lead` in front.
+pub fn push_list<V: Variables>(
+    out: &mut String,
+    lead: &str,
+    style: &Style,
+    spec: &Spec,
+    variables: &V,
+) -> Result<(), AllocError>
+    ensures { OnOk result (string_bytes out.new ≡ string_bytes out.old
+        ++ (lead.now ++ list_piece style.now spec.now.name spec.now.explode (members_in (V.look variables.now spec.now.name)))) }
+{
+    out.push_str(lead)?;
+    push_head(out, style, spec)?;
+    push_members(out, style, spec, variables)
+}
