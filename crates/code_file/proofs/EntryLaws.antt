@@ -1,0 +1,260 @@
+-- The entries of each table can be told apart, and each has one fault at most.
+use Rattle.std.proofs.Common.{◌≡◌, ◌<◌, ◌≤◌, ◌+◌, ◌*◌, ◌/◌, ◌%◌, ◌^◌, ◌⊎◌, ℕ, Bool, true, false, [], ◌∷◌, ◌++◌, length, take, get_or, refl, sym, ◌∙◌, ap, subst, inl, inr, arith, length-append}
+use Rattle.std.specs.Prelude.{Result, Ok, Err, nat_lt, nat_le, ◌&&◌, ◌==◌, slice_index, if◌then◌else◌}
+use Rattle.std.proofs.lemmas.Bool.{cases_order, cases_Bool, lt-ltb, le-ltb, le-leb, ltb-true, leb-true, and_from, and_parts}
+use Rattle.std.proofs.lemmas.List.{length-take-le, get_or-take}
+use Rattle.std.proofs.Math.Seq.{take-append_seam}
+use Rattle.vocabulary.specs.Texts.{Text}
+use Rattle.vocabulary.specs.Code.{Name, Literal}
+use Rattle.code_file.specs.declared.error.CodeError.{CodeError}
+use Rattle.code_file.specs.declared.error.CodeErrorKind.TheVariants.{BadKind, BadName, BadLiteral}
+use Rattle.code_file.specs.Grammar.{kind_byte, name_field, literal_field, IsNameByte, IsName, IsTextOf, IsLiteral}
+use Rattle.code_file.specs.Fault.{fault, cut_short, IsFirstWrong, IsNameLength, IsKindFault, no_kind, bad_kind, IsNameFault, in_kind, no_length, bad_length, no_text, bad_text, IsLiteralFault}
+use Rattle.code_file.proofs.StageLemmas.{IsApart}
+
+-- ---- lists and kinds
+
+-- fronts of one length
+pub same_front : (a b s t : Text) → length a ≡ length b → a ++ s ≡ b ++ t → (a ≡ b) × (s ≡ t)
+same_front [] [] s t n h = (refl, h)
+same_front [] (y ∷ b) s t n h = absurd (omega arith)
+same_front (x ∷ a) [] s t n h = absurd (omega arith)
+same_front (x ∷ a) (y ∷ b) s t n h =
+    let head : x ≡ y = cc in
+    let tail : a ++ s ≡ b ++ t = cc in
+    let more = same_front a b s t (omega arith) tail in
+    (ap (λ (z : ℕ). z ∷ a) head ∙ ap (λ (l : Text). y ∷ l) more.0, more.1)
+
+pub same_kind : (b d : Bool) → kind_byte b ≡ kind_byte d → b ≡ d
+same_kind true true h = refl
+same_kind true false h = absurd (omega arith)
+same_kind false true h = absurd (omega arith)
+same_kind false false h = refl
+
+kind_small : (b : Bool) → kind_byte b ≤ 1
+kind_small true = omega arith
+kind_small false = omega arith
+
+kind_no_fault : (b : Bool) (rest : Text) (e : CodeError) → IsKindFault (kind_byte b ∷ rest) e → ⊥
+kind_no_fault b rest e (no_kind h) = cc
+kind_no_fault b rest e (bad_kind kind t h k) =
+    let same : kind_byte b ≡ kind = cc in omega (arith, kind_small b, same)
+
+-- ---- names
+
+-- what bytes say of the name at their front, short of its text: that text, or a fault
+abbrev name_shape_from : ℕ → ℕ → Text → Result Text CodeError
+name_shape_from kind len rest =
+    if (nat_lt 0 len && nat_le len 255)
+    then (if nat_lt (length rest) len then Err (cut_short (kind ∷ len ∷ rest)) else Ok (take len rest))
+    else Err (fault BadName 1)
+
+abbrev name_shape : Text → Result Text CodeError
+name_shape [] = Err (cut_short [])
+name_shape (kind ∷ []) = if nat_lt 1 kind then Err (fault BadKind 0) else Err (cut_short (kind ∷ []))
+name_shape (kind ∷ len ∷ rest) = if nat_lt 1 kind then Err (fault BadKind 0) else name_shape_from kind len rest
+
+bad_kind_shape : (kind : ℕ) (rest : Text) → 1 < kind → name_shape (kind ∷ rest) ≡ Err (fault BadKind 0)
+bad_kind_shape kind [] k = rw (lt-ltb 1 kind k) refl
+bad_kind_shape kind (len ∷ rest) k = rw (lt-ltb 1 kind k) refl
+
+no_length_shape : (list : Bool) → name_shape (kind_byte list ∷ []) ≡ Err (cut_short (kind_byte list ∷ []))
+no_length_shape true = refl
+no_length_shape false = refl
+
+good_kind_shape : (list : Bool) (len : ℕ) (rest : Text) → name_shape (kind_byte list ∷ len ∷ rest) ≡ name_shape_from (kind_byte list) len rest
+good_kind_shape true len rest = refl
+good_kind_shape false len rest = refl
+
+good_length : (len : ℕ) → IsNameLength len → (nat_lt 0 len && nat_le len 255) ≡ true
+good_length len n = and_from (nat_lt 0 len) (nat_le len 255) (lt-ltb 0 len n.0) (le-leb len 255 n.1)
+
+not_length : (len : ℕ) → (IsNameLength len → ⊥) → (nat_lt 0 len && nat_le len 255) ≡ false
+not_length len bad = elim (cases_Bool (nat_lt 0 len && nat_le len 255)) [
+  | inl is ↦ let p = and_parts (nat_lt 0 len) (nat_le len 255) is in absurd (bad (ltb-true 0 len p.0, leb-true len 255 p.1))
+  | inr isnt ↦ isnt
+]
+
+text_shape : (n : Name) (rest : Text) → IsNameLength (length n.text) → name_shape (name_field n ++ rest) ≡ Ok n.text
+text_shape n rest len =
+    let enough : nat_lt (length (n.text ++ rest)) (length n.text) ≡ false =
+    le-ltb (length (n.text ++ rest)) (length n.text) (omega (arith, length-append n.text rest)) in
+    good_kind_shape n.list (length n.text) (n.text ++ rest)
+    ∙ rw (good_length (length n.text) len, enough, take-append_seam n.text rest) refl
+
+-- a fault of a name is one of its shape, or a wrong byte of its text
+abbrev IsShapedName : Text → CodeError → Type 0
+IsShapedName bytes e =
+    (name_shape bytes ≡ Err e)
+    ⊎ ((text : Text) × (place : ℕ) × (name_shape bytes ≡ Ok text) × IsFirstWrong text place × (e ≡ fault BadName (2 + place)))
+
+shaped_name : {bytes : Text} {e : CodeError} → IsNameFault bytes e → IsShapedName bytes e
+shaped_name {bytes = bytes} (in_kind e (no_kind h)) = inl (subst (λ (b : Text). name_shape b ≡ Err (cut_short b)) (sym h) refl)
+shaped_name {bytes = bytes} (in_kind e (bad_kind kind rest h k)) = inl (ap name_shape h ∙ bad_kind_shape kind rest k)
+shaped_name {bytes = bytes} (no_length list h) =
+    inl (subst (λ (b : Text). name_shape b ≡ Err (cut_short b)) (sym h) (no_length_shape list))
+shaped_name {bytes = bytes} (bad_length list len rest h bad) =
+    inl (ap name_shape h ∙ good_kind_shape list len rest ∙ rw (not_length len bad) refl)
+shaped_name {bytes = bytes} (no_text list len rest h n short) =
+    inl (subst (λ (b : Text). name_shape b ≡ Err (cut_short b)) (sym h)
+    (good_kind_shape list len rest ∙ rw (good_length len n, lt-ltb (length rest) len short) refl))
+shaped_name {bytes = bytes} (bad_text name rest place h n w) =
+    inr (name.text, place, ap name_shape h ∙ text_shape name rest n, w, refl)
+
+one_wrong : (text : Text) (i j : ℕ) → IsFirstWrong text i → IsFirstWrong text j → i ≡ j
+one_wrong text i j p q = elim (cases_order i j) [
+  | inl same ↦ same
+  | inr other ↦ elim other [
+    | inl less ↦ absurd (p.wrong (earlier text i j less q))
+    | inr more ↦ absurd (q.wrong (earlier text j i more p))
+  ]
+]
+  where
+    earlier : (text : Text) (i j : ℕ) → i < j → IsFirstWrong text j → IsNameByte (slice_index text i)
+    earlier text i j less q =
+        let len : length (take j text) ≡ j = length-take-le j text (omega (arith, q.within)) in
+        let good : IsNameByte (get_or (take j text) i 0) = q.before i 0 (omega (arith, len)) in
+        subst IsNameByte (get_or-take j text i 0 less) good
+
+one_name_fault : (bytes : Text) (e f : CodeError) → IsNameFault bytes e → IsNameFault bytes f → e ≡ f
+one_name_fault bytes e f p q = go (shaped_name p) (shaped_name q)
+  where
+    go : IsShapedName bytes e → IsShapedName bytes f → e ≡ f
+    go (inl g) (inl h) = cc
+    go (inl g) (inr h) = let other = h.2 in cc
+    go (inr g) (inl h) = let other = g.2 in cc
+    go (inr g) (inr h) =
+        let same : g.0 ≡ h.0 = let a = g.2 in let b = h.2 in cc in
+        let place : g.1 ≡ h.1 = one_wrong h.0 g.1 h.1 (subst (λ (t : Text). IsFirstWrong t g.1) same g.3) h.3 in
+        g.4 ∙ ap (λ (n : ℕ). fault BadName (2 + n)) place ∙ sym h.4
+
+name_no_fault : (n : Name) (rest : Text) (e : CodeError) → IsName n → IsNameFault (name_field n ++ rest) e → ⊥
+name_no_fault n rest e good p = go (shaped_name p)
+  where
+    shape : name_shape (name_field n ++ rest) ≡ Ok n.text
+    shape = text_shape n rest (good.some, good.short)
+
+    go : IsShapedName (name_field n ++ rest) e → ⊥
+    go (inl g) = let s = shape in cc
+    go (inr g) =
+        let same : g.0 ≡ n.text = let s = shape in let a = g.2 in cc in
+        let w : IsFirstWrong n.text g.1 = subst (λ (t : Text). IsFirstWrong t g.1) same g.3 in
+        w.wrong (good.visible g.1 0 w.within)
+
+one_name : (x y : Name) (s t : Text) → name_field x ++ s ≡ name_field y ++ t → (x ≡ y) × (s ≡ t)
+one_name x y s t h =
+    let kind : kind_byte x.list ≡ kind_byte y.list = cc in
+    let len : length x.text ≡ length y.text = cc in
+    let behind : x.text ++ s ≡ y.text ++ t = cc in
+    let both = same_front x.text y.text s t len behind in (
+      ap (λ (l : Bool). let n : Name = record { list = l; text = x.text } in n) (same_kind x.list y.list kind)
+          ∙ ap (λ (u : Text). let n : Name = record { list = y.list; text = u } in n) both.0,
+      both.1,
+    )
+
+pub names_apart : IsApart IsName name_field IsNameFault
+names_apart = record {
+  one_entry = λ x y s t g h e. one_name x y s t e;
+  no_fault = λ n rest e good p. name_no_fault n rest e good p;
+  one_fault = one_name_fault;
+}
+
+-- ---- literals
+
+abbrev literal_shape_from : ℕ → ℕ → ℕ → Text → Result Literal CodeError
+literal_shape_from kind high low rest =
+    if nat_lt (length rest) (256 * high + low) then Err (cut_short (kind ∷ high ∷ low ∷ rest))
+    else Ok (record { compared = kind == 1; bytes = take (256 * high + low) rest })
+
+abbrev literal_shape : Text → Result Literal CodeError
+literal_shape [] = Err (cut_short [])
+literal_shape (kind ∷ []) = if nat_lt 1 kind then Err (fault BadKind 0) else Err (cut_short (kind ∷ []))
+literal_shape (kind ∷ high ∷ []) = if nat_lt 1 kind then Err (fault BadKind 0) else Err (cut_short (kind ∷ high ∷ []))
+literal_shape (kind ∷ high ∷ low ∷ rest) = if nat_lt 1 kind then Err (fault BadKind 0) else literal_shape_from kind high low rest
+
+bad_kind_literal : (kind : ℕ) (rest : Text) → 1 < kind → literal_shape (kind ∷ rest) ≡ Err (fault BadKind 0)
+bad_kind_literal kind [] k = rw (lt-ltb 1 kind k) refl
+bad_kind_literal kind (high ∷ []) k = rw (lt-ltb 1 kind k) refl
+bad_kind_literal kind (high ∷ low ∷ rest) k = rw (lt-ltb 1 kind k) refl
+
+no_length_literal : (compared : Bool) (rest : Text) → length rest < 2
+    → literal_shape (kind_byte compared ∷ rest) ≡ Err (cut_short (kind_byte compared ∷ rest))
+no_length_literal true [] n = refl
+no_length_literal false [] n = refl
+no_length_literal true (high ∷ []) n = refl
+no_length_literal false (high ∷ []) n = refl
+no_length_literal true (high ∷ low ∷ rest) n = absurd (omega arith)
+no_length_literal false (high ∷ low ∷ rest) n = absurd (omega arith)
+
+good_kind_literal : (compared : Bool) (high low : ℕ) (rest : Text)
+    → literal_shape (kind_byte compared ∷ high ∷ low ∷ rest) ≡ literal_shape_from (kind_byte compared) high low rest
+good_kind_literal true high low rest = refl
+good_kind_literal false high low rest = refl
+
+kind_back : (b : Bool) → (kind_byte b == 1) ≡ b
+kind_back true = refl
+kind_back false = refl
+
+-- a number is what its two bytes say
+pub number_back : (n : ℕ) → n < 65536 → 256 * (n / 256 % 256) + n % 256 ≡ n
+number_back n small = omega arith
+
+literal_text_shape : (l : Literal) (rest : Text) → length l.bytes < 2 ^ 16 → literal_shape (literal_field l ++ rest) ≡ Ok l
+literal_text_shape l rest small =
+    let enough : nat_lt (length (l.bytes ++ rest)) (length l.bytes) ≡ false =
+    le-ltb (length (l.bytes ++ rest)) (length l.bytes) (omega (arith, length-append l.bytes rest)) in
+    good_kind_literal l.compared (length l.bytes / 256 % 256) (length l.bytes % 256) (l.bytes ++ rest)
+    ∙ rw (number_back (length l.bytes) small, enough, take-append_seam l.bytes rest, kind_back l.compared) refl
+
+abbrev IsShapedLiteral : Text → CodeError → Type 0
+IsShapedLiteral bytes e =
+    (literal_shape bytes ≡ Err e)
+    ⊎ ((l : Literal) × (literal_shape bytes ≡ Ok l) × (IsTextOf l.compared l.bytes → ⊥) × (e ≡ fault BadLiteral 3))
+
+shaped_literal : {bytes : Text} {e : CodeError} → IsLiteralFault bytes e → IsShapedLiteral bytes e
+shaped_literal {bytes = bytes} (in_kind e (no_kind h)) = inl (subst (λ (b : Text). literal_shape b ≡ Err (cut_short b)) (sym h) refl)
+shaped_literal {bytes = bytes} (in_kind e (bad_kind kind rest h k)) = inl (ap literal_shape h ∙ bad_kind_literal kind rest k)
+shaped_literal {bytes = bytes} (no_length compared rest h n) =
+    inl (subst (λ (b : Text). literal_shape b ≡ Err (cut_short b)) (sym h) (no_length_literal compared rest n))
+shaped_literal {bytes = bytes} (no_text compared len rest h n short) =
+    inl (subst (λ (b : Text). literal_shape b ≡ Err (cut_short b)) (sym h)
+    (good_kind_literal compared (len / 256 % 256) (len % 256) rest ∙ rw (number_back len n, lt-ltb (length rest) len short) refl))
+shaped_literal {bytes = bytes} (bad_text literal rest h n bad) =
+    inr (literal, ap literal_shape h ∙ literal_text_shape literal rest n, bad, refl)
+
+one_literal_fault : (bytes : Text) (e f : CodeError) → IsLiteralFault bytes e → IsLiteralFault bytes f → e ≡ f
+one_literal_fault bytes e f p q = go (shaped_literal p) (shaped_literal q)
+  where
+    go : IsShapedLiteral bytes e → IsShapedLiteral bytes f → e ≡ f
+    go (inl g) (inl h) = cc
+    go (inl g) (inr h) = let other = h.1 in cc
+    go (inr g) (inl h) = let other = g.1 in cc
+    go (inr g) (inr h) = g.3 ∙ sym h.3
+
+literal_no_fault : (l : Literal) (rest : Text) (e : CodeError) → IsLiteral l → IsLiteralFault (literal_field l ++ rest) e → ⊥
+literal_no_fault l rest e good p = go (shaped_literal p)
+  where
+    shape : literal_shape (literal_field l ++ rest) ≡ Ok l
+    shape = literal_text_shape l rest good.short
+
+    go : IsShapedLiteral (literal_field l ++ rest) e → ⊥
+    go (inl g) = let s = shape in cc
+    go (inr g) =
+        let same : g.0 ≡ l = let s = shape in let a = g.1 in cc in
+        subst (λ (k : Literal). IsTextOf k.compared k.bytes → ⊥) same g.2 good.text
+
+one_literal : (x y : Literal) (s t : Text) → IsLiteral x → IsLiteral y → literal_field x ++ s ≡ literal_field y ++ t → (x ≡ y) × (s ≡ t)
+one_literal x y s t g h e =
+    let p = literal_text_shape x s g.short in
+    let q = literal_text_shape y t h.short in
+    let both : literal_shape (literal_field x ++ s) ≡ literal_shape (literal_field y ++ t) = ap literal_shape e in
+    let same : x ≡ y = cc in
+    let behind : x.bytes ++ s ≡ y.bytes ++ t = cc in
+    (same, (same_front x.bytes y.bytes s t (ap (λ (l : Literal). length l.bytes) same) behind).1)
+
+pub literals_apart : IsApart IsLiteral literal_field IsLiteralFault
+literals_apart = record {
+  one_entry = one_literal;
+  no_fault = literal_no_fault;
+  one_fault = one_literal_fault;
+}

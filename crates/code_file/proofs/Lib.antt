@@ -1,0 +1,9 @@
+pub mod UriTextLemmas
+pub mod FieldLemmas
+pub mod TableLemmas
+pub mod FileLemmas
+pub mod PartsLemmas
+pub mod LineLemmas
+pub mod StageLemmas
+pub mod EntryLaws
+pub mod FileLaws

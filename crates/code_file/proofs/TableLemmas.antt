@@ -1,0 +1,127 @@
+-- Tables of entries that follow one another.
+use Rattle.std.proofs.Common.{◌≡◌, ◌<◌, ◌≤◌, ◌+◌, ◌-◌, ℕ, suc, List, [], ◌∷◌, ◌++◌, length, take, drop, refl, sym, ◌∙◌, ap, subst, append_assoc, arith, length-append}
+use Rattle.std.specs.Prelude.{All}
+use Rattle.std.specs.List.{flat_map}
+use Rattle.std.proofs.lemmas.List.{append-nil, take-append-drop, length-take-le, nil_from_length}
+use Rattle.std.proofs.Math.Seq.{take-append_seam}
+use Rattle.std.proofs.lemmas.List.Concat.{flat_map-append}
+use Rattle.std.proofs.lemmas.List.Elements.{All-nil, All-cons, All-push, All-head, All-tail}
+use Rattle.vocabulary.specs.Texts.{Text}
+use Rattle.code_file.specs.declared.error.CodeError.{CodeError}
+use Rattle.code_file.specs.Fault.{after, IsTableOf, IsTable, IsTableFault}
+
+pub table_none : {X : Type 0} (IsGood : X → Type 0) (field : X → Text) → IsTable IsGood field 0 []
+table_none IsGood field = ([], record { good = All-nil IsGood; counted = refl; spells = refl })
+
+pub table_more : {X : Type 0} {IsGood : X → Type 0} {field : X → Text} {count : ℕ} {bytes : Text} {entries : List X}
+    → IsTableOf IsGood field count bytes entries → (x : X) → IsGood x
+    → IsTableOf IsGood field (count + 1) (bytes ++ field x) (entries ++ x ∷ [])
+table_more {IsGood = IsGood} {field = field} {bytes = bytes} {entries = entries} t x good = record {
+  good = All-push IsGood entries x t.good good;
+  counted = length-append entries (x ∷ []) ∙ ap (λ (n : ℕ). n + 1) t.counted;
+  spells =
+      ap (λ (b : Text). b ++ field x) t.spells
+      ∙ ap (λ (b : Text). flat_map field entries ++ b) (sym (append-nil (field x)))
+      ∙ sym (flat_map-append field entries (x ∷ []));
+}
+
+-- the first bytes are a table, and so are they with one more entry
+pub so_far_more : {X : Type 0} (IsGood : X → Type 0) (field : X → Text) (n at next : ℕ) (bytes rest after : Text)
+    → IsTable IsGood field n (take at bytes) → at ≤ length bytes → rest ≡ drop at bytes
+    → (x : X) → IsGood x → rest ≡ field x ++ after → next ≡ length bytes - length after
+    → IsTable IsGood field (n + 1) (take next bytes) × (next ≤ length bytes)
+so_far_more IsGood field n at next bytes rest after t within is x good spells eq =
+    let whole : bytes ≡ (take at bytes ++ field x) ++ after =
+    sym (take-append-drop at bytes) ∙ ap (λ (b : Text). take at bytes ++ b) (sym is ∙ spells) ∙ sym (append_assoc (take at bytes) (field x) after) in
+    let len : length bytes ≡ length (take at bytes ++ field x) + length after = ap length whole ∙ length-append (take at bytes ++ field x) after in
+    let place : next ≡ length (take at bytes ++ field x) = omega (arith, eq, len) in
+    let front : take next bytes ≡ take at bytes ++ field x =
+    ap (λ (n : ℕ). take n bytes) place ∙ ap (take (length (take at bytes ++ field x))) whole ∙ take-append_seam (take at bytes ++ field x) after in
+    ((t.0 ++ x ∷ [], subst (λ (b : Text). IsTableOf IsGood field (n + 1) b (t.0 ++ x ∷ [])) (sym front) (table_more t.1 x good)), omega (arith, eq))
+
+pub fault_here : {X : Type 0} (IsGood : X → Type 0) (field : X → Text) (IsFault : Text → CodeError → Type 0)
+    (count n at : ℕ) (bytes rest : Text) (e : CodeError)
+    → IsTable IsGood field n (take at bytes) → n < count → at ≤ length bytes → rest ≡ drop at bytes
+    → IsFault rest e → IsTableFault IsGood field IsFault count bytes (after at e)
+fault_here IsGood field IsFault count n at bytes rest e t fewer within is faulty = record {
+  before = n;
+  fewer = fewer;
+  front = take at bytes;
+  rest = rest;
+  spells = sym (take-append-drop at bytes) ∙ ap (λ (b : Text). take at bytes ++ b) (sym is);
+  table = t;
+  here = e;
+  faulty = faulty;
+  place = ap (λ (n : ℕ). after n e) (sym (length-take-le at bytes within));
+}
+
+-- one entry more, and less of the bytes
+pub spells_more : {X : Type 0} (field : X → Text) (bytes rest after : Text) (built : List X) (x : X)
+    → bytes ≡ flat_map field built ++ rest → rest ≡ field x ++ after → bytes ≡ flat_map field (built ++ x ∷ []) ++ after
+spells_more field bytes rest after built x h s =
+    h ∙ ap (λ (t : Text). flat_map field built ++ t) s ∙ sym (append_assoc (flat_map field built) (field x) after)
+    ∙ ap (λ (t : Text). t ++ after)
+    (ap (λ (t : Text). flat_map field built ++ t) (sym (append-nil (field x))) ∙ sym (flat_map-append field built (x ∷ [])))
+
+-- A table of which the entries `built` are read, and `rest` is not.
+pub record IsBuilding {X : Type 0} (IsGood : X → Type 0) (field : X → Text) (count : ℕ) (bytes rest : Text) (built : List X) : Type 0 where
+  pub left : List X
+  pub good : All IsGood built
+  pub left_good : All IsGood left
+  pub counted : length built + length left ≡ count
+  pub left_spells : rest ≡ flat_map field left
+  pub spells : bytes ≡ flat_map field built ++ rest
+
+pub building_none : {X : Type 0} {IsGood : X → Type 0} {field : X → Text} {count : ℕ} {bytes : Text}
+    → IsTable IsGood field count bytes → IsBuilding IsGood field count bytes bytes []
+building_none {IsGood = IsGood} t = record {
+  left = t.0;
+  good = All-nil IsGood;
+  left_good = t.1.good;
+  counted = omega (arith, t.1.counted);
+  left_spells = t.1.spells;
+  spells = refl;
+}
+
+-- an entry comes next, as long as fewer are read than are counted
+pub building_next : {X : Type 0} {IsGood : X → Type 0} {field : X → Text} {count : ℕ} {bytes rest : Text} {built : List X}
+    → IsBuilding IsGood field count bytes rest built → length built < count
+    → (x : X) × (after : Text) × IsGood x × (rest ≡ field x ++ after) × IsBuilding IsGood field count bytes after (built ++ x ∷ [])
+building_next {X = X} {IsGood = IsGood} {field = field} {count = count} {bytes = bytes} {rest = rest} {built = built} b fewer = go b.left b.left_good b.counted b.left_spells
+  where
+    go : (left : List X) → All IsGood left → length built + length left ≡ count → rest ≡ flat_map field left
+        → (x : X) × (after : Text) × IsGood x × (rest ≡ field x ++ after) × IsBuilding IsGood field count bytes after (built ++ x ∷ [])
+    go [] g n s = absurd (omega arith)
+    go (x ∷ left) g n s = (
+      x,
+      flat_map field left,
+      All-head IsGood x left g,
+      s,
+      record {
+        left = left;
+        good = All-push IsGood built x b.good (All-head IsGood x left g);
+        left_good = All-tail IsGood x left g;
+        counted = omega (arith, length-append built (x ∷ []));
+        left_spells = refl;
+        spells = spells_more field bytes rest (flat_map field left) built x b.spells s;
+      },
+    )
+
+pub building_all : {X : Type 0} {IsGood : X → Type 0} {field : X → Text} {count : ℕ} {bytes rest : Text} {built : List X}
+    → IsBuilding IsGood field count bytes rest built → length built ≡ count → IsTableOf IsGood field count bytes built
+building_all {field = field} {built = built} b n =
+    let none : b.left ≡ [] = nil_from_length b.left (omega (arith, b.counted)) in
+    record {
+      good = b.good;
+      counted = n;
+      spells = b.spells ∙ ap (λ (t : Text). flat_map field built ++ t) (b.left_spells ∙ ap (flat_map field) none) ∙ append-nil (flat_map field built);
+    }
+
+pub table_cons : {X : Type 0} (IsGood : X → Type 0) (field : X → Text) (count : ℕ) (bytes whole : Text) (entries : List X)
+    → IsTableOf IsGood field count bytes entries → (x : X) → IsGood x → whole ≡ field x ++ bytes
+    → IsTableOf IsGood field (suc count) whole (x ∷ entries)
+table_cons IsGood field count bytes whole entries t x good h = record {
+  good = All-cons IsGood x entries good t.good;
+  counted = ap suc t.counted;
+  spells = h ∙ ap (λ (b : Text). field x ++ b) t.spells;
+}

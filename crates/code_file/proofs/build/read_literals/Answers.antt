@@ -1,0 +1,14 @@
+use Rattle.std.proofs.Common.{◌∷◌, [], arith, length-append}
+use Rattle.code_file.proofs.TableLemmas.{building_next}
+use Rattle.code_file.proofs.build.read_literals.Goals as goal
+
+pub read_literal-requires : goal.read_literal-requires
+read_literal-requires c =
+    let next = building_next c.loop.invariant.0 (omega (arith, c.loop.invariant.1)) in (next.0, next.1, next.2, next.3)
+
+pub loop-preserved : goal.loop-preserved
+loop-preserved c =
+    let next = building_next c.loop.invariant.0 (omega (arith, c.loop.invariant.1)) in
+    let same = c.in_ok-literal.ensures next.0 next.1 next.2 next.3 in
+    rw (c.in_ok-push.ensures.items, same.0, same.1)
+    (next.4, omega (arith, c.loop.invariant.1, length-append c.loop.literals.items (next.0 ∷ [])))

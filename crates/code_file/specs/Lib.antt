@@ -1,0 +1,5 @@
+pub mod Grammar
+pub mod Fault
+pub mod FromLeft
+pub mod Tables
+pub mod Listing

@@ -1,0 +1,105 @@
+-- The listing of a code: its counts, its tables and its instructions, a line each.
+use Rattle.std.specs.Prelude.{ℕ, ◌+◌, ◌/◌, ◌%◌, Bool, true, false, ◌&&◌, ◌==◌, not, nat_le, List, [], ◌∷◌, ◌++◌, Option, Some, None, length, codes, if◌then◌else◌}
+use Rattle.std.specs.List.{flat_map}
+use Rattle.std.specs.Fmt.{decimal, digits}
+use Rattle.vocabulary.specs.Texts.{Text}
+use Rattle.vocabulary.specs.Code.{Name, Literal, Code, reading, spelling}
+use Rattle.vocabulary.specs.declared.code.Instr.{Instr}
+use Rattle.vocabulary.specs.declared.code.Instruction.{Instruction}
+use Rattle.vocabulary.specs.declared.code.Instruction.TheVariants as instruction
+
+-- ---- instructions
+
+-- how a text is written: 0 is U, 1 is UR
+abbrev pub mode_word : ℕ → Text
+mode_word c = if c == 0 then codes "u" else codes "ur"
+
+-- an instruction's name, and its fields in the order of its letters
+abbrev pub instruction_text : Instruction → Text
+instruction_text instruction.Halt = codes "HALT"
+instruction_text instruction.Fail = codes "FAIL"
+instruction_text (instruction.Jump d) = codes "JUMP " ++ decimal d
+instruction_text (instruction.Text a b) = codes "TEXT r" ++ (decimal a ++ (codes " n" ++ decimal b))
+instruction_text (instruction.List a b) = codes "LIST r" ++ (decimal a ++ (codes " n" ++ decimal b))
+instruction_text (instruction.Const a b) = codes "CONST r" ++ (decimal a ++ (codes " l" ++ decimal b))
+instruction_text (instruction.Number a b d) = codes "NUMBER r" ++ (decimal a ++ (codes " r" ++ (decimal b ++ (codes " " ++ decimal d))))
+instruction_text (instruction.Undef a d) = codes "UNDEF r" ++ (decimal a ++ (codes " " ++ decimal d))
+instruction_text (instruction.Empty a d) = codes "EMPTY r" ++ (decimal a ++ (codes " " ++ decimal d))
+instruction_text (instruction.NoList a d) = codes "NOLIST r" ++ (decimal a ++ (codes " " ++ decimal d))
+instruction_text (instruction.Differ a b d) = codes "DIFFER r" ++ (decimal a ++ (codes " r" ++ (decimal b ++ (codes " " ++ decimal d))))
+instruction_text (instruction.Less a b d) = codes "LESS r" ++ (decimal a ++ (codes " r" ++ (decimal b ++ (codes " " ++ decimal d))))
+instruction_text (instruction.Emit b) = codes "EMIT l" ++ decimal b
+instruction_text (instruction.Put a c) = codes "PUT r" ++ (decimal a ++ (codes " " ++ mode_word c))
+instruction_text (instruction.Cut a b c) = codes "CUT r" ++ (decimal a ++ (codes " " ++ (decimal b ++ (codes " " ++ mode_word c))))
+instruction_text (instruction.Each a b d) = codes "EACH r" ++ (decimal a ++ (codes " r" ++ (decimal b ++ (codes " " ++ decimal d))))
+instruction_text (instruction.Sep b) = codes "SEP l" ++ decimal b
+instruction_text instruction.Next = codes "NEXT"
+
+abbrev pub is_same : Instr → Instr → Bool
+is_same x y = x.op == y.op && (x.a == y.a && (x.b == y.b && (x.c == y.c && x.d == y.d)))
+
+-- a mode is 0 or 1, and a count 1 to 9,999
+abbrev pub has_range : Instruction → Bool
+has_range (instruction.Put a c) = nat_le c 1
+has_range (instruction.Cut a b c) = nat_le 1 b && (nat_le b 9999 && nat_le c 1)
+has_range i = true
+
+-- the fields as they are
+abbrev pub fields_text : Instr → Text
+fields_text i =
+    codes "? " ++ (decimal i.op ++ (codes " " ++ (decimal i.a ++ (codes " " ++ (decimal i.b ++ (codes " " ++ (decimal i.c ++ (codes " " ++ decimal i.d))))))))
+
+-- an instruction whose operation is known, whose unused fields are 0, and whose mode and count are in range;
+-- otherwise its fields
+abbrev pub text_of : Instr → Option Instruction → Text
+text_of i None = fields_text i
+text_of i (Some known) = if (is_same (spelling known) i && has_range known) then instruction_text known else fields_text i
+
+abbrev pub instr_text : Instr → Text
+instr_text i = text_of i (reading i)
+
+-- ---- lines
+
+abbrev pub line_feed : Text
+line_feed = 10 ∷ []
+
+-- a printable ASCII byte that is neither `"` nor `\`
+abbrev pub is_plain : ℕ → Bool
+is_plain b = nat_le 0x20 b && (nat_le b 0x7e && (not (b == 34) && not (b == 92)))
+
+-- a byte as it is, or as `\x` and two hexadecimal digits
+abbrev pub byte_text : ℕ → Text
+byte_text b = if is_plain b then (b ∷ []) else codes "\\x" ++ (digits 16 false (b / 16) ++ digits 16 false (b % 16))
+
+abbrev pub name_kind : Bool → Text
+name_kind list = if list then codes "list" else codes "text"
+
+abbrev pub literal_kind : Bool → Text
+literal_kind compared = if compared then codes "compare" else codes "link"
+
+abbrev pub name_line : ℕ → Name → Text
+name_line place n =
+    codes "name " ++ (decimal place ++ (codes " " ++ (name_kind n.list ++ (codes " " ++ (n.text ++ line_feed)))))
+
+abbrev pub literal_line : ℕ → Literal → Text
+literal_line place l =
+    codes "literal " ++ (decimal place ++ (codes " " ++ (literal_kind l.compared
+    ++ (codes " \"" ++ (flat_map byte_text l.bytes ++ (codes "\"" ++ line_feed))))))
+
+abbrev pub instr_line : ℕ → Instr → Text
+instr_line place i = decimal place ++ (codes " " ++ (instr_text i ++ line_feed))
+
+-- a line for each entry, from a place on
+abbrev pub lines_from : {X : Type 0} → (ℕ → X → Text) → ℕ → List X → Text
+lines_from line place [] = []
+lines_from line place (x ∷ xs) = line place x ++ lines_from line (place + 1) xs
+
+abbrev pub first_line : ℕ → ℕ → ℕ → Text
+first_line names literals instrs =
+    codes "OLK1 names " ++ (decimal names ++ (codes " literals " ++ (decimal literals
+    ++ (codes " instructions " ++ (decimal instrs ++ line_feed)))))
+
+unfoldable pub listing : Code → Text
+listing c =
+    first_line (length c.names) (length c.literals) (length c.instrs)
+    ++ (lines_from name_line 0 c.names ++ (lines_from literal_line 0 c.literals ++ lines_from instr_line 0 c.instrs))

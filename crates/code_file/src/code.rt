@@ -1,0 +1,164 @@
+//! Code as its tables and its instructions.
+
+ghost use Rattle.std.specs.Prelude.{◌≡◌, ◌<◌, ℕ, length, slice_get, IfOk, IfErr, map, filter, string_bytes};
+ghost use Rattle.code_file.specs.Grammar.{IsCode, IsCodeFile, spelled, code_of};
+ghost use Rattle.code_file.specs.Fault.{fault, IsFirstFault, IsRefusal};
+ghost use Rattle.code_file.specs.Listing.{listing};
+
+use crate::build::{read_instrs, read_literals, read_names};
+use crate::entry::{Literal, Name};
+use crate::error::{CodeError, CodeErrorKind};
+use crate::listing::{push_first_line, push_instr_lines, push_literal_lines, push_name_lines};
+use crate::parts::parts_fault;
+use crate::tables::Tables;
+use crate::write::{push_instrs, push_literals, push_names, push_number};
+use std::alloc::{AllocError, Global};
+use std::marker::Model;
+use vocabulary::Instr;
+
+/// A code: its names, its literals, and 1 to 4,096 instructions.
+#[derive(Debug, Drop)]
+pub struct Code {
+    names: Vec<Name>,
+    literals: Vec<Literal>,
+    instrs: Vec<Instr>,
+}
+
+impl Model for Code {
+    ghost use Rattle.vocabulary.specs.Code as code;
+    ghost use Rattle.code_file.specs.Grammar as grammar;
+
+    ghost Value = { code.Code };
+
+    ghost view = { λ c. record { names = c.names.items; literals = c.literals.items; instrs = c.instrs.items } };
+
+    ghost invariant = { λ c. grammar.IsCode (record { names = c.names.items; literals = c.literals.items; instrs = c.instrs.items }) };
+}
+
+impl Code {
+    /// Reads a code file of at most 65,536 bytes. A refusal is the first fault of the bytes and its place;
+    /// it is decided before memory is taken, so `NoMemory` comes only to bytes that are a code file.
+    pub fn read(alloc: Global, bytes: &[u8]) -> Result<Code, CodeError>
+        ensures code { IfOk result (IsCodeFile bytes.now) }
+        ensures refused { IfErr result (IsRefusal bytes.now) }
+    {
+        let tables = Tables::find(bytes)?;
+        let names = read_names(alloc, tables.names, tables.counts.names)?;
+        let literals = read_literals(alloc, tables.literals, tables.counts.literals)?;
+        let instrs = read_instrs(alloc, tables.instrs, tables.counts.instrs)?;
+        Ok(Code {
+            names,
+            literals,
+            instrs,
+        })
+    }
+
+    /// The code of these parts, or the kind of the first fault of the file that they spell, in which the
+    /// length of a name is any number. Refused parts are dropped.
+    pub fn from_parts(
+        names: Vec<Name>,
+        literals: Vec<Literal>,
+        instrs: Vec<Instr>,
+    ) -> Result<Code, CodeErrorKind>
+        ensures code { IfOk result (λ c. (c ≡ code_of names.items literals.items instrs.items) × IsCode c) }
+        ensures refused { IfErr result (λ kind. (at : ℕ)
+            × IsFirstFault (spelled (code_of names.items literals.items instrs.items)) (fault kind at)) }
+    {
+        if let Some(kind) = parts_fault(&names, &literals, &instrs) {
+            return Err(kind);
+        }
+        Ok(Code {
+            names,
+            literals,
+            instrs,
+        })
+    }
+
+    /// The table of names; an instruction names an entry by its place.
+    pub fn names(&self) -> &[Name]
+        ensures { result.now ≡ self.now.names }
+    {
+        self.names.as_slice()
+    }
+
+    /// The name at a place of its table.
+    pub fn name(&self, i: usize) -> &Name
+        requires { i < length self.now.names }
+        ensures { slice_get self.now.names i ≡ Some result.now }
+    {
+        &self.names[i]
+    }
+
+    /// The table of literals.
+    pub fn literals(&self) -> &[Literal]
+        ensures { result.now ≡ self.now.literals }
+    {
+        self.literals.as_slice()
+    }
+
+    /// The literal at a place of its table.
+    pub fn literal(&self, i: usize) -> &Literal
+        requires { i < length self.now.literals }
+        ensures { slice_get self.now.literals i ≡ Some result.now }
+    {
+        &self.literals[i]
+    }
+
+    /// How many instructions there are. The clause `is_code` says what holds of each code: its limits,
+    /// and what its names, literals and fields may be.
+    pub fn len(&self) -> usize
+        ensures count { result ≡ length self.now.instrs }
+        ensures is_code { IsCode self.now }
+    {
+        self.instrs.len()
+    }
+
+    /// The instruction at a place.
+    pub fn instr(&self, i: usize) -> Instr
+        requires { i < length self.now.instrs }
+        ensures { slice_get self.now.instrs i ≡ Some result }
+    {
+        self.instrs[i]
+    }
+
+    /// The names of list kind, in the order of their table; a name that stands there twice comes twice.
+    pub fn lists(&self, alloc: Global) -> Result<Vec<&str>, AllocError>
+        ensures { IfOk result (λ v. map (λ s. s.now) v.items ≡ map (λ n. n.text) (filter (λ n. n.list) self.now.names)) }
+    {
+        let mut lists = Vec::new(alloc);
+        for name in &self.names {
+            if name.list {
+                lists.push(name.text.as_str())?;
+            }
+        }
+        Ok(lists)
+    }
+
+    /// The file of the code, which has one spelling.
+    pub fn write(&self, alloc: Global) -> Result<Vec<u8>, AllocError>
+        ensures { IfOk result (λ v. IsCodeFile v.items self.now) }
+    {
+        let mut out = Vec::new(alloc);
+        out.extend_from_slice(b"OLK1")?;
+        push_number(&mut out, self.names.len() as u16)?;
+        push_number(&mut out, self.literals.len() as u16)?;
+        push_number(&mut out, self.len() as u16)?;
+        push_names(&mut out, &self.names)?;
+        push_literals(&mut out, &self.literals)?;
+        push_instrs(&mut out, &self.instrs)?;
+        Ok(out)
+    }
+
+    /// The listing: the counts, the tables and the instructions, a line each.
+    #[tactic(auto, unfolding(crate::specs::Listing::listing))]
+    pub fn listing(&self, alloc: Global) -> Result<String, AllocError>
+        ensures { IfOk result (λ text. string_bytes text ≡ listing self.now) }
+    {
+        let mut out = String::new(alloc);
+        push_first_line(&mut out, self.names.len(), self.literals.len(), self.len())?;
+        push_name_lines(&mut out, &self.names)?;
+        push_literal_lines(&mut out, &self.literals)?;
+        push_instr_lines(&mut out, &self.instrs)?;
+        Ok(out)
+    }
+}

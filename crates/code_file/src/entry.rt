@@ -1,0 +1,34 @@
+//! The entries of a code's tables.
+
+use std::marker::Model;
+
+/// The name of a variable: of a list, or of a text.
+#[derive(Debug, Drop)]
+pub struct Name {
+    pub list: bool,
+    pub text: String,
+}
+
+impl Model for Name {
+    ghost use Rattle.std.specs.Prelude.{string_bytes};
+    ghost use Rattle.vocabulary.specs.Code as code;
+
+    ghost Value = { code.Name };
+
+    ghost view = { λ n. record { list = n.list; text = string_bytes n.text } };
+}
+
+/// A text of the code: one to compare with, or one for a link.
+#[derive(Debug, Drop)]
+pub struct Literal {
+    pub compared: bool,
+    pub bytes: Vec<u8>,
+}
+
+impl Model for Literal {
+    ghost use Rattle.vocabulary.specs.Code as code;
+
+    ghost Value = { code.Literal };
+
+    ghost view = { λ l. record { compared = l.compared; bytes = l.bytes.items } };
+}

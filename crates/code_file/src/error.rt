@@ -1,0 +1,93 @@
+//! Why a code file is refused.
+
+ghost use Rattle.std.specs.Prelude.{◌≡◌, ◌+◌, ◌<◌, ◌^◌};
+ghost use Rattle.code_file.specs.Fault.{fault, after};
+
+use std::alloc::{AllocError, AllocFailed};
+use thiserror::Error;
+
+/// What is wrong with a code file, in the order in which it is decided.
+#[derive(Clone, Copy, Debug, PartialEq, Eq, Error)]
+pub enum CodeErrorKind {
+    /// The file has more than 65,536 bytes.
+    #[error("TooLong")]
+    TooLong,
+    /// The file does not begin with `OLK1`.
+    #[error("BadMagic")]
+    BadMagic,
+    /// The file ends before a field does.
+    #[error("Truncated")]
+    Truncated,
+    /// There are more than 256 names, 1,024 literals or 4,096 instructions.
+    #[error("TooMany")]
+    TooMany,
+    /// There is no instruction.
+    #[error("NoCode")]
+    NoCode,
+    /// A name is empty, over 255 bytes long, or has a byte outside 21 to 7e hexadecimal.
+    #[error("BadName")]
+    BadName,
+    /// The kind of a name or a literal is neither 0 nor 1.
+    #[error("BadKind")]
+    BadKind,
+    /// A link text is no URI text (RFC 3986, sections 2.1 to 2.3), or a comparison text no UTF-8
+    /// (RFC 3629).
+    #[error("BadLiteral")]
+    BadLiteral,
+    /// Bytes follow the last instruction.
+    #[error("Trailing")]
+    Trailing,
+    /// Memory ran out.
+    #[error("NoMemory")]
+    NoMemory,
+}
+
+/// What is wrong with a code file, and the byte at which it is; 0 where memory ran out.
+#[derive(Clone, Copy, Debug, PartialEq, Eq, Error)]
+#[error("{kind} at {at}")]
+pub struct CodeError {
+    pub kind: CodeErrorKind,
+    pub at: usize,
+}
+
+impl CodeErrorKind {
+    pub(crate) fn at(self, at: usize) -> CodeError
+        ensures { result ≡ fault self at }
+    {
+        CodeError { kind: self, at }
+    }
+}
+
+impl CodeError {
+    /// The same fault, with so many bytes in front.
+    pub(crate) fn after(self, front: usize) -> CodeError
+        requires { front + self.at < 2 ^ 64 }
+        ensures { result ≡ after front self }
+    {
+        self.kind.at(front + self.at)
+    }
+}
+
+impl From<AllocError> for CodeError {
+    ghost use Rattle.std.specs.Prelude.{◌≡◌};
+    ghost use Rattle.code_file.specs.Fault.{fault};
+    ghost use Rattle.code_file.specs.declared.error.CodeErrorKind.TheVariants.{NoMemory};
+
+    ghost from_gives = { λ _ e. e ≡ fault NoMemory 0 };
+
+    fn from(_e: AllocError) -> CodeError {
+        CodeErrorKind::NoMemory.at(0)
+    }
+}
+
+impl<T: Drop> From<AllocFailed<T>> for CodeError {
+    ghost use Rattle.std.specs.Prelude.{◌≡◌};
+    ghost use Rattle.code_file.specs.Fault.{fault};
+    ghost use Rattle.code_file.specs.declared.error.CodeErrorKind.TheVariants.{NoMemory};
+
+    ghost from_gives = { λ _ e. e ≡ fault NoMemory 0 };
+
+    fn from(_e: AllocFailed<T>) -> CodeError {
+        CodeErrorKind::NoMemory.at(0)
+    }
+}

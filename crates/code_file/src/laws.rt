@@ -1,0 +1,42 @@
+//! What holds of every file and its code. These functions do nothing: their contracts are the laws.
+
+ghost use Rattle.std.specs.Prelude.{◌≡◌, ◌<◌, ◌^◌, ℕ, [], ◌∷◌};
+ghost use Rattle.byteorder.specs.Endian.{big_number};
+ghost use Rattle.vocabulary.specs.Texts.{Text};
+ghost use Rattle.vocabulary.specs.Code.{Code};
+ghost use Rattle.code_file.specs.declared.error.CodeError.{CodeError};
+ghost use Rattle.code_file.specs.declared.error.CodeErrorKind.TheVariants as kind;
+ghost use Rattle.code_file.specs.Grammar.{number, IsCodeFile};
+ghost use Rattle.code_file.specs.Fault.{fault, IsFirstFault, IsRefusal};
+
+/// Two bytes and their number determine each other.
+pub fn number_has_two_bytes()
+    ensures number { (n : ℕ) → n < 2 ^ 16 → big_number 2 (number n) ≡ n }
+    ensures bytes { (high low : ℕ) → high < 2 ^ 8 → low < 2 ^ 8 → number (big_number 2 (high ∷ low ∷ [])) ≡ high ∷ low ∷ [] }
+{}
+
+/// Bytes are the file of at most one code.
+pub fn file_has_one_code()
+    ensures { (bytes : Text) (c d : Code) → IsCodeFile bytes c → IsCodeFile bytes d → c ≡ d }
+{}
+
+/// A code has one file.
+pub fn code_has_one_file()
+    ensures { (x y : Text) (c : Code) → IsCodeFile x c → IsCodeFile y c → x ≡ y }
+{}
+
+/// The file of a code has no fault.
+pub fn file_has_no_fault()
+    ensures { (bytes : Text) (c : Code) (e : CodeError) → IsCodeFile bytes c → IsFirstFault bytes e → ⊥ }
+{}
+
+/// What was written is read as the code that it was written from, or memory runs out.
+pub fn written_code_is_read()
+    ensures { (bytes : Text) (c : Code) → IsCodeFile bytes c
+        → ((d : Code) → IsCodeFile bytes d → d ≡ c) × ((e : CodeError) → IsRefusal bytes e → e ≡ fault kind.NoMemory 0) }
+{}
+
+/// Bytes have at most one first fault.
+pub fn file_has_one_fault()
+    ensures { (bytes : Text) (e f : CodeError) → IsFirstFault bytes e → IsFirstFault bytes f → e ≡ f }
+{}

@@ -1,0 +1,30 @@
+//! The code file `OLK1`: read exactly, written in its one spelling, and listed as text.
+#![tactic(auto)]
+
+mod build;
+mod code;
+mod counts;
+mod decode;
+mod entry;
+mod error;
+mod fields;
+mod laws;
+mod listing;
+mod parts;
+mod tables;
+mod uri_text;
+mod write;
+
+pub use code::Code;
+pub use decode::{instruction, spelling};
+pub use entry::{Literal, Name};
+pub use error::{CodeError, CodeErrorKind};
+pub use laws::{
+    code_has_one_file, file_has_no_fault, file_has_one_code, file_has_one_fault,
+    number_has_two_bytes, written_code_is_read,
+};
+pub use tables::MAX_BYTES;
+pub use vocabulary::Instr;
+
+#[cfg(test)]
+mod tests;

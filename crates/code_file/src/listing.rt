@@ -1,0 +1,167 @@
+//! The listing of a code.
+
+ghost use Rattle.std.specs.Prelude.{◌≡◌, ◌++◌, OnOk, string_bytes};
+ghost use Rattle.std.specs.List.{flat_map};
+ghost use Rattle.vocabulary.specs.declared.code.Instruction.TheVariants as variant;
+ghost use Rattle.code_file.specs.Listing.{mode_word, instruction_text, byte_text, is_plain, name_line, literal_line, instr_line, instr_text, fields_text, lines_from, first_line};
+
+use crate::decode::{has_range, instruction, is_same, spelling};
+use crate::entry::{Literal, Name};
+use std::alloc::AllocError;
+use vocabulary::{Instr, Instruction};
+
+fn mode(c: u16) -> &'static str
+    ensures { result.now ≡ mode_word c }
+{
+    if c == 0 { "u" } else { "ur" }
+}
+
+fn push_known(out: &mut String, known: Instruction) -> Result<(), AllocError>
+    ensures { OnOk result (string_bytes out.new ≡ string_bytes out.old ++ instruction_text known) }
+{
+    match known {
+        Instruction::Halt => write!(out, "HALT"),
+        Instruction::Fail => write!(out, "FAIL"),
+        Instruction::Jump(d) => write!(out, "JUMP {d}"),
+        Instruction::Text(a, b) => write!(out, "TEXT r{a} n{b}"),
+        Instruction::List(a, b) => write!(out, "LIST r{a} n{b}"),
+        Instruction::Const(a, b) => write!(out, "CONST r{a} l{b}"),
+        Instruction::Number(a, b, d) => write!(out, "NUMBER r{a} r{b} {d}"),
+        Instruction::Undef(a, d) => write!(out, "UNDEF r{a} {d}"),
+        Instruction::Empty(a, d) => write!(out, "EMPTY r{a} {d}"),
+        Instruction::NoList(a, d) => write!(out, "NOLIST r{a} {d}"),
+        Instruction::Differ(a, b, d) => write!(out, "DIFFER r{a} r{b} {d}"),
+        Instruction::Less(a, b, d) => write!(out, "LESS r{a} r{b} {d}"),
+        Instruction::Emit(b) => write!(out, "EMIT l{b}"),
+        Instruction::Put(a, c) => push_put(out, a, c),
+        Instruction::Cut(a, b, c) => push_cut(out, a, b, c),
+        Instruction::Each(a, b, d) => write!(out, "EACH r{a} r{b} {d}"),
+        Instruction::Sep(b) => write!(out, "SEP l{b}"),
+        Instruction::Next => write!(out, "NEXT"),
+    }
+}
+
+fn push_put(out: &mut String, a: u8, c: u16) -> Result<(), AllocError>
+    ensures { OnOk result (string_bytes out.new ≡ string_bytes out.old ++ instruction_text (variant.Put a c)) }
+{
+    let mode = mode(c);
+    write!(out, "PUT r{a} {mode}")
+}
+
+fn push_cut(out: &mut String, a: u8, b: u16, c: u16) -> Result<(), AllocError>
+    ensures { OnOk result (string_bytes out.new ≡ string_bytes out.old ++ instruction_text (variant.Cut a b c)) }
+{
+    let mode = mode(c);
+    write!(out, "CUT r{a} {b} {mode}")
+}
+
+fn push_fields(out: &mut String, instr: Instr) -> Result<(), AllocError>
+    ensures { OnOk result (string_bytes out.new ≡ string_bytes out.old ++ fields_text instr) }
+{
+    let Instr { op, a, b, c, d } = instr;
+    write!(out, "? {op} {a} {b} {c} {d}")
+}
+
+fn push_instr(out: &mut String, instr: Instr) -> Result<(), AllocError>
+    ensures { OnOk result (string_bytes out.new ≡ string_bytes out.old ++ instr_text instr) }
+{
+    match instruction(instr) {
+        Some(known) if is_same(spelling(known), instr) && has_range(known) => push_known(
+            out, known,
+        ),
+        _ => push_fields(out, instr),
+    }
+}
+
+fn shows_itself(b: u8) -> bool
+    ensures { result ≡ is_plain b }
+{
+    (0x20..=0x7e).contains(&b) && b != b'"' && b != b'\\'
+}
+
+fn push_byte(out: &mut String, b: u8) -> Result<(), AllocError>
+    ensures { OnOk result (string_bytes out.new ≡ string_bytes out.old ++ byte_text b) }
+{
+    if shows_itself(b) {
+        out.push(char::from(b))
+    } else {
+        let high = b / 16;
+        let low = b % 16;
+        write!(out, "\\x{high:x}{low:x}")
+    }
+}
+
+fn push_bytes(out: &mut String, bytes: &[u8]) -> Result<(), AllocError>
+    ensures { OnOk result (string_bytes out.new ≡ string_bytes out.old ++ flat_map byte_text bytes.now) }
+{
+    for b in bytes {
+        push_byte(out, *b)?;
+    }
+    Ok(())
+}
+
+fn push_name_line(out: &mut String, place: usize, name: &Name) -> Result<(), AllocError>
+    ensures { OnOk result (string_bytes out.new ≡ string_bytes out.old ++ name_line place name.now) }
+{
+    let kind = if name.list { "list" } else { "text" };
+    let text = name.text.as_str();
+    write!(out, "name {place} {kind} {text}\n")
+}
+
+pub(crate) fn push_name_lines(out: &mut String, names: &[Name]) -> Result<(), AllocError>
+    ensures { OnOk result (string_bytes out.new ≡ string_bytes out.old ++ lines_from name_line 0 names.now) }
+{
+    for (place, name) in names.iter().enumerate() {
+        push_name_line(out, place, name)?;
+    }
+    Ok(())
+}
+
+fn push_literal_line(out: &mut String, place: usize, literal: &Literal) -> Result<(), AllocError>
+    ensures { OnOk result (string_bytes out.new ≡ string_bytes out.old ++ literal_line place literal.now) }
+{
+    let kind = if literal.compared { "compare" } else { "link" };
+    write!(out, "literal {place} {kind} \"")?;
+    push_bytes(out, &literal.bytes)?;
+    out.push_str("\"\n")
+}
+
+pub(crate) fn push_literal_lines(out: &mut String, literals: &[Literal]) -> Result<(), AllocError>
+    ensures { OnOk result (string_bytes out.new ≡ string_bytes out.old ++ lines_from literal_line 0 literals.now) }
+{
+    for (place, literal) in literals.iter().enumerate() {
+        push_literal_line(out, place, literal)?;
+    }
+    Ok(())
+}
+
+fn push_instr_line(out: &mut String, place: usize, instr: Instr) -> Result<(), AllocError>
+    ensures { OnOk result (string_bytes out.new ≡ string_bytes out.old ++ instr_line place instr) }
+{
+    write!(out, "{place} ")?;
+    push_instr(out, instr)?;
+    out.push('\n')
+}
+
+pub(crate) fn push_instr_lines(out: &mut String, instrs: &[Instr]) -> Result<(), AllocError>
+    ensures { OnOk result (string_bytes out.new ≡ string_bytes out.old ++ lines_from instr_line 0 instrs.now) }
+{
+    for (place, instr) in instrs.iter().enumerate() {
+        push_instr_line(out, place, *instr)?;
+    }
+    Ok(())
+}
+
+pub(crate) fn push_first_line(
+    out: &mut String,
+    names: usize,
+    literals: usize,
+    instrs: usize,
+) -> Result<(), AllocError>
+    ensures { OnOk result (string_bytes out.new ≡ string_bytes out.old ++ first_line names literals instrs) }
+{
+    write!(
+        out,
+        "OLK1 names {names} literals {literals} instructions {instrs}\n"
+    )
+}
