@@ -1,0 +1,93 @@
+-- The relations of the machine are decided by its functions, so a run has one course.
+use Rattle.std.proofs.Common.{◌≡◌, ℕ, zero, suc, length, Option, Some, None, Bool, true, false, refl, sym, ap, ◌∙◌}
+use Rattle.std.specs.Prelude.{◌↔◌, option_and_then, nat_lt, nat_le, if◌then◌else◌}
+use Rattle.std.proofs.lemmas.Bool.{lt-ltb, le-leb, ltb-true, leb-true, and_parts, and_from}
+use Rattle.vocabulary.specs.Environment.{Environment}
+use Rattle.vocabulary.specs.Code.{Code}
+use Rattle.vocabulary.specs.declared.code.Instruction.{Instruction}
+use Rattle.machine_model.specs.Operands.{Reads}
+use Rattle.machine_model.specs.States.{Loop, Frame, State, Running, Ended}
+use Rattle.machine_model.specs.Step.{Move, Ends, Goes, Returns, IsInside, IsOnward, Leads, Step}
+use Rattle.machine_model.specs.Runs.{After}
+use Rattle.machine_model.specs.Next.{instruction_at, move_of, is_inside, is_onward, judged, next_state, state_after}
+use Rattle.machine_model.proofs.Moves.{some_one, move_of-does, does-move_of}
+use Rattle.machine_model.proofs.Readings.{Reads-instruction_at, instruction_at-Reads}
+
+inside_test : (l : Option Loop) (p : ℕ) → IsInside l p → is_inside l p ≡ true
+inside_test None p h = refl
+inside_test (Some l) p h = and_from (nat_le l.start p) (nat_lt p l.end) (le-leb l.start p h.0) (lt-ltb p l.end h.1)
+
+inside_from : (l : Option Loop) (p : ℕ) → is_inside l p ≡ true → IsInside l p
+inside_from None p h = tt
+inside_from (Some l) p h = let parts = and_parts (nat_le l.start p) (nat_lt p l.end) h in (leb-true l.start p parts.0, ltb-true p l.end parts.1)
+
+module _ (c : Code) (from : ℕ) where
+  onward_test : (s : Frame) → IsOnward c from s → is_onward c from s ≡ true
+  onward_test s h = rw (lt-ltb from s.place h.forward, lt-ltb s.place (length c.instrs) h.within) (inside_test s.loop s.place h.inside)
+
+  onward_from : (s : Frame) → is_onward c from s ≡ true → IsOnward c from s
+  onward_from s h =
+      let forward = and_parts (nat_lt from s.place) _ h in
+      let within = and_parts (nat_lt s.place (length c.instrs)) _ forward.1 in
+      record { forward = ltb-true from s.place forward.0; within = ltb-true s.place (length c.instrs) within.0; inside = inside_from s.loop s.place within.1 }
+
+  Leads-judged : (m : Move) (new : State) → Leads c from m new → judged c from m ≡ Some new
+  Leads-judged (Ends e) new h = ap Some (sym h)
+  Leads-judged (Goes s) new h = rw (onward_test s h.0) (ap Some (sym h.1))
+  Leads-judged (Returns s) new h = ap Some (sym h)
+
+  judged-Leads : (m : Move) (new : State) → judged c from m ≡ Some new → Leads c from m new
+  judged-Leads (Ends e) new h = sym (some_one h)
+  judged-Leads (Goes s) new h = by_test (is_onward c from s) refl h
+    where
+      by_test : (t : Bool) → is_onward c from s ≡ t → (if t then Some (Running s) else None) ≡ Some new → Leads c from (Goes s) new
+      by_test true e h = (onward_from s e, sym (some_one h))
+      by_test false e h = absurd (cc)
+  judged-Leads (Returns s) new h = sym (some_one h)
+
+module _ (c : Code) (v : Environment) where
+  pub Step-next_state : (old new : State) → Step c v old new → next_state c v old ≡ Some new
+  Step-next_state (Ended e) new h = absurd h
+  Step-next_state (Running s) new h = rw (Reads-instruction_at c s.place h.0 h.1, move_of-does c v s h.0 h.2 h.3) (Leads-judged c s.place h.2 new h.4)
+
+  by_move : (s : Frame) (new : State) (i : Instruction) → Reads c s.place i → (o : Option Move) → move_of c v s i ≡ o → option_and_then (judged c s.place) o ≡ Some new → Step c v (Running s) new
+  by_move s new i r None e h = absurd (cc)
+  by_move s new i r (Some m) e h = (i, r, m, does-move_of c v s i m e, judged-Leads c s.place m new h)
+
+  by_instruction : (s : Frame) (new : State) (o : Option Instruction) → instruction_at c s.place ≡ o → option_and_then (λ i. option_and_then (judged c s.place) (move_of c v s i)) o ≡ Some new → Step c v (Running s) new
+  by_instruction s new None e h = absurd (cc)
+  by_instruction s new (Some i) e h = by_move s new i (instruction_at-Reads c s.place i e) (move_of c v s i) refl h
+
+  pub next_state-Step : (old new : State) → next_state c v old ≡ Some new → Step c v old new
+  next_state-Step (Ended e) new h = absurd (cc)
+  next_state-Step (Running s) new h = by_instruction s new (instruction_at c s.place) refl h
+
+  -- a step leads to the state that the function gives, and to no other
+  pub step_decided : (old new : State) → Step c v old new ↔ (next_state c v old ≡ Some new)
+  step_decided old new = (Step-next_state old new, next_state-Step old new)
+
+  -- no state has two next states
+  pub step_one : (s new other : State) → Step c v s new → Step c v s other → new ≡ other
+  step_one s new other h g = some_one (sym (Step-next_state s new h) ∙ Step-next_state s other g)
+
+  pub After-state_after : (k : ℕ) (s : State) → After c v k s → state_after c v k ≡ Some s
+  unfolding After state_after
+  After-state_after zero s h = ap Some (sym h)
+  After-state_after (suc k) s h = rw (After-state_after k h.0 h.1) (Step-next_state h.0 s h.2)
+
+  state_after-After : (k : ℕ) (s : State) → state_after c v k ≡ Some s → After c v k s
+  unfolding After state_after
+  state_after-After zero s h = sym (some_one h)
+  state_after-After (suc k) s h = by_state (state_after-After k) (state_after c v k) refl h
+    where
+      by_state : ((old : State) → state_after c v k ≡ Some old → After c v k old) → (o : Option State) → state_after c v k ≡ o → option_and_then (next_state c v) o ≡ Some s → (old : State) × After c v k old × Step c v old s
+      by_state before None e h = absurd (cc)
+      by_state before (Some old) e h = (old, before old e, next_state-Step old s h)
+
+  -- the state after k steps is the one that the function gives
+  pub after_decided : (k : ℕ) (s : State) → After c v k s ↔ (state_after c v k ≡ Some s)
+  after_decided k s = (After-state_after k s, state_after-After k s)
+
+  -- there is at most one state after k steps
+  pub after_one : (k : ℕ) (s t : State) → After c v k s → After c v k t → s ≡ t
+  after_one k s t h g = some_one (sym (After-state_after k s h) ∙ After-state_after k t g)

@@ -1,0 +1,13 @@
+pub mod Operands
+pub mod Values
+pub mod States
+pub mod Step
+pub mod Runs
+pub mod Next
+pub mod First
+pub mod Form
+pub mod Kinds
+pub mod Typable
+pub mod PlainKinds
+pub mod Budget
+pub mod Safe

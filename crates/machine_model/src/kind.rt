@@ -1,0 +1,15 @@
+/// What is known of a register's value before a step. `Text` is below `OptText`; `OptText`, `List` and
+/// `Number` are below `Any`.
+#[derive(Clone, Copy, Debug, PartialEq, Eq)]
+pub enum Kind {
+    /// Any value, or nothing yet.
+    Any,
+    /// A text, or Undefined.
+    OptText,
+    /// A text.
+    Text,
+    /// A list of texts.
+    List,
+    /// A number.
+    Number,
+}
