@@ -1,0 +1,87 @@
+-- Values and the kinds that they fit.
+use Rattle.std.proofs.Common.{◌≡◌, ℕ, List, Option, Some, None, Bool, true, false, refl, sym, subst, ◌⊎◌, inl, inr}
+use Rattle.std.specs.Prelude.{◌==◌, if◌then◌else◌}
+use Rattle.std.proofs.lemmas.Bool.{eqb-true}
+use Rattle.vocabulary.specs.Texts.{Text}
+use Rattle.machine_model.specs.declared.kind.Kind.{Kind}
+use Rattle.machine_model.specs.declared.kind.Kind.TheVariants.{Any, OptText, Text as TextKind, List as ListKind, Number as NumberKind}
+use Rattle.machine_model.specs.Values.{Value, Nothing, Undefined, Text as TextValue, List as ListValue, Number as NumberValue, text_or_undefined}
+use Rattle.machine_model.specs.States.{put}
+use Rattle.machine_model.specs.Kinds.{kind_le, Kinds, IsBelow, need}
+use Rattle.machine_model.specs.Typable.{IsMet}
+
+-- the least kind of a value
+abbrev pub kind_of : Value → Kind
+kind_of Nothing = Any
+kind_of Undefined = OptText
+kind_of (TextValue t) = TextKind
+kind_of (ListValue ts) = ListKind
+kind_of (NumberValue n) = NumberKind
+
+abbrev pub HasKind : Value → Kind → Type 0
+HasKind x k = kind_le (kind_of x) k ≡ true
+
+pub kind_le_trans : (k m n : Kind) → kind_le k m ≡ true → kind_le m n ≡ true → kind_le k n ≡ true
+kind_le_trans k m Any e f = refl
+kind_le_trans k Any _ e f = cc
+kind_le_trans TextKind TextKind TextKind e f = refl
+kind_le_trans TextKind TextKind OptText e f = refl
+kind_le_trans TextKind OptText OptText e f = refl
+kind_le_trans OptText OptText OptText e f = refl
+kind_le_trans ListKind ListKind ListKind e f = refl
+kind_le_trans NumberKind NumberKind NumberKind e f = refl
+kind_le_trans _ _ _ e f = cc
+
+pub is_text : (x : Value) → HasKind x TextKind → (t : Text) × (x ≡ TextValue t)
+is_text (TextValue t) h = (t, refl)
+is_text _ h = absurd (cc)
+
+pub is_opt_text : (x : Value) → HasKind x OptText → (x ≡ Undefined) ⊎ ((t : Text) × (x ≡ TextValue t))
+is_opt_text Undefined h = inl refl
+is_opt_text (TextValue t) h = inr (t, refl)
+is_opt_text _ h = absurd (cc)
+
+pub is_list : (x : Value) → HasKind x ListKind → (ts : List Text) × (x ≡ ListValue ts)
+is_list (ListValue ts) h = (ts, refl)
+is_list _ h = absurd (cc)
+
+pub is_number : (x : Value) → HasKind x NumberKind → (n : ℕ) × (x ≡ NumberValue n)
+is_number (NumberValue n) h = (n, refl)
+is_number _ h = absurd (cc)
+
+pub text_or_undefined-kind : (o : Option Text) → HasKind (text_or_undefined o) OptText
+text_or_undefined-kind None = refl
+text_or_undefined-kind (Some t) = refl
+
+-- registers of these kinds
+pub record Fits (ks : Kinds) (regs : ℕ → Value) : Type 0 where
+  pub at : (r : ℕ) → HasKind (regs r) (ks r)
+
+pub fits_put : (ks : Kinds) (regs : ℕ → Value) (a : ℕ) (k : Kind) (x : Value) → Fits ks regs → HasKind x k → Fits (put ks a k) (put regs a x)
+fits_put ks regs a k x f h = record { at = λ r. by_test r (r == a) }
+  where
+    by_test : (r : ℕ) (t : Bool) → HasKind (if t then x else regs r) (if t then k else ks r)
+    by_test r true = h
+    by_test r false = f.at r
+
+-- a register whose kind is forgotten
+pub fits_any : (ks : Kinds) (regs : ℕ → Value) (a : ℕ) → Fits ks regs → Fits (put ks a Any) regs
+fits_any ks regs a f = record { at = λ r. by_test r (r == a) }
+  where
+    by_test : (r : ℕ) (t : Bool) → HasKind (regs r) (if t then Any else ks r)
+    by_test r true = refl
+    by_test r false = f.at r
+
+-- a register that is known to hold a value of a kind
+pub fits_told : (ks : Kinds) (regs : ℕ → Value) (a : ℕ) (k : Kind) → Fits ks regs → HasKind (regs a) k → Fits (put ks a k) regs
+fits_told ks regs a k f h = record { at = λ r. by_test r (r == a) refl }
+  where
+    by_test : (r : ℕ) (t : Bool) → (r == a) ≡ t → HasKind (regs r) (if t then k else ks r)
+    by_test r true e = subst (λ n. HasKind (regs n) k) (sym (eqb-true r a e)) h
+    by_test r false e = f.at r
+
+pub fits_below : (ks ks' : Kinds) (regs : ℕ → Value) → IsBelow ks ks' → Fits ks regs → Fits ks' regs
+fits_below ks ks' regs b f = record { at = λ r. kind_le_trans (kind_of (regs r)) (ks r) (ks' r) (f.at r) (b.at r) }
+
+pub fits_need : (ks : Kinds) (regs : ℕ → Value) (r : ℕ) (k : Kind) → Fits ks regs → IsMet ks (need r k) → HasKind (regs r) k
+fits_need ks regs r k f m = kind_le_trans (kind_of (regs r)) (ks r) k (f.at r) m

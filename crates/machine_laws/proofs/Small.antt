@@ -1,0 +1,137 @@
+-- What registers and loops hold is no larger than the environment and the comparison texts.
+use Rattle.std.proofs.Common.{◌≡◌, ℕ, zero, suc, ◌+◌, ◌≤◌, List, [], ◌∷◌, length, Option, Some, None, Bool, true, false, refl, sym, subst, arith}
+use Rattle.std.specs.Prelude.{slice_get, nat_lt, ◌==◌, if◌then◌else◌, ◌&&◌, bytes_eq, sum_by}
+use Rattle.std.proofs.lemmas.Bool.{and_parts}
+use Rattle.std.proofs.lemmas.List.Sums.{sum_by-cons}
+use Rattle.vocabulary.specs.Texts.{Text}
+use Rattle.vocabulary.specs.Environment.{Environment, Meaning, Single, Several, look_up, text_in, members_in, members_of, member_count, byte_count, meaning_bytes, meaning_members}
+use Rattle.vocabulary.specs.Code.{Code, Literal}
+use Rattle.vocabulary.specs.declared.code.Instruction.{Instruction}
+use Rattle.vocabulary.specs.declared.code.Instruction.TheVariants.{Const}
+use Rattle.machine_model.specs.Operands.{is_compared, has_right_operands, name_at, literal_at, text_of_literal}
+use Rattle.machine_model.specs.Values.{Value, Nothing, Undefined, Text as TextValue, List as ListValue, Number as NumberValue, text_or_undefined}
+use Rattle.machine_model.specs.States.{Loop, Frame, State, Running, Ended, put}
+use Rattle.machine_model.specs.Step.{Move, Ends, Goes, Returns, Does, halt, fail, text, list, const, number, no_turn, enter, next_member, leave, Leads, Step}
+use Rattle.machine_model.specs.Runs.{After}
+use Rattle.machine_model.specs.Budget.{compared_length, longest_compared}
+
+-- a value whose lists have at most m members and e bytes together, and whose texts have at most n bytes
+abbrev pub IsSmall : ℕ → ℕ → ℕ → Value → Type 0
+IsSmall m e n Nothing = Unit {0}
+IsSmall m e n Undefined = Unit {0}
+IsSmall m e n (TextValue t) = length t ≤ n
+IsSmall m e n (ListValue ts) = (length ts ≤ m) × (sum_by length ts ≤ e)
+IsSmall m e n (NumberValue x) = Unit {0}
+
+-- the members that are left have at most e bytes together
+abbrev pub LeftSmall : ℕ → Option Loop → Type 0
+LeftSmall e None = Unit {0}
+LeftSmall e (Some l) = sum_by length l.left ≤ e
+
+pub record FrameSmall (m e n : ℕ) (s : Frame) : Type 0 where
+  pub registers : (r : ℕ) → IsSmall m e n (s.registers r)
+  pub left : LeftSmall e s.loop
+
+abbrev pub StateSmall : ℕ → ℕ → ℕ → State → Type 0
+StateSmall m e n (Running s) = FrameSmall m e n s
+StateSmall m e n (Ended end) = Unit {0}
+
+abbrev pub MoveSmall : ℕ → ℕ → ℕ → Move → Type 0
+MoveSmall m e n (Ends end) = Unit {0}
+MoveSmall m e n (Goes s) = FrameSmall m e n s
+MoveSmall m e n (Returns s) = FrameSmall m e n s
+
+-- ---- what the environment gives
+
+abbrev MeaningSmall : ℕ → ℕ → Option Meaning → Type 0
+MeaningSmall m e o = (length (members_in o) ≤ m) × (sum_by length (members_in o) ≤ e) × IsSmall m e e (text_or_undefined (text_in o))
+
+one_meaning : (x : Meaning) (m e : ℕ) → meaning_members x ≤ m → meaning_bytes x ≤ e → MeaningSmall m e (Some x)
+one_meaning (Single t) m e h k = (omega arith, omega arith, k)
+one_meaning (Several ts) m e h k = (h, k, tt)
+
+meaning_more : (o : Option Meaning) (m e m' e' : ℕ) → m ≤ m' → e ≤ e' → MeaningSmall m e o → MeaningSmall m' e' o
+meaning_more None m e m' e' a b h = (omega arith, omega arith, tt)
+meaning_more (Some (Single t)) m e m' e' a b h = (omega arith, omega arith, omega (arith, h.2))
+meaning_more (Some (Several ts)) m e m' e' a b h = (omega (arith, h.0), omega (arith, h.1), tt)
+
+meaning_small : (v : Environment) (name : Text) → MeaningSmall (member_count v) (byte_count v) (look_up v name)
+unfolding look_up
+meaning_small [] name = (omega arith, omega arith, tt)
+meaning_small (x ∷ v) name =
+    rw (sum_by-cons (λ e. meaning_members e.meaning) x v, sum_by-cons (λ e. meaning_bytes e.meaning) x v)
+    (by_test (meaning_small v name) (bytes_eq x.name name))
+  where
+    by_test : MeaningSmall (member_count v) (byte_count v) (look_up v name) → (t : Bool) → MeaningSmall (meaning_members x.meaning + member_count v) (meaning_bytes x.meaning + byte_count v) (if t then Some x.meaning else look_up v name)
+    by_test rest true = one_meaning x.meaning _ _ (omega arith) (omega arith)
+    by_test rest false = meaning_more (look_up v name) (member_count v) (byte_count v) _ _ (omega arith) (omega arith) rest
+
+-- ---- what the table of literals gives
+
+literal_small : (ls : List Literal) (b : ℕ) → is_compared (slice_get ls b) ≡ true → length (text_of_literal (slice_get ls b)) ≤ longest_compared ls
+unfolding longest_compared
+literal_small [] b h = absurd (cc)
+literal_small (l ∷ ls) zero h = let f : compared_length l ≡ length l.bytes = rw h refl in omega (arith, f)
+literal_small (l ∷ ls) (suc b) h = omega (arith, literal_small ls b h)
+
+const_compared : (c : Code) (a b : ℕ) → has_right_operands c (Const a b) ≡ true → is_compared (slice_get c.literals b) ≡ true
+unfolding has_right_operands
+const_compared c a b h =
+    let x = and_parts _ ((nat_lt b (length c.literals) && is_compared (slice_get c.literals b)) && true) h in
+    let y = and_parts (nat_lt b (length c.literals) && is_compared (slice_get c.literals b)) true x.1 in
+    (and_parts (nat_lt b (length c.literals)) (is_compared (slice_get c.literals b)) y.0).1
+
+-- ---- steps keep it
+
+-- the most bytes that a text in a register has
+abbrev pub text_limit : Code → Environment → ℕ
+text_limit c v = byte_count v + longest_compared c.literals
+
+module _ (c : Code) (v : Environment) where
+  abbrev pub Small : State → Type 0
+  Small s = StateSmall (member_count v) (byte_count v) (text_limit c v) s
+
+  small_put : (s : Frame) (a : ℕ) (x : Value) → ((r : ℕ) → IsSmall (member_count v) (byte_count v) (text_limit c v) (s.registers r)) → IsSmall (member_count v) (byte_count v) (text_limit c v) x → (r : ℕ) → IsSmall (member_count v) (byte_count v) (text_limit c v) (put s.registers a x r)
+  small_put s a x h k r = by_test (r == a)
+    where
+      by_test : (t : Bool) → IsSmall (member_count v) (byte_count v) (text_limit c v) (if t then x else s.registers r)
+      by_test true = k
+      by_test false = h r
+
+  text_more : (o : Option Text) → IsSmall (member_count v) (byte_count v) (byte_count v) (text_or_undefined o) → IsSmall (member_count v) (byte_count v) (text_limit c v) (text_or_undefined o)
+  text_more None h = tt
+  text_more (Some t) h = omega arith
+
+  small_move : (s : Frame) (i : Instruction) (m : Move) → FrameSmall (member_count v) (byte_count v) (text_limit c v) s → has_right_operands c i ≡ true → Does c v s i m → MoveSmall (member_count v) (byte_count v) (text_limit c v) m
+  small_move s _ _ h ok halt = tt
+  small_move s _ _ h ok fail = tt
+  small_move s _ _ h ok (text a b) = let x = meaning_small v (name_at c b) in record { registers = small_put s a _ h.registers (text_more (text_in (look_up v (name_at c b))) x.2); left = h.left }
+  small_move s _ _ h ok (list a b) = let x = meaning_small v (name_at c b) in record { registers = small_put s a (ListValue (members_of v (name_at c b))) h.registers (x.0, x.1); left = h.left }
+  small_move s _ _ h ok (const a b) = record { registers = small_put s a (TextValue (literal_at c b)) h.registers (omega (arith, literal_small c.literals b (const_compared c a b ok))); left = h.left }
+  small_move s _ _ h ok (number a b d n t e f) = record { registers = small_put s a (NumberValue n) h.registers tt; left = h.left }
+  small_move s _ _ h ok (enter a b d t ts e lt f) =
+      let x = subst (IsSmall (member_count v) (byte_count v) (text_limit c v)) f (h.registers b) in
+      let all : length t + sum_by length ts ≤ byte_count v = rw (sum_by-cons length t ts) at x.1 in
+      record { registers = small_put s a (TextValue t) h.registers (omega (arith, all)); left = omega (arith, all) }
+  small_move s _ _ h ok (next_member l t ts e p f) =
+      let x = subst (LeftSmall (byte_count v)) e h.left in
+      let all : length t + sum_by length ts ≤ byte_count v = rw (f, sum_by-cons length t ts) at x in
+      record { registers = small_put s l.element (TextValue t) h.registers (omega (arith, all)); left = omega (arith, all) }
+  small_move s _ _ h ok (leave l e p f) = record { registers = h.registers; left = tt }
+  small_move s _ _ h ok (no_turn a b d e lt f) = record { registers = h.registers; left = h.left }
+  small_move s _ _ h ok _ = record { registers = h.registers; left = h.left }
+
+  small_lead : (from : ℕ) (m : Move) (new : State) → MoveSmall (member_count v) (byte_count v) (text_limit c v) m → Leads c from m new → Small new
+  small_lead from (Ends e) new k led = subst (StateSmall (member_count v) (byte_count v) (text_limit c v)) (sym led) tt
+  small_lead from (Goes f) new k led = subst (StateSmall (member_count v) (byte_count v) (text_limit c v)) (sym led.1) k
+  small_lead from (Returns f) new k led = subst (StateSmall (member_count v) (byte_count v) (text_limit c v)) (sym led) k
+
+  small_step : (s new : State) → Small s → Step c v s new → Small new
+  small_step (Ended e) new h st = absurd st
+  small_step (Running s) new h st = small_lead s.place st.2 new (small_move s st.0 st.2 h st.1.right st.3) st.4
+
+  -- of any code
+  pub small_after : (k : ℕ) (s : State) → After c v k s → Small s
+  unfolding After
+  small_after zero s h = subst (StateSmall (member_count v) (byte_count v) (text_limit c v)) (sym h) (record { registers = λ r. tt; left = tt })
+  small_after (suc k) s h = small_step h.0 s (small_after k h.0 h.1) h.2
