@@ -1,0 +1,4 @@
+pub mod MembersLeft
+pub mod Operands
+pub mod Outcomes
+pub mod Results

@@ -1,0 +1,4 @@
+pub mod Values
+pub mod Frames
+pub mod Given
+pub mod Outcomes

@@ -1,0 +1,20 @@
+//! The checked machine: runs any code on any environment, with every test that the machine's
+//! definitions make.
+#![tactic(auto)]
+
+mod act;
+mod frame;
+mod jumps;
+mod loads;
+mod loops;
+mod members;
+mod printing;
+mod reading;
+mod registers;
+mod run;
+mod step;
+#[cfg(test)]
+mod tests;
+mod value;
+
+pub use run::{Checked, run_checked};

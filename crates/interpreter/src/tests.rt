@@ -1,0 +1,263 @@
+mod assembly;
+
+use crate::{Checked, run_checked};
+use assembly::code;
+use code_file::Code;
+use std::alloc::{AllocError, Global};
+use std::test::Fail;
+use target_vars::Env;
+
+const NAMES: [(bool, &str); 6] = [
+    (false, "x"),
+    (true, "list"),
+    (false, "absent"),
+    (true, "absent"),
+    (false, "list"),
+    (true, "x"),
+];
+
+const LITERALS: [(bool, &str); 6] = [
+    (false, ","),
+    (true, "12a"),
+    (true, ""),
+    (true, "7"),
+    (true, "1234567890"),
+    (true, "%41%42"),
+];
+
+/// A loop over the members of `list`, with a comma between them.
+const LIST_CODE: &str = "LIST r0 n1, EACH r1 r0 5, SEP l0, PUT r1 u, NEXT, HALT";
+
+fn outcome(alloc: Global, code: &Code, env: &Env) -> Result<String, AllocError> {
+    match run_checked(alloc, code, env)? {
+        Checked::Link(link) => format!(in alloc; "link {link}"),
+        Checked::NoLink => format!(in alloc; "no link"),
+        Checked::Stuck(place) => format!(in alloc; "stuck at {place}"),
+    }
+}
+
+/// `x` is a text, and `list` has three members.
+fn variables(rt: &HostRuntime) -> Result<Env, Fail> {
+    let mut env = Env::new(rt.alloc());
+    env.put_text("x", "a/é")?;
+    for member in ["red", "green", "blue"] {
+        env.add_member("list", member)?;
+    }
+    Ok(env)
+}
+
+#[test]
+fn each_instruction_does_what_it_says(rt: HostRuntime) -> Result<(), Fail> {
+    let cases = [
+        ("HALT", "link "),
+        ("FAIL", "no link"),
+        ("EMIT l0, FAIL", "no link"),
+        ("JUMP 2, FAIL, HALT", "link "),
+        ("TEXT r0 n0, PUT r0 u, HALT", "link a%2F%C3%A9"),
+        ("TEXT r0 n4, UNDEF r0 3, FAIL, HALT", "link "),
+        ("LIST r0 n1, NOLIST r0 3, HALT, FAIL", "link "),
+        ("LIST r0 n5, NOLIST r0 3, FAIL, HALT", "link "),
+        ("CONST r0 l1, PUT r0 u, HALT", "link 12a"),
+        ("CONST r15 l1, PUT r15 u, HALT", "link 12a"),
+        (
+            "CONST r0 l1, NUMBER r1 r0 4, LESS r1 r1 4, HALT, FAIL",
+            "link ",
+        ),
+        ("CONST r0 l2, NUMBER r0 r0 3, FAIL, HALT", "link "),
+        ("CONST r0 l4, NUMBER r0 r0 3, FAIL, HALT", "link "),
+        (
+            "CONST r1 l1, CONST r0 l2, NUMBER r1 r0 4, FAIL, PUT r1 u, HALT",
+            "link 12a",
+        ),
+        ("TEXT r0 n2, UNDEF r0 3, FAIL, HALT", "link "),
+        ("TEXT r0 n0, UNDEF r0 3, HALT, FAIL", "link "),
+        ("CONST r0 l2, EMPTY r0 3, FAIL, HALT", "link "),
+        ("CONST r0 l1, EMPTY r0 3, HALT, FAIL", "link "),
+        ("LIST r0 n3, NOLIST r0 3, FAIL, HALT", "link "),
+        (
+            "CONST r0 l1, CONST r1 l1, DIFFER r0 r1 4, HALT, FAIL",
+            "link ",
+        ),
+        (
+            "CONST r0 l1, CONST r1 l2, DIFFER r0 r1 4, FAIL, HALT",
+            "link ",
+        ),
+        (
+            "CONST r0 l1, NUMBER r0 r0 6, CONST r1 l3, NUMBER r1 r1 6, LESS r1 r0 7, FAIL, FAIL, HALT",
+            "link ",
+        ),
+        (
+            "CONST r0 l1, NUMBER r0 r0 6, CONST r1 l3, NUMBER r1 r1 6, LESS r0 r1 6, HALT, FAIL",
+            "link ",
+        ),
+        ("EMIT l0, EMIT l0, HALT", "link ,,"),
+        ("TEXT r0 n0, PUT r0 ur, HALT", "link a/%C3%A9"),
+        (
+            "CONST r0 l5, PUT r0 ur, PUT r0 u, HALT",
+            "link %41%42%2541%2542",
+        ),
+        ("TEXT r0 n0, CUT r0 2 u, HALT", "link a%2F"),
+        ("TEXT r0 n0, CUT r0 3 ur, HALT", "link a/%C3%A9"),
+        ("TEXT r0 n0, CUT r0 9999 u, HALT", "link a%2F%C3%A9"),
+        (
+            "CONST r0 l5, CUT r0 1 ur, EMIT l0, CUT r0 1 u, HALT",
+            "link %41,%25",
+        ),
+        (LIST_CODE, "link red,green,blue"),
+        (
+            "LIST r0 n1, EACH r0 r0 4, PUT r0 u, NEXT, HALT",
+            "link redgreenblue",
+        ),
+        (
+            "CONST r1 l1, LIST r0 n3, EACH r1 r0 4, NEXT, PUT r1 u, HALT",
+            "link 12a",
+        ),
+        (
+            "LIST r0 n1, EACH r1 r0 3, NEXT, PUT r1 u, HALT",
+            "link blue",
+        ),
+        ("LIST r0 n1, EACH r1 r0 9, PUT r1 u, HALT", "link red"),
+        (
+            "LIST r0 n1, EACH r1 r0 4, JUMP 3, NEXT, EACH r1 r0 7, PUT r1 u, NEXT, HALT",
+            "link redgreenblue",
+        ),
+    ];
+    let env = variables(&rt)?;
+    for (text, wanted) in cases {
+        let code = code(rt.alloc(), &NAMES, &LITERALS, text)?;
+        let came = outcome(rt.alloc(), &code, &env)?;
+        assert_eq!(rt; came.as_str(), wanted, "{text}");
+    }
+    Ok(())
+}
+
+#[test]
+fn no_step_leads_on(rt: HostRuntime) -> Result<(), Fail> {
+    let cases = [
+        ("? 0 0 0 0 0", "stuck at 0"),
+        ("? 19 1 2 3 4", "stuck at 0"),
+        ("? 1 1 0 0 0", "stuck at 0"),
+        ("? 2 0 0 0 1", "stuck at 0"),
+        ("? 3 0 1 0 1, HALT", "stuck at 0"),
+        ("JUMP 0, HALT", "stuck at 0"),
+        ("JUMP 2, HALT", "stuck at 0"),
+        ("EMIT l0", "stuck at 0"),
+        ("TEXT r0 n1, HALT", "stuck at 0"),
+        ("TEXT r0 n6, HALT", "stuck at 0"),
+        ("TEXT r16 n0, HALT", "stuck at 0"),
+        ("LIST r0 n0, HALT", "stuck at 0"),
+        ("CONST r0 l0, HALT", "stuck at 0"),
+        ("CONST r0 l6, HALT", "stuck at 0"),
+        ("TEXT r0 n2, NUMBER r1 r0 3, HALT, HALT", "stuck at 1"),
+        ("CONST r0 l1, NUMBER r1 r16 3, HALT, HALT", "stuck at 1"),
+        ("CONST r0 l2, NUMBER r1 r0 1, HALT", "stuck at 1"),
+        ("UNDEF r0 2, HALT, HALT", "stuck at 0"),
+        ("LIST r0 n1, EMPTY r0 3, HALT, HALT", "stuck at 1"),
+        ("CONST r0 l1, EMPTY r0 99, HALT", "link "),
+        ("CONST r0 l2, EMPTY r0 99, HALT", "stuck at 1"),
+        ("CONST r0 l1, NOLIST r0 3, HALT, HALT", "stuck at 1"),
+        ("CONST r0 l1, DIFFER r0 r1 3, HALT, HALT", "stuck at 1"),
+        ("CONST r0 l1, LESS r0 r0 3, HALT, HALT", "stuck at 1"),
+        ("EMIT l1, HALT", "stuck at 0"),
+        ("PUT r0 u, HALT", "stuck at 0"),
+        ("CONST r0 l1, PUT r0 2, HALT", "stuck at 1"),
+        ("TEXT r0 n2, CUT r0 1 u, HALT", "stuck at 1"),
+        ("CONST r0 l1, CUT r0 0 u, HALT", "stuck at 1"),
+        ("CONST r0 l1, CUT r0 10000 u, HALT", "stuck at 1"),
+        ("CONST r0 l1, EACH r1 r0 3, NEXT, HALT", "stuck at 1"),
+        ("LIST r0 n1, EACH r1 r0 2, HALT", "stuck at 1"),
+        ("LIST r0 n3, EACH r1 r0 9, PUT r1 u, HALT", "stuck at 1"),
+        (
+            "LIST r0 n1, EACH r1 r0 4, EACH r2 r0 4, NEXT, HALT",
+            "stuck at 2",
+        ),
+        (
+            "LIST r0 n1, EACH r1 r0 5, JUMP 5, PUT r1 u, NEXT, HALT",
+            "stuck at 2",
+        ),
+        ("SEP l0, HALT", "stuck at 0"),
+        ("NEXT, HALT", "stuck at 0"),
+        (
+            "LIST r0 n1, EACH r1 r0 5, NEXT, PUT r1 u, NEXT, HALT",
+            "stuck at 2",
+        ),
+        (
+            "JUMP 3, EACH r1 r0 5, SEP l0, PUT r1 u, NEXT, HALT",
+            "stuck at 3",
+        ),
+        (
+            "JUMP 6, EACH r1 r0 5, SEP l0, PUT r1 u, NEXT, HALT",
+            "stuck at 0",
+        ),
+        (
+            "LIST r0 n1, EACH r1 r0 5, SEP l0, PUT r1 u, NEXT, EMIT l0",
+            "stuck at 5",
+        ),
+    ];
+    let env = variables(&rt)?;
+    for (text, wanted) in cases {
+        let code = code(rt.alloc(), &NAMES, &LITERALS, text)?;
+        let came = outcome(rt.alloc(), &code, &env)?;
+        assert_eq!(rt; came.as_str(), wanted, "{text}");
+    }
+    Ok(())
+}
+
+#[test]
+fn other_environments(rt: HostRuntime) -> Result<(), Fail> {
+    let empty = Env::new(rt.alloc());
+    let mut texts = Env::new(rt.alloc());
+    texts.put_text("list", "red")?;
+    texts.put_text("x", "a")?;
+    let optional = "TEXT r2 n0, UNDEF r2 3, PUT r2 u, HALT";
+    let element = "LIST r0 n1, EACH r1 r0 3, NEXT, PUT r1 u, HALT";
+    let cases = [
+        (LIST_CODE, &empty, "link "),
+        (LIST_CODE, &texts, "link "),
+        (optional, &empty, "link "),
+        (optional, &texts, "link a"),
+        (element, &empty, "stuck at 3"),
+    ];
+    for (text, env, wanted) in cases {
+        let code = code(rt.alloc(), &NAMES, &LITERALS, text)?;
+        let came = outcome(rt.alloc(), &code, env)?;
+        assert_eq!(rt; came.as_str(), wanted, "{text}");
+    }
+    Ok(())
+}
+
+/// The code of a rule that links by the ISSN.
+#[test]
+fn compiled_rule(rt: HostRuntime) -> Result<(), Fail> {
+    let code = code(
+        rt.alloc(),
+        &[(false, "rft.issn")],
+        &[
+            (false, "http://e.org/"),
+            (true, ""),
+            (false, ","),
+            (true, "1"),
+        ],
+        "EMIT l0, CONST r4 l1, TEXT r0 n0, UNDEF r0 8, EMPTY r4 6, EMIT l2, CONST r4 l3, PUT r0 u, HALT, FAIL",
+    )?;
+    let mut env = Env::new(rt.alloc());
+    env.put_text("rft.issn", "1234-5678")?;
+    let came = outcome(rt.alloc(), &code, &env)?;
+    assert_eq!(rt; came.as_str(), "link http://e.org/1234-5678");
+    Ok(())
+}
+
+/// As many members as may be: each turn takes one from where it stands.
+#[test]
+fn long_loop(rt: HostRuntime) -> Result<(), Fail> {
+    let mut env = Env::new(rt.alloc());
+    for _ in 0..50_000 {
+        env.add_member("list", "m")?;
+    }
+    let code = code(rt.alloc(), &NAMES, &LITERALS, LIST_CODE)?;
+    match run_checked(rt.alloc(), &code, &env)? {
+        Checked::Link(link) => assert_eq!(rt; link.len(), 99_999),
+        _ => assert!(rt; false),
+    }
+    Ok(())
+}

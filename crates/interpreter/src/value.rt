@@ -1,0 +1,13 @@
+//! What registers hold.
+
+use crate::members::Members;
+
+/// What a register holds. Texts and lists stay where they are, in the environment or the code.
+#[derive(Clone, Copy)]
+pub(crate) enum Value<'a> {
+    Nothing,
+    Undefined,
+    Text(&'a [u8]),
+    List(Members<'a>),
+    Number(u32),
+}
