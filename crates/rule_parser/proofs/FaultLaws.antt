@@ -1,0 +1,326 @@
+-- Lines that spell rules have no fault, and other lines have one first fault.
+use Rattle.std.proofs.Common.{◌≡◌, ◌≢◌, ℕ, ◌<◌, ◌≤◌, List, [], ◌∷◌, ◌++◌, Bool, true, false, Option, Some, None, ◌⊎◌, inl, inr, is_some, is_none, ◌&&◌, ◌==◌, map, length, refl, ap, subst, sym, ◌∙◌, arith, All}
+use Rattle.std.specs.List.{AllByRecursion}
+use Rattle.std.specs.Str.Lines.{lines}
+use Rattle.std.proofs.lemmas.Bool.{both_ways}
+use Rattle.std.proofs.lemmas.List.{append-nil}
+use Rattle.vocabulary.specs.Texts.{Text}
+use Rattle.uri_grammar.specs.declared.parts.Part.{Part}
+use Rattle.uri_grammar.specs.declared.error.TemplateErrorKind.{TemplateErrorKind}
+use Rattle.uri_grammar.specs.Texts.{IsTemplate, IsRefused as IsRefusedTemplate}
+use Rattle.rule_parser.specs.declared.error.RuleErrorKind.{RuleErrorKind}
+use Rattle.rule_parser.specs.declared.error.RuleErrorKind.TheVariants as kind
+use Rattle.rule_parser.specs.declared.rule.Guard.{Guard}
+use Rattle.rule_parser.specs.Rules.{RuleSet, IsSound, IsSoundGuard, guard_fits, parts_fit}
+use Rattle.rule_parser.specs.Statements.{Statement, Declare, Begin, When, Link, IsStatement, line_of, statements}
+use Rattle.rule_parser.specs.Grammar.{significant, IsRuleText}
+use Rattle.rule_parser.specs.Faults.{Begun, IsSoundBegun, begun_statements, is_in_order, IsLineFault, no_statement, out_of_order, bad_template, mismatched_guard, mismatched_link, IsFirstFault, line_fault, no_link, line_number, EndsRule, IsRefused}
+use Rattle.rule_parser.specs.Progress.{no_rules}
+use Rattle.rule_parser.proofs.LawLemmas.{OneTree, Follows, Runs, begun_runs, begun_same, goes_on}
+use Rattle.rule_parser.proofs.LineLaws.{statement_same, AreStatements, HasNext, compare}
+
+-- a template's text has no fault
+abbrev pub NoFault : Type 0
+NoFault = (text : Text) (parts : List Part) (k : TemplateErrorKind) (at : ℕ) → IsTemplate text parts → IsRefusedTemplate text k at → ⊥
+
+-- a template's text has one first fault
+abbrev pub OneFault : Type 0
+OneFault = (text : Text) (k other : TemplateErrorKind) (at place : ℕ) → IsRefusedTemplate text k at → IsRefusedTemplate text other place → (k ≡ other) × (at ≡ place)
+
+abbrev complete : RuleSet → Begun
+complete rules = record { whole = rules; guards = None }
+
+complete_is_sound : (rules : RuleSet) → IsSound rules → IsSoundBegun (complete rules)
+complete_is_sound rules s = record { whole = s; guards = tt }
+
+-- ---- statements that follow
+
+follows_is_statement : (b : Begun) (s : Statement) (c : Begun) → Follows b s c → IsStatement s
+follows_is_statement b (Declare name) c p = p.2
+follows_is_statement b Begin c p = tt
+follows_is_statement b (When g) c p = p.2.words
+follows_is_statement b (Link text) c p = tt
+
+runs_are_statements : (b : Begun) (ss : List Statement) (c : Begun) → Runs b ss c → AreStatements ss
+runs_are_statements b [] c p = tt
+runs_are_statements b (s ∷ ss) c p = (follows_is_statement b s p.0 p.1, runs_are_statements p.0 ss c p.2)
+
+begun_are_statements : (b : Begun) → IsSoundBegun b → AreStatements (begun_statements b)
+begun_are_statements b s = runs_are_statements no_rules (begun_statements b) b (begun_runs b s)
+
+follows_in_order : (b : Begun) (s : Statement) (c : Begun) → Follows b s c → is_in_order b s ≡ true
+follows_in_order b (Declare name) c p =
+    ap (λ o. is_none o && length b.whole.rules == 0) p.0 ∙ ap (λ rules. length rules == 0) p.1
+follows_in_order b Begin c p = refl
+follows_in_order b (When g) c p = ap is_some p.1
+follows_in_order b (Link text) c p = ap is_some p.2
+
+-- ---- what is wrong with a line, by its statement
+
+abbrev IsBadContent : Begun → Statement → RuleErrorKind → Type 0
+IsBadContent b (Declare name) k = ⊥
+IsBadContent b Begin k = ⊥
+IsBadContent b (When g) k = (guard_fits b.whole.lists g ≡ false) × (k ≡ kind.KindMismatch)
+IsBadContent b (Link text) k =
+    ((t : TemplateErrorKind) × (at : ℕ) × IsRefusedTemplate text t at × (k ≡ kind.Template t))
+    ⊎ ((parts : List Part) × IsTemplate text parts × (parts_fit b.whole.lists parts ≡ false) × (k ≡ kind.KindMismatch))
+
+abbrev IsBad : Begun → Statement → RuleErrorKind → Type 0
+IsBad b s k = ((is_in_order b s ≡ false) × (k ≡ kind.BadLine)) ⊎ ((is_in_order b s ≡ true) × IsBadContent b s k)
+
+abbrev IsBadText : Begun → Text → RuleErrorKind → Type 0
+IsBadText b line k =
+    (((s : Statement) → IsStatement s → line ≡ line_of s → ⊥) × (k ≡ kind.BadLine)) ⊎ ((s : Statement) × IsStatement s × (line ≡ line_of s) × IsBad b s k)
+
+bad_text : (b : Begun) (line : Text) (k : RuleErrorKind) → IsLineFault b line k → IsBadText b line k
+bad_text b line k (no_statement b' l h) = inl (h, refl)
+bad_text b line k (out_of_order b' s a o) = inr (s, a, refl, inl (o, refl))
+bad_text b line k (bad_template b' text t at o r) = inr (Link text, tt, refl, inr (o, inl (t, at, r, refl)))
+bad_text b line k (mismatched_guard b' g o a m) = inr (When g, a, refl, inr (o, (m, refl)))
+bad_text b line k (mismatched_link b' text parts o t m) = inr (Link text, tt, refl, inr (o, inr (parts, t, m, refl)))
+
+content_same : OneTree → NoFault → OneFault → (b : Begun) (s : Statement) (k other : RuleErrorKind) → IsBadContent b s k → IsBadContent b s other → k ≡ other
+content_same tree none fault b (Declare name) k other p q = absurd p
+content_same tree none fault b Begin k other p q = absurd p
+content_same tree none fault b (When g) k other p q = p.1 ∙ sym q.1
+content_same tree none fault b (Link text) k other (inl p) (inl q) =
+    p.3 ∙ ap (λ t. kind.Template t) (fault text p.0 q.0 p.1 q.1 p.2 q.2).0 ∙ sym q.3
+content_same tree none fault b (Link text) k other (inl p) (inr q) = absurd (none text q.0 p.0 p.1 q.1 p.2)
+content_same tree none fault b (Link text) k other (inr p) (inl q) = absurd (none text p.0 q.0 q.1 p.1 q.2)
+content_same tree none fault b (Link text) k other (inr p) (inr q) = p.3 ∙ sym q.3
+
+bad_same : OneTree → NoFault → OneFault → (b : Begun) (s : Statement) (k other : RuleErrorKind) → IsBad b s k → IsBad b s other → k ≡ other
+bad_same tree none fault b s k other (inl p) (inl q) = p.1 ∙ sym q.1
+bad_same tree none fault b s k other (inl p) (inr q) = absurd (both_ways (is_in_order b s) p.0 q.0)
+bad_same tree none fault b s k other (inr p) (inl q) = absurd (both_ways (is_in_order b s) q.0 p.0)
+bad_same tree none fault b s k other (inr p) (inr q) = content_same tree none fault b s k other p.1 q.1
+
+bad_text_same : OneTree → NoFault → OneFault → (b : Begun) (line : Text) (k other : RuleErrorKind) → IsBadText b line k → IsBadText b line other → k ≡ other
+bad_text_same tree none fault b line k other (inl p) (inl q) = p.1 ∙ sym q.1
+bad_text_same tree none fault b line k other (inl p) (inr q) = absurd (p.0 q.0 q.1 q.2)
+bad_text_same tree none fault b line k other (inr p) (inl q) = absurd (q.0 p.0 p.1 p.2)
+bad_text_same tree none fault b line k other (inr p) (inr q) =
+    bad_same tree none fault b p.0 k other p.3 (subst (λ s. IsBad b s other) (statement_same q.0 p.0 q.1 p.1 (sym q.2 ∙ p.2)) q.3)
+
+bad_is_no_next : OneTree → NoFault → (b : Begun) (s : Statement) (k : RuleErrorKind) (c : Begun) → IsBad b s k → Follows b s c → ⊥
+bad_is_no_next tree none b s k c (inl p) f = both_ways (is_in_order b s) p.0 (follows_in_order b s c f)
+bad_is_no_next tree none b (Declare name) k c (inr p) f = p.1
+bad_is_no_next tree none b Begin k c (inr p) f = p.1
+bad_is_no_next tree none b (When g) k c (inr p) f = both_ways (guard_fits b.whole.lists g) p.1.0 f.2.kinds
+bad_is_no_next tree none b (Link text) k c (inr p) f = no_link_follows p.1
+  where
+    no_link_follows : IsBadContent b (Link text) k → ⊥
+    no_link_follows (inl q) = none text f.1 q.0 q.1 f.3 q.2
+    no_link_follows (inr q) = both_ways (parts_fit b.whole.lists q.0) q.2 (ap (parts_fit b.whole.lists) (tree text q.0 f.1 q.1 f.3) ∙ f.4)
+
+-- a faulty line spells no statement that follows
+faulty_is_no_next : OneTree → NoFault → (b : Begun) (line : Text) (k : RuleErrorKind) (s : Statement) (c : Begun) → IsLineFault b line k → IsStatement s
+    → line ≡ line_of s → Follows b s c → ⊥
+faulty_is_no_next tree none b line k s c fault a e f = refuted (bad_text b line k fault)
+  where
+    refuted : IsBadText b line k → ⊥
+    refuted (inl p) = p.0 s a e
+    refuted (inr p) = bad_is_no_next tree none b s k c (subst (λ x. IsBad b x k) (statement_same p.0 s p.1 a (sym p.2 ∙ e)) p.3) f
+
+-- a line `rule` is never faulty itself
+begin_is_not_faulty : (b : Begun) (line : Text) (k : RuleErrorKind) → IsLineFault b line k → line ≡ line_of Begin → ⊥
+begin_is_not_faulty b line k fault e = refuted (bad_text b line k fault)
+  where
+    no_bad_begin : IsBad b Begin k → ⊥
+    no_bad_begin (inl p) = both_ways true p.0 refl
+    no_bad_begin (inr p) = p.1
+
+    refuted : IsBadText b line k → ⊥
+    refuted (inl p) = p.0 Begin tt e
+    refuted (inr p) = no_bad_begin (subst (λ x. IsBad b x k) (statement_same p.0 Begin p.1 tt (sym p.2 ∙ e)) p.3)
+
+-- ---- first faults
+
+-- of two lists of statements that were begun, the longer one goes on with the shorter
+extends_not : OneTree → NoFault → (b c : Begun) (line : Text) (k : RuleErrorKind) (rest : List Text) → IsSoundBegun b → IsSoundBegun c → IsLineFault b line k
+    → HasNext (begun_statements b) (begun_statements c) (line ∷ rest) → ⊥
+extends_not tree none b c line k rest s t fault n =
+    let next = goes_on tree b c n.0 n.1 s t n.3 in
+    faulty_is_no_next tree none b line k n.0 next.0 fault n.4 (heads line (line_of n.0) rest n.2 n.5) next.1
+  where
+    heads : (x y : Text) (xs ys : List Text) → x ∷ xs ≡ y ∷ ys → x ≡ y
+    heads x y xs ys e = cc
+
+nothing_next : (ss ts : List Statement) → HasNext ss ts [] → ⊥
+nothing_next ss ts n = no_lines (line_of n.0) n.2 n.5
+  where
+    no_lines : (x : Text) (xs : List Text) → [] ≡ x ∷ xs → ⊥
+    no_lines x xs e = cc
+
+-- a rule that has begun takes no other
+open_not_extended : OneTree → (whole : RuleSet) (guards : List Guard) (c : Begun) (rest : List Text) → IsSoundBegun (record { whole = whole; guards = Some guards })
+    → IsSoundBegun c → EndsRule rest → HasNext (begun_statements (record { whole = whole; guards = Some guards })) (begun_statements c) rest → ⊥
+open_not_extended tree whole guards c [] s t r n = nothing_next (begun_statements (record { whole = whole; guards = Some guards })) (begun_statements c) n
+open_not_extended tree whole guards c (line ∷ rest) s t r n =
+    let b : Begun = record { whole = whole; guards = Some guards } in
+    let next = goes_on tree b c n.0 n.1 s t n.3 in
+    let begin : n.0 ≡ Begin = statement_same n.0 Begin n.4 tt (sym (heads line (line_of n.0) rest n.2 n.5) ∙ r) in
+    no_begin (subst (λ x. Follows b x next.0) begin next.1).0
+  where
+    heads : (x y : Text) (xs ys : List Text) → x ∷ xs ≡ y ∷ ys → x ≡ y
+    heads x y xs ys e = cc
+
+    no_begin : Some guards ≡ None → ⊥
+    no_begin e = cc
+
+spelled_by : (ls : List Text) (rules : RuleSet) → significant ls ≡ map line_of (statements rules)
+    → significant ls ≡ map line_of (begun_statements (complete rules)) ++ []
+spelled_by ls rules e = e ∙ sym (ap (map line_of) (append-nil (statements rules))) ∙ sym (append-nil (map line_of (begun_statements (complete rules))))
+
+abbrev no_lines : List Text
+no_lines = []
+
+-- lines that spell two sets of rules
+pub rules_same : OneTree → (ls : List Text) (rules others : RuleSet) → IsSound rules → IsSound others → significant ls ≡ map line_of (statements rules)
+    → significant ls ≡ map line_of (statements others) → rules ≡ others
+rules_same tree ls rules others s t e f =
+    by_comparison
+    (compare (begun_statements (complete rules)) (begun_statements (complete others)) [] [] (begun_are_statements (complete rules) (complete_is_sound rules s))
+    (begun_are_statements (complete others) (complete_is_sound others t)) (sym (spelled_by ls rules e) ∙ spelled_by ls others f))
+  where
+    by_comparison : ((begun_statements (complete rules) ≡ begun_statements (complete others)) × (no_lines ≡ no_lines))
+        ⊎ (HasNext (begun_statements (complete rules)) (begun_statements (complete others)) [] ⊎ HasNext (begun_statements (complete others)) (begun_statements (complete rules)) [])
+        → rules ≡ others
+    by_comparison (inl p) =
+        ap (λ (b : Begun). b.whole) (begun_same tree (complete rules) (complete others) (complete_is_sound rules s) (complete_is_sound others t) p.0)
+    by_comparison (inr (inl n)) = absurd (nothing_next _ _ n)
+    by_comparison (inr (inr n)) = absurd (nothing_next _ _ n)
+
+abbrev open_rule : RuleSet → List Guard → Begun
+open_rule whole guards = record { whole = whole; guards = Some guards }
+
+open_is_sound : (whole : RuleSet) (guards : List Guard) → IsSound whole → All (IsSoundGuard whole.lists) guards → IsSoundBegun (open_rule whole guards)
+open_is_sound whole guards s g = record { whole = s; guards = g }
+
+not_complete : (whole : RuleSet) (guards : List Guard) (rules : RuleSet) → open_rule whole guards ≡ complete rules → ⊥
+not_complete whole guards rules e = not_none (ap (λ (b : Begun). b.guards) e)
+  where
+    not_none : Some guards ≡ None → ⊥
+    not_none x = cc
+
+-- lines that spell rules have no first fault
+pub rules_have_no_fault : OneTree → NoFault → (ls : List Text) (rules : RuleSet) (k : RuleErrorKind) (at : ℕ) → IsSound rules
+    → significant ls ≡ map line_of (statements rules) → IsFirstFault ls k at → ⊥
+rules_have_no_fault tree none ls rules k at s e (line_fault l b line rest k' t f fault) =
+    by_comparison
+    (compare (begun_statements b) (begun_statements (complete rules)) (line ∷ rest) [] (begun_are_statements b t)
+    (begun_are_statements (complete rules) (complete_is_sound rules s)) (sym f ∙ spelled_by l rules e))
+  where
+    not_nothing : line ∷ rest ≡ no_lines → ⊥
+    not_nothing x = cc
+
+    by_comparison : ((begun_statements b ≡ begun_statements (complete rules)) × (line ∷ rest ≡ no_lines))
+        ⊎ (HasNext (begun_statements b) (begun_statements (complete rules)) (line ∷ rest) ⊎ HasNext (begun_statements (complete rules)) (begun_statements b) no_lines) → ⊥
+    by_comparison (inl p) = not_nothing p.1
+    by_comparison (inr (inl n)) = extends_not tree none b (complete rules) line k' rest t (complete_is_sound rules s) fault n
+    by_comparison (inr (inr n)) = nothing_next _ _ n
+rules_have_no_fault tree none ls rules k at s e (no_link l whole guards rest t g f r) =
+    by_comparison
+    (compare (begun_statements (open_rule whole guards)) (begun_statements (complete rules)) rest [] (begun_are_statements (open_rule whole guards) (open_is_sound whole guards t g))
+    (begun_are_statements (complete rules) (complete_is_sound rules s)) (sym f ∙ spelled_by l rules e))
+  where
+    by_comparison : ((begun_statements (open_rule whole guards) ≡ begun_statements (complete rules)) × (rest ≡ no_lines))
+        ⊎ (HasNext (begun_statements (open_rule whole guards)) (begun_statements (complete rules)) rest
+        ⊎ HasNext (begun_statements (complete rules)) (begun_statements (open_rule whole guards)) no_lines) → ⊥
+    by_comparison (inl p) =
+        not_complete whole guards rules
+        (begun_same tree (open_rule whole guards) (complete rules) (open_is_sound whole guards t g) (complete_is_sound rules s) p.0)
+    by_comparison (inr (inl n)) = open_not_extended tree whole guards (complete rules) rest (open_is_sound whole guards t g) (complete_is_sound rules s) r n
+    by_comparison (inr (inr n)) = nothing_next _ _ n
+
+-- a line at fault where a rule lacks its link
+line_and_open : OneTree → NoFault → (ls : List Text) (b : Begun) (line : Text) (rest : List Text) (k : RuleErrorKind) (whole : RuleSet) (guards : List Guard)
+    (behind : List Text) → IsSoundBegun b → significant ls ≡ map line_of (begun_statements b) ++ line ∷ rest → IsLineFault b line k → IsSound whole
+    → All (IsSoundGuard whole.lists) guards → significant ls ≡ map line_of (begun_statements (open_rule whole guards)) ++ behind → EndsRule behind → ⊥
+line_and_open tree none ls b line rest k whole guards behind s e fault t g f r =
+    by_comparison
+    (compare (begun_statements b) (begun_statements (open_rule whole guards)) (line ∷ rest) behind (begun_are_statements b s)
+    (begun_are_statements (open_rule whole guards) (open_is_sound whole guards t g)) (sym e ∙ f))
+  where
+    by_comparison : ((begun_statements b ≡ begun_statements (open_rule whole guards)) × (line ∷ rest ≡ behind))
+        ⊎ (HasNext (begun_statements b) (begun_statements (open_rule whole guards)) (line ∷ rest)
+        ⊎ HasNext (begun_statements (open_rule whole guards)) (begun_statements b) behind) → ⊥
+    by_comparison (inl p) = begin_is_not_faulty b line k fault (subst EndsRule (sym p.1) r)
+    by_comparison (inr (inl n)) = extends_not tree none b (open_rule whole guards) line k rest s (open_is_sound whole guards t g) fault n
+    by_comparison (inr (inr n)) = open_not_extended tree whole guards b behind (open_is_sound whole guards t g) s r n
+
+-- a line at fault, and another fault of the same lines
+line_fault_same : OneTree → NoFault → OneFault → (ls : List Text) (b : Begun) (line : Text) (rest : List Text) (k : RuleErrorKind) (other : RuleErrorKind) (place : ℕ)
+    → IsSoundBegun b → significant ls ≡ map line_of (begun_statements b) ++ line ∷ rest → IsLineFault b line k → IsFirstFault ls other place
+    → (k ≡ other) × (line_number ls (length (begun_statements b)) ≡ place)
+line_fault_same tree none one ls b line rest k other place s e fault (line_fault l c line' rest' k' t f fault') =
+    by_comparison
+    (compare (begun_statements b) (begun_statements c) (line ∷ rest) (line' ∷ rest') (begun_are_statements b s) (begun_are_statements c t) (sym e ∙ f))
+  where
+    heads : (x y : Text) (xs ys : List Text) → x ∷ xs ≡ y ∷ ys → x ≡ y
+    heads x y xs ys d = cc
+
+    by_comparison : ((begun_statements b ≡ begun_statements c) × (line ∷ rest ≡ line' ∷ rest'))
+        ⊎ (HasNext (begun_statements b) (begun_statements c) (line ∷ rest) ⊎ HasNext (begun_statements c) (begun_statements b) (line' ∷ rest'))
+        → (k ≡ k') × (line_number l (length (begun_statements b)) ≡ line_number l (length (begun_statements c)))
+    by_comparison (inl p) = (
+      bad_text_same tree none one b line k k' (bad_text b line k fault)
+          (subst (λ (x : Begun). IsBadText x line k') (sym (begun_same tree b c s t p.0))
+          (subst (λ x. IsBadText c x k') (sym (heads line line' rest rest' p.1)) (bad_text c line' k' fault'))),
+      ap (λ ss. line_number l (length ss)) p.0,
+    )
+    by_comparison (inr (inl n)) = absurd (extends_not tree none b c line k rest s t fault n)
+    by_comparison (inr (inr n)) = absurd (extends_not tree none c b line' k' rest' t s fault' n)
+line_fault_same tree none one ls b line rest k other place s e fault (no_link l whole guards rest' t g f r) =
+    absurd (line_and_open tree none l b line rest k whole guards rest' s e fault t g f r)
+
+-- a rule without a link, and another fault of the same lines
+open_fault_same : OneTree → NoFault → OneFault → (ls : List Text) (whole : RuleSet) (guards : List Guard) (rest : List Text) (other : RuleErrorKind) (place : ℕ)
+    → IsSound whole → All (IsSoundGuard whole.lists) guards → significant ls ≡ map line_of (begun_statements (open_rule whole guards)) ++ rest → EndsRule rest
+    → IsFirstFault ls other place → (kind.NoLink ≡ other) × (line_number ls (length (statements whole)) ≡ place)
+open_fault_same tree none one ls whole guards rest other place s g e r (line_fault l b line rest' k' t f fault) =
+    absurd (line_and_open tree none l b line rest' k' whole guards rest t f fault s g e r)
+open_fault_same tree none one ls whole guards rest other place s g e r (no_link l whole' guards' rest' t h f q) =
+    by_comparison
+    (compare (begun_statements (open_rule whole guards)) (begun_statements (open_rule whole' guards')) rest rest'
+    (begun_are_statements (open_rule whole guards) (open_is_sound whole guards s g)) (begun_are_statements (open_rule whole' guards') (open_is_sound whole' guards' t h))
+    (sym e ∙ f))
+  where
+    by_comparison : ((begun_statements (open_rule whole guards) ≡ begun_statements (open_rule whole' guards')) × (rest ≡ rest'))
+        ⊎ (HasNext (begun_statements (open_rule whole guards)) (begun_statements (open_rule whole' guards')) rest
+        ⊎ HasNext (begun_statements (open_rule whole' guards')) (begun_statements (open_rule whole guards)) rest')
+        → (kind.NoLink ≡ kind.NoLink) × (line_number l (length (statements whole)) ≡ line_number l (length (statements whole')))
+    by_comparison (inl p) = (
+      refl,
+      ap (λ (b : Begun). line_number l (length (statements b.whole)))
+          (begun_same tree (open_rule whole guards) (open_rule whole' guards') (open_is_sound whole guards s g) (open_is_sound whole' guards' t h) p.0),
+    )
+    by_comparison (inr (inl n)) = absurd (open_not_extended tree whole guards (open_rule whole' guards') rest (open_is_sound whole guards s g) (open_is_sound whole' guards' t h) r n)
+    by_comparison (inr (inr n)) = absurd (open_not_extended tree whole' guards' (open_rule whole guards) rest' (open_is_sound whole' guards' t h) (open_is_sound whole guards s g) q n)
+
+-- two first faults are one
+pub first_faults_same : OneTree → NoFault → OneFault → (ls : List Text) (k other : RuleErrorKind) (at place : ℕ) → IsFirstFault ls k at → IsFirstFault ls other place
+    → (k ≡ other) × (at ≡ place)
+first_faults_same tree none one ls k other at place (line_fault l b line rest k' s e fault) q =
+    line_fault_same tree none one l b line rest k' other place s e fault q
+first_faults_same tree none one ls k other at place (no_link l whole guards rest s g e r) q =
+    open_fault_same tree none one l whole guards rest other place s g e r q
+
+-- ---- bytes
+
+pub no_refusal : OneTree → NoFault → (bytes : Text) (rules : RuleSet) (k : RuleErrorKind) (line : ℕ) → IsRuleText bytes rules → IsRefused bytes k line → ⊥
+no_refusal tree none bytes rules k line a (inl f) = omega (arith, f.0, a.short)
+no_refusal tree none bytes rules k line a (inr (inl f)) = f.1 a.utf8
+no_refusal tree none bytes rules k line a (inr (inr f)) = rules_have_no_fault tree none (lines bytes) rules k line a.sound a.spelled f.2
+
+pub one_refusal : OneTree → NoFault → OneFault → (bytes : Text) (k other : RuleErrorKind) (line place : ℕ) → IsRefused bytes k line → IsRefused bytes other place
+    → (k ≡ other) × (line ≡ place)
+one_refusal tree none one bytes k other line place (inl p) (inl q) = (p.1 ∙ sym q.1, p.2 ∙ sym q.2)
+one_refusal tree none one bytes k other line place (inl p) (inr (inl q)) = absurd (omega (arith, p.0, q.0))
+one_refusal tree none one bytes k other line place (inl p) (inr (inr q)) = absurd (omega (arith, p.0, q.0))
+one_refusal tree none one bytes k other line place (inr (inl p)) (inl q) = absurd (omega (arith, p.0, q.0))
+one_refusal tree none one bytes k other line place (inr (inl p)) (inr (inl q)) = (p.2 ∙ sym q.2, p.3 ∙ sym q.3)
+one_refusal tree none one bytes k other line place (inr (inl p)) (inr (inr q)) = absurd (p.1 q.1)
+one_refusal tree none one bytes k other line place (inr (inr p)) (inl q) = absurd (omega (arith, p.0, q.0))
+one_refusal tree none one bytes k other line place (inr (inr p)) (inr (inl q)) = absurd (q.1 p.1)
+one_refusal tree none one bytes k other line place (inr (inr p)) (inr (inr q)) = first_faults_same tree none one (lines bytes) k other line place p.2 q.2

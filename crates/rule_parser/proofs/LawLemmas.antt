@@ -1,0 +1,134 @@
+-- The laws of the grammar of rules: statements that begin rules can go on in one way.
+use Rattle.std.proofs.Common.{◌≡◌, ◌≢◌, ℕ, List, [], ◌∷◌, ◌++◌, Bool, true, false, Option, Some, None, ◌⊎◌, inl, inr, is_some, map, length, refl, ap, subst, sym, ◌∙◌, codes, All}
+use Rattle.std.specs.List.{flat_map, AllByRecursion}
+use Rattle.std.proofs.lemmas.List.{append-nil, append_assoc}
+use Rattle.std.proofs.lemmas.List.Elements.{recursion_from_All}
+use Rattle.vocabulary.specs.Texts.{Text}
+use Rattle.uri_grammar.specs.declared.parts.Part.{Part}
+use Rattle.uri_grammar.specs.Names.{IsName}
+use Rattle.uri_grammar.specs.Texts.{IsTemplate}
+use Rattle.rule_parser.specs.declared.rule.Guard.{Guard}
+use Rattle.rule_parser.specs.declared.rule.Rule.{Rule}
+use Rattle.rule_parser.specs.Rules.{RuleSet, IsGuard, IsSound, IsSoundGuard, IsSoundRule, parts_fit}
+use Rattle.rule_parser.specs.Statements.{Statement, Declare, Begin, When, Link, IsStatement, statements, statements_of_rule}
+use Rattle.rule_parser.specs.Faults.{Begun, IsSoundBegun, AreSoundGuards, begun_statements, statements_of_guards, is_in_order}
+use Rattle.rule_parser.specs.Progress.{no_rules}
+use Rattle.rule_parser.proofs.ReaderLemmas.{stage}
+
+-- a template's text has one tree
+abbrev pub OneTree : Type 0
+OneTree = (text : Text) (parts others : List Part) → IsTemplate text parts → IsTemplate text others → parts ≡ others
+
+-- ---- how statements go on
+
+-- the statement goes on with what was begun
+abbrev pub Follows : Begun → Statement → Begun → Type 0
+Follows b (Declare name) c = (b.guards ≡ None) × (b.whole.rules ≡ []) × IsName name × (c ≡ stage (b.whole.lists ++ name ∷ []) [] None)
+Follows b Begin c = (b.guards ≡ None) × (c ≡ stage b.whole.lists b.whole.rules (Some []))
+Follows b (When g) c =
+    (guards : List Guard) × (b.guards ≡ Some guards) × IsSoundGuard b.whole.lists g × (c ≡ stage b.whole.lists b.whole.rules (Some (guards ++ g ∷ [])))
+Follows b (Link text) c =
+    (guards : List Guard) × (parts : List Part) × (b.guards ≡ Some guards) × IsTemplate text parts × (parts_fit b.whole.lists parts ≡ true)
+    × (c ≡ stage b.whole.lists (b.whole.rules ++ record { guards = guards; template = record { text = text; parts = parts } } ∷ []) None)
+
+same_some : {X : Type 0} (o : Option X) (x y : X) → o ≡ Some x → o ≡ Some y → x ≡ y
+same_some o x y a b = cc
+
+pub follows_same : OneTree → (b : Begun) (s : Statement) (c d : Begun) → Follows b s c → Follows b s d → c ≡ d
+follows_same one b (Declare name) c d p q = p.3 ∙ sym q.3
+follows_same one b Begin c d p q = p.1 ∙ sym q.1
+follows_same one b (When g) c d p q =
+    p.3 ∙ ap (λ gs. stage b.whole.lists b.whole.rules (Some (gs ++ g ∷ []))) (same_some b.guards p.0 q.0 p.1 q.1) ∙ sym q.3
+follows_same one b (Link text) c d p q =
+    p.5 ∙ ap (λ (gs : List Guard). stage b.whole.lists (b.whole.rules ++ record { guards = gs; template = record { text = text; parts = p.1 } } ∷ []) None)
+    (same_some b.guards p.0 q.0 p.2 q.2)
+    ∙ ap (λ (ps : List Part). stage b.whole.lists (b.whole.rules ++ record { guards = q.0; template = record { text = text; parts = ps } } ∷ []) None)
+    (one text p.1 q.1 p.3 q.3) ∙ sym q.5
+
+-- statements, one after another
+abbrev pub Runs : Begun → List Statement → Begun → Type 0
+Runs b [] c = b ≡ c
+Runs b (s ∷ ss) c = (d : Begun) × Follows b s d × Runs d ss c
+
+pub runs_same : OneTree → (b : Begun) (ss : List Statement) (c d : Begun) → Runs b ss c → Runs b ss d → c ≡ d
+runs_same one b [] c d p q = sym p ∙ q
+runs_same one b (s ∷ ss) c d p q = runs_same one q.0 ss c d (subst (λ x. Runs x ss c) (follows_same one b s p.0 q.0 p.1 q.1) p.2) q.2
+
+pub runs-append : (b : Begun) (ss more : List Statement) (c d : Begun) → Runs b ss c → Runs c more d → Runs b (ss ++ more) d
+runs-append b [] more c d p q = subst (λ x. Runs x more d) (sym p) q
+runs-append b (s ∷ ss) more c d p q = (p.0, p.1, runs-append p.0 ss more c d p.2 q)
+
+pub runs_split : (b : Begun) (ss more : List Statement) (d : Begun) → Runs b (ss ++ more) d → (c : Begun) × Runs b ss c × Runs c more d
+runs_split b [] more d p = (b, refl, p)
+runs_split b (s ∷ ss) more d p = let r = runs_split p.0 ss more d p.2 in (r.0, (p.0, p.1, r.1), r.2)
+
+-- ---- the statements of rules
+
+snoc : {X : Type 0} (xs : List X) (x : X) (ys : List X) → (xs ++ x ∷ []) ++ ys ≡ xs ++ x ∷ ys
+snoc xs x ys = append_assoc xs (x ∷ []) ys
+
+lists_run : (lists names : List Text) → AllByRecursion IsName names → Runs (stage lists [] None) (map Declare names) (stage (lists ++ names) [] None)
+lists_run lists [] h = ap (λ l. stage l [] None) (sym (append-nil lists))
+lists_run lists (n ∷ names) h = (
+  stage (lists ++ n ∷ []) [] None,
+  (refl, refl, h.0, refl),
+  subst (λ l. Runs (stage (lists ++ n ∷ []) [] None) (map Declare names) (stage l [] None)) (snoc lists n names) (lists_run (lists ++ n ∷ []) names h.1),
+)
+
+guards_run : (lists : List Text) (rules : List Rule) (guards more : List Guard) → AllByRecursion (IsSoundGuard lists) more
+    → Runs (stage lists rules (Some guards)) (map When more) (stage lists rules (Some (guards ++ more)))
+guards_run lists rules guards [] h = ap (λ l. stage lists rules (Some l)) (sym (append-nil guards))
+guards_run lists rules guards (g ∷ more) h = (
+  stage lists rules (Some (guards ++ g ∷ [])),
+  (guards, refl, h.0, refl),
+  subst (λ l. Runs (stage lists rules (Some (guards ++ g ∷ []))) (map When more) (stage lists rules (Some l))) (snoc guards g more)
+      (guards_run lists rules (guards ++ g ∷ []) more h.1),
+)
+
+rule_runs : (lists : List Text) (rules : List Rule) (rule : Rule) → IsSoundRule lists rule
+    → Runs (stage lists rules None) (statements_of_rule rule) (stage lists (rules ++ rule ∷ []) None)
+rule_runs lists rules rule h = (
+  stage lists rules (Some []),
+  (refl, refl),
+  runs-append (stage lists rules (Some [])) (map When rule.guards) (Link rule.template.text ∷ []) (stage lists rules (Some rule.guards))
+      (stage lists (rules ++ rule ∷ []) None)
+      (guards_run lists rules [] rule.guards (recursion_from_All (IsSoundGuard lists) rule.guards h.guards))
+      (stage lists (rules ++ rule ∷ []) None, (rule.guards, rule.template.parts, refl, h.template, h.kinds, refl), refl),
+)
+
+rules_run : (lists : List Text) (rules more : List Rule) → AllByRecursion (IsSoundRule lists) more
+    → Runs (stage lists rules None) (flat_map statements_of_rule more) (stage lists (rules ++ more) None)
+rules_run lists rules [] h = ap (λ l. stage lists l None) (sym (append-nil rules))
+rules_run lists rules (rule ∷ more) h =
+    runs-append (stage lists rules None) (statements_of_rule rule) (flat_map statements_of_rule more) (stage lists (rules ++ rule ∷ []) None)
+    (stage lists (rules ++ rule ∷ more) None) (rule_runs lists rules rule h.0)
+    (subst (λ l. Runs (stage lists (rules ++ rule ∷ []) None) (flat_map statements_of_rule more) (stage lists l None)) (snoc rules rule more)
+    (rules_run lists (rules ++ rule ∷ []) more h.1))
+
+open_runs : (lists : List Text) (rules : List Rule) (o : Option (List Guard)) → AreSoundGuards lists o
+    → Runs (stage lists rules None) (statements_of_guards o) (stage lists rules o)
+open_runs lists rules None h = refl
+open_runs lists rules (Some guards) h =
+    (stage lists rules (Some []), (refl, refl), guards_run lists rules [] guards (recursion_from_All (IsSoundGuard lists) guards h))
+
+pub begun_runs : (b : Begun) → IsSoundBegun b → Runs no_rules (begun_statements b) b
+begun_runs b s =
+    runs-append no_rules (statements b.whole) (statements_of_guards b.guards) (stage b.whole.lists b.whole.rules None) b
+    (runs-append no_rules (map Declare b.whole.lists) (flat_map statements_of_rule b.whole.rules) (stage b.whole.lists [] None)
+    (stage b.whole.lists b.whole.rules None)
+    (lists_run [] b.whole.lists (recursion_from_All IsName b.whole.lists s.whole.names))
+    (rules_run b.whole.lists [] b.whole.rules (recursion_from_All (IsSoundRule b.whole.lists) b.whole.rules s.whole.rules)))
+    (open_runs b.whole.lists b.whole.rules b.guards s.guards)
+
+-- what was begun is known by its statements
+pub begun_same : OneTree → (b c : Begun) → IsSoundBegun b → IsSoundBegun c → begun_statements b ≡ begun_statements c → b ≡ c
+begun_same one b c s t e =
+    runs_same one no_rules (begun_statements c) b c (subst (λ ss. Runs no_rules ss b) e (begun_runs b s)) (begun_runs c t)
+
+-- a statement behind those of what was begun goes on with it
+pub goes_on : OneTree → (b c : Begun) (s : Statement) (more : List Statement) → IsSoundBegun b → IsSoundBegun c
+    → begun_statements c ≡ begun_statements b ++ s ∷ more → (d : Begun) × Follows b s d
+goes_on one b c s more p q e =
+    let split = runs_split no_rules (begun_statements b) (s ∷ more) c (subst (λ ss. Runs no_rules ss c) e (begun_runs c q)) in
+    let same : split.0 ≡ b = runs_same one no_rules (begun_statements b) split.0 b split.1 (begun_runs b p) in
+    (split.2.0, subst (λ x. Follows x s split.2.0) same split.2.1)

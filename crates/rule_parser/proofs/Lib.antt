@@ -1,0 +1,9 @@
+pub mod WordLemmas
+pub mod EscapeLemmas
+pub mod GuardLemmas
+pub mod ReaderLemmas
+pub mod LineLemmas
+pub mod NameLemmas
+pub mod LawLemmas
+pub mod LineLaws
+pub mod FaultLaws

@@ -1,0 +1,157 @@
+-- A line spells one statement, and lines spell one list of statements.
+use Rattle.std.proofs.Common.{◌≡◌, ◌≢◌, ℕ, List, [], ◌∷◌, ◌++◌, Bool, true, false, Option, Some, None, ◌⊎◌, inl, inr, map, refl, ap, subst, sym, ◌∙◌, codes, if◌then◌else◌, ◌==◌, rules}
+use Rattle.std.specs.List.{list_all, AllByRecursion}
+use Rattle.std.specs.Str.{bytes_eq}
+use Rattle.std.specs.Char.{is_ascii_digit}
+use Rattle.std.proofs.lemmas.Bool.{both_ways}
+use Rattle.std.proofs.lemmas.List.{append_cancel_left, append_cancel_right}
+use Rattle.vocabulary.specs.Texts.{Text}
+use Rattle.uri_grammar.specs.Names.{IsName}
+use Rattle.rule_parser.specs.declared.rule.Bound.{Bound}
+use Rattle.rule_parser.specs.declared.rule.Bound.TheVariants as bound
+use Rattle.rule_parser.specs.declared.rule.Guard.{Guard}
+use Rattle.rule_parser.specs.declared.rule.Guard.TheVariants as guard
+use Rattle.rule_parser.specs.Rules.{IsBound, IsGuard}
+use Rattle.rule_parser.specs.Statements.{Statement, Declare, Begin, When, Link, IsStatement, line_of, quoted, escaped, bound_text, bounds_text, guard_text}
+use Rattle.rule_parser.specs.Reading.{IsWord}
+use Rattle.rule_parser.proofs.WordLemmas.{same_tails, other_heads, word_split, name_is_word, bound_is_word, star_is_no_name}
+use Rattle.rule_parser.proofs.EscapeLemmas.{escaped_same}
+use Rattle.rule_parser.proofs.GuardLemmas.{IsDefined, defined_words, IsCompared, compared_words}
+
+-- ---- the parts of guards
+
+quoted_same : (t u : Text) → quoted t ≡ quoted u → t ≡ u
+quoted_same t u e = escaped_same t u (append_cancel_right (escaped t) (escaped u) (34 ∷ []) (same_tails 34 34 _ _ e))
+
+digits_or_not : (t u : Text) → list_all is_ascii_digit t ≡ true → list_all is_ascii_digit u ≡ false → t ≡ u → ⊥
+digits_or_not t u a b e = both_ways (list_all is_ascii_digit u) b (ap (list_all is_ascii_digit) (sym e) ∙ a)
+
+bound_same : (b c : Bound) → IsBound b → IsBound c → bound_text b ≡ bound_text c → b ≡ c
+bound_same bound.Open bound.Open h k e = refl
+bound_same bound.Open (bound.Digits d) h k e = absurd (digits_or_not d (codes "*") k.0 refl (sym e))
+bound_same bound.Open (bound.Name n) h k e = absurd (star_is_no_name (subst IsName (sym e) k.0))
+bound_same (bound.Digits d) bound.Open h k e = absurd (digits_or_not d (codes "*") h.0 refl e)
+bound_same (bound.Digits d) (bound.Digits c) h k e = ap (λ t. bound.Digits t) e
+bound_same (bound.Digits d) (bound.Name n) h k e = absurd (digits_or_not d n h.0 k.1 e)
+bound_same (bound.Name n) bound.Open h k e = absurd (star_is_no_name (subst IsName e h.0))
+bound_same (bound.Name n) (bound.Digits d) h k e = absurd (digits_or_not d n k.0 h.1 (sym e))
+bound_same (bound.Name n) (bound.Name m) h k e = ap (λ t. bound.Name t) e
+
+bounds_same : (b c d f : Bound) → IsBound b → IsBound c → IsBound d → IsBound f → bounds_text b c ≡ bounds_text d f → (b ≡ d) × (c ≡ f)
+bounds_same b c d f h k l m e =
+    let cut = word_split (bound_text b) (codes "to " ++ bound_text c) (bound_text d) (codes "to " ++ bound_text f) (bound_is_word b h) (bound_is_word d l) e in
+    (bound_same b d h l cut.0, bound_same c f k m (append_cancel_left (codes "to ") (bound_text c) (bound_text f) cut.1))
+
+-- ---- guards
+
+-- the guard of a verb and a name
+abbrev guard_of : Text → Text → Guard
+guard_of verb name = if bytes_eq verb (codes "has") then guard.Has name else (if bytes_eq verb (codes "lacks") then guard.Lacks name else guard.Given name)
+
+defined_is : (verb name : Text) (g : Guard) → IsDefined verb name g → g ≡ guard_of verb name
+defined_is verb name (guard.Has n) p = ap (λ t. guard.Has t) p.2 ∙ ap (λ v. guard_of v name) (sym p.1)
+defined_is verb name (guard.Lacks n) p = ap (λ t. guard.Lacks t) p.2 ∙ ap (λ v. guard_of v name) (sym p.1)
+defined_is verb name (guard.Given n) p = ap (λ t. guard.Given t) p.2 ∙ ap (λ v. guard_of v name) (sym p.1)
+defined_is verb name (guard.Same n t) p = absurd p
+defined_is verb name (guard.Holds n t) p = absurd p
+defined_is verb name (guard.Between n low high) p = absurd p
+
+defined_same : (verb name : Text) (g h : Guard) → IsDefined verb name g → IsDefined verb name h → g ≡ h
+defined_same verb name g h p q = defined_is verb name g p ∙ sym (defined_is verb name h q)
+
+other_verbs : (verb : Text) (x y : ℕ) (s t : Text) → verb ≡ x ∷ s → verb ≡ y ∷ t → (x == y) ≡ false → ⊥
+other_verbs verb x y s t a b n = other_heads x y s t n (sym a ∙ b)
+
+compared_same : (name verb value : Text) (g h : Guard) → IsCompared name verb value g → IsCompared name verb value h → g ≡ h
+compared_same name verb value (guard.Has n) h p q = absurd p
+compared_same name verb value (guard.Lacks n) h p q = absurd p
+compared_same name verb value (guard.Given n) h p q = absurd p
+compared_same name verb value (guard.Same n t) (guard.Has m) p q = absurd q
+compared_same name verb value (guard.Same n t) (guard.Lacks m) p q = absurd q
+compared_same name verb value (guard.Same n t) (guard.Given m) p q = absurd q
+compared_same name verb value (guard.Same n t) (guard.Same m u) p q =
+    ap (λ x. guard.Same x t) (p.3 ∙ sym q.3) ∙ ap (λ x. guard.Same m x) (quoted_same t u (sym p.2 ∙ q.2))
+compared_same name verb value (guard.Same n t) (guard.Holds m u) p q = absurd (other_verbs verb 105 104 _ _ p.1 q.1 refl)
+compared_same name verb value (guard.Same n t) (guard.Between m b c) p q = absurd (other_verbs verb 105 102 _ _ p.1 q.1 refl)
+compared_same name verb value (guard.Holds n t) (guard.Has m) p q = absurd q
+compared_same name verb value (guard.Holds n t) (guard.Lacks m) p q = absurd q
+compared_same name verb value (guard.Holds n t) (guard.Given m) p q = absurd q
+compared_same name verb value (guard.Holds n t) (guard.Same m u) p q = absurd (other_verbs verb 104 105 _ _ p.1 q.1 refl)
+compared_same name verb value (guard.Holds n t) (guard.Holds m u) p q =
+    ap (λ x. guard.Holds x t) (p.3 ∙ sym q.3) ∙ ap (λ x. guard.Holds m x) (quoted_same t u (sym p.2 ∙ q.2))
+compared_same name verb value (guard.Holds n t) (guard.Between m b c) p q = absurd (other_verbs verb 104 102 _ _ p.1 q.1 refl)
+compared_same name verb value (guard.Between n b c) (guard.Has m) p q = absurd q
+compared_same name verb value (guard.Between n b c) (guard.Lacks m) p q = absurd q
+compared_same name verb value (guard.Between n b c) (guard.Given m) p q = absurd q
+compared_same name verb value (guard.Between n b c) (guard.Same m u) p q = absurd (other_verbs verb 102 105 _ _ p.1 q.1 refl)
+compared_same name verb value (guard.Between n b c) (guard.Holds m u) p q = absurd (other_verbs verb 102 104 _ _ p.1 q.1 refl)
+compared_same name verb value (guard.Between n b c) (guard.Between m d f) p q =
+    let same = bounds_same b c d f p.2 p.3 q.2 q.3 (sym p.4 ∙ q.4) in
+    ap (λ x. guard.Between x b c) (p.5 ∙ sym q.5) ∙ ap (λ x. guard.Between m x c) same.0 ∙ ap (λ x. guard.Between m d x) same.1
+
+guard_same : (g h : Guard) → IsGuard g → IsGuard h → guard_text g ≡ guard_text h → g ≡ h
+guard_same (guard.Has n) h a b e =
+    defined_same (codes "has") n (guard.Has n) h (a, refl, refl) (defined_words (codes "has") n (search rules) (name_is_word n a) h b e)
+guard_same (guard.Lacks n) h a b e =
+    defined_same (codes "lacks") n (guard.Lacks n) h (a, refl, refl) (defined_words (codes "lacks") n (search rules) (name_is_word n a) h b e)
+guard_same (guard.Given n) h a b e =
+    defined_same (codes "given") n (guard.Given n) h (a, refl, refl) (defined_words (codes "given") n (search rules) (name_is_word n a) h b e)
+guard_same (guard.Same n t) h a b e =
+    compared_same n (codes "is") (quoted t) (guard.Same n t) h (a, refl, refl, refl)
+    (compared_words n (codes "is") (quoted t) (name_is_word n a) (search rules) h b e)
+guard_same (guard.Holds n t) h a b e =
+    compared_same n (codes "holds") (quoted t) (guard.Holds n t) h (a, refl, refl, refl)
+    (compared_words n (codes "holds") (quoted t) (name_is_word n a) (search rules) h b e)
+guard_same (guard.Between n c d) h a b e =
+    compared_same n (codes "from") (bounds_text c d) (guard.Between n c d) h (a.0, refl, a.1, a.2, refl, refl)
+    (compared_words n (codes "from") (bounds_text c d) (name_is_word n a.0) (search rules) h b e)
+
+-- ---- lines
+
+pub statement_same : (s t : Statement) → IsStatement s → IsStatement t → line_of s ≡ line_of t → s ≡ t
+statement_same (Declare n) (Declare m) a b e = ap Declare (append_cancel_left (codes "list ") n m e)
+statement_same (Declare n) Begin a b e = absurd (other_heads 108 114 _ _ refl e)
+statement_same (Declare n) (When g) a b e = absurd (other_heads 108 119 _ _ refl e)
+statement_same (Declare n) (Link t) a b e = absurd (other_heads 115 110 _ _ refl (same_tails 105 105 _ _ (same_tails 108 108 _ _ e)))
+statement_same Begin (Declare n) a b e = absurd (other_heads 114 108 _ _ refl e)
+statement_same Begin Begin a b e = refl
+statement_same Begin (When g) a b e = absurd (other_heads 114 119 _ _ refl e)
+statement_same Begin (Link t) a b e = absurd (other_heads 114 108 _ _ refl e)
+statement_same (When g) (Declare n) a b e = absurd (other_heads 119 108 _ _ refl e)
+statement_same (When g) Begin a b e = absurd (other_heads 119 114 _ _ refl e)
+statement_same (When g) (When h) a b e = ap When (guard_same g h a b (append_cancel_left (codes "when ") (guard_text g) (guard_text h) e))
+statement_same (When g) (Link t) a b e = absurd (other_heads 119 108 _ _ refl e)
+statement_same (Link t) (Declare n) a b e = absurd (other_heads 110 115 _ _ refl (same_tails 105 105 _ _ (same_tails 108 108 _ _ e)))
+statement_same (Link t) Begin a b e = absurd (other_heads 108 114 _ _ refl e)
+statement_same (Link t) (When g) a b e = absurd (other_heads 108 119 _ _ refl e)
+statement_same (Link t) (Link u) a b e = ap Link (append_cancel_left (codes "link ") t u e)
+
+abbrev pub AreStatements : List Statement → Type 0
+AreStatements ss = AllByRecursion IsStatement ss
+
+-- one more statement behind others, spelled by the next line
+abbrev pub HasNext : List Statement → List Statement → List Text → Type 0
+HasNext ss tt' lines = (s : Statement) × (more : List Statement) × (rest : List Text) × (tt' ≡ ss ++ s ∷ more) × IsStatement s × (lines ≡ line_of s ∷ rest)
+
+cons_next : (x : Statement) (ss ts : List Statement) (lines : List Text) → HasNext ss ts lines → HasNext (x ∷ ss) (x ∷ ts) lines
+cons_next x ss ts lines h = (h.0, h.1, h.2, ap (λ l. x ∷ l) h.3, h.4, h.5)
+
+-- Of two lists of statements at the front of the same lines one begins the other.
+pub compare : (ss ts : List Statement) (rest behind : List Text) → AreStatements ss → AreStatements ts → map line_of ss ++ rest ≡ map line_of ts ++ behind
+    → ((ss ≡ ts) × (rest ≡ behind)) ⊎ (HasNext ss ts rest ⊎ HasNext ts ss behind)
+compare [] [] rest behind a b e = inl (refl, e)
+compare [] (t ∷ ts) rest behind a b e = inr (inl (t, ts, map line_of ts ++ behind, refl, b.0, e))
+compare (s ∷ ss) [] rest behind a b e = inr (inr (s, ss, map line_of ss ++ rest, refl, a.0, sym e))
+compare (s ∷ ss) (t ∷ ts) rest behind a b e = with_head (statement_same s t a.0 b.0 (heads _ _ _ _ e)) (compare ss ts rest behind a.1 b.1 (tails _ _ _ _ e))
+  where
+    heads : (x y : Text) (xs ys : List Text) → x ∷ xs ≡ y ∷ ys → x ≡ y
+    heads x y xs ys f = cc
+
+    tails : (x y : Text) (xs ys : List Text) → x ∷ xs ≡ y ∷ ys → xs ≡ ys
+    tails x y xs ys f = cc
+
+    with_head : s ≡ t → ((ss ≡ ts) × (rest ≡ behind)) ⊎ (HasNext ss ts rest ⊎ HasNext ts ss behind)
+        → ((s ∷ ss ≡ t ∷ ts) × (rest ≡ behind)) ⊎ (HasNext (s ∷ ss) (t ∷ ts) rest ⊎ HasNext (t ∷ ts) (s ∷ ss) behind)
+    with_head f (inl p) = inl (ap (λ x. x ∷ ss) f ∙ ap (λ l. t ∷ l) p.0, p.1)
+    with_head f (inr (inl p)) = inr (inl (subst (λ x. HasNext (x ∷ ss) (t ∷ ts) rest) (sym f) (cons_next t ss ts rest p)))
+    with_head f (inr (inr p)) = inr (inr (subst (λ x. HasNext (t ∷ ts) (x ∷ ss) behind) (sym f) (cons_next t ts ss behind p)))

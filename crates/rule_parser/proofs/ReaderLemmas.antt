@@ -1,0 +1,136 @@
+-- How each statement goes on with what the lines before it said, and what cannot go on.
+use Rattle.std.proofs.Common.{◌≡◌, ◌≢◌, ℕ, List, [], ◌∷◌, ◌++◌, Bool, true, false, Option, Some, None, IfSome, ◌⊎◌, inl, inr, is_some, is_none, ◌==◌, map, length, arith, refl, ap, subst, sym, ◌∙◌, codes, All}
+use Rattle.std.specs.Option.{option_map}
+use Rattle.std.specs.List.{flat_map}
+use Rattle.std.proofs.lemmas.List.{append-nil, append_assoc, map-append, append_cancel_left}
+use Rattle.std.proofs.lemmas.Grind.{flat_map-append}
+use Rattle.std.proofs.lemmas.Bool.{eqb-true}
+use Rattle.std.proofs.lemmas.List.Elements.{All-nil, All-push}
+use Rattle.vocabulary.specs.Texts.{Text}
+use Rattle.uri_grammar.specs.Names.{IsName}
+use Rattle.uri_grammar.specs.Texts.{IsTemplate, IsRefused}
+use Rattle.uri_grammar.specs.declared.error.TemplateError.{TemplateError}
+use Rattle.uri_grammar.specs.declared.error.TemplateErrorKind.TheVariants as template_kind
+use Rattle.uri_grammar.specs.declared.error.TheConstants.{NO_MEMORY as TEMPLATE_NO_MEMORY}
+use Rattle.rule_parser.specs.declared.error.TheConstants.{NO_MEMORY}
+use Rattle.rule_parser.specs.declared.error.RuleError.{RuleError}
+use Rattle.rule_parser.specs.declared.error.RuleErrorKind.{RuleErrorKind}
+use Rattle.rule_parser.specs.declared.error.RuleErrorKind.TheVariants as kind
+use Rattle.rule_parser.specs.declared.reader.Reader.{Reader}
+use Rattle.rule_parser.specs.declared.rule.Guard.{Guard}
+use Rattle.rule_parser.specs.declared.rule.Rule.{Rule}
+use Rattle.rule_parser.specs.Rules.{RuleSet, IsGuard, IsSound, IsSoundGuard, IsSoundRule, guard_fits, parts_fit}
+use Rattle.rule_parser.specs.Statements.{Statement, Declare, Begin, When, Link, IsStatement, line_of, statements, statements_of_rule, guard_text}
+use Rattle.rule_parser.specs.Faults.{Begun, IsSoundBegun, IsLineFault, out_of_order, bad_template, mismatched_guard, takes_lists}
+use Rattle.rule_parser.specs.Progress.{GoesOn, IsStepFault, begun_of}
+use Rattle.rule_parser.specs.Reading.{ReadsGuard}
+use Rattle.rule_parser.proofs.WordLemmas.{same_tails, other_heads}
+
+abbrev pub stage : List Text → List Rule → Option (List Guard) → Begun
+stage lists rules guards = record { whole = record { lists = lists; rules = rules }; guards = guards }
+
+-- the guards of a rule that has begun at a line
+abbrev pub guards_from : Option ℕ → List Guard → Option (List Guard)
+guards_from line guards = option_map (λ l. guards) line
+
+pub begins : (lists : List Text) (rules : List Rule) (line : Option ℕ) (old : List Guard) → line ≡ None → IsSoundBegun (stage lists rules (guards_from line old))
+    → GoesOn (stage lists rules (guards_from line old)) (stage lists rules (Some [])) (line_of Begin)
+begins lists rules None old e s =
+    record { statement = Begin; spelled = refl; longer = rw append-nil refl; sound = record { whole = s.whole; guards = All-nil (IsSoundGuard lists) } }
+begins lists rules (Some l) old e s = absurd (cc)
+
+pub declares : (lists : List Text) (rules : List Rule) (line : Option ℕ) (guards : List Guard) (name : Text)
+    → takes_lists (stage lists rules (guards_from line guards)) ≡ true → IsName name → IsSoundBegun (stage lists rules (guards_from line guards))
+    → GoesOn (stage lists rules (guards_from line guards)) (stage (lists ++ name ∷ []) rules (guards_from line guards)) (line_of (Declare name))
+declares lists [] None guards name e n s = record {
+  statement = Declare name;
+  spelled = refl;
+  longer = simp (append-nil, map-append);
+  sound = record { whole = record { names = All-push IsName lists name s.whole.names n; rules = All-nil (IsSoundRule (lists ++ name ∷ [])) }; guards = tt };
+}
+declares lists (r ∷ rules) None guards name e n s = absurd (omega (arith, eqb-true (length (r ∷ rules)) 0 e))
+declares lists rules (Some l) guards name e n s = absurd (cc)
+
+pub guards_more : (lists : List Text) (rules : List Rule) (line : Option ℕ) (guards : List Guard) (g : Guard) → is_some (guards_from line guards) ≡ true → IsSoundGuard lists g
+    → IsSoundBegun (stage lists rules (guards_from line guards))
+    → GoesOn (stage lists rules (guards_from line guards)) (stage lists rules (guards_from line (guards ++ g ∷ []))) (line_of (When g))
+guards_more lists rules None guards g e h s = absurd (cc)
+guards_more lists rules (Some l) guards g e h s = record {
+  statement = When g;
+  spelled = refl;
+  longer = simp (append_assoc, map-append);
+  sound = record { whole = s.whole; guards = All-push (IsSoundGuard lists) guards g s.guards h };
+}
+
+pub links : (lists : List Text) (rules : List Rule) (line : Option ℕ) (rule : Rule) → is_some (guards_from line rule.guards) ≡ true → IsTemplate rule.template.text rule.template.parts
+    → parts_fit lists rule.template.parts ≡ true → IsSoundBegun (stage lists rules (guards_from line rule.guards))
+    → GoesOn (stage lists rules (guards_from line rule.guards)) (stage lists (rules ++ rule ∷ []) None) (line_of (Link rule.template.text))
+links lists rules None rule e t k s = absurd (cc)
+links lists rules (Some l) rule e t k s = record {
+  statement = Link rule.template.text;
+  spelled = refl;
+  longer = simp (append-nil, append_assoc, flat_map-append);
+  sound = record {
+    whole = record {
+      names = s.whole.names;
+      rules = All-push (IsSoundRule lists) rules rule s.whole.rules (record { guards = s.guards; template = t; kinds = k });
+    };
+    guards = tt;
+  };
+}
+
+-- ---- lines that no statement spells
+
+pub no_list : (name : Text) → (IsName name → ⊥) → (s : Statement) → IsStatement s → codes "list " ++ name ≡ line_of s → ⊥
+no_list name h (Declare n) k e = h (subst IsName (sym (behind_word e)) k)
+  where
+    behind_word : codes "list " ++ name ≡ codes "list " ++ n → name ≡ n
+    behind_word f = append_cancel_left (codes "list ") name n f
+no_list name h Begin k e = other_heads 108 114 _ _ refl e
+no_list name h (When g) k e = other_heads 108 119 _ _ refl e
+no_list name h (Link t) k e = other_heads 115 110 _ _ refl (same_tails 105 105 _ _ (same_tails 108 108 _ _ e))
+
+pub no_when : (words : Text) → ReadsGuard words None → (s : Statement) → IsStatement s → codes "when " ++ words ≡ line_of s → ⊥
+no_when words h (Declare n) k e = other_heads 119 108 _ _ refl e
+no_when words h Begin k e = other_heads 119 114 _ _ refl e
+no_when words h (When g) k e = h g k (append_cancel_left (codes "when ") words (guard_text g) e)
+no_when words h (Link t) k e = other_heads 119 108 _ _ refl e
+
+pub no_other : (line : Text) → line ≢ codes "rule" → ((t : Text) → line ≢ codes "list " ++ t) → ((t : Text) → line ≢ codes "when " ++ t)
+    → ((t : Text) → line ≢ codes "link " ++ t) → (s : Statement) → IsStatement s → line ≡ line_of s → ⊥
+no_other line rule list when link (Declare n) k e = list n e
+no_other line rule list when link Begin k e = rule e
+no_other line rule list when link (When g) k e = when (guard_text g) e
+no_other line rule list when link (Link t) k e = link t e
+
+-- ---- faults
+
+pub line_faulty : (r : Reader) (number : ℕ) (line : Text) (e : RuleError) (k : RuleErrorKind) → e ≡ record { kind = k; line = number }
+    → IsLineFault (begun_of r) line k → IsStepFault r number line e
+line_faulty r number line e k s h =
+    inr (inl (subst (IsLineFault (begun_of r) line) (sym (ap (λ (x : RuleError). x.kind) s)) h, ap (λ (x : RuleError). x.line) s))
+
+pub list_out_of_order : (begun : Begun) (name : Text) → IsName name → takes_lists begun ≡ false → IsLineFault begun (codes "list " ++ name) kind.BadLine
+list_out_of_order begun name n o = out_of_order begun (Declare name) n o
+
+pub guard_out_of_order : (begun : Begun) (words : Text) (g : Guard) → ReadsGuard words (Some g) → is_some begun.guards ≡ false
+    → IsLineFault begun (codes "when " ++ words) kind.BadLine
+guard_out_of_order begun words g h o =
+    subst (λ (w : Text). IsLineFault begun (codes "when " ++ w) kind.BadLine) (sym h.1) (out_of_order begun (When g) h.0 o)
+
+pub guard_mismatched : (begun : Begun) (words : Text) (g : Guard) → ReadsGuard words (Some g) → is_some begun.guards ≡ true → guard_fits begun.whole.lists g ≡ false
+    → IsLineFault begun (codes "when " ++ words) kind.KindMismatch
+guard_mismatched begun words g h o k =
+    subst (λ (w : Text). IsLineFault begun (codes "when " ++ w) kind.KindMismatch) (sym h.1) (mismatched_guard begun g o h.0 k)
+
+pub link_out_of_order : (begun : Begun) (text : Text) → is_some begun.guards ≡ false → IsLineFault begun (codes "link " ++ text) kind.BadLine
+link_out_of_order begun text o = out_of_order begun (Link text) tt o
+
+-- a fault of a template, unless memory was wanting
+pub template_faulty : (r : Reader) (number : ℕ) (text : Text) (t : TemplateError) (e : RuleError) → is_some (begun_of r).guards ≡ true
+    → (t ≡ TEMPLATE_NO_MEMORY) ⊎ IsRefused text t.kind t.at
+    → (e ≡ NO_MEMORY) ⊎ ((t.kind ≢ template_kind.NoMemory) × (e ≡ record { kind = kind.Template t.kind; line = number }))
+    → IsStepFault r number (codes "link " ++ text) e
+template_faulty r number text t e o h (inl m) = inl m
+template_faulty r number text t e o (inl m) (inr k) = absurd (k.0 (ap (λ (x : TemplateError). x.kind) m))
+template_faulty r number text t e o (inr f) (inr k) = line_faulty r number (codes "link " ++ text) e (kind.Template t.kind) k.1 (bad_template (begun_of r) text t.kind t.at o f)

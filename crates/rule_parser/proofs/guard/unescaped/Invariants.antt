@@ -1,0 +1,10 @@
+-- What was read is the text so far, escaped, and a backslash that waits for its character.
+use Rattle.std.proofs.Common.{◌≡◌, ◌++◌}
+use Rattle.std.specs.String.{string_bytes}
+use Rattle.std.specs.Str.Iter.{chars_rest}
+use Rattle.rule_parser.specs.Statements.{escaped}
+use Rattle.rule_parser.proofs.EscapeLemmas.{waiting}
+use Rattle.rule_parser.proofs.guard.unescaped.Given as goal
+
+abbrev pub invariant-loop-c : goal.invariant-loop-c
+invariant-loop-c l = l.escaped ≡ escaped (string_bytes l.text) ++ waiting l.is_escaped (chars_rest l.c-iterator)

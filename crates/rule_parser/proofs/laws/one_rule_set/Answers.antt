@@ -1,0 +1,7 @@
+-- Lines spell one list of statements, and statements are those of one set of rules.
+use Rattle.std.specs.Str.Lines.{lines}
+use Rattle.rule_parser.proofs.FaultLaws.{rules_same}
+use Rattle.rule_parser.proofs.laws.one_rule_set.Goals as goal
+
+pub returns : goal.returns
+returns c = λ bytes rules others a b. rules_same c.one_tree.ensures (lines bytes) rules others a.sound b.sound a.spelled b.spelled

@@ -1,0 +1,37 @@
+-- How far the lines of a rule text were read.
+use Rattle.std.specs.Prelude.{◌≡◌, ℕ, List, [], ◌∷◌, ◌++◌, Option, Some, None, IfSome, length, ◌⊎◌}
+use Rattle.std.specs.Option.{option_map}
+use Rattle.vocabulary.specs.Texts.{Text}
+use Rattle.rule_parser.specs.declared.error.RuleError.{RuleError}
+use Rattle.rule_parser.specs.declared.error.RuleErrorKind.TheVariants.{NoLink}
+use Rattle.rule_parser.specs.declared.error.TheConstants.{NO_MEMORY}
+use Rattle.rule_parser.specs.declared.reader.Reader.{Reader}
+use Rattle.rule_parser.specs.Statements.{Statement, Begin, line_of, statements}
+use Rattle.rule_parser.specs.Faults.{Begun, IsSoundBegun, IsLineFault, begun_statements}
+
+abbrev pub no_rules : Begun
+no_rules = record { whole = record { lists = []; rules = [] }; guards = None }
+
+abbrev pub begun_of : Reader → Begun
+begun_of r = record { whole = record { lists = r.lists.items; rules = r.rules.items }; guards = option_map (λ line. r.guards.items) r.rule_line }
+
+-- one more line, which spells one more statement
+pub record GoesOn (old new : Begun) (line : Text) : Type 0 where
+  pub statement : Statement
+  pub spelled : line ≡ line_of statement
+  pub longer : begun_statements new ≡ begun_statements old ++ statement ∷ []
+  pub sound : IsSoundBegun new
+
+-- However lines are numbered: where this one, behind all the old statements, has the number, and the rule whose link is yet to come
+-- had the number of its line, it has it still.
+abbrev pub KeepsLine : Reader → Reader → ℕ → Type 0
+KeepsLine old new number =
+    (number_of : ℕ → ℕ) → number_of (length (begun_statements (begun_of old))) ≡ number
+    → IfSome old.rule_line (λ line. line ≡ number_of (length (statements (begun_of old).whole)))
+    → IfSome new.rule_line (λ line. line ≡ number_of (length (statements (begun_of new).whole)))
+
+-- the line with this number cannot go on
+abbrev pub IsStepFault : Reader → ℕ → Text → RuleError → Type 0
+IsStepFault reader number line e =
+    (e ≡ NO_MEMORY) ⊎ (IsLineFault (begun_of reader) line e.kind × (e.line ≡ number))
+    ⊎ ((e.kind ≡ NoLink) × (line ≡ line_of Begin) × (reader.rule_line ≡ Some e.line))

@@ -1,0 +1,78 @@
+-- A set of rules, and what holds of each set that a rule text spells.
+use Rattle.std.specs.Prelude.{◌≡◌, ◌≤◌, ℕ, List, [], ◌∷◌, Bool, true, false, not, ◌&&◌, ◌==◌, length, All, if◌then◌else◌}
+use Rattle.std.specs.List.{list_all}
+use Rattle.std.specs.Char.{is_ascii_digit}
+use Rattle.vocabulary.specs.Texts.{Text}
+use Rattle.uri_grammar.specs.declared.parts.Spec.{Spec}
+use Rattle.uri_grammar.specs.declared.parts.Part.{Part}
+use Rattle.uri_grammar.specs.declared.parts.Part.TheVariants.{Literal, Expression}
+use Rattle.uri_grammar.specs.Names.{IsName}
+use Rattle.uri_grammar.specs.Texts.{IsTemplate}
+use Rattle.rule_parser.specs.declared.rule.Bound.{Bound}
+use Rattle.rule_parser.specs.declared.rule.Bound.TheVariants as bound
+use Rattle.rule_parser.specs.declared.rule.Guard.{Guard}
+use Rattle.rule_parser.specs.declared.rule.Guard.TheVariants as guard
+use Rattle.rule_parser.specs.declared.rule.Rule.{Rule}
+use Rattle.rule_parser.specs.Names.{is_list}
+
+-- the declared lists, in the order of their lines, and the rules
+pub record RuleSet : Type 0 where
+  pub lists : List Text
+  pub rules : List Rule
+
+-- ---- words
+
+-- digits alone are no name of a bound
+abbrev pub IsBound : Bound → Type 0
+IsBound bound.Open = Unit {0}
+IsBound (bound.Digits digits) = (list_all is_ascii_digit digits ≡ true) × (1 ≤ length digits) × (length digits ≤ 9)
+IsBound (bound.Name name) = IsName name × (list_all is_ascii_digit name ≡ false)
+
+abbrev pub IsGuard : Guard → Type 0
+IsGuard (guard.Has name) = IsName name
+IsGuard (guard.Lacks name) = IsName name
+IsGuard (guard.Given name) = IsName name
+IsGuard (guard.Same name text) = IsName name
+IsGuard (guard.Holds name text) = IsName name
+IsGuard (guard.Between name low high) = IsName name × IsBound low × IsBound high
+
+-- ---- kinds: each name is used as what it is declared
+
+abbrev pub bound_fits : List Text → Bound → Bool
+bound_fits lists bound.Open = true
+bound_fits lists (bound.Digits digits) = true
+bound_fits lists (bound.Name name) = not (is_list lists name)
+
+abbrev pub guard_fits : List Text → Guard → Bool
+guard_fits lists (guard.Has name) = true
+guard_fits lists (guard.Lacks name) = true
+guard_fits lists (guard.Given name) = not (is_list lists name)
+guard_fits lists (guard.Same name text) = not (is_list lists name)
+guard_fits lists (guard.Holds name text) = is_list lists name
+guard_fits lists (guard.Between name low high) = not (is_list lists name) && (bound_fits lists low && bound_fits lists high)
+
+-- a prefix stands on texts alone
+abbrev pub spec_fits : List Text → Spec → Bool
+spec_fits lists spec = if is_list lists spec.name then spec.cut == 0 else true
+
+abbrev pub part_fits : List Text → Part → Bool
+part_fits lists (Literal text) = true
+part_fits lists (Expression op specs) = list_all (spec_fits lists) specs
+
+abbrev pub parts_fit : List Text → List Part → Bool
+parts_fit lists parts = list_all (part_fits lists) parts
+
+-- ---- rules
+
+pub record IsSoundGuard (lists : List Text) (g : Guard) : Type 0 where
+  pub words : IsGuard g
+  pub kinds : guard_fits lists g ≡ true
+
+pub record IsSoundRule (lists : List Text) (rule : Rule) : Type 0 where
+  pub guards : All (IsSoundGuard lists) rule.guards
+  pub template : IsTemplate rule.template.text rule.template.parts
+  pub kinds : parts_fit lists rule.template.parts ≡ true
+
+pub record IsSound (set : RuleSet) : Type 0 where
+  pub names : All IsName set.lists
+  pub rules : All (IsSoundRule set.lists) set.rules

@@ -1,0 +1,84 @@
+ghost use Rattle.std.specs.Prelude.{◌≡◌, ◌≢◌, ◌⊎◌};
+
+use std::alloc::{AllocError, AllocFailed};
+use thiserror::Error;
+use uri_grammar::TemplateErrorKind;
+
+/// Why bytes are no rule text, in the order in which it is decided.
+#[derive(Clone, Copy, Debug, PartialEq, Eq, Error)]
+pub enum RuleErrorKind {
+    /// More than [`crate::MAX_BYTES`] bytes.
+    #[error("TooLong")]
+    TooLong,
+    #[error("NotUtf8")]
+    NotUtf8,
+    /// A line of no form, or out of its order.
+    #[error("BadLine")]
+    BadLine,
+    /// A rule without a link, found at the next `rule` line or at the end.
+    #[error("NoLink")]
+    NoLink,
+    /// A link that is no template.
+    #[error("Template {0:?}")]
+    Template(TemplateErrorKind),
+    /// A list where a text is wanted, or a text before `holds`.
+    #[error("KindMismatch")]
+    KindMismatch,
+    /// A growth was refused.
+    #[error("NoMemory")]
+    NoMemory,
+}
+
+/// The first fault of a rule text, and the number of its line, from 1; 0 where the fault is no line's.
+#[derive(Clone, Copy, Debug, PartialEq, Eq, Error)]
+#[error("line {line}: {kind}")]
+pub struct RuleError {
+    pub kind: RuleErrorKind,
+    pub line: usize,
+}
+
+impl RuleError {
+    pub(crate) fn new(kind: RuleErrorKind, line: usize) -> RuleError
+        ensures { result ≡ record { kind = kind; line = line } }
+    {
+        RuleError { kind, line }
+    }
+
+    // A template's fault, at its line. A template's want of memory is the rule text's.
+    pub(crate) fn in_template(kind: TemplateErrorKind, line: usize) -> RuleError
+        ensures { (result ≡ NO_MEMORY) ⊎ ((kind ≢ TemplateErrorKind.NoMemory) × (result ≡ record { kind = RuleErrorKind.Template kind; line = line })) }
+    {
+        match kind {
+            TemplateErrorKind::NoMemory => NO_MEMORY,
+            kind => RuleError::new(RuleErrorKind::Template(kind), line),
+        }
+    }
+}
+
+/// Want of memory, as an error of a rule text.
+pub const NO_MEMORY: RuleError = RuleError {
+    kind: RuleErrorKind::NoMemory,
+    line: 0,
+};
+
+impl From<AllocError> for RuleError {
+    ghost use Rattle.rule_parser.specs.declared.error.TheConstants.{NO_MEMORY};
+    ghost use Rattle.std.specs.Prelude.{◌≡◌};
+
+    ghost from_gives = { λ _ e. e ≡ NO_MEMORY };
+
+    fn from(_error: AllocError) -> RuleError {
+        NO_MEMORY
+    }
+}
+
+impl<T: Drop> From<AllocFailed<T>> for RuleError {
+    ghost use Rattle.rule_parser.specs.declared.error.TheConstants.{NO_MEMORY};
+    ghost use Rattle.std.specs.Prelude.{◌≡◌};
+
+    ghost from_gives = { λ _ e. e ≡ NO_MEMORY };
+
+    fn from(_failed: AllocFailed<T>) -> RuleError {
+        NO_MEMORY
+    }
+}

@@ -1,0 +1,34 @@
+//! What rules mean in an environment.
+
+ghost use Rattle.std.specs.Prelude.{◌≡◌, IfOk, IfSome, string_bytes};
+ghost use Rattle.std.specs.List.{list_all};
+ghost use Rattle.std.specs.Option.{option_map};
+ghost use Rattle.vocabulary.specs.UriText.{IsUriText};
+ghost use Rattle.rule_parser.specs.Meaning.{guard_holds as is_held, meaning as meaning_of};
+
+use crate::guards::all_hold;
+use crate::rules::Rules;
+use crate::view::RulesView;
+use std::alloc::{AllocError, Global};
+use target_vars::Env;
+use uri_template::expand_in;
+
+/// The link of the first rule whose guards all hold: the expansion of its template (RFC 6570, section 3). `None` without
+/// such a rule. Each name is seen as the rules declare it: a list where they want a text, and a text where they want a
+/// list, is undefined.
+///
+/// `AllocError` where a growth was refused.
+pub fn meaning(alloc: Global, rules: &Rules, env: &Env) -> Result<Option<String>, AllocError>
+    ensures value { IfOk result (λ link. option_map string_bytes link ≡ meaning_of rules.now env.now.entries) }
+    ensures uri_text { IfOk result (λ link. IfSome link (λ text. IsUriText (string_bytes text))) }
+{
+    let view = RulesView { rules, env };
+    match rules
+        .rules()
+        .iter()
+        .find(|rule| all_hold(&view, rule.guards.as_slice()))
+    {
+        Some(rule) => Ok(Some(expand_in(alloc, &rule.template, &view)?)),
+        None => Ok(None),
+    }
+}

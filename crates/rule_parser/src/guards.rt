@@ -1,0 +1,118 @@
+//! Whether guards hold of variables.
+
+ghost use Rattle.std.specs.Prelude.{◌≡◌, ◌<◌, [], length, slice_index_or};
+ghost use Rattle.std.specs.Str.{bytes_eq};
+ghost use Rattle.std.specs.List.{list_all};
+ghost use Rattle.std.specs.Option.{option_and_then};
+ghost use Rattle.vocabulary.specs.Environment.{text_in, members_in, is_among};
+ghost use Rattle.vocabulary.specs.Number.{leading_number as number_of};
+ghost use Rattle.rule_parser.specs.Meaning.{is_defined as stands_for_something, is_given as is_not_empty, is_text, bound_number as number_of_bound, is_at_least, is_at_most, is_within, guard_holds as is_held};
+
+use crate::rule::{Bound, Guard};
+use uri_template::Variables;
+use uri_text::leading_number;
+
+/// Whether each guard holds.
+pub(crate) fn all_hold<V: Variables>(variables: &V, guards: &[Guard]) -> bool
+    ensures { result ≡ list_all (is_held (V.look variables.now)) guards.now }
+{
+    guards.iter().all(|guard| holds(variables, guard))
+}
+
+fn holds<V: Variables>(variables: &V, guard: &Guard) -> bool
+    ensures { result ≡ is_held (V.look variables.now) guard.now }
+{
+    match guard {
+        Guard::Has(name) => is_defined(variables, name.as_str()),
+        Guard::Lacks(name) => !is_defined(variables, name.as_str()),
+        Guard::Given(name) => is_given(variables, name.as_str()),
+        Guard::Same(name, text) => is_same(variables, name.as_str(), text.as_str()),
+        Guard::Holds(name, text) => has_member(variables, name.as_str(), text.as_str()),
+        Guard::Between(name, low, high) => match number(variables, name.as_str()) {
+            Some(n) => reaches(bound_number(variables, low), n)
+                && stays_below(bound_number(variables, high), n),
+            None => false,
+        },
+    }
+}
+
+// A list without members is not defined.
+fn is_defined<V: Variables>(variables: &V, name: &str) -> bool
+    ensures { result ≡ stands_for_something (V.look variables.now name.now) }
+{
+    variables.text(name).is_some() || variables.count(name) > 0
+}
+
+fn is_given<V: Variables>(variables: &V, name: &str) -> bool
+    ensures { result ≡ is_not_empty (text_in (V.look variables.now name.now)) }
+{
+    match variables.text(name) {
+        Some(text) => !text.is_empty(),
+        None => false,
+    }
+}
+
+fn is_same<V: Variables>(variables: &V, name: &str, wanted: &str) -> bool
+    ensures { result ≡ is_text wanted.now (text_in (V.look variables.now name.now)) }
+{
+    match variables.text(name) {
+        Some(text) => text == wanted,
+        None => false,
+    }
+}
+
+fn has_member<V: Variables>(variables: &V, name: &str, wanted: &str) -> bool
+    ensures { result ≡ is_among wanted.now (members_in (V.look variables.now name.now)) }
+{
+    for i in 0..variables.count(name) {
+        if is_member(variables, name, i, wanted) {
+            return true;
+        }
+    }
+    false
+}
+
+fn is_member<V: Variables>(variables: &V, name: &str, i: usize, wanted: &str) -> bool
+    requires { i < length (members_in (V.look variables.now name.now)) }
+    ensures { result ≡ bytes_eq (slice_index_or (members_in (V.look variables.now name.now)) i []) wanted.now }
+{
+    match variables.member(name, i) {
+        Some(member) => member == wanted,
+        None => false,
+    }
+}
+
+fn number<V: Variables>(variables: &V, name: &str) -> Option<u32>
+    ensures { result ≡ option_and_then number_of (text_in (V.look variables.now name.now)) }
+{
+    leading_number(variables.text(name)?.as_bytes())
+}
+
+// The number of a bound; `None` where it is open.
+fn bound_number<V: Variables>(variables: &V, bound: &Bound) -> Option<u32>
+    ensures { result ≡ number_of_bound (V.look variables.now) bound.now }
+{
+    match bound {
+        Bound::Open => None,
+        Bound::Digits(digits) => leading_number(digits.as_str().as_bytes()),
+        Bound::Name(name) => number(variables, name.as_str()),
+    }
+}
+
+fn reaches(low: Option<u32>, n: u32) -> bool
+    ensures { result ≡ is_at_least low n }
+{
+    match low {
+        Some(low) => low <= n,
+        None => true,
+    }
+}
+
+fn stays_below(high: Option<u32>, n: u32) -> bool
+    ensures { result ≡ is_at_most high n }
+{
+    match high {
+        Some(high) => n <= high,
+        None => true,
+    }
+}

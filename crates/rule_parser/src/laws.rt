@@ -1,0 +1,34 @@
+//! What holds of every rule text.
+
+ghost use Rattle.std.specs.Prelude.{◌≡◌, ℕ};
+ghost use Rattle.vocabulary.specs.Texts.{Text};
+ghost use Rattle.rule_parser.specs.Rules.{RuleSet};
+ghost use Rattle.rule_parser.specs.Grammar.{IsRuleText};
+ghost use Rattle.rule_parser.specs.Faults.{IsRefused};
+ghost use Rattle.rule_parser.specs.declared.error.RuleErrorKind.{RuleErrorKind};
+
+use uri_grammar::laws::{one_first_fault as one_template_fault, one_tree, tree_without_fault};
+
+/// A rule text spells one set of rules.
+pub fn one_rule_set()
+    ensures { (bytes : Text) (rules others : RuleSet) → IsRuleText bytes rules → IsRuleText bytes others → rules ≡ others }
+{
+    one_tree();
+}
+
+/// A rule text has no fault.
+pub fn rules_without_fault()
+    ensures { (bytes : Text) (rules : RuleSet) (kind : RuleErrorKind) (line : ℕ) → IsRuleText bytes rules → IsRefused bytes kind line → ⊥ }
+{
+    one_tree();
+    tree_without_fault();
+}
+
+/// Bytes have at most one first fault.
+pub fn one_first_fault()
+    ensures { (bytes : Text) (kind other : RuleErrorKind) (line place : ℕ) → IsRefused bytes kind line → IsRefused bytes other place → (kind ≡ other) × (line ≡ place) }
+{
+    one_tree();
+    tree_without_fault();
+    one_template_fault();
+}

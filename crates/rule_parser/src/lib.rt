@@ -1,0 +1,23 @@
+//! Rule text: the guards and links of a target, read from their lines, and what they mean in an environment.
+#![tactic(auto)]
+
+mod error;
+mod first_link;
+mod guard;
+mod guards;
+mod kinds;
+pub mod laws;
+mod lines;
+mod names;
+mod reader;
+mod rule;
+mod rules;
+mod view;
+
+pub use error::{NO_MEMORY, RuleError, RuleErrorKind};
+pub use first_link::meaning;
+pub use rule::{Bound, Guard, Guards, Rule};
+pub use rules::{MAX_BYTES, Rules};
+
+#[cfg(test)]
+mod tests;

@@ -1,0 +1,27 @@
+ghost use Rattle.std.specs.Prelude.{◌≡◌, IfOk};
+ghost use Rattle.vocabulary.specs.Environment.{is_among as is_one_of};
+ghost use Rattle.rule_parser.specs.Names.{is_list as stands_for_list};
+
+use std::alloc::{AllocError, Global};
+use uri_grammar::Text;
+
+/// Whether the name is one of these.
+pub(crate) fn is_among(names: &[Text], name: &str) -> bool
+    ensures { result ≡ is_one_of name.now names.now }
+{
+    names.iter().any(|other| other.as_str() == name)
+}
+
+/// Whether the name stands for a list, where these are declared.
+pub(crate) fn is_list(declared: &[Text], name: &str) -> bool
+    ensures { result ≡ stands_for_list declared.now name.now }
+{
+    name == "rft.au" || name == "rft_id" || is_among(declared, name)
+}
+
+/// A copy of the text.
+pub(crate) fn copy(alloc: Global, text: &str) -> Result<Text, AllocError>
+    ensures { IfOk result (λ copy. copy ≡ text.now) }
+{
+    Ok(Text::new(String::from_str(alloc, text)?))
+}

@@ -1,0 +1,160 @@
+//! How a rule text is read, line by line.
+
+ghost use Rattle.std.specs.Prelude.{◌≡◌, ◌++◌, codes, is_some, IfOk, IfErr, OnOk};
+ghost use Rattle.rule_parser.specs.Faults.{IsSoundBegun, takes_lists as lists_may_come};
+ghost use Rattle.rule_parser.specs.Statements.{Begin, line_of};
+ghost use Rattle.rule_parser.specs.Progress.{begun_of, GoesOn, KeepsLine, IsStepFault, no_rules};
+
+use crate::error::{RuleError, RuleErrorKind};
+use crate::guard::guard;
+use crate::kinds::{guard_fits, parts_fit};
+use crate::names::copy;
+use crate::rule::{Guard, Guards, Rule};
+use crate::rules::Rules;
+use std::alloc::Global;
+use std::mem;
+use uri_grammar::{Template, Text, is_name};
+
+/// What the lines so far have said.
+#[derive(Drop)]
+pub(crate) struct Reader {
+    pub(crate) lists: Vec<Text>,
+    pub(crate) rules: Vec<Rule>,
+    /// The line of the rule whose link is yet to come.
+    pub(crate) rule_line: Option<usize>,
+    /// The guards of that rule.
+    pub(crate) guards: Vec<Guard>,
+}
+
+impl Reader {
+    pub(crate) fn new(alloc: Global) -> Reader
+        ensures { begun_of result ≡ no_rules }
+    {
+        Reader {
+            lists: Vec::new(alloc),
+            rules: Vec::new(alloc),
+            rule_line: None,
+            guards: Vec::new(alloc),
+        }
+    }
+
+    /// Takes one more line that says something.
+    pub(crate) fn read(&mut self, alloc: Global, number: usize, line: &str) -> Result<(), RuleError>
+        requires { IsSoundBegun (begun_of self.old) }
+        ensures ok { OnOk result (GoesOn (begun_of self.old) (begun_of self.new) line.now) }
+        ensures line { OnOk result (KeepsLine self.old self.new number) }
+        ensures err { IfErr result (IsStepFault self.old number line.now) }
+    {
+        if line == "rule" {
+            return self.begin(alloc, number);
+        }
+        if let Some(name) = line.strip_prefix("list ") {
+            return self.declare(alloc, number, name);
+        }
+        if let Some(words) = line.strip_prefix("when ") {
+            return self.add_guard(alloc, number, words);
+        }
+        if let Some(text) = line.strip_prefix("link ") {
+            return self.add_link(alloc, number, text);
+        }
+        Err(RuleError::new(RuleErrorKind::BadLine, number))
+    }
+
+    fn begin(&mut self, alloc: Global, number: usize) -> Result<(), RuleError>
+        requires { IsSoundBegun (begun_of self.old) }
+        ensures ok { OnOk result (GoesOn (begun_of self.old) (begun_of self.new) (line_of Begin)) }
+        ensures line { OnOk result (KeepsLine self.old self.new number) }
+        ensures err { IfErr result (IsStepFault self.old number (line_of Begin)) }
+    {
+        if let Some(line) = self.rule_line {
+            return Err(RuleError::new(RuleErrorKind::NoLink, line));
+        }
+        self.rule_line = Some(number);
+        self.guards = Vec::new(alloc);
+        Ok(())
+    }
+
+    fn is_in_rule(&self) -> bool
+        ensures { result ≡ is_some (begun_of self.now).guards }
+    {
+        self.rule_line.is_some()
+    }
+
+    fn takes_lists(&self) -> bool
+        ensures { result ≡ lists_may_come (begun_of self.now) }
+    {
+        self.rule_line.is_none() && self.rules.is_empty()
+    }
+
+    fn declare(&mut self, alloc: Global, number: usize, name: &str) -> Result<(), RuleError>
+        requires { IsSoundBegun (begun_of self.old) }
+        ensures ok { OnOk result (GoesOn (begun_of self.old) (begun_of self.new) (codes "list " ++ name.now)) }
+        ensures line { OnOk result (KeepsLine self.old self.new number) }
+        ensures err { IfErr result (IsStepFault self.old number (codes "list " ++ name.now)) }
+    {
+        if !is_name(name) {
+            return Err(RuleError::new(RuleErrorKind::BadLine, number));
+        }
+        if !self.takes_lists() {
+            return Err(RuleError::new(RuleErrorKind::BadLine, number));
+        }
+        self.lists.push(copy(alloc, name)?)?;
+        Ok(())
+    }
+
+    fn add_guard(&mut self, alloc: Global, number: usize, words: &str) -> Result<(), RuleError>
+        requires { IsSoundBegun (begun_of self.old) }
+        ensures ok { OnOk result (GoesOn (begun_of self.old) (begun_of self.new) (codes "when " ++ words.now)) }
+        ensures line { OnOk result (KeepsLine self.old self.new number) }
+        ensures err { IfErr result (IsStepFault self.old number (codes "when " ++ words.now)) }
+    {
+        let Some(guard) = guard(alloc, words)? else {
+            return Err(RuleError::new(RuleErrorKind::BadLine, number));
+        };
+        if !self.is_in_rule() {
+            return Err(RuleError::new(RuleErrorKind::BadLine, number));
+        }
+        if !guard_fits(&self.lists, &guard) {
+            return Err(RuleError::new(RuleErrorKind::KindMismatch, number));
+        }
+        self.guards.push(guard)?;
+        Ok(())
+    }
+
+    fn add_link(&mut self, alloc: Global, number: usize, text: &str) -> Result<(), RuleError>
+        requires { IsSoundBegun (begun_of self.old) }
+        ensures ok { OnOk result (GoesOn (begun_of self.old) (begun_of self.new) (codes "link " ++ text.now)) }
+        ensures line { OnOk result (KeepsLine self.old self.new number) }
+        ensures err { IfErr result (IsStepFault self.old number (codes "link " ++ text.now)) }
+    {
+        if !self.is_in_rule() {
+            return Err(RuleError::new(RuleErrorKind::BadLine, number));
+        }
+        let template = match Template::parse(alloc, text) {
+            Ok(template) => template,
+            Err(e) => return Err(RuleError::in_template(e.kind, number)),
+        };
+        if !parts_fit(&self.lists, template.parts()) {
+            return Err(RuleError::new(RuleErrorKind::KindMismatch, number));
+        }
+        let guards = mem::replace(&mut self.guards, Vec::new(alloc));
+        self.rules.push(Rule {
+            guards: Guards::new(guards),
+            template,
+        })?;
+        self.rule_line = None;
+        Ok(())
+    }
+
+    /// The rules, where no link is yet to come.
+    pub(crate) fn finish(self) -> Result<Rules, RuleError>
+        requires { IsSoundBegun (begun_of self) }
+        ensures ok { IfOk result (λ rules. begun_of self ≡ record { whole = rules; guards = None }) }
+        ensures err { IfErr result (λ e. (e.kind ≡ RuleErrorKind.NoLink) × (self.rule_line ≡ Some e.line)) }
+    {
+        match self.rule_line {
+            Some(line) => Err(RuleError::new(RuleErrorKind::NoLink, line)),
+            None => Ok(Rules::new(self.lists, self.rules)),
+        }
+    }
+}

@@ -1,0 +1,76 @@
+ghost use Rattle.std.specs.Prelude.{◌≡◌};
+
+use std::marker::Model;
+use uri_grammar::{Template, Text};
+
+/// A bound of a `from` guard.
+#[derive(Debug, Drop)]
+pub enum Bound {
+    /// `*`
+    Open,
+    /// 1 to 9 decimal digits, as they are written.
+    Digits(Text),
+    /// The name of a text, whose leading number is the bound.
+    Name(Text),
+}
+
+/// What has to hold for a rule's link, by the line `when ..` that says it.
+#[derive(Debug, Drop)]
+pub enum Guard {
+    /// `has NAME`: the name is defined. A list without members is not.
+    Has(Text),
+    /// `lacks NAME`: the name is not defined.
+    Lacks(Text),
+    /// `given NAME`: the name's text is defined and not empty.
+    Given(Text),
+    /// `NAME is "TEXT"`: the name's text is this one.
+    Same(Text, Text),
+    /// `LIST holds "TEXT"`: a member of the list is this text.
+    Holds(Text, Text),
+    /// `NAME from LO to HI`: the leading number of the name's text exists and lies between the bounds, which it may
+    /// reach. A bound without a number is open.
+    Between(Text, Bound, Bound),
+}
+
+/// Guards, which contracts see as a list.
+#[derive(Debug, Drop)]
+pub struct Guards {
+    list: Vec<Guard>,
+}
+
+impl Model for Guards {
+    ghost use Rattle.std.specs.Prelude.{List};
+    ghost use Rattle.rule_parser.specs.declared.rule.Guard.{Guard};
+
+    ghost Value = { List Guard };
+
+    ghost view = { λ guards. guards.list.items };
+}
+
+impl Guards {
+    pub fn new(list: Vec<Guard>) -> Guards
+        ensures { result ≡ list.items }
+    {
+        Guards { list }
+    }
+
+    pub fn as_slice(&self) -> &[Guard]
+        ensures { result.now ≡ self.now }
+    {
+        &self.list
+    }
+
+    pub fn into_vec(self) -> Vec<Guard>
+        ensures { result.items ≡ self }
+    {
+        self.list
+    }
+}
+
+/// A link, and what has to hold for it.
+#[derive(Debug, Drop)]
+pub struct Rule {
+    /// All of them have to hold.
+    pub guards: Guards,
+    pub template: Template,
+}

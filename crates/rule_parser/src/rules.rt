@@ -1,0 +1,95 @@
+ghost use Rattle.std.specs.Prelude.{◌≡◌, ◌⊎◌, map, All, IfOk, IfErr};
+ghost use Rattle.rule_parser.specs.Grammar.{IsRuleText};
+ghost use Rattle.rule_parser.specs.Faults.{IsRefused};
+ghost use Rattle.rule_parser.specs.declared.error.TheConstants.{NO_MEMORY};
+ghost use Rattle.rule_parser.specs.Names.{is_list as stands_for_list, each_once, list_names};
+ghost use Rattle.rule_parser.specs.Rules.{IsSound, IsSoundRule};
+
+use crate::error::{RuleError, RuleErrorKind};
+use crate::lines::read_lines;
+use crate::names::is_list;
+use crate::rule::Rule;
+use std::alloc::{AllocError, Global};
+use std::marker::Model;
+use uri_grammar::Text;
+
+/// The most bytes that a rule text has.
+pub const MAX_BYTES: usize = 65_536;
+
+/// The rules of a target.
+#[derive(Debug, Drop)]
+pub struct Rules {
+    lists: Vec<Text>,
+    rules: Vec<Rule>,
+}
+
+impl Model for Rules {
+    ghost use Rattle.rule_parser.specs.Rules.{RuleSet, IsSound};
+
+    ghost Value = { RuleSet };
+
+    ghost view = { λ rules. record { lists = rules.lists.items; rules = rules.rules.items } };
+
+    ghost invariant = { λ rules. IsSound (record { lists = rules.lists.items; rules = rules.rules.items }) };
+}
+
+impl Rules {
+    pub(crate) fn new(lists: Vec<Text>, rules: Vec<Rule>) -> Rules
+        requires { IsSound (record { lists = lists.items; rules = rules.items }) }
+        ensures { result ≡ record { lists = lists.items; rules = rules.items } }
+    {
+        Rules { lists, rules }
+    }
+
+    /// Reads a rule text of at most [`MAX_BYTES`] bytes: UTF-8 lines that end with LF, or with CR and LF; the last end may
+    /// be missing. Empty lines, and lines that begin with `#`, are skipped. First come lines `list NAME`, then rules: a line
+    /// `rule`, any number of lines `when ..`, and one line `link TEMPLATE`.
+    ///
+    /// Any other bytes are refused whole, by their first fault. A rule without a link is found where the next one begins, or
+    /// at the end. `NoMemory` where a growth was refused.
+    pub fn parse(alloc: Global, bytes: &[u8]) -> Result<Rules, RuleError>
+        ensures ok { IfOk result (λ rules. IsRuleText bytes.now rules) }
+        ensures err { IfErr result (λ e. (e ≡ NO_MEMORY) ⊎ IsRefused bytes.now e.kind e.line) }
+    {
+        if bytes.len() > MAX_BYTES {
+            return Err(RuleError::new(RuleErrorKind::TooLong, 0));
+        }
+        let Ok(text) = str::from_utf8(bytes) else {
+            return Err(RuleError::new(RuleErrorKind::NotUtf8, 0));
+        };
+        let lines: Vec<&str> = text.lines().collect(alloc)?;
+        read_lines(alloc, &lines)
+    }
+
+    /// The names that stand for lists, each once: `rft.au` and `rft_id`, the keys of ANSI/NISO Z39.88 that can come more
+    /// than once, and then the declared names in the order of their lines.
+    ///
+    /// `AllocError` where a growth was refused.
+    pub fn lists(&self, alloc: Global) -> Result<Vec<&str>, AllocError>
+        ensures { IfOk result (λ lists. map (λ list. list.now) lists.items ≡ each_once (list_names self.now.lists)) }
+    {
+        let mut lists = vec![in alloc; "rft.au", "rft_id"]?;
+        for list in &self.lists {
+            let name = list.as_str();
+            if !lists.contains(&name) {
+                lists.push(name)?;
+            }
+        }
+        Ok(lists)
+    }
+
+    /// The rules, in the order of their lines.
+    pub fn rules(&self) -> &[Rule]
+        ensures rules { result.now ≡ self.now.rules }
+        ensures sound { All (IsSoundRule self.now.lists) self.now.rules }
+    {
+        &self.rules
+    }
+
+    /// Whether the name is one of [`Rules::lists`].
+    pub fn is_list(&self, name: &str) -> bool
+        ensures { result ≡ stands_for_list self.now.lists name.now }
+    {
+        is_list(&self.lists, name)
+    }
+}

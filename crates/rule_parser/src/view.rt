@@ -1,0 +1,44 @@
+//! An environment as rules see it.
+
+use crate::rules::Rules;
+use target_vars::Env;
+use uri_template::Variables;
+
+/// The variables of an environment, each as the rules declare it: a text whose name they declare a list, and a list whose
+/// name they do not, is undefined.
+#[derive(Clone, Copy)]
+pub(crate) struct RulesView<'a> {
+    pub(crate) rules: &'a Rules,
+    pub(crate) env: &'a Env,
+}
+
+impl Variables for RulesView<'_> {
+    ghost use Rattle.vocabulary.specs.Environment.{look_up, view};
+    ghost use Rattle.rule_parser.specs.Names.{list_names};
+
+    ghost look = { λ v. view (list_names v.rules.now.lists) (look_up v.env.now.entries) };
+
+    fn text(&self, name: &str) -> Option<&str> {
+        if self.rules.is_list(name) {
+            None
+        } else {
+            self.env.text(name)
+        }
+    }
+
+    fn count(&self, name: &str) -> usize {
+        if self.rules.is_list(name) {
+            self.env.count(name)
+        } else {
+            0
+        }
+    }
+
+    fn member(&self, name: &str, i: usize) -> Option<&str> {
+        if self.rules.is_list(name) {
+            self.env.member(name, i)
+        } else {
+            None
+        }
+    }
+}
