@@ -1,0 +1,32 @@
+-- What each command prints, and why it prints nothing.
+use Rattle.std.specs.Prelude.{◌≡◌, ◌⊎◌, List, [], ◌∷◌, Bool, false, ◌||◌, codes}
+use Rattle.std.specs.Borrow.{Bor}
+use Rattle.std.specs.Str.{bytes_eq}
+use Rattle.vocabulary.specs.Texts.{Text}
+use Rattle.openlink.specs.Expand.{IsExpandLine, FailsToExpand}
+use Rattle.openlink.specs.Show.{IsShowLine, FailsToShow}
+use Rattle.openlink.specs.Link.{IsLinkLine, FailsToLink}
+use Rattle.openlink.specs.declared.fault.Fault.{Fault}
+use Rattle.openlink.specs.declared.fault.Fault.TheVariants.{Usage, Device}
+
+abbrev pub begins_with_word : Text → List Text → Bool
+begins_with_word name [] = false
+begins_with_word name (word ∷ words) = bytes_eq word name
+
+abbrev pub names_command : List Text → Bool
+names_command words =
+    begins_with_word (codes "expand") words || (begins_with_word (codes "link") words || begins_with_word (codes "show") words)
+
+-- the words of a command that is done, and what it prints
+pub data Prints : List Text → Text → Type 0 where
+  prints_expansion : (words : List Text) (line : Text) → IsExpandLine words line → Prints (codes "expand" ∷ words) line
+  prints_link : (words : List Text) (line : Text) → IsLinkLine words line → Prints (codes "link" ∷ words) line
+  prints_listing : (words : List Text) (text : Text) → IsShowLine words text → Prints (codes "show" ∷ words) text
+
+-- the words of a command that is not done, and why
+pub data Fails : List Text → Fault → Type 0 where
+  no_command : (words : List Text) → names_command words ≡ false → Fails words Usage
+  no_expansion : (words : List Text) (fault : Fault) → FailsToExpand words fault → Fails (codes "expand" ∷ words) fault
+  no_link : (words : List Text) (fault : Fault) → FailsToLink words fault → Fails (codes "link" ∷ words) fault
+  no_listing : (words : List Text) (fault : Fault) → FailsToShow words fault → Fails (codes "show" ∷ words) fault
+  output_failed : (words : List Text) (path : Bor Text) → path.now ≡ codes "-" → Fails words (Device path)

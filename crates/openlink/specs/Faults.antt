@@ -1,0 +1,65 @@
+-- Faults: what a crate's error becomes, and the exit statuses.
+use Rattle.std.specs.Prelude.{◌≡◌, ℕ}
+use Rattle.vocabulary.specs.Texts.{Text}
+use Rattle.uri_grammar.specs.declared.error.TemplateError.{TemplateError}
+use Rattle.uri_grammar.specs.declared.error.TemplateErrorKind.{TemplateErrorKind}
+use Rattle.uri_grammar.specs.declared.error.TemplateErrorKind.TheVariants as template
+use Rattle.code_file.specs.declared.error.CodeError.{CodeError}
+use Rattle.code_file.specs.declared.error.CodeErrorKind.{CodeErrorKind}
+use Rattle.code_file.specs.declared.error.CodeErrorKind.TheVariants as code
+use Rattle.rule_parser.specs.declared.error.RuleError.{RuleError}
+use Rattle.rule_parser.specs.declared.error.RuleErrorKind.{RuleErrorKind}
+use Rattle.rule_parser.specs.declared.error.RuleErrorKind.TheVariants as rules
+use Rattle.kev_read.specs.declared.error.KevError.{KevError}
+use Rattle.kev_read.specs.declared.error.KevError.TheVariants as query
+use Rattle.openlink.specs.declared.fault.Fault.{Fault}
+use Rattle.openlink.specs.declared.fault.Fault.TheVariants.{Usage, Template, Query, Memory, Device}
+use Rattle.openlink.specs.declared.fault.Fault.TheVariants as fault
+use Rattle.openlink.specs.declared.fault.TheConstants.{NO_LINK, USAGE, REFUSED, FAILED}
+
+abbrev pub template_fault_of_kind : TemplateError → TemplateErrorKind → Fault
+template_fault_of_kind e template.NoMemory = Memory
+template_fault_of_kind e kind = Template e
+
+-- want of memory is one fault, wherever it comes from
+abbrev pub template_fault : TemplateError → Fault
+template_fault e = template_fault_of_kind e e.kind
+
+abbrev pub code_fault_of_kind : CodeError → CodeErrorKind → Fault
+code_fault_of_kind e code.NoMemory = Memory
+code_fault_of_kind e kind = fault.Code e
+
+abbrev pub code_fault : CodeError → Fault
+code_fault e = code_fault_of_kind e e.kind
+
+abbrev pub rules_fault_of_kind : RuleError → RuleErrorKind → Fault
+rules_fault_of_kind e rules.NoMemory = Memory
+rules_fault_of_kind e kind = fault.Rules e
+
+abbrev pub rules_fault : RuleError → Fault
+rules_fault e = rules_fault_of_kind e e.kind
+
+abbrev pub query_fault : KevError → Fault
+query_fault query.NoMemory = Memory
+query_fault e = Query e
+
+abbrev pub status_of : Fault → ℕ
+status_of Usage = USAGE
+status_of (Template e) = REFUSED
+status_of (Query e) = REFUSED
+status_of (fault.Rules e) = REFUSED
+status_of (fault.Code e) = REFUSED
+status_of fault.NoLink = NO_LINK
+status_of Memory = FAILED
+status_of (Device path) = FAILED
+
+-- the file at this path failed
+abbrev pub IsDevice : Fault → Text → Type 0
+IsDevice (Device path) text = path.now ≡ text
+IsDevice fault text = ⊥
+
+-- the file at this path failed, or memory for its bytes was wanting
+abbrev pub IsFileFault : Text → Fault → Type 0
+IsFileFault path Memory = Unit {0}
+IsFileFault path (Device failed) = failed.now ≡ path
+IsFileFault path fault = ⊥

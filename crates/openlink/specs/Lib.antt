@@ -1,0 +1,6 @@
+pub mod Words
+pub mod Faults
+pub mod Expand
+pub mod Show
+pub mod Link
+pub mod Commands

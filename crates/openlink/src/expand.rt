@@ -1,0 +1,46 @@
+//! `expand [--list NAME].. TEMPLATE QUERY`: the expansion of a template for a request.
+
+ghost use Rattle.std.specs.Prelude.{IfOk, IfErr, string_bytes};
+ghost use Rattle.vocabulary.specs.Texts.{texts_of};
+ghost use Rattle.openlink.specs.Expand.{IsExpansion, IsExpandFault, IsExpandLine, FailsToExpand};
+
+use crate::fault::Fault;
+use crate::line::ended;
+use crate::words::expand_words;
+use kev_read::read_kev;
+use std::alloc::Global;
+use target_vars::{Env, VarsError};
+use uri_template::{Template, expand};
+
+/// The expansion of the template on the environment of the query's pairs, where the names of `lists`
+/// are lists, as `rft.au` and `rft_id` are.
+pub fn expand_query<'a>(
+    alloc: Global,
+    lists: &[&str],
+    template: &str,
+    query: &str,
+) -> Result<String, Fault<'a>>
+    ensures ok { IfOk result (λ text. IsExpansion (texts_of lists.now) template.now query.now (string_bytes text)) }
+    ensures err { IfErr result (IsExpandFault template.now query.now) }
+{
+    let template = Template::parse(alloc, template)?;
+    let request = read_kev(alloc, query.as_bytes())?;
+    let mut env = Env::new(alloc);
+    match request.fill(lists, &mut env) {
+        Ok(()) => {}
+        Err(VarsError::NoMemory) => return Err(Fault::Memory),
+        // A request fits into an empty environment.
+        Err(VarsError::TooLarge) => unreachable!(),
+    }
+    Ok(expand(alloc, &template, &env)?)
+}
+
+/// The line that the words behind `expand` print.
+pub fn expand_line<'a>(alloc: Global, words: &[&'a str]) -> Result<String, Fault<'a>>
+    ensures ok { IfOk result (λ line. IsExpandLine (texts_of words.now) (string_bytes line)) }
+    ensures err { IfErr result (FailsToExpand (texts_of words.now)) }
+{
+    let words = expand_words(alloc, words)?;
+    let text = expand_query(alloc, &words.lists, words.template, words.query)?;
+    Ok(ended(text)?)
+}

@@ -1,0 +1,145 @@
+//! Why a command ends without its result, how that is printed, and with which exit status.
+
+ghost use Rattle.std.specs.Prelude.{◌≡◌};
+ghost use Rattle.openlink.specs.Faults.{status_of};
+
+use code_file::{CodeError, CodeErrorKind};
+use kev_read::KevError;
+use rule_parser::{RuleError, RuleErrorKind};
+use std::alloc::{AllocError, AllocFailed};
+use target_vars::VarsError;
+use thiserror::Error;
+use uri_template::{TemplateError, TemplateErrorKind};
+
+/// The exit status where no link is found.
+pub const NO_LINK: u8 = 1;
+
+/// The exit status for words that are no command.
+pub const USAGE: u8 = 2;
+
+/// The exit status where an argument or a file is refused.
+pub const REFUSED: u8 = 3;
+
+/// The exit status for want of memory, and for a file or an output that fails.
+pub const FAILED: u8 = 4;
+
+/// Why a command ends without its result; printed behind `openlink: `.
+#[derive(Clone, Copy, Debug, PartialEq, Eq, Error)]
+pub enum Fault<'a> {
+    /// The words are no command.
+    #[error("usage")]
+    Usage,
+    /// The template is none of RFC 6570: the kind of its first fault, and the byte at which it stands.
+    #[error("template: {0}")]
+    Template(TemplateError),
+    /// The query is no OpenURL request.
+    #[error("query: {0}")]
+    Query(KevError),
+    /// The file is no rule text: the line of its first fault, and its kind.
+    #[error("rules: {0}")]
+    Rules(RuleError),
+    /// The file is no code: the kind of its first fault, and the byte at which it stands.
+    #[error("code: {0}")]
+    Code(CodeError),
+    /// No rule's guards hold. Nothing is printed.
+    #[error("no link")]
+    NoLink,
+    /// A growth was refused.
+    #[error("out of memory")]
+    Memory,
+    /// The file at the path failed; `-` is standard output.
+    #[error("device: {0}")]
+    Device(&'a str),
+}
+
+impl Fault<'_> {
+    /// The exit status of the program.
+    pub fn status(self) -> u8
+        ensures { result ≡ status_of self.entry }
+    {
+        match self {
+            Fault::NoLink => NO_LINK,
+            Fault::Usage => USAGE,
+            Fault::Template(_) | Fault::Query(_) | Fault::Rules(_) | Fault::Code(_) => REFUSED,
+            Fault::Memory | Fault::Device(_) => FAILED,
+        }
+    }
+}
+
+impl<'a> From<AllocError> for Fault<'a> {
+    ghost use Rattle.openlink.specs.declared.fault.Fault.TheVariants.{Memory};
+    ghost use Rattle.std.specs.Prelude.{◌≡◌};
+
+    ghost from_gives = { λ _ fault. fault ≡ Memory };
+
+    fn from(_e: AllocError) -> Fault<'a> {
+        Fault::Memory
+    }
+}
+
+impl<'a, T: Drop> From<AllocFailed<T>> for Fault<'a> {
+    ghost use Rattle.openlink.specs.declared.fault.Fault.TheVariants.{Memory};
+    ghost use Rattle.std.specs.Prelude.{◌≡◌};
+
+    ghost from_gives = { λ _ fault. fault ≡ Memory };
+
+    fn from(_e: AllocFailed<T>) -> Fault<'a> {
+        Fault::Memory
+    }
+}
+
+impl<'a> From<TemplateError> for Fault<'a> {
+    ghost use Rattle.openlink.specs.Faults.{template_fault};
+    ghost use Rattle.std.specs.Prelude.{◌≡◌};
+
+    ghost from_gives = { λ e fault. fault ≡ template_fault e };
+
+    fn from(e: TemplateError) -> Fault<'a> {
+        match e.kind {
+            TemplateErrorKind::NoMemory => Fault::Memory,
+            _ => Fault::Template(e),
+        }
+    }
+}
+
+impl<'a> From<KevError> for Fault<'a> {
+    ghost use Rattle.openlink.specs.Faults.{query_fault};
+    ghost use Rattle.std.specs.Prelude.{◌≡◌};
+
+    ghost from_gives = { λ e fault. fault ≡ query_fault e };
+
+    fn from(e: KevError) -> Fault<'a> {
+        match e {
+            KevError::NoMemory => Fault::Memory,
+            _ => Fault::Query(e),
+        }
+    }
+}
+
+impl<'a> From<CodeError> for Fault<'a> {
+    ghost use Rattle.openlink.specs.Faults.{code_fault};
+    ghost use Rattle.std.specs.Prelude.{◌≡◌};
+
+    ghost from_gives = { λ e fault. fault ≡ code_fault e };
+
+    fn from(e: CodeError) -> Fault<'a> {
+        match e.kind {
+            CodeErrorKind::NoMemory => Fault::Memory,
+            _ => Fault::Code(e),
+        }
+    }
+}
+
+impl<'a> From<RuleError> for Fault<'a> {
+    ghost use Rattle.openlink.specs.Faults.{rules_fault};
+    ghost use Rattle.std.specs.Prelude.{◌≡◌};
+
+    ghost from_gives = { λ e fault. fault ≡ rules_fault e };
+
+    fn from(e: RuleError) -> Fault<'a> {
+        match e.kind {
+            RuleErrorKind::NoMemory => Fault::Memory,
+            _ => Fault::Rules(e),
+        }
+    }
+}

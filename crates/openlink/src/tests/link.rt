@@ -1,0 +1,228 @@
+use super::{Case, done, ends, run_cases};
+use std::fs;
+use std::process::Abort;
+use std::rt::Files;
+use std::test::Fail;
+
+/// Runs the cases with the rules in a file at the path, which is there for as long.
+fn run_with<R: Abort + Files + AllocGlobal>(
+    rt: &R,
+    path: &str,
+    rules: &[u8],
+    cases: &[Case],
+) -> Result<(), Fail> {
+    fs::write(rt, path, rules)?;
+    run_cases(rt, cases);
+    fs::remove_file(rt, path)?;
+    Ok(())
+}
+
+fn no_link<'a>(words: &'a [&'a str]) -> Case<'a> {
+    ends(words, 1, "")
+}
+
+#[test]
+fn links_within_dates(rt: HostRuntime) -> Result<(), Fail> {
+    run_with(
+        &rt,
+        "coverage.rules",
+        b"rule\nwhen rft.date from date_first_issue_online to date_last_issue_online\nlink http://e.org/{rft.date}\n",
+        &[
+            done(
+                &[
+                    "link",
+                    "coverage.rules",
+                    "rft.date=1999-05&date_first_issue_online=1995-01-01&date_last_issue_online=",
+                ],
+                "http://e.org/1999-05\n",
+            ),
+            no_link(&[
+                "link",
+                "coverage.rules",
+                "rft.date=1994&date_first_issue_online=1995-01-01&date_last_issue_online=",
+            ]),
+        ],
+    )
+}
+
+#[test]
+fn numbers_have_nine_digits(rt: HostRuntime) -> Result<(), Fail> {
+    run_with(
+        &rt,
+        "volume.rules",
+        b"rule\nwhen rft.volume from 1 to 999999999\nlink http://e.org/v\n",
+        &[
+            no_link(&["link", "volume.rules", "rft.volume=1234567890"]),
+            done(
+                &["link", "volume.rules", "rft.volume=999999999"],
+                "http://e.org/v\n",
+            ),
+        ],
+    )
+}
+
+// A rule of one guard, a query, and whether there is a link.
+#[test]
+fn guards_hold(rt: HostRuntime) -> Result<(), Fail> {
+    let cases = [
+        ("has x", "x=", true),
+        ("given x", "x=", false),
+        ("lacks x", "", true),
+        ("x is \"a\\\"b\"", "x=a%22b", true),
+        ("rft.au holds \"Li\"", "rft.au=Wu&rft.au=Li", true),
+        ("x from * to 9", "x=7b", true),
+        ("x from * to 9", "x=b7", false),
+    ];
+    for (guard, query, holds) in cases {
+        let rules = format!(in rt.alloc(); "rule\nwhen {guard}\nlink http://e.org/\n")?;
+        let words = ["link", "guard.rules", query];
+        let case = if holds {
+            done(&words, "http://e.org/\n")
+        } else {
+            no_link(&words)
+        };
+        run_with(&rt, "guard.rules", rules.as_bytes(), &[case])?;
+    }
+    Ok(())
+}
+
+#[test]
+fn refuses_rules(rt: HostRuntime) -> Result<(), Fail> {
+    let cases = [
+        (
+            "rule\nwhen x from 1 to 1234567890\nlink a\n",
+            "line 2: BadLine",
+        ),
+        (
+            "rule\nwhen rft.au is \"x\"\nlink http://e.org/\n",
+            "line 2: KindMismatch",
+        ),
+        ("rule\nrule\n", "line 1: NoLink"),
+        ("rule\nlink {a\n", "line 2: Template Unclosed"),
+        ("when has x\n", "line 1: BadLine"),
+        ("rule\nlink {rft.au:3}\n", "line 2: KindMismatch"),
+    ];
+    for (rules, fault) in cases {
+        let printed = format!(in rt.alloc(); "openlink: rules: {fault}\n")?;
+        let words = ["link", "bad.rules", ""];
+        let case = ends(&words, 3, printed.as_str());
+        run_with(&rt, "bad.rules", rules.as_bytes(), &[case])?;
+    }
+    Ok(())
+}
+
+#[test]
+fn refuses_long_rules(rt: HostRuntime) -> Result<(), Fail> {
+    let rules = vec![in rt.alloc(); b'#'; 65_537]?;
+    let words = ["link", "long.rules", ""];
+    let case = ends(&words, 3, "openlink: rules: line 0: TooLong\n");
+    run_with(&rt, "long.rules", &rules, &[case])
+}
+
+#[test]
+fn refuses_other_words(rt: HostRuntime) -> Result<(), Fail> {
+    run_with(
+        &rt,
+        "none.rules",
+        b"",
+        &[
+            no_link(&["link", "none.rules", "x=1"]),
+            ends(&["link", "none.rules"], 2, "openlink: usage\n"),
+            ends(&["link", "none.rules", "x=1", "y"], 2, "openlink: usage\n"),
+            ends(
+                &["link", "no/such.rules", ""],
+                4,
+                "openlink: device: no/such.rules\n",
+            ),
+            ends(
+                &["link", "none.rules", "url_ver=1"],
+                3,
+                "openlink: query: WrongVersion\n",
+            ),
+        ],
+    )
+}
+
+// The rule files of the README.
+
+#[test]
+fn links_to_the_title_of_a_table(rt: HostRuntime) -> Result<(), Fail> {
+    run_with(
+        &rt,
+        "title.rules",
+        b"# The title's own page, within the years that the table has.\nrule\nwhen given title_url\nwhen rft.date from date_first_issue_online to date_last_issue_online\nlink {+title_url}\n",
+        &[
+            done(
+                &[
+                    "link",
+                    "title.rules",
+                    "rft.date=2003&title_url=https://www.example.com/journal/cells&date_first_issue_online=1995",
+                ],
+                "https://www.example.com/journal/cells\n",
+            ),
+            no_link(&[
+                "link",
+                "title.rules",
+                "rft.date=1990&title_url=https://www.example.com/journal/cells&date_first_issue_online=1995",
+            ]),
+        ],
+    )
+}
+
+#[test]
+fn links_to_an_article_or_its_journal(rt: HostRuntime) -> Result<(), Fail> {
+    run_with(
+        &rt,
+        "article.rules",
+        b"rule\nwhen given rft.issn\nwhen given rft.volume\nwhen given rft.issue\nwhen given rft.spage\nlink https://journals.example.org/{rft.issn}/{rft.volume}/{rft.issue}/{rft.spage}\n\nrule\nwhen given rft.issn\nlink https://journals.example.org/{rft.issn}\n",
+        &[
+            done(
+                &[
+                    "link",
+                    "article.rules",
+                    "rft.issn=1234-5678&rft.volume=6&rft.issue=2&rft.spage=101",
+                ],
+                "https://journals.example.org/1234-5678/6/2/101\n",
+            ),
+            done(
+                &["link", "article.rules", "rft.issn=1234-5678&rft.volume=6"],
+                "https://journals.example.org/1234-5678\n",
+            ),
+            no_link(&["link", "article.rules", "rft.volume=6"]),
+        ],
+    )
+}
+
+#[test]
+fn passes_the_citation_on(rt: HostRuntime) -> Result<(), Fail> {
+    run_with(
+        &rt,
+        "openurl.rules",
+        b"rule\nlink https://provider.example.com/openurl?ctx_ver=Z39.88-2004&rft_val_fmt=info:ofi/fmt:kev:mtx:journal{&rft.issn,rft.atitle,rft.date,rft.volume,rft.spage,rft.au*,rft_id*}\n",
+        &[done(
+            &[
+                "link",
+                "openurl.rules",
+                "rft.issn=1234-5678&rft.atitle=On+cells&rft.au=Smith%2C+J&rft.au=Li&rft_id=info%3Adoi%2F10.1000%2F182",
+            ],
+            "https://provider.example.com/openurl?ctx_ver=Z39.88-2004&rft_val_fmt=info:ofi/fmt:kev:mtx:journal&rft.issn=1234-5678&rft.atitle=On%20cells&rft.au=Smith%2C%20J&rft.au=Li&rft_id=info%3Adoi%2F10.1000%2F182\n",
+        )],
+    )
+}
+
+#[test]
+fn links_through_a_proxy(rt: HostRuntime) -> Result<(), Fail> {
+    run_with(
+        &rt,
+        "proxy.rules",
+        b"rule\nwhen given title_url\nlink https://login.proxy.example.edu/login?qurl={title_url}\n",
+        &[done(
+            &[
+                "link",
+                "proxy.rules",
+                "title_url=https://www.example.com/journal/cells",
+            ],
+            "https://login.proxy.example.edu/login?qurl=https%3A%2F%2Fwww.example.com%2Fjournal%2Fcells\n",
+        )],
+    )
+}
