@@ -1,4 +1,3 @@
-pub mod MembersLeft
 pub mod Operands
 pub mod Outcomes
 pub mod Results

@@ -11,7 +11,8 @@ use Rattle.interpreter.specs.declared.frame.Move.{Move}
 use Rattle.interpreter.specs.declared.frame.Move.TheVariants as move
 use Rattle.interpreter.specs.declared.step.Stepped.{Stepped}
 use Rattle.interpreter.specs.declared.step.Stepped.TheVariants as after
-use Rattle.interpreter.specs.Values.{members_left, value_of}
+use Rattle.target_vars.specs.Members.{members_left}
+use Rattle.interpreter.specs.Values.{value_of}
 
 abbrev pub registers_of : Registers → ℕ → value.Value
 registers_of held r = value_of (slice_index_or held.values r Nothing)

@@ -2,10 +2,10 @@
 
 ghost use Rattle.std.specs.Prelude.{◌<◌};
 
-use crate::members::Members;
 use crate::registers::Registers;
 use crate::value::Value;
 use std::alloc::Global;
+use target_vars::Members;
 
 /// A running loop: its body is from `start` to before `end`.
 #[derive(Clone, Copy)]

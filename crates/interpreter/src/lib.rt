@@ -7,7 +7,6 @@ mod frame;
 mod jumps;
 mod loads;
 mod loops;
-mod members;
 mod printing;
 mod reading;
 mod registers;

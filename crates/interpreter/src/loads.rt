@@ -13,7 +13,6 @@ ghost use Rattle.interpreter.specs.Values.{value_of};
 ghost use Rattle.interpreter.specs.Frames.{frame_of, move_in, moves};
 
 use crate::frame::{Frame, Move};
-use crate::members::Members;
 use crate::value::Value;
 use code_file::Code;
 use target_vars::Env;
@@ -46,11 +45,11 @@ pub(crate) fn text_of<'a>(code: &Code, env: &'a Env, index: u16) -> Value<'a>
 }
 
 /// The list of a name.
-pub(crate) fn members_of<'a>(code: &'a Code, env: &'a Env, index: u16) -> Value<'a>
+pub(crate) fn members_of<'a>(code: &Code, env: &'a Env, index: u16) -> Value<'a>
     requires { index < length code.now.names }
     ensures { value_of result ≡ value.List (members_of env.now.entries (name_at code.now index)) }
 {
-    Value::List(Members::of(env, name(code, index)))
+    Value::List(env.list(name(code, index)))
 }
 
 impl<'a> Frame<'a> {

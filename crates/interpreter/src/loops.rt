@@ -35,7 +35,7 @@ impl<'a> Frame<'a> {
             left,
             first: true,
         });
-        Some(self.load(element, Value::Text(member)))
+        Some(self.load(element, Value::Text(member.as_bytes())))
     }
 
     /// Puts the loop's next member into the element register and returns to the loop's start; where
@@ -60,7 +60,7 @@ impl<'a> Frame<'a> {
             left,
             first: false,
         });
-        self.hold(running.element, Value::Text(member));
+        self.hold(running.element, Value::Text(member.as_bytes()));
         Some(Move::Returns(running.start))
     }
 }

@@ -32,8 +32,8 @@ fn step_limit(code: &Code, env: &Env) -> usize
 /// Runs a code on an environment, with every test that the definitions of the machine make, and
 /// answers where the run comes to. Any code may be run, and every run ends.
 ///
-/// A step takes constant work but for the bytes that it appends or compares; a look-up goes over the
-/// environment's names. The only error is want of memory for the output.
+/// A step takes constant work but for the bytes that it appends or compares; to look a name up is to
+/// compare it with the names of the environment. The only error is want of memory for the output.
 pub fn run_checked<'a>(alloc: Global, code: &'a Code, env: &'a Env) -> Result<Checked, AllocError>
     ensures { IfOk result (λ answer. IsOutcome code.now env.now.entries (outcome_of answer)) }
 {

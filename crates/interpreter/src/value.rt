@@ -1,6 +1,6 @@
 //! What registers hold.
 
-use crate::members::Members;
+use target_vars::Members;
 
 /// What a register holds. Texts and lists stay where they are, in the environment or the code.
 #[derive(Clone, Copy)]

@@ -1,6 +1,5 @@
 -- What the pairs of a request make of an environment.
-use Rattle.std.specs.Prelude.{◌≡◌, ◌↔◌, ◌⊎◌, ◌+◌, ◌<◌, Bool, false, ◌||◌, MatchBool, List, ◌∷◌, ◌++◌, length, map, fold, codes, if◌then◌else◌}
-use Rattle.std.specs.Borrow.{Bor}
+use Rattle.std.specs.Prelude.{◌≡◌, ◌↔◌, ◌⊎◌, ◌+◌, ◌<◌, Bool, false, ◌||◌, MatchBool, List, ◌∷◌, ◌++◌, length, fold, codes, if◌then◌else◌}
 use Rattle.std.specs.Str.{bytes_eq}
 use Rattle.vocabulary.specs.Texts.{Text}
 use Rattle.vocabulary.specs.Environment.{Environment, is_there, is_among, byte_count, member_count, with_text, with_member}

@@ -1,6 +1,6 @@
 -- From the words behind a command's name to the words of the command.
-use Rattle.std.proofs.Common.{◌≡◌, ◌⊎◌, inl, inr, List, [], ◌∷◌, Bool, true, false, Option, Some, None, Result, Ok, Err, IfErr, OnOk, refl, sym, subst}
-use Rattle.std.specs.Prelude.{codes, if◌then◌else◌, ◌||◌}
+use Rattle.std.proofs.Common.{◌≡◌, ◌⊎◌, inl, inr, List, [], ◌∷◌, Bool, true, false, Some, None, Result, Ok, Err, IfErr, OnOk, refl, sym, subst}
+use Rattle.std.specs.Prelude.{codes, if◌then◌else◌}
 use Rattle.std.specs.Str.{bytes_eq}
 use Rattle.std.proofs.lemmas.Slice.Eq.{bytes_eq-Decides}
 use Rattle.vocabulary.specs.Texts.{Text}
@@ -8,7 +8,7 @@ use Rattle.openlink.specs.Words.{behind_name}
 use Rattle.openlink.specs.Expand.{IsExpandLine, FailsToExpand}
 use Rattle.openlink.specs.Link.{IsLinkLine, FailsToLink}
 use Rattle.openlink.specs.Show.{IsShowLine, FailsToShow}
-use Rattle.openlink.specs.Commands.{Prints, Fails, begins_with_word, names_command, prints_expansion, prints_link, prints_listing, no_command, no_expansion, no_link, no_listing, output_failed}
+use Rattle.openlink.specs.Commands.{Prints, Fails, begins_with_word, prints_expansion, prints_link, prints_listing, no_command, no_expansion, no_link, no_listing, output_failed}
 use Rattle.openlink.specs.Faults.{IsDevice}
 use Rattle.openlink.specs.declared.fault.Fault.{Fault}
 use Rattle.openlink.specs.declared.fault.Fault.TheVariants.{Usage, Template, Query, Memory, Device}

@@ -1,5 +1,5 @@
 -- What rules mean for a query, from the steps that give it.
-use Rattle.std.proofs.Common.{◌≡◌, List, [], Option, None, sym, ap, ◌∙◌, subst}
+use Rattle.std.proofs.Common.{◌≡◌, List, [], Option, None, ap, ◌∙◌}
 use Rattle.std.specs.Borrow.{Bor}
 use Rattle.vocabulary.specs.Texts.{Text, texts_of}
 use Rattle.vocabulary.specs.Environment.{Environment}

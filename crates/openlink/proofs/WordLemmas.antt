@@ -1,12 +1,11 @@
 -- The words behind `expand` are told apart in one way.
-use Rattle.std.proofs.Common.{◌≡◌, ℕ, ◌+◌, List, [], ◌∷◌, ◌++◌, length, Bool, true, false, refl, sym, ◌∙◌, ap, subst}
+use Rattle.std.proofs.Common.{◌≡◌, List, [], ◌∷◌, ◌++◌, length, true, false, refl, sym, ◌∙◌, ap}
 use Rattle.std.specs.Prelude.{◌≢◌, codes}
-use Rattle.std.specs.Str.{bytes_eq}
 use Rattle.std.specs.Borrow.{Bor}
 use Rattle.std.proofs.Common.{drop}
 use Rattle.std.proofs.lemmas.List.{length-map, map-append}
 use Rattle.vocabulary.specs.Texts.{Text, texts_of}
-use Rattle.openlink.specs.Words.{AreExpandWords, NoExpandWords, begins_with_option, list_options}
+use Rattle.openlink.specs.Words.{NoExpandWords, begins_with_option, list_options}
 
 two_words : (rest : List Text) (template query : Text) → rest ≡ template ∷ query ∷ [] → length rest ≡ 2
 two_words rest template query e = ap length e

@@ -1,5 +1,5 @@
 -- What `expand` prints, from its words to the bytes, and why it prints nothing.
-use Rattle.std.specs.Prelude.{◌≡◌, ℕ, List, [], ◌∷◌, ◌++◌, ◌⊎◌, Option, Some, None}
+use Rattle.std.specs.Prelude.{◌≡◌, List, [], ◌∷◌, ◌++◌, ◌⊎◌, Some, None}
 use Rattle.vocabulary.specs.Texts.{Text}
 use Rattle.vocabulary.specs.Environment.{look_up}
 use Rattle.uri_grammar.specs.declared.parts.Part.{Part}

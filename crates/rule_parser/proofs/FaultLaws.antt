@@ -1,6 +1,5 @@
 -- Lines that spell rules have no fault, and other lines have one first fault.
-use Rattle.std.proofs.Common.{◌≡◌, ◌≢◌, ℕ, ◌<◌, ◌≤◌, List, [], ◌∷◌, ◌++◌, Bool, true, false, Option, Some, None, ◌⊎◌, inl, inr, is_some, is_none, ◌&&◌, ◌==◌, map, length, refl, ap, subst, sym, ◌∙◌, arith, All}
-use Rattle.std.specs.List.{AllByRecursion}
+use Rattle.std.proofs.Common.{◌≡◌, ℕ, List, [], ◌∷◌, ◌++◌, true, false, Some, None, ◌⊎◌, inl, inr, is_some, is_none, ◌&&◌, ◌==◌, map, length, refl, ap, subst, sym, ◌∙◌, arith, All}
 use Rattle.std.specs.Str.Lines.{lines}
 use Rattle.std.proofs.lemmas.Bool.{both_ways}
 use Rattle.std.proofs.lemmas.List.{append-nil}

@@ -1,5 +1,5 @@
 -- The laws of the grammar of rules: statements that begin rules can go on in one way.
-use Rattle.std.proofs.Common.{◌≡◌, ◌≢◌, ℕ, List, [], ◌∷◌, ◌++◌, Bool, true, false, Option, Some, None, ◌⊎◌, inl, inr, is_some, map, length, refl, ap, subst, sym, ◌∙◌, codes, All}
+use Rattle.std.proofs.Common.{◌≡◌, List, [], ◌∷◌, ◌++◌, true, Option, Some, None, map, refl, ap, subst, sym, ◌∙◌}
 use Rattle.std.specs.List.{flat_map, AllByRecursion}
 use Rattle.std.proofs.lemmas.List.{append-nil, append_assoc}
 use Rattle.std.proofs.lemmas.List.Elements.{recursion_from_All}
@@ -9,9 +9,9 @@ use Rattle.uri_grammar.specs.Names.{IsName}
 use Rattle.uri_grammar.specs.Texts.{IsTemplate}
 use Rattle.rule_parser.specs.declared.rule.Guard.{Guard}
 use Rattle.rule_parser.specs.declared.rule.Rule.{Rule}
-use Rattle.rule_parser.specs.Rules.{RuleSet, IsGuard, IsSound, IsSoundGuard, IsSoundRule, parts_fit}
-use Rattle.rule_parser.specs.Statements.{Statement, Declare, Begin, When, Link, IsStatement, statements, statements_of_rule}
-use Rattle.rule_parser.specs.Faults.{Begun, IsSoundBegun, AreSoundGuards, begun_statements, statements_of_guards, is_in_order}
+use Rattle.rule_parser.specs.Rules.{IsSoundGuard, IsSoundRule, parts_fit}
+use Rattle.rule_parser.specs.Statements.{Statement, Declare, Begin, When, Link, statements, statements_of_rule}
+use Rattle.rule_parser.specs.Faults.{Begun, IsSoundBegun, AreSoundGuards, begun_statements, statements_of_guards}
 use Rattle.rule_parser.specs.Progress.{no_rules}
 use Rattle.rule_parser.proofs.ReaderLemmas.{stage}
 

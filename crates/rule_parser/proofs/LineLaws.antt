@@ -1,5 +1,5 @@
 -- A line spells one statement, and lines spell one list of statements.
-use Rattle.std.proofs.Common.{◌≡◌, ◌≢◌, ℕ, List, [], ◌∷◌, ◌++◌, Bool, true, false, Option, Some, None, ◌⊎◌, inl, inr, map, refl, ap, subst, sym, ◌∙◌, codes, if◌then◌else◌, ◌==◌, rules}
+use Rattle.std.proofs.Common.{◌≡◌, ℕ, List, [], ◌∷◌, ◌++◌, true, false, ◌⊎◌, inl, inr, map, refl, ap, subst, sym, ◌∙◌, codes, if◌then◌else◌, ◌==◌, rules}
 use Rattle.std.specs.List.{list_all, AllByRecursion}
 use Rattle.std.specs.Str.{bytes_eq}
 use Rattle.std.specs.Char.{is_ascii_digit}
@@ -13,7 +13,6 @@ use Rattle.rule_parser.specs.declared.rule.Guard.{Guard}
 use Rattle.rule_parser.specs.declared.rule.Guard.TheVariants as guard
 use Rattle.rule_parser.specs.Rules.{IsBound, IsGuard}
 use Rattle.rule_parser.specs.Statements.{Statement, Declare, Begin, When, Link, IsStatement, line_of, quoted, escaped, bound_text, bounds_text, guard_text}
-use Rattle.rule_parser.specs.Reading.{IsWord}
 use Rattle.rule_parser.proofs.WordLemmas.{same_tails, other_heads, word_split, name_is_word, bound_is_word, star_is_no_name}
 use Rattle.rule_parser.proofs.EscapeLemmas.{escaped_same}
 use Rattle.rule_parser.proofs.GuardLemmas.{IsDefined, defined_words, IsCompared, compared_words}

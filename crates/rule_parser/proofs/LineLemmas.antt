@@ -1,7 +1,6 @@
 -- Lines that were read, and the numbers of lines.
-use Rattle.std.proofs.Common.{◌≡◌, ℕ, ◌+◌, ◌<◌, ◌≤◌, zero, suc, List, [], ◌∷◌, ◌++◌, Bool, true, false, Option, Some, None, IfSome, Result, Ok, Err, IfOk, IfErr, Bor, ◌⊎◌, inl, inr, map, length, get_or, take, drop, if◌then◌else◌, refl, ap, subst, sym, ◌∙◌, arith, codes, All}
-use Rattle.std.specs.List.{filter, slice_index, slice_index_or}
-use Rattle.std.proofs.lemmas.Bool.{cases_Bool, cond-true, cond-false}
+use Rattle.std.proofs.Common.{◌≡◌, ℕ, ◌+◌, ◌<◌, ◌≤◌, zero, suc, List, [], ◌∷◌, ◌++◌, Bool, true, false, Option, Some, None, IfSome, Result, Ok, Err, IfOk, IfErr, Bor, ◌⊎◌, inl, inr, map, length, get_or, take, if◌then◌else◌, refl, ap, subst, sym, ◌∙◌, arith}
+use Rattle.std.specs.List.{slice_index}
 use Rattle.std.proofs.lemmas.List.{append-nil, map-append, length-map, length-take, take_more, take_all}
 use Rattle.std.proofs.lemmas.List.Elements.{All-nil}
 use Rattle.vocabulary.specs.Texts.{Text}
@@ -13,11 +12,11 @@ use Rattle.rule_parser.specs.declared.reader.Reader.{Reader}
 use Rattle.rule_parser.specs.declared.rule.Guard.{Guard}
 use Rattle.uri_grammar.specs.Names.{IsName}
 use Rattle.rule_parser.specs.Rules.{RuleSet, IsSound, IsSoundRule}
-use Rattle.rule_parser.specs.Statements.{Statement, Begin, line_of, statements}
+use Rattle.rule_parser.specs.Statements.{Statement, line_of, statements}
 use Rattle.std.specs.Prelude.{IsUtf8}
 use Rattle.std.specs.Str.Lines.{lines}
 use Rattle.rule_parser.specs.Grammar.{is_significant, significant, max_rule_bytes, IsRuleText}
-use Rattle.rule_parser.specs.Faults.{Begun, IsSoundBegun, begun_statements, statements_of_guards, IsLineFault, IsFirstFault, line_fault, no_link, line_number, significant_numbers, EndsRule, IsRefused}
+use Rattle.rule_parser.specs.Faults.{Begun, IsSoundBegun, begun_statements, statements_of_guards, IsFirstFault, line_fault, no_link, line_number, significant_numbers, EndsRule, IsRefused}
 use Rattle.rule_parser.specs.Progress.{begun_of, no_rules, GoesOn, KeepsLine, IsStepFault}
 use Rattle.rule_parser.proofs.ReaderLemmas.{guards_from}
 

@@ -1,9 +1,9 @@
 -- Texts without those that came before.
-use Rattle.std.proofs.Common.{◌≡◌, ℕ, List, [], ◌∷◌, ◌++◌, Bool, true, false, not, ◌||◌, if◌then◌else◌, ◌⊎◌, inl, inr, map, Bor, length, get_or, take, ◌<◌, ◌+◌, refl, ap, sym, ◌∙◌}
+use Rattle.std.proofs.Common.{◌≡◌, ℕ, List, [], ◌∷◌, ◌++◌, Bool, true, false, not, ◌||◌, if◌then◌else◌, inl, inr, map, Bor, length, get_or, take, ◌<◌, ◌+◌, refl, ap, sym, ◌∙◌}
 use Rattle.std.specs.List.{list_any, filter}
 use Rattle.std.specs.Str.{bytes_eq}
 use Rattle.std.specs.Cmp.Lexicographic.{same_text}
-use Rattle.std.proofs.lemmas.Bool.{cases_Bool, or_left, or_right, not_from_false}
+use Rattle.std.proofs.lemmas.Bool.{cases_Bool, or_left, not_from_false}
 use Rattle.std.proofs.lemmas.List.{append-nil, map-append, take_more}
 use Rattle.std.proofs.lemmas.Map.Views.{any-filter_same}
 use Rattle.vocabulary.specs.Texts.{Text}

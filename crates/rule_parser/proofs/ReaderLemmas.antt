@@ -1,7 +1,6 @@
 -- How each statement goes on with what the lines before it said, and what cannot go on.
-use Rattle.std.proofs.Common.{◌≡◌, ◌≢◌, ℕ, List, [], ◌∷◌, ◌++◌, Bool, true, false, Option, Some, None, IfSome, ◌⊎◌, inl, inr, is_some, is_none, ◌==◌, map, length, arith, refl, ap, subst, sym, ◌∙◌, codes, All}
+use Rattle.std.proofs.Common.{◌≡◌, ◌≢◌, ℕ, List, [], ◌∷◌, ◌++◌, true, false, Option, Some, None, ◌⊎◌, inl, inr, is_some, length, arith, refl, ap, subst, sym, codes}
 use Rattle.std.specs.Option.{option_map}
-use Rattle.std.specs.List.{flat_map}
 use Rattle.std.proofs.lemmas.List.{append-nil, append_assoc, map-append, append_cancel_left}
 use Rattle.std.proofs.lemmas.Grind.{flat_map-append}
 use Rattle.std.proofs.lemmas.Bool.{eqb-true}
@@ -19,8 +18,8 @@ use Rattle.rule_parser.specs.declared.error.RuleErrorKind.TheVariants as kind
 use Rattle.rule_parser.specs.declared.reader.Reader.{Reader}
 use Rattle.rule_parser.specs.declared.rule.Guard.{Guard}
 use Rattle.rule_parser.specs.declared.rule.Rule.{Rule}
-use Rattle.rule_parser.specs.Rules.{RuleSet, IsGuard, IsSound, IsSoundGuard, IsSoundRule, guard_fits, parts_fit}
-use Rattle.rule_parser.specs.Statements.{Statement, Declare, Begin, When, Link, IsStatement, line_of, statements, statements_of_rule, guard_text}
+use Rattle.rule_parser.specs.Rules.{IsSoundGuard, IsSoundRule, guard_fits, parts_fit}
+use Rattle.rule_parser.specs.Statements.{Statement, Declare, Begin, When, Link, IsStatement, line_of, guard_text}
 use Rattle.rule_parser.specs.Faults.{Begun, IsSoundBegun, IsLineFault, out_of_order, bad_template, mismatched_guard, takes_lists}
 use Rattle.rule_parser.specs.Progress.{GoesOn, IsStepFault, begun_of}
 use Rattle.rule_parser.specs.Reading.{ReadsGuard}

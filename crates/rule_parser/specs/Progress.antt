@@ -1,5 +1,5 @@
 -- How far the lines of a rule text were read.
-use Rattle.std.specs.Prelude.{◌≡◌, ℕ, List, [], ◌∷◌, ◌++◌, Option, Some, None, IfSome, length, ◌⊎◌}
+use Rattle.std.specs.Prelude.{◌≡◌, ℕ, [], ◌∷◌, ◌++◌, Some, None, IfSome, length, ◌⊎◌}
 use Rattle.std.specs.Option.{option_map}
 use Rattle.vocabulary.specs.Texts.{Text}
 use Rattle.rule_parser.specs.declared.error.RuleError.{RuleError}

@@ -4,11 +4,13 @@ ghost use Rattle.std.specs.Prelude.{◌≡◌, ◌<◌, [], length, slice_index_
 ghost use Rattle.std.specs.Str.{bytes_eq};
 ghost use Rattle.std.specs.List.{list_all};
 ghost use Rattle.std.specs.Option.{option_and_then};
-ghost use Rattle.vocabulary.specs.Environment.{text_in, members_in, is_among};
+ghost use Rattle.vocabulary.specs.Environment.{text_in, is_among};
 ghost use Rattle.vocabulary.specs.Number.{leading_number as number_of};
+ghost use Rattle.target_vars.specs.Members.{members_left};
 ghost use Rattle.rule_parser.specs.Meaning.{is_defined as stands_for_something, is_given as is_not_empty, is_text, bound_number as number_of_bound, is_at_least, is_at_most, is_within, guard_holds as is_held};
 
 use crate::rule::{Bound, Guard};
+use target_vars::Members;
 use uri_template::Variables;
 use uri_text::leading_number;
 
@@ -27,7 +29,7 @@ fn holds<V: Variables>(variables: &V, guard: &Guard) -> bool
         Guard::Lacks(name) => !is_defined(variables, name.as_str()),
         Guard::Given(name) => is_given(variables, name.as_str()),
         Guard::Same(name, text) => is_same(variables, name.as_str(), text.as_str()),
-        Guard::Holds(name, text) => has_member(variables, name.as_str(), text.as_str()),
+        Guard::Holds(name, text) => has_member(&variables.list(name.as_str()), text.as_str()),
         Guard::Between(name, low, high) => match number(variables, name.as_str()) {
             Some(n) => reaches(bound_number(variables, low), n)
                 && stays_below(bound_number(variables, high), n),
@@ -40,7 +42,7 @@ fn holds<V: Variables>(variables: &V, guard: &Guard) -> bool
 fn is_defined<V: Variables>(variables: &V, name: &str) -> bool
     ensures { result ≡ stands_for_something (V.look variables.now name.now) }
 {
-    variables.text(name).is_some() || variables.count(name) > 0
+    variables.text(name).is_some() || !variables.list(name).is_empty()
 }
 
 fn is_given<V: Variables>(variables: &V, name: &str) -> bool
@@ -61,22 +63,22 @@ fn is_same<V: Variables>(variables: &V, name: &str, wanted: &str) -> bool
     }
 }
 
-fn has_member<V: Variables>(variables: &V, name: &str, wanted: &str) -> bool
-    ensures { result ≡ is_among wanted.now (members_in (V.look variables.now name.now)) }
+fn has_member(members: &Members, wanted: &str) -> bool
+    ensures { result ≡ is_among wanted.now (members_left members.now) }
 {
-    for i in 0..variables.count(name) {
-        if is_member(variables, name, i, wanted) {
+    for i in 0..members.len() {
+        if is_member(members, i, wanted) {
             return true;
         }
     }
     false
 }
 
-fn is_member<V: Variables>(variables: &V, name: &str, i: usize, wanted: &str) -> bool
-    requires { i < length (members_in (V.look variables.now name.now)) }
-    ensures { result ≡ bytes_eq (slice_index_or (members_in (V.look variables.now name.now)) i []) wanted.now }
+fn is_member(members: &Members, i: usize, wanted: &str) -> bool
+    requires { i < length (members_left members.now) }
+    ensures { result ≡ bytes_eq (slice_index_or (members_left members.now) i []) wanted.now }
 {
-    match variables.member(name, i) {
+    match members.get(i) {
         Some(member) => member == wanted,
         None => false,
     }

@@ -1,7 +1,7 @@
 //! An environment as rules see it.
 
 use crate::rules::Rules;
-use target_vars::Env;
+use target_vars::{Env, Members};
 use uri_template::Variables;
 
 /// The variables of an environment, each as the rules declare it: a text whose name they declare a list, and a list whose
@@ -26,19 +26,11 @@ impl Variables for RulesView<'_> {
         }
     }
 
-    fn count(&self, name: &str) -> usize {
+    fn list(&self, name: &str) -> Members<'_> {
         if self.rules.is_list(name) {
-            self.env.count(name)
+            self.env.list(name)
         } else {
-            0
-        }
-    }
-
-    fn member(&self, name: &str, i: usize) -> Option<&str> {
-        if self.rules.is_list(name) {
-            self.env.member(name, i)
-        } else {
-            None
+            Members::none()
         }
     }
 }

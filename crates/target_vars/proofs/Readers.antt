@@ -1,13 +1,15 @@
 -- What the readers of an `Env` answer, by the place of a name.
-use Rattle.std.proofs.Common.{◌≡◌, ℕ, ◌+◌, ◌-◌, ◌<◌, ◌≤◌, List, [], ◌∷◌, map, length, take, drop, get_or, slice_get, position, option_map, option_copied, Bor, true, false, Option, Some, None, is_some, refl, sym, ap, ◌∙◌, arith, length-drop, length-take-le, get_or-take, get_or-drop}
+use Rattle.std.proofs.Common.{◌≡◌, ℕ, ◌+◌, ◌-◌, ◌≤◌, List, [], ◌∷◌, map, length, take, drop, get_or, slice_get, position, option_copied, Bor, true, false, Option, Some, None, is_some, refl, sym, ap, ◌∙◌, arith}
 use Rattle.std.specs.List.{list_any}
-use Rattle.std.proofs.lemmas.List.{length-map}
+use Rattle.std.proofs.lemmas.List.{length-map, take-map, drop-map}
+use Rattle.std.proofs.lemmas.List.Elements.{All-tail}
+use Rattle.std.specs.Prelude.{slice_range}
 use Rattle.std.proofs.lemmas.List.Quantifiers.{position-Some}
 use Rattle.std.proofs.lemmas.Map.Keys.{any_passes_from_place}
-use Rattle.std.proofs.lemmas.Option.{slice_get-get_or, slice_get-map, slice_get_past, slice_get_read}
+use Rattle.std.proofs.lemmas.Option.{slice_get-get_or, slice_get_read}
 use Rattle.vocabulary.specs.Texts.{Text}
 use Rattle.vocabulary.specs.Environment.{Meaning, look_up, is_there, text_in, text_of, members_in, members_of, member_count}
-use Rattle.target_vars.specs.Layout.{piece, meaning_in, laid_entries, span_count, spans_of, IsLaid}
+use Rattle.target_vars.specs.Layout.{piece, meaning_in, laid_entries, span_count, spans_of, IsLaid, IsPiece, IsPieces}
 use Rattle.target_vars.specs.declared.place.Span.{Span}
 use Rattle.target_vars.specs.declared.place.Named.{Named}
 use Rattle.target_vars.specs.declared.place.Place.{Place}
@@ -57,36 +59,25 @@ pub members_of-laid : (b : Text) (spans : List Span) (names : List Named) (name 
 members_of-laid b spans names name i e laid is at =
     ap members_in (look_up-laid b spans names name i e laid is at) ∙ members_at b (drop (spans_of (take i names)) (map (piece b) spans)) e.place
 
-pub count-laid : (b : Text) (spans : List Span) (names : List Named) (name : Text) (i : ℕ) (e : Named) → IsLaid b spans names → position (is_named name) names ≡ Some i → slice_get names i ≡ Some e
-    → length (members_of (laid_entries b spans names) name) ≡ span_count e.place
-count-laid b spans names name i e laid is at =
-    let fits = spans_fit b spans names laid in
-    let within = spans_within names i e at in
-    let left : length (drop (spans_of (take i names)) (map (piece b) spans)) ≡ length (map (piece b) spans) - spans_of (take i names) = length-drop (spans_of (take i names)) (map (piece b) spans) in
-    ap length (members_of-laid b spans names name i e laid is at) ∙ length-take-le (span_count e.place) (drop (spans_of (take i names)) (map (piece b) spans)) (omega arith)
+-- ---- the spans of a list, side by side
 
-pub member-past : (b : Text) (spans : List Span) (names : List Named) (name : Text) (i : ℕ) (e : Named) (j : ℕ) → IsLaid b spans names → position (is_named name) names ≡ Some i → slice_get names i ≡ Some e → span_count e.place ≤ j
-    → slice_get (members_of (laid_entries b spans names) name) j ≡ None
-member-past b spans names name i e j laid is at past =
-    let count = count-laid b spans names name i e laid is at in
-    slice_get_past (members_of (laid_entries b spans names) name) j (omega arith)
-
-pub member-laid : (b : Text) (spans : List Span) (names : List Named) (name : Text) (i : ℕ) (e : Named) (j : ℕ) (s : Span) → IsLaid b spans names → position (is_named name) names ≡ Some i → slice_get names i ≡ Some e → j < span_count e.place
-    → slice_get spans (spans_of (take i names) + j) ≡ Some s
-    → slice_get (members_of (laid_entries b spans names) name) j ≡ Some (piece b s)
-member-laid b spans names name i e j s laid is at below lies =
-    let count = count-laid b spans names name i e laid is at in
+pub members_of-range : (b : Text) (spans : List Span) (names : List Named) (name : Text) (i : ℕ) (e : Named) → IsLaid b spans names → position (is_named name) names ≡ Some i → slice_get names i ≡ Some e
+    → map (piece b) (slice_range spans (spans_of (take i names)) (spans_of (take i names) + span_count e.place)) ≡ members_of (laid_entries b spans names) name
+members_of-range b spans names name i e laid is at =
     let k = spans_of (take i names) in
-    let ms = map (piece b) spans in
-    let d = piece b s in
-    let fits = spans_fit b spans names laid in
-    let within = spans_within names i e at in
-    let whole : slice_get ms (k + j) ≡ Some d = slice_get-map (piece b) spans (k + j) ∙ ap (option_map (piece b)) lies in
-    let here : Some (get_or ms (k + j) d) ≡ Some d = sym (slice_get-get_or ms (k + j) d (omega arith)) ∙ whole in
-    slice_get-get_or (members_of (laid_entries b spans names) name) j d (omega arith)
-    ∙ ap (λ ts. Some (get_or ts j d)) (members_of-laid b spans names name i e laid is at)
-    ∙ ap Some (get_or-take (span_count e.place) (drop k ms) j d below ∙ get_or-drop k ms j d)
-    ∙ here
+    let n = span_count e.place in
+    let many : k + n - k ≡ n = omega arith in
+    ap (λ m. map (piece b) (take m (drop k spans))) many
+    ∙ sym (take-map (piece b) n (drop k spans))
+    ∙ ap (take n) (sym (drop-map (piece b) k spans))
+    ∙ sym (members_of-laid b spans names name i e laid is at)
+
+pub after_first : (b : Text) (s : Span) (spans : List Span) → IsPieces b (s ∷ spans) → IsPieces b spans
+after_first b s spans h = record {
+  pieces = All-tail (IsPiece b) s spans h.pieces;
+  few_bytes = h.few_bytes;
+  few = omega (arith, h.few);
+}
 
 -- the spans of a name are among all
 pub member_within : (b : Text) (spans : List Span) (names : List Named) (i : ℕ) (e : Named) → IsLaid b spans names → slice_get names i ≡ Some e → spans_of (take i names) + span_count e.place ≤ length spans

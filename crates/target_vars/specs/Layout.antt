@@ -19,6 +19,12 @@ pub record IsPiece (buffer : Text) (span : Span) : Type 0 where
   pub begins : IsCharBoundary buffer span.start
   pub ends : IsCharBoundary buffer (span.start + span.len)
 
+-- each span is a piece of the buffer, and there are no more than an `Env` has
+pub record IsPieces (buffer : Text) (spans : List Span) : Type 0 where
+  pub pieces : All (IsPiece buffer) spans
+  pub few_bytes : length buffer ≤ MAX_BYTES
+  pub few : length spans ≤ MAX_MEMBERS
+
 -- how many spans a place takes
 abbrev pub span_count : Place → ℕ
 span_count (One span) = 0

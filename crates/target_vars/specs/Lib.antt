@@ -1,2 +1,3 @@
 pub mod EnvValue
 pub mod Layout
+pub mod Members

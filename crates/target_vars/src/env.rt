@@ -2,8 +2,10 @@ ghost use Rattle.std.specs.Prelude.{◌≡◌, ◌+◌, ◌<◌, ◌≤◌, ◌�
 ghost use Rattle.std.specs.Option.{option_copied};
 ghost use Rattle.vocabulary.specs.Environment.{is_there, text_of, members_of, byte_count, member_count, with_text, with_member};
 ghost use Rattle.target_vars.specs.EnvValue.{EachNameOnce, stands_for_text};
+ghost use Rattle.target_vars.specs.Members.{members_left};
 
 use crate::error::VarsError;
+use crate::members::Members;
 use crate::place::{Named, Place, Span, append, find, lengthen, piece, span_total};
 use std::alloc::Global;
 use std::marker::Model;
@@ -151,10 +153,19 @@ impl Env {
         ensures value { result ≡ length (members_of self.now.entries name.now) }
         ensures small { result ≤ MAX_MEMBERS }
     {
-        match find(&self.names, name) {
-            Some(index) => self.names[index].place.spans() as usize,
-            None => 0,
-        }
+        self.list(name).len()
+    }
+
+    /// The members of the list of the name; none for a text.
+    pub fn list(&self, name: &str) -> Members<'_>
+        ensures { members_left result ≡ members_of self.now.entries name.now }
+    {
+        let Some(index) = find(&self.names, name) else {
+            return Members::none();
+        };
+        let first = span_total(&self.names[..index]) as usize;
+        let count = self.names[index].place.spans() as usize;
+        Members::new(&self.buffer, &self.spans[first..first + count])
     }
 
     /// Member `i` of the list of the name, counted from 0; `None` for a text, and past the last member.
@@ -163,12 +174,7 @@ impl Env {
         ensures small { IfSome result (λ text. length text.now ≤ MAX_BYTES) }
         ensures utf8 { IfSome result (λ text. IsUtf8 text.now) }
     {
-        let index = find(&self.names, name)?;
-        if i >= self.names[index].place.spans() as usize {
-            return None;
-        }
-        let first = span_total(&self.names[..index]) as usize;
-        Some(piece(&self.buffer, self.spans[first + i]))
+        self.list(name).get(i)
     }
 
     /// How many bytes all texts and members have together; names do not count.

@@ -1,11 +1,14 @@
 use std::alloc::{AllocError, AllocFailed};
 use thiserror::Error;
 
-/// Why a text or a member was not added.
+/// Why a text or a member was not added, in the order in which it is decided.
 #[derive(Clone, Copy, Debug, PartialEq, Eq, Error)]
 pub enum VarsError {
+    /// All texts and members would have more than [`MAX_BYTES`](crate::MAX_BYTES) bytes together, or
+    /// all lists more than [`MAX_MEMBERS`](crate::MAX_MEMBERS) members.
     #[error("TooLarge")]
     TooLarge,
+    /// A growth was refused.
     #[error("NoMemory")]
     NoMemory,
 }

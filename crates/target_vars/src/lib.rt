@@ -3,9 +3,11 @@
 
 mod env;
 mod error;
+mod members;
 mod place;
 #[cfg(test)]
 mod tests;
 
 pub use env::{Env, MAX_BYTES, MAX_MEMBERS};
 pub use error::VarsError;
+pub use members::Members;

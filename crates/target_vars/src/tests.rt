@@ -1,4 +1,4 @@
-use crate::{Env, VarsError};
+use crate::{Env, Members, VarsError};
 use std::test::Fail;
 
 #[test]
@@ -74,6 +74,33 @@ fn members_stand_in_the_order_in_which_they_came(rt: HostRuntime) -> Result<(), 
     assert_eq!(rt; env.put_text("rft.au", "late"), Ok(false));
     assert_eq!(rt; (env.count("rft.au"), env.count("rft_id")), (3, 2));
     assert_eq!(rt; (env.bytes(), env.members()), (43, 5));
+    Ok(())
+}
+
+#[test]
+fn lists_are_lent(rt: HostRuntime) -> Result<(), Fail> {
+    let mut env = Env::new(rt.alloc());
+    env.put_text("rft.title", "Typee")?;
+    env.add_member("rft_id", "info:doi/10.1000/182")?;
+    env.add_member("rft.au", "Melville")?;
+    env.add_member("rft.au", "Hawthorne")?;
+    let authors = env.list("rft.au");
+    assert_eq!(rt; (authors.len(), authors.is_empty()), (2, false));
+    assert_eq!(rt; authors.get(1), Some("Hawthorne"));
+    assert_eq!(rt; authors.get(2), None);
+    let mut left = authors;
+    for author in ["Melville", "Hawthorne"] {
+        let Some((first, others)) = left.split_first() else {
+            break;
+        };
+        assert_eq!(rt; first, author);
+        left = others;
+    }
+    assert_eq!(rt; left.len(), 0);
+    for none in [left, env.list("rft.title"), env.list("x"), Members::none()] {
+        assert_eq!(rt; none.is_empty(), true);
+        assert_eq!(rt; none.split_first().is_none(), true);
+    }
     Ok(())
 }
 

@@ -33,10 +33,11 @@ fn push_variable<V: Variables>(
         push_text(out, lead, style, spec, text)?;
         return Ok(false);
     }
-    if spec.cut > 0 || variables.count(name) == 0 {
+    let members = variables.list(name);
+    if spec.cut > 0 || members.is_empty() {
         return Ok(is_first);
     }
-    push_list(out, lead, style, spec, variables)?;
+    push_list(out, lead, style, spec, &members)?;
     Ok(false)
 }
 

@@ -2,14 +2,13 @@
 
 ghost use Rattle.std.specs.Prelude.{◌≡◌, ◌≤◌, ◌<◌, ◌==◌, ◌++◌, [], length, map, slice_index_or, OnOk, string_bytes};
 ghost use Rattle.vocabulary.specs.Writing.{written};
-ghost use Rattle.vocabulary.specs.Environment.{members_in};
+ghost use Rattle.target_vars.specs.Members.{members_left};
 ghost use Rattle.uri_template.specs.Expansion.{item, prefix, joined_by, list_piece};
 ghost use Rattle.uri_template.specs.Pieces.{list_head, member_text, member_sep, lead};
 
 use crate::style::Style;
-use crate::variables::Variables;
 use std::alloc::AllocError;
-use target_vars::MAX_BYTES;
+use target_vars::{MAX_BYTES, Members};
 use uri_grammar::Spec;
 use uri_text::{cut, encode};
 use vocabulary::Writing;
@@ -95,37 +94,36 @@ fn member_sep(style: &Style, explode: bool) -> &'static str
 }
 
 // Member `i`, with the separator in front unless it is the first.
-fn push_nth<V: Variables>(
+fn push_nth(
     out: &mut String,
     style: &Style,
     spec: &Spec,
-    variables: &V,
+    members: &Members,
     i: usize,
 ) -> Result<(), AllocError>
-    requires { i < length (members_in (V.look variables.now spec.now.name)) }
+    requires { i < length (members_left members.now) }
     ensures { OnOk result (string_bytes out.new ≡ string_bytes out.old
         ++ (lead [] (member_sep style.now spec.now.explode) (i == 0)
-        ++ member_text style.now spec.now.name spec.now.explode (slice_index_or (members_in (V.look variables.now spec.now.name)) i []))) }
+        ++ member_text style.now spec.now.name spec.now.explode (slice_index_or (members_left members.now) i []))) }
 {
     if i > 0 {
         out.push_str(member_sep(style, spec.explode))?;
     }
-    let member = variables.member(spec.name.as_str(), i).unwrap();
-    push_member(out, style, spec, member)
+    push_member(out, style, spec, members.get(i).unwrap())
 }
 
-fn push_members<V: Variables>(
+fn push_members(
     out: &mut String,
     style: &Style,
     spec: &Spec,
-    variables: &V,
+    members: &Members,
 ) -> Result<(), AllocError>
     ensures { OnOk result (string_bytes out.new ≡ string_bytes out.old
         ++ joined_by (member_sep style.now spec.now.explode)
-        (map (member_text style.now spec.now.name spec.now.explode) (members_in (V.look variables.now spec.now.name)))) }
+        (map (member_text style.now spec.now.name spec.now.explode) (members_left members.now))) }
 {
-    for i in 0..variables.count(spec.name.as_str()) {
-        push_nth(out, style, spec, variables, i)?;
+    for i in 0..members.len() {
+        push_nth(out, style, spec, members, i)?;
     }
     Ok(())
 }
@@ -142,17 +140,17 @@ fn push_head(out: &mut String, style: &Style, spec: &Spec) -> Result<(), AllocEr
 }
 
 /// Appends the piece of a variable that stands for a list, with `lead` in front.
-pub fn push_list<V: Variables>(
+pub fn push_list(
     out: &mut String,
     lead: &str,
     style: &Style,
     spec: &Spec,
-    variables: &V,
+    members: &Members,
 ) -> Result<(), AllocError>
     ensures { OnOk result (string_bytes out.new ≡ string_bytes out.old
-        ++ (lead.now ++ list_piece style.now spec.now.name spec.now.explode (members_in (V.look variables.now spec.now.name)))) }
+        ++ (lead.now ++ list_piece style.now spec.now.name spec.now.explode (members_left members.now))) }
 {
     out.push_str(lead)?;
     push_head(out, style, spec)?;
-    push_members(out, style, spec, variables)
+    push_members(out, style, spec, members)
 }

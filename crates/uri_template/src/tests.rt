@@ -5,7 +5,7 @@ ghost use Rattle.std.specs.Prelude.{None};
 use crate::{Template, Variables, expand, expand_in};
 use std::alloc::Global;
 use std::test::Fail;
-use target_vars::Env;
+use target_vars::{Env, Members};
 
 fn expanded(alloc: Global, template: &str, env: &Env) -> Result<String, Fail> {
     let template = Template::parse(alloc, template)?;
@@ -116,12 +116,8 @@ impl Variables for Nothing {
         None
     }
 
-    fn count(&self, _name: &str) -> usize {
-        0
-    }
-
-    fn member(&self, _name: &str, _i: usize) -> Option<&str> {
-        None
+    fn list(&self, _name: &str) -> Members<'_> {
+        Members::none()
     }
 }
 

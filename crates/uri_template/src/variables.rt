@@ -1,10 +1,11 @@
 //! What an expansion asks of its variables.
 
-ghost use Rattle.std.specs.Prelude.{◌≡◌, ◌≤◌, length, slice_get, IfSome};
+ghost use Rattle.std.specs.Prelude.{◌≡◌, ◌≤◌, length, IfSome};
 ghost use Rattle.std.specs.Option.{option_copied};
 ghost use Rattle.vocabulary.specs.Environment.{LookUp, look_up, text_in, members_in};
+ghost use Rattle.target_vars.specs.Members.{members_left};
 
-use target_vars::{Env, MAX_BYTES};
+use target_vars::{Env, MAX_BYTES, Members};
 
 /// Variables: each name stands for a text, for a list of texts, or for nothing.
 pub trait Variables {
@@ -16,15 +17,9 @@ pub trait Variables {
         ensures value { option_copied result ≡ text_in (look self.now name.now) }
         ensures small { IfSome result (λ text. length text.now ≤ MAX_BYTES) };
 
-    /// How many members the list of the name has; 0 where the name stands for a text or for nothing.
-    fn count(&self, name: &str) -> usize
-        ensures { result ≡ length (members_in (look self.now name.now)) };
-
-    /// Member `i` of the list of the name, counted from 0, of at most [`MAX_BYTES`] bytes; `None` past
-    /// the last member, and where the name stands for a text or for nothing.
-    fn member(&self, name: &str, i: usize) -> Option<&str>
-        ensures value { option_copied result ≡ slice_get (members_in (look self.now name.now)) i }
-        ensures small { IfSome result (λ text. length text.now ≤ MAX_BYTES) };
+    /// The members of the list of the name; none where the name stands for a text or for nothing.
+    fn list(&self, name: &str) -> Members<'_>
+        ensures { members_left result ≡ members_in (look self.now name.now) };
 }
 
 impl Variables for Env {
@@ -34,11 +29,7 @@ impl Variables for Env {
         self.text(name)
     }
 
-    fn count(&self, name: &str) -> usize {
-        self.count(name)
-    }
-
-    fn member(&self, name: &str, i: usize) -> Option<&str> {
-        self.member(name, i)
+    fn list(&self, name: &str) -> Members<'_> {
+        self.list(name)
     }
 }

@@ -1,8 +1,8 @@
 -- Look-ups in an environment, and what a text or a member that comes adds to it.
-use Rattle.std.proofs.Common.{◌≡◌, ℕ, ◌+◌, List, [], ◌∷◌, ◌++◌, Bool, true, false, length, is_some, bytes_eq, Option, Some, None, refl, sym, ap, ◌∙◌, arith, sum_by, length-append}
-use Rattle.std.proofs.lemmas.List.Sums.{sum_by-cons, sum_by-append, sum_by_push}
+use Rattle.std.proofs.Common.{◌≡◌, ◌+◌, [], ◌∷◌, ◌++◌, Bool, true, false, length, is_some, bytes_eq, Some, None, refl, sym, ap, ◌∙◌, arith, length-append}
+use Rattle.std.proofs.lemmas.List.Sums.{sum_by-cons, sum_by_push}
 use Rattle.vocabulary.specs.Texts.{Text}
-use Rattle.vocabulary.specs.Environment.{Environment, Entry, Meaning, Single, Several, look_up, is_there, text_in, text_of, members_of, byte_count, member_count, meaning_bytes, meaning_members, with_text, with_member, more}
+use Rattle.vocabulary.specs.Environment.{Environment, Entry, Meaning, Single, Several, look_up, is_there, text_in, text_of, byte_count, member_count, meaning_bytes, meaning_members, with_text, with_member, more}
 
 -- ---- one entry in front
 

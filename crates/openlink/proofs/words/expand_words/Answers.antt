@@ -1,6 +1,6 @@
 use Rattle.vocabulary.specs.Texts.{texts_of}
-use Rattle.std.proofs.Common.{◌≡◌, ◌⊎◌, IfOk, IfErr, length, List, [], ◌∷◌, ◌++◌, inr, subst, sym, ◌∙◌, refl, arith}
-use Rattle.openlink.specs.Words.{AreExpandWords, NoExpandWords, begins_with_option}
+use Rattle.std.proofs.Common.{inr, subst, sym, ◌∙◌, refl, arith}
+use Rattle.openlink.specs.Words.{NoExpandWords}
 use Rattle.openlink.proofs.WordLemmas.{no_words, next_option, length-texts_of}
 use Rattle.openlink.proofs.words.expand_words.Goals as goal
 

@@ -1,5 +1,5 @@
 -- A range is its first word, and what `to ` and the other bound follow.
-use Rattle.std.proofs.Common.{◌≡◌, Some, None, ◌∷◌, ◌++◌, codes, lit<}
+use Rattle.std.proofs.Common.{◌≡◌, Some, None, ◌++◌, codes, lit<}
 use Rattle.std.proofs.lemmas.Str.Pattern.{split_parts}
 use Rattle.rule_parser.proofs.WordLemmas.{word_from_index}
 use Rattle.rule_parser.proofs.GuardLemmas.{no_bounds_in_word, no_bounds_without_to, no_bounds_without_low, no_bounds_without_high, bounds_read}

@@ -1,6 +1,4 @@
 -- Lines that spell rules have no fault, and their bytes are neither too many nor no text.
-use Rattle.std.proofs.Common.{inl, inr, arith}
-use Rattle.std.specs.Str.Lines.{lines}
 use Rattle.rule_parser.proofs.FaultLaws.{no_refusal}
 use Rattle.rule_parser.proofs.laws.rules_without_fault.Goals as goal
 

@@ -1,5 +1,5 @@
 -- The words spell a guard that is in order and fits, or the line is faulty.
-use Rattle.std.proofs.Common.{Some, sym, ◌∙◌}
+use Rattle.std.proofs.Common.{sym, ◌∙◌}
 use Rattle.rule_parser.specs.Faults.{no_statement}
 use Rattle.rule_parser.specs.Progress.{begun_of}
 use Rattle.rule_parser.proofs.ReaderLemmas.{no_when, line_faulty, guard_out_of_order, guard_mismatched, guards_more}

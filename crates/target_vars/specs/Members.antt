@@ -1,0 +1,9 @@
+-- What callers see of the members of a list.
+use Rattle.std.specs.Prelude.{List, map}
+use Rattle.vocabulary.specs.Texts.{Text}
+use Rattle.target_vars.specs.Layout.{piece}
+use Rattle.target_vars.specs.declared.members.Members.{Members}
+
+-- the texts, in their order
+abbrev pub members_left : Members → List Text
+members_left m = map (piece m.buffer.now) m.spans.now
