@@ -3,7 +3,7 @@ use Rattle.std.proofs.Common.{◌≡◌, List, [], Option, None, ap, ◌∙◌}
 use Rattle.std.specs.Borrow.{Bor}
 use Rattle.vocabulary.specs.Texts.{Text, texts_of}
 use Rattle.vocabulary.specs.Environment.{Environment}
-use Rattle.kev_read.specs.Pairs.{KeyValue, pairs_of}
+use Rattle.kev_read.specs.Pairs.{pairs_of}
 use Rattle.kev_read.specs.Refusal.{refusal}
 use Rattle.kev_read.specs.Filling.{filled}
 use Rattle.rule_parser.specs.Rules.{RuleSet}
@@ -12,16 +12,13 @@ use Rattle.rule_parser.specs.Names.{each_once, list_names}
 use Rattle.rule_parser.specs.Meaning.{meaning}
 use Rattle.openlink.specs.Link.{IsMeaning}
 
-pub means : (bytes query : Text) (rules : RuleSet) (lists : List (Bor Text)) (empty env : Environment) (pairs : List KeyValue) (link : Option Text)
-    → IsRuleText bytes rules → texts_of lists ≡ each_once (list_names rules.lists) → refusal query ≡ None → pairs ≡ pairs_of query → empty ≡ []
-    → env ≡ filled (texts_of lists) empty pairs → link ≡ meaning rules env → IsMeaning bytes query link
-means bytes query rules lists empty env pairs link read listed accepted paired begun filled_from meant =
+pub means : (bytes query : Text) (rules : RuleSet) (lists : List (Bor Text)) (env : Environment) (link : Option Text)
+    → IsRuleText bytes rules → texts_of lists ≡ each_once (list_names rules.lists) → refusal query ≡ None
+    → env ≡ filled (texts_of lists) [] (pairs_of query) → link ≡ meaning rules env → IsMeaning bytes query link
+means bytes query rules lists env link read listed accepted filled_from meant =
     record {
       rules = rules;
       read = read;
       request = accepted;
-      meant =
-          meant ∙ ap (meaning rules)
-          (filled_from ∙ (ap (λ l. filled l empty pairs) listed ∙ (ap (λ e. filled (each_once (list_names rules.lists)) e pairs) begun
-          ∙ ap (filled (each_once (list_names rules.lists)) []) paired)));
+      meant = meant ∙ ap (meaning rules) (filled_from ∙ ap (λ names. filled names [] (pairs_of query)) listed);
     }

@@ -1,13 +1,13 @@
 -- What each command prints, and why it prints nothing.
 use Rattle.std.specs.Prelude.{◌≡◌, List, [], ◌∷◌, Bool, false, ◌||◌, codes}
-use Rattle.std.specs.Borrow.{Bor}
 use Rattle.std.specs.Str.{bytes_eq}
 use Rattle.vocabulary.specs.Texts.{Text}
 use Rattle.openlink.specs.Expand.{IsExpandLine, FailsToExpand}
 use Rattle.openlink.specs.Show.{IsShowLine, FailsToShow}
 use Rattle.openlink.specs.Link.{IsLinkLine, FailsToLink}
+use Rattle.openlink.specs.Faults.{IsDevice}
 use Rattle.openlink.specs.declared.fault.Fault.{Fault}
-use Rattle.openlink.specs.declared.fault.Fault.TheVariants.{Usage, Device}
+use Rattle.openlink.specs.declared.fault.Fault.TheVariants.{Usage}
 
 abbrev pub begins_with_word : Text → List Text → Bool
 begins_with_word name [] = false
@@ -29,4 +29,9 @@ pub data Fails : List Text → Fault → Type 0 where
   no_expansion : (words : List Text) (fault : Fault) → FailsToExpand words fault → Fails (codes "expand" ∷ words) fault
   no_link : (words : List Text) (fault : Fault) → FailsToLink words fault → Fails (codes "link" ∷ words) fault
   no_listing : (words : List Text) (fault : Fault) → FailsToShow words fault → Fails (codes "show" ∷ words) fault
-  output_failed : (words : List Text) (path : Bor Text) → path.now ≡ codes "-" → Fails words (Device path)
+
+-- the words print something, and the output does not take it
+pub record OutputFails (words : List Text) (fault : Fault) : Type 0 where
+  pub text : Text
+  pub prints : Prints words text
+  pub output : IsDevice fault (codes "-")

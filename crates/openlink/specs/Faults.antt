@@ -1,5 +1,5 @@
 -- Faults: what a crate's error becomes, and the exit statuses.
-use Rattle.std.specs.Prelude.{◌≡◌, ℕ}
+use Rattle.std.specs.Prelude.{◌≡◌, ℕ, Some}
 use Rattle.vocabulary.specs.Texts.{Text}
 use Rattle.uri_grammar.specs.declared.error.TemplateError.{TemplateError}
 use Rattle.uri_grammar.specs.declared.error.TemplateErrorKind.{TemplateErrorKind}
@@ -10,6 +10,7 @@ use Rattle.code_file.specs.declared.error.CodeErrorKind.TheVariants as code
 use Rattle.rule_parser.specs.declared.error.RuleError.{RuleError}
 use Rattle.rule_parser.specs.declared.error.RuleErrorKind.{RuleErrorKind}
 use Rattle.rule_parser.specs.declared.error.RuleErrorKind.TheVariants as rules
+use Rattle.kev_read.specs.Refusal.{refusal}
 use Rattle.kev_read.specs.declared.error.KevError.{KevError}
 use Rattle.kev_read.specs.declared.error.KevError.TheVariants as query
 use Rattle.openlink.specs.declared.fault.Fault.{Fault}
@@ -52,6 +53,12 @@ status_of (fault.Code e) = REFUSED
 status_of fault.NoLink = NO_LINK
 status_of Memory = FAILED
 status_of (Device path) = FAILED
+
+-- the query is refused; want of memory can come at any growth
+abbrev pub IsQueryFault : Text → Fault → Type 0
+IsQueryFault query (Query e) = refusal query ≡ Some e
+IsQueryFault query Memory = Unit {0}
+IsQueryFault query fault = ⊥
 
 -- the file at this path failed
 abbrev pub IsDevice : Fault → Text → Type 0

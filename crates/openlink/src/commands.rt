@@ -1,22 +1,18 @@
 //! The commands: which words run what, and what is printed.
 
-ghost use Rattle.std.specs.Prelude.{◌≡◌, ◌≢◌, ◌⊎◌, codes, IfErr, OnOk};
+ghost use Rattle.std.specs.Prelude.{◌≡◌, ◌≢◌, ◌⊎◌, codes, string_bytes, IfOk, IfErr, OnOk};
 ghost use Rattle.std.specs.Io.KnownBytes.{Appends};
 ghost use Rattle.vocabulary.specs.Texts.{Text, texts_of};
-ghost use Rattle.openlink.specs.Expand.{IsExpandLine, FailsToExpand};
-ghost use Rattle.openlink.specs.Link.{IsLinkLine, FailsToLink};
-ghost use Rattle.openlink.specs.Show.{IsShowLine, FailsToShow};
-ghost use Rattle.openlink.specs.Commands.{Prints, Fails};
+ghost use Rattle.openlink.specs.Commands.{Prints, Fails, OutputFails};
 ghost use Rattle.openlink.specs.Faults.{status_of, IsDevice};
 ghost use Rattle.openlink.specs.declared.fault.Fault.{Fault};
+ghost use Rattle.openlink.specs.declared.fault.TheConstants.{NO_LINK};
 
 use crate::expand::expand_line;
 use crate::fault::{Fault, NO_LINK};
-use crate::files::read_file;
 use crate::link::link_line;
-use crate::show::show_code;
-use crate::words::{behind, two_words};
-use std::alloc::Global;
+use crate::show::show_lines;
+use crate::words::behind;
 use std::io::Write;
 use std::rt::Files;
 
@@ -31,7 +27,9 @@ pub fn command<R: Files + AllocGlobal, O: Write, E: Write>(
 ) -> u8
     ensures done { result ≡ 0 → (line : Text) × Prints (texts_of words.now) line
         × Appends (O.contents output.old) (O.contents output.new) line }
-    ensures not_done { result ≢ 0 → (fault : Fault) × (result ≡ status_of fault) × Fails (texts_of words.now) fault }
+    ensures not_done { result ≢ 0 → (fault : Fault) × (result ≡ status_of fault)
+        × ((Fails (texts_of words.now) fault × (output.new ≡ output.old)) ⊎ OutputFails (texts_of words.now) fault) }
+    ensures no_fault { (result ≡ 0) ⊎ (result ≡ NO_LINK) → errors.new ≡ errors.old }
 {
     match run(rt, words, output) {
         Ok(()) => 0,
@@ -51,62 +49,28 @@ fn run<'a, R: Files + AllocGlobal, O: Write>(
 ) -> Result<(), Fault<'a>>
     ensures printed { OnOk result ((line : Text) × Prints (texts_of words.now) line
         × Appends (O.contents output.old) (O.contents output.new) line) }
-    ensures failed { IfErr result (Fails (texts_of words.now)) }
+    ensures failed { IfErr result (λ fault. (Fails (texts_of words.now) fault × (output.new ≡ output.old))
+        ⊎ OutputFails (texts_of words.now) fault) }
+{
+    let text = answer(rt, words)?;
+    print(output, text.as_str())
+}
+
+/// What the command that the words name prints.
+fn answer<'a, R: Files + AllocGlobal>(rt: &R, words: &[&'a str]) -> Result<String, Fault<'a>>
+    ensures ok { IfOk result (λ text. Prints (texts_of words.now) (string_bytes text)) }
+    ensures err { IfErr result (Fails (texts_of words.now)) }
 {
     if let Some(rest) = behind(words, "expand") {
-        return run_expand(rt.alloc(), rest, output);
+        return expand_line(rt.alloc(), rest);
     }
     if let Some(rest) = behind(words, "link") {
-        return run_link(rt, rest, output);
+        return link_line(rt, rest);
     }
     if let Some(rest) = behind(words, "show") {
-        return run_show(rt, rest, output);
+        return show_lines(rt, rest);
     }
     Err(Fault::Usage)
-}
-
-fn run_expand<'a, O: Write>(
-    alloc: Global,
-    words: &[&'a str],
-    output: &mut O,
-) -> Result<(), Fault<'a>>
-    ensures printed { OnOk result ((line : Text) × IsExpandLine (texts_of words.now) line
-        × Appends (O.contents output.old) (O.contents output.new) line) }
-    ensures failed { IfErr result (λ fault. FailsToExpand (texts_of words.now) fault ⊎ IsDevice fault (codes "-")) }
-{
-    print(output, expand_line(alloc, words)?.as_str())
-}
-
-fn run_link<'a, R: Files + AllocGlobal, O: Write>(
-    rt: &R,
-    words: &[&'a str],
-    output: &mut O,
-) -> Result<(), Fault<'a>>
-    ensures printed { OnOk result ((line : Text) × IsLinkLine (texts_of words.now) line
-        × Appends (O.contents output.old) (O.contents output.new) line) }
-    ensures failed { IfErr result (λ fault. FailsToLink (texts_of words.now) fault ⊎ IsDevice fault (codes "-")) }
-{
-    let Some((path, query)) = two_words(words) else {
-        return Err(Fault::Usage);
-    };
-    let bytes = read_file(rt, path, rule_parser::MAX_BYTES)?;
-    print(output, link_line(rt.alloc(), &bytes, query)?.as_str())
-}
-
-fn run_show<'a, R: Files + AllocGlobal, O: Write>(
-    rt: &R,
-    words: &[&'a str],
-    output: &mut O,
-) -> Result<(), Fault<'a>>
-    ensures printed { OnOk result ((text : Text) × IsShowLine (texts_of words.now) text
-        × Appends (O.contents output.old) (O.contents output.new) text) }
-    ensures failed { IfErr result (λ fault. FailsToShow (texts_of words.now) fault ⊎ IsDevice fault (codes "-")) }
-{
-    if words.len() != 1 {
-        return Err(Fault::Usage);
-    }
-    let bytes = read_file(rt, words[0], code_file::MAX_BYTES)?;
-    print(output, show_code(rt.alloc(), &bytes)?.as_str())
 }
 
 fn print<'a, O: Write>(output: &mut O, text: &str) -> Result<(), Fault<'a>>

@@ -6,10 +6,9 @@ ghost use Rattle.openlink.specs.Expand.{IsExpansion, IsExpandFault, IsExpandLine
 
 use crate::fault::Fault;
 use crate::line::ended;
+use crate::request::environment;
 use crate::words::expand_words;
-use kev_read::read_kev;
 use std::alloc::Global;
-use target_vars::{Env, VarsError};
 use uri_template::{Template, expand};
 
 /// The expansion of the template on the environment of the query's pairs, where the names of `lists`
@@ -24,14 +23,7 @@ pub fn expand_query<'a>(
     ensures err { IfErr result (IsExpandFault template.now query.now) }
 {
     let template = Template::parse(alloc, template)?;
-    let request = read_kev(alloc, query.as_bytes())?;
-    let mut env = Env::new(alloc);
-    match request.fill(lists, &mut env) {
-        Ok(()) => {}
-        Err(VarsError::NoMemory) => return Err(Fault::Memory),
-        // A request fits into an empty environment.
-        Err(VarsError::TooLarge) => unreachable!(),
-    }
+    let env = environment(alloc, lists, query)?;
     Ok(expand(alloc, &template, &env)?)
 }
 

@@ -1,5 +1,8 @@
 //! Files that a command reads.
 
+#[cfg(test)]
+mod tests;
+
 ghost use Rattle.std.specs.Prelude.{◌≡◌, ◌+◌, ◌<◌, ◌^◌, take, IfOk, IfErr, IfSome};
 ghost use Rattle.openlink.specs.Faults.{IsFileFault};
 

@@ -7,6 +7,7 @@ mod fault;
 mod files;
 mod line;
 mod link;
+mod request;
 mod show;
 #[cfg(test)]
 mod tests;

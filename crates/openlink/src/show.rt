@@ -1,11 +1,14 @@
 //! `show CODE`: the listing of a code file.
 
 ghost use Rattle.std.specs.Prelude.{IfOk, IfErr, string_bytes};
-ghost use Rattle.openlink.specs.Show.{IsListing, IsShowFault};
+ghost use Rattle.vocabulary.specs.Texts.{texts_of};
+ghost use Rattle.openlink.specs.Show.{IsListing, IsShowFault, IsShowLine, FailsToShow};
 
 use crate::fault::Fault;
-use code_file::Code;
+use crate::files::read_file;
+use code_file::{Code, MAX_BYTES};
 use std::alloc::Global;
+use std::rt::Files;
 
 /// The listing of the code that the file's bytes spell.
 pub fn show_code<'a>(alloc: Global, bytes: &[u8]) -> Result<String, Fault<'a>>
@@ -13,4 +16,19 @@ pub fn show_code<'a>(alloc: Global, bytes: &[u8]) -> Result<String, Fault<'a>>
     ensures err { IfErr result (IsShowFault bytes.now) }
 {
     Ok(Code::read(alloc, bytes)?.listing(alloc)?)
+}
+
+/// The lines that the words behind `show` print.
+pub fn show_lines<'a, R: Files + AllocGlobal>(
+    rt: &R,
+    words: &[&'a str],
+) -> Result<String, Fault<'a>>
+    ensures ok { IfOk result (λ text. IsShowLine (texts_of words.now) (string_bytes text)) }
+    ensures err { IfErr result (FailsToShow (texts_of words.now)) }
+{
+    if words.len() != 1 {
+        return Err(Fault::Usage);
+    }
+    let bytes = read_file(rt, words[0], MAX_BYTES)?;
+    show_code(rt.alloc(), &bytes)
 }

@@ -1,5 +1,6 @@
 mod expand;
 mod link;
+mod output;
 mod show;
 
 use crate::commands::command;

@@ -1,0 +1,34 @@
+use Rattle.std.proofs.Common.{string_bytes}
+use Rattle.std.specs.Prelude.{codes}
+use Rattle.std.proofs.lemmas.Result.{IfOk-weaker, IfErr-weaker}
+use Rattle.vocabulary.specs.Texts.{texts_of}
+use Rattle.openlink.specs.Commands.{prints_expansion, prints_link, prints_listing, no_expansion, no_link, no_listing}
+use Rattle.openlink.proofs.CommandLemmas.{no_name, prints_behind, fails_behind}
+use Rattle.openlink.proofs.commands.answer.Goals as goal
+
+pub returns-in-Some-clause-ok : goal.returns-in-Some-clause-ok
+returns-in-Some-clause-ok g c =
+    IfOk-weaker c.expand_line.result _ _ (λ line p. prints_behind (codes "expand") _ _ (string_bytes line) c.in-Some.ensures (prints_expansion _ _ p)) c.expand_line.ensures.ok
+
+pub returns-in-Some-clause-err : goal.returns-in-Some-clause-err
+returns-in-Some-clause-err g c =
+    IfErr-weaker c.expand_line.result _ _ (λ fault f. fails_behind (codes "expand") _ _ fault c.in-Some.ensures (no_expansion _ _ f)) c.expand_line.ensures.err
+
+pub returns-in-Some-behind-clause-ok : goal.returns-in-Some-behind-clause-ok
+returns-in-Some-behind-clause-ok g c =
+    IfOk-weaker c.link_line.result _ _ (λ line p. prints_behind (codes "link") _ _ (string_bytes line) c.in-Some-behind.ensures (prints_link _ _ p)) c.link_line.ensures.ok
+
+pub returns-in-Some-behind-clause-err : goal.returns-in-Some-behind-clause-err
+returns-in-Some-behind-clause-err g c =
+    IfErr-weaker c.link_line.result _ _ (λ fault f. fails_behind (codes "link") _ _ fault c.in-Some-behind.ensures (no_link _ _ f)) c.link_line.ensures.err
+
+pub returns-in-Some-behind-2-clause-ok : goal.returns-in-Some-behind-2-clause-ok
+returns-in-Some-behind-2-clause-ok g c =
+    IfOk-weaker c.show_lines.result _ _ (λ text p. prints_behind (codes "show") _ _ (string_bytes text) c.in-Some-behind-2.ensures (prints_listing _ _ p)) c.show_lines.ensures.ok
+
+pub returns-in-Some-behind-2-clause-err : goal.returns-in-Some-behind-2-clause-err
+returns-in-Some-behind-2-clause-err g c =
+    IfErr-weaker c.show_lines.result _ _ (λ fault f. fails_behind (codes "show") _ _ fault c.in-Some-behind-2.ensures (no_listing _ _ f)) c.show_lines.ensures.err
+
+pub returns-clause-err : goal.returns-clause-err
+returns-clause-err g c = no_name (texts_of c.args.words.now) c.in_default.ensures c.in_default-behind.ensures c.in_default-behind-2.ensures
