@@ -1,4 +1,4 @@
-ghost use Rattle.std.specs.Prelude.{◌≡◌, ◌≤◌, ◌<◌, ◌⊎◌, length, IfOk, IfErr, Some, None};
+ghost use Rattle.std.specs.Prelude.{◌≡◌, ◌≤◌, ◌<◌, ◌↔◌, ◌⊎◌, length, IfOk, IfErr, Some, None};
 ghost use Rattle.kev_read.specs.Pairs.{pairs_of};
 ghost use Rattle.kev_read.specs.ReadQuery.{IsBounded};
 ghost use Rattle.kev_read.specs.Refusal.{refusal};
@@ -25,6 +25,9 @@ pub fn read_kev(alloc: Global, query: &[u8]) -> Result<Request, KevError>
     ensures query_bytes { IfOk result (λ request. request.query_bytes ≡ length query.now) }
     ensures bounded { IfOk result IsBounded }
     ensures refused { IfErr result (λ e. (e ≡ KevError.NoMemory) ⊎ (refusal query.now ≡ Some e)) }
+
+    // However little memory there is.
+    ensures too_long { (result ≡ Err KevError.TooLong) ↔ (MAX_QUERY_BYTES < length query.now) }
 {
     if query.len() > MAX_QUERY_BYTES {
         return Err(KevError::TooLong);

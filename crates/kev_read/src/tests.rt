@@ -124,3 +124,17 @@ fn stops_at_a_refused_pair(rt: HostRuntime) -> Result<(), Fail> {
     assert_eq!(rt; env.text("z"), None);
     Ok(())
 }
+
+#[test]
+fn errors_print_their_kind(rt: HostRuntime) -> Result<(), Fail> {
+    let kinds = [
+        (KevError::TooLong, "TooLong"),
+        (KevError::TooManyPairs, "TooManyPairs"),
+        (KevError::WrongVersion, "WrongVersion"),
+        (KevError::NoMemory, "NoMemory"),
+    ];
+    for (kind, printed) in kinds {
+        assert_eq!(rt; format!(in rt.alloc(); "{kind}")?.as_str(), printed);
+    }
+    Ok(())
+}

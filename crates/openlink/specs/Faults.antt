@@ -16,7 +16,6 @@ use Rattle.kev_read.specs.declared.error.KevError.TheVariants as query
 use Rattle.openlink.specs.declared.fault.Fault.{Fault}
 use Rattle.openlink.specs.declared.fault.Fault.TheVariants.{Usage, Template, Query, Memory, Device}
 use Rattle.openlink.specs.declared.fault.Fault.TheVariants as fault
-use Rattle.openlink.specs.declared.fault.TheConstants.{NO_LINK, USAGE, REFUSED, FAILED}
 
 abbrev pub template_fault_of_kind : TemplateError → TemplateErrorKind → Fault
 template_fault_of_kind e template.NoMemory = Memory
@@ -44,15 +43,16 @@ abbrev pub query_fault : KevError → Fault
 query_fault query.NoMemory = Memory
 query_fault e = Query e
 
+-- the exit status of the program
 abbrev pub status_of : Fault → ℕ
-status_of Usage = USAGE
-status_of (Template e) = REFUSED
-status_of (Query e) = REFUSED
-status_of (fault.Rules e) = REFUSED
-status_of (fault.Code e) = REFUSED
-status_of fault.NoLink = NO_LINK
-status_of Memory = FAILED
-status_of (Device path) = FAILED
+status_of fault.NoLink = 1
+status_of Usage = 2
+status_of (Template e) = 3
+status_of (Query e) = 3
+status_of (fault.Rules e) = 3
+status_of (fault.Code e) = 3
+status_of Memory = 4
+status_of (Device path) = 4
 
 -- the query is refused; want of memory can come at any growth
 abbrev pub IsQueryFault : Text → Fault → Type 0

@@ -6,7 +6,6 @@ ghost use Rattle.vocabulary.specs.Texts.{Text, texts_of};
 ghost use Rattle.openlink.specs.Commands.{Prints, Fails, OutputFails};
 ghost use Rattle.openlink.specs.Faults.{status_of, IsDevice};
 ghost use Rattle.openlink.specs.declared.fault.Fault.{Fault};
-ghost use Rattle.openlink.specs.declared.fault.TheConstants.{NO_LINK};
 
 use crate::expand::expand_line;
 use crate::fault::{Fault, NO_LINK};
@@ -29,7 +28,7 @@ pub fn command<R: Files + AllocGlobal, O: Write, E: Write>(
         × Appends (O.contents output.old) (O.contents output.new) line }
     ensures not_done { result ≢ 0 → (fault : Fault) × (result ≡ status_of fault)
         × ((Fails (texts_of words.now) fault × (output.new ≡ output.old)) ⊎ OutputFails (texts_of words.now) fault) }
-    ensures no_fault { (result ≡ 0) ⊎ (result ≡ NO_LINK) → errors.new ≡ errors.old }
+    ensures no_fault { (result ≡ 0) ⊎ (result ≡ 1) → errors.new ≡ errors.old }
 {
     match run(rt, words, output) {
         Ok(()) => 0,

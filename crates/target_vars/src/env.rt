@@ -40,9 +40,10 @@ impl Model for Env {
 }
 
 impl Env {
-    /// The empty environment.
+    /// The empty environment. The clause `limits` says what the limits of every environment are.
     pub fn new(alloc: Global) -> Env
-        ensures { result.entries ≡ [] }
+        ensures value { result.entries ≡ [] }
+        ensures limits { (MAX_BYTES ≡ 1048576) × (MAX_MEMBERS ≡ 65535) }
     {
         Env {
             buffer: String::new(alloc),

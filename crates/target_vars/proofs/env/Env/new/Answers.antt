@@ -4,5 +4,5 @@ use Rattle.target_vars.proofs.env.Env.new.Goals as goal
 pub invariant_of-result : goal.invariant_of-result
 invariant_of-result c = rw (c.new.ensures.bytes, c.new-2.ensures.items, c.new-3.ensures.items) laid_empty
 
-pub returns : goal.returns
-returns c = rw (c.new.ensures.bytes, c.new-2.ensures.items, c.new-3.ensures.items) laid_entries-empty
+pub returns-clause-value : goal.returns-clause-value
+returns-clause-value c = rw (c.new.ensures.bytes, c.new-2.ensures.items, c.new-3.ensures.items) laid_entries-empty
