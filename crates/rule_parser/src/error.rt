@@ -10,6 +10,7 @@ pub enum RuleErrorKind {
     /// More than [`crate::MAX_BYTES`] bytes.
     #[error("TooLong")]
     TooLong,
+    /// Bytes that are not UTF-8.
     #[error("NotUtf8")]
     NotUtf8,
     /// A line of no form, or out of its order.

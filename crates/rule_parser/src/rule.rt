@@ -48,18 +48,21 @@ impl Model for Guards {
 }
 
 impl Guards {
+    /// The guards in the order of the list; takes no memory.
     pub fn new(list: Vec<Guard>) -> Guards
         ensures { result ≡ list.items }
     {
         Guards { list }
     }
 
+    /// The guards in their order, lent; takes no memory.
     pub fn as_slice(&self) -> &[Guard]
         ensures { result.now ≡ self.now }
     {
         &self.list
     }
 
+    /// The guards in their order, handed out; takes no memory.
     pub fn into_vec(self) -> Vec<Guard>
         ensures { result.items ≡ self }
     {

@@ -1,9 +1,8 @@
-ghost use Rattle.std.specs.Prelude.{◌≡◌, ◌⊎◌, map, All, IfOk, IfErr};
+ghost use Rattle.std.specs.Prelude.{◌≡◌, ◌⊎◌, map, IfOk, IfErr};
 ghost use Rattle.rule_parser.specs.Grammar.{IsRuleText};
 ghost use Rattle.rule_parser.specs.Faults.{IsRefused};
-ghost use Rattle.rule_parser.specs.declared.error.TheConstants.{NO_MEMORY};
 ghost use Rattle.rule_parser.specs.Names.{is_list as stands_for_list, each_once, list_names};
-ghost use Rattle.rule_parser.specs.Rules.{IsSound, IsSoundRule};
+ghost use Rattle.rule_parser.specs.Rules.{IsSound};
 
 use crate::error::{RuleError, RuleErrorKind};
 use crate::lines::read_lines;
@@ -49,7 +48,7 @@ impl Rules {
     /// at the end. `NoMemory` where a growth was refused.
     pub fn parse(alloc: Global, bytes: &[u8]) -> Result<Rules, RuleError>
         ensures ok { IfOk result (λ rules. IsRuleText bytes.now rules) }
-        ensures err { IfErr result (λ e. (e ≡ NO_MEMORY) ⊎ IsRefused bytes.now e.kind e.line) }
+        ensures err { IfErr result (λ e. (e ≡ record { kind = RuleErrorKind.NoMemory; line = 0 }) ⊎ IsRefused bytes.now e.kind e.line) }
     {
         if bytes.len() > MAX_BYTES {
             return Err(RuleError::new(RuleErrorKind::TooLong, 0));
@@ -81,7 +80,7 @@ impl Rules {
     /// The rules, in the order of their lines.
     pub fn rules(&self) -> &[Rule]
         ensures rules { result.now ≡ self.now.rules }
-        ensures sound { All (IsSoundRule self.now.lists) self.now.rules }
+        ensures sound { IsSound self.now }
     {
         &self.rules
     }

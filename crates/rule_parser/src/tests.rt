@@ -111,6 +111,8 @@ fn rules_are_what_their_lines_say(rt: HostRuntime) -> Result<(), Fail> {
     assert!(rt; rules.rules()[0].template.text() == "{a}");
     let none = Rules::parse(rt.alloc(), b"")?;
     assert!(rt; meaning(rt.alloc(), &none, &Env::new(rt.alloc()))?.is_none());
+    let digits_and_no_text = link(rt.alloc(), "list 12\nrule\nlink ", &[], &[])?;
+    assert!(rt; is_link(&digits_and_no_text, Some("")));
     Ok(())
 }
 
@@ -136,6 +138,8 @@ fn faults_are_printed_with_their_lines(rt: HostRuntime) -> Result<(), Fail> {
         ("rule\nwhen x is \"a\\\"\nlink b", "line 2: BadLine"),
         ("rule\n \nrule", "line 2: BadLine"),
         ("rule\nlink a\nlist x", "line 3: BadLine"),
+        ("#\nlist a b", "line 2: BadLine"),
+        ("link a", "line 1: BadLine"),
     ];
     for (text, wanted) in cases {
         match Rules::parse(rt.alloc(), text.as_bytes()) {
