@@ -16,7 +16,8 @@ use std::alloc::{AllocError, Global};
 use std::marker::Model;
 use vocabulary::Instr;
 
-/// A code: its names, its literals, and 1 to 4,096 instructions.
+/// A code: at most 256 names, at most 1,024 literals, and 1 to 4,096 instructions, whose file has at
+/// most 65,536 bytes.
 #[derive(Debug, Drop)]
 pub struct Code {
     names: Vec<Name>,

@@ -2,7 +2,8 @@
 
 use std::marker::Model;
 
-/// The name of a variable: of a list, or of a text.
+/// The name of a variable: of a list, or of a text. A code's has 1 to 255 bytes from 21 to 7e
+/// hexadecimal.
 #[derive(Debug, Drop)]
 pub struct Name {
     pub list: bool,
@@ -18,7 +19,8 @@ impl Model for Name {
     ghost view = { λ n. record { list = n.list; text = string_bytes n.text } };
 }
 
-/// A text of the code: one to compare with, or one for a link.
+/// A text of the code: one to compare with, which in a code is UTF-8 (RFC 3629), or one for a link,
+/// which is URI text (RFC 3986, sections 2.1 to 2.3).
 #[derive(Debug, Drop)]
 pub struct Literal {
     pub compared: bool,

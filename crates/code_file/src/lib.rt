@@ -8,7 +8,7 @@ mod decode;
 mod entry;
 mod error;
 mod fields;
-mod laws;
+pub mod laws;
 mod listing;
 mod parts;
 mod tables;
@@ -19,10 +19,6 @@ pub use code::Code;
 pub use decode::{instruction, spelling};
 pub use entry::{Literal, Name};
 pub use error::{CodeError, CodeErrorKind};
-pub use laws::{
-    code_has_one_file, file_has_no_fault, file_has_one_code, file_has_one_fault,
-    number_has_two_bytes, written_code_is_read,
-};
 pub use tables::MAX_BYTES;
 pub use vocabulary::Instr;
 
