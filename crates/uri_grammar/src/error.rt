@@ -17,7 +17,8 @@ pub enum TemplateErrorKind {
     ReservedOperator,
     /// A variable's name is empty, too long, or followed by what can neither end nor modify it.
     BadName,
-    /// A `:` has no number from 1 to 9,999 behind it, or something follows a whole modifier.
+    /// What stands behind a `:` is no number from 1 to 9,999 without a leading zero, or something follows
+    /// a `*`.
     BadModifier,
     /// A character stands outside expressions that is no literal.
     BadLiteral,

@@ -1,8 +1,8 @@
 //! The grammar of URI Templates (RFC 6570, section 2): a template's text, its tree, its first fault,
 //! and the laws of the grammar.
 //!
-//! Differences from RFC 6570: the apostrophe is a literal, a template has at most 8,192 bytes, and a name
-//! at most 255.
+//! Differences from RFC 6570: the apostrophe is a literal, the operators that the RFC keeps for later are
+//! refused, a template has at most 8,192 bytes, and a name at most 255.
 #![tactic(auto)]
 
 pub use crate::error::{TemplateError, TemplateErrorKind};

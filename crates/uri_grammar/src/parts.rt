@@ -66,7 +66,8 @@ pub enum Op {
 pub struct Spec {
     /// At most 255 bytes, all of them ASCII. Triplets in it are not decoded.
     pub name: Text,
-    /// The most code points of the value that are taken, 1 to 9,999; 0 where there is no prefix.
+    /// How many items of the value are taken at most, 1 to 9,999; 0 where there is no prefix. An item is
+    /// a code point, or, where the operator copies triplets, a whole triplet.
     pub cut: u16,
     /// Whether the variable has the modifier `*`.
     pub explode: bool,

@@ -1,10 +1,10 @@
-ghost use Rattle.std.specs.Prelude.{◌≡◌, ◌≤◌, ◌⊎◌, All, IfOk, IfErr, length, encode_utf8_all};
+ghost use Rattle.std.specs.Prelude.{◌≡◌, ◌<◌, ◌≤◌, ◌⊎◌, All, IfOk, IfErr, length, encode_utf8_all};
 ghost use Rattle.uri_grammar.specs.Templates.{Spells};
 ghost use Rattle.uri_grammar.specs.Faults.{IsFirstFault};
 ghost use Rattle.uri_grammar.specs.Reading.{IsFault};
-ghost use Rattle.uri_grammar.specs.Texts.{IsTemplate, IsRefused};
+ghost use Rattle.uri_grammar.specs.Texts.{max_template_bytes, IsTemplate, IsRefused};
 ghost use Rattle.uri_grammar.specs.Promises.{IsSoundPart};
-ghost use Rattle.uri_grammar.specs.declared.error.TheConstants.{NO_MEMORY};
+ghost use Rattle.uri_grammar.specs.declared.error.TemplateErrorKind.TheVariants.{NoMemory, TooLong};
 
 use crate::characters::byte_len;
 use crate::error::{TemplateError, TemplateErrorKind};
@@ -36,11 +36,12 @@ impl Model for Template {
 
 impl Template {
     /// Reads a template of at most 8,192 bytes. Any other text is refused whole, by the kind and the
-    /// place of its first fault.
+    /// place of its first fault. A text that is too long is never answered by want of memory.
     pub fn parse(alloc: Global, text: &str) -> Result<Template, TemplateError>
         ensures text { IfOk result (λ template. template.text ≡ text.now) }
         ensures ok { IfOk result (λ template. IsTemplate text.now template.parts) }
-        ensures err { IfErr result (λ e. (e ≡ NO_MEMORY) ⊎ IsRefused text.now e.kind e.at) }
+        ensures err { IfErr result (λ e. (e ≡ record { kind = NoMemory; at = 0 }) ⊎ IsRefused text.now e.kind e.at) }
+        ensures too_long { max_template_bytes < length text.now → IfErr result (λ e. e.kind ≡ TooLong) }
     {
         if text.len() > MAX_BYTES {
             return Err(TemplateError::new(TemplateErrorKind::TooLong, MAX_BYTES));

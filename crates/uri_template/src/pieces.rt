@@ -54,7 +54,7 @@ fn prefix(text: &str, n: u16, writing: Writing) -> &[u8]
 }
 
 /// Appends the piece of a variable that stands for a text, with `lead` in front.
-pub fn push_text(
+pub(crate) fn push_text(
     out: &mut String,
     lead: &str,
     style: &Style,
@@ -140,7 +140,7 @@ fn push_head(out: &mut String, style: &Style, spec: &Spec) -> Result<(), AllocEr
 }
 
 /// Appends the piece of a variable that stands for a list, with `lead` in front.
-pub fn push_list(
+pub(crate) fn push_list(
     out: &mut String,
     lead: &str,
     style: &Style,

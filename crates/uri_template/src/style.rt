@@ -9,7 +9,7 @@ use vocabulary::Writing;
 
 /// How an expression is written, by its operator.
 #[derive(Drop)]
-pub struct Style {
+pub(crate) struct Style {
     /// What stands before the first defined variable.
     pub first: &'static str,
     /// What stands before each later one, and between exploded members.
@@ -31,7 +31,8 @@ impl Model for Style {
 }
 
 impl Style {
-    pub fn of(op: Op) -> Style
+    /// The row of the table that belongs to the operator.
+    pub(crate) fn of(op: Op) -> Style
         ensures { result ≡ style_of op }
     {
         match op {

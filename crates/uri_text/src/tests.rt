@@ -52,12 +52,16 @@ fn texts_are_written(rt: HostRuntime) -> Result<(), Fail> {
 
 #[test]
 #[tactic(auto, using(vocabulary::proofs::Written::length_laws))]
-fn writing_appends(rt: HostRuntime) -> Result<(), Fail> {
+fn writing_appends_in_the_room_that_is_there(rt: HostRuntime) -> Result<(), Fail> {
     let mut out = String::from_str(rt.alloc(), "a=")?;
     out.reserve(3)?;
+    let room = out.capacity();
     encode_u(&mut out, b"&");
+    assert_eq!(rt; out.capacity(), room);
     out.reserve(3)?;
+    let room = out.capacity();
     encode_ur(&mut out, b"&");
+    assert_eq!(rt; out.capacity(), room);
     assert_eq!(rt; out.as_str(), "a=%26&");
     Ok(())
 }

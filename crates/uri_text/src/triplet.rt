@@ -3,13 +3,15 @@
 ghost use Rattle.std.specs.Prelude.{◌≡◌, ◌&&◌};
 ghost use Rattle.vocabulary.specs.Texts.{is_hexadecimal, begins_with_triplet};
 
-pub fn are_hexadecimal(high: u8, low: u8) -> bool
+// Whether both are hexadecimal digits, in upper or lower case.
+pub(crate) fn are_hexadecimal(high: u8, low: u8) -> bool
     ensures { result ≡ (is_hexadecimal high && is_hexadecimal low) }
 {
     high.is_ascii_hexdigit() && low.is_ascii_hexdigit()
 }
 
-pub fn begins_with_triplet(text: &[u8]) -> bool
+// Whether a whole triplet stands at the front.
+pub(crate) fn begins_with_triplet(text: &[u8]) -> bool
     ensures { result ≡ begins_with_triplet text.now }
 {
     match text {
