@@ -61,6 +61,15 @@ issn_bytes : bytes_bound (sums_of issn_code) 0 9 ≡ 44
 unfolding total longest_compared body_at reading
 issn_bytes = refl
 
+-- outside bodies the members count for nothing
+x_steps : steps_bound (sums_of x_code) 5 ≡ 4
+unfolding total body_at reading
+x_steps = refl
+
+x_bytes : bytes_bound (sums_of x_code) 5 7 ≡ 21
+unfolding total longest_compared body_at reading
+x_bytes = refl
+
 -- each sum in its place: by nothing, by M, by E, and by both
 all_terms : bytes_bound (sums 9 9 1000 100 10 1) 3 7 ≡ 1391
 all_terms = refl

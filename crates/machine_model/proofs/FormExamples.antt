@@ -142,7 +142,7 @@ jumps_hold = refl
 
 -- ---- bodies
 
--- a body is from after EACH to before its end, and ends there though another EACH stands in it
+-- a body is from after EACH to before its end
 abbrev list_body : Body
 list_body = record { start = 2; end = 5; element = 1 }
 
@@ -158,3 +158,15 @@ unread_each = refl
 unread_next : fault_at (with_fields 4 (row 18 7 0 0 0) list_code) 2 ≡ None
 unfolding fault_at body_at reading
 unread_next = refl
+
+-- an EACH in a body begins none, though a NEXT stands before its end: that NEXT ends no body
+abbrev nested : Code
+nested = sample (instruction.List 0 0 ∷ instruction.Each 1 0 6 ∷ instruction.Each 2 0 5 ∷ instruction.Put 1 0 ∷ instruction.Next ∷ instruction.Next ∷ instruction.Halt ∷ [])
+
+nested_faults : map (fault_at nested) (0 ∷ 1 ∷ 2 ∷ 3 ∷ 4 ∷ 5 ∷ 6 ∷ []) ≡ None ∷ None ∷ Some fault.NestedLoop ∷ None ∷ Some fault.StrayNext ∷ None ∷ None ∷ []
+unfolding fault_at body_at reading
+nested_faults = refl
+
+nested_bodies : map (body_at nested) (3 ∷ 5 ∷ 6 ∷ []) ≡ Some (record { start = 2; end = 6; element = 1 }) ∷ Some (record { start = 2; end = 6; element = 1 }) ∷ None ∷ []
+unfolding body_at reading
+nested_bodies = refl

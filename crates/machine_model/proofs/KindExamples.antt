@@ -1,6 +1,6 @@
 -- Kinds of small codes: what is carried where, and the first mismatch.
 use Rattle.std.proofs.Common.{◌≡◌, ℕ, List, [], ◌∷◌, Option, Some, None, true, false, refl}
-use Rattle.std.specs.Prelude.{map, slice_index_or}
+use Rattle.std.specs.Prelude.{map, option_map, slice_index_or}
 use Rattle.vocabulary.specs.Code.{Code, reading}
 use Rattle.vocabulary.specs.declared.code.Instruction.{Instruction}
 use Rattle.vocabulary.specs.declared.code.Instruction.TheVariants as instruction
@@ -10,7 +10,7 @@ use Rattle.machine_model.specs.declared.kind.Kind.TheVariants.{Any, OptText, Tex
 use Rattle.machine_model.specs.First.{Located, first_below}
 use Rattle.machine_model.specs.Form.{body_at}
 use Rattle.machine_model.specs.Kinds.{kind_le, kind_join, Kinds, Need, need, needs, Edge, edges_on, edges_back}
-use Rattle.machine_model.specs.PlainKinds.{arriving, mismatch_at, first_above, first_mismatch}
+use Rattle.machine_model.specs.PlainKinds.{arriving, plain_at, mismatch_at, first_above, first_mismatch}
 use Rattle.machine_model.proofs.Listings.{list_code, issn_code, x_code, sample}
 
 -- ---- the order
@@ -135,6 +135,11 @@ straight_cases =
     -- only the next edge of NUMBER carries a number
     ∷ refused 2 1 (instruction.Const 0 1 ∷ instruction.Number 1 0 2 ∷ instruction.Less 1 1 3 ∷ instruction.Halt ∷ [])
     ∷ accepted (instruction.Const 0 1 ∷ instruction.Number 1 0 3 ∷ instruction.Less 1 1 3 ∷ instruction.Halt ∷ [])
+    -- and where both lead to one place, neither's kinds are lost
+    ∷ refused 3 1 (instruction.Const 0 1 ∷ instruction.Const 1 1 ∷ instruction.Number 1 0 3 ∷ instruction.Put 1 0 ∷ instruction.Halt ∷ [])
+    ∷ refused 3 1 (instruction.Const 0 1 ∷ instruction.Const 1 1 ∷ instruction.Number 1 0 3 ∷ instruction.Less 1 1 4 ∷ instruction.Halt ∷ [])
+    -- nothing is known at the start
+    ∷ refused 0 0 (instruction.Undef 0 1 ∷ instruction.Halt ∷ [])
     ∷ []
 
 straight_cases_hold : map (λ x. first_mismatch x.code) straight_cases ≡ map (λ x. x.mismatch) straight_cases
@@ -153,6 +158,8 @@ loop_cases =
     ∷ accepted (instruction.List 0 0 ∷ instruction.Each 1 0 4 ∷ instruction.List 1 0 ∷ instruction.Next ∷ instruction.Halt ∷ [])
     -- a kind may sink in a loop
     ∷ accepted (instruction.List 0 0 ∷ instruction.Each 1 0 4 ∷ instruction.Const 2 1 ∷ instruction.Next ∷ instruction.Halt ∷ [])
+    -- a NEXT that no edge reaches compares nothing
+    ∷ accepted (instruction.List 0 0 ∷ instruction.Const 2 1 ∷ instruction.Each 1 0 6 ∷ instruction.List 2 0 ∷ instruction.Halt ∷ instruction.Next ∷ instruction.Halt ∷ [])
     -- nothing is known of the element after the loop
     ∷ refused 3 1 (instruction.List 0 0 ∷ instruction.Each 1 0 3 ∷ instruction.Next ∷ instruction.Put 1 0 ∷ instruction.Halt ∷ [])
     ∷ refused 4 1 (instruction.List 0 0 ∷ instruction.Each 1 0 4 ∷ instruction.Halt ∷ instruction.Next ∷ instruction.Put 1 0 ∷ instruction.Halt ∷ [])
@@ -161,6 +168,22 @@ loop_cases =
 loop_cases_hold : map (λ x. first_mismatch x.code) loop_cases ≡ map (λ x. x.mismatch) loop_cases
 unfolding first_below mismatch_at arriving first_above body_at reading
 loop_cases_hold = refl
+
+-- the kinds of r0 and r1 at each place of the list code, and past it
+abbrev of_two : Kinds → List Kind
+of_two ks = map ks (0 ∷ 1 ∷ [])
+
+list_kinds : map (λ p. option_map of_two (plain_at list_code p)) (0 ∷ 1 ∷ 2 ∷ 3 ∷ 4 ∷ 5 ∷ 6 ∷ []) ≡
+    Some (Any ∷ Any ∷ [])
+    ∷ Some (ListKind ∷ Any ∷ [])
+    ∷ Some (ListKind ∷ Text ∷ [])
+    ∷ Some (ListKind ∷ Text ∷ [])
+    ∷ Some (ListKind ∷ Text ∷ [])
+    ∷ Some (ListKind ∷ Any ∷ [])
+    ∷ None
+    ∷ []
+unfolding arriving body_at reading
+list_kinds = refl
 
 -- the compiled rule is accepted
 issn_accepted : first_mismatch issn_code ≡ None

@@ -140,6 +140,10 @@ loops =
     -- the body ends before the place of the step
     ∷ given (instruction.List 0 0 ∷ instruction.Each 1 0 4 ∷ instruction.Jump 4 ∷ instruction.Next ∷ instruction.Halt ∷ []) 2 (outcome.Stuck 2)
     ∷ given (instruction.List 0 0 ∷ instruction.Each 1 0 3 ∷ instruction.Emit 0 ∷ instruction.Halt ∷ []) 2 (outcome.Stuck 2)
+    -- a jump inside the body; one into a body finds no loop there; a loop after a loop
+    ∷ case (with_instruction 2 (instruction.Jump 4) list_code) colours 9 (linked [])
+    ∷ case (with_instruction 0 (instruction.Jump 4) list_code) colours 1 (outcome.Stuck 4)
+    ∷ given (instruction.List 0 0 ∷ instruction.Each 1 0 3 ∷ instruction.Next ∷ instruction.Each 2 0 6 ∷ instruction.Sep 0 ∷ instruction.Next ∷ instruction.Halt ∷ []) 13 (linked (codes "//"))
     -- a jump that is not taken is not judged
     ∷ given (instruction.Const 0 1 ∷ instruction.Empty 0 0 ∷ instruction.Halt ∷ []) 3 (linked [])
     ∷ given (instruction.Const 0 1 ∷ instruction.Empty 0 99 ∷ instruction.Halt ∷ []) 3 (linked [])
