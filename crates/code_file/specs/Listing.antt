@@ -3,7 +3,7 @@ use Rattle.std.specs.Prelude.{ℕ, ◌+◌, ◌/◌, ◌%◌, Bool, true, false,
 use Rattle.std.specs.List.{flat_map}
 use Rattle.std.specs.Fmt.{decimal, digits}
 use Rattle.vocabulary.specs.Texts.{Text}
-use Rattle.vocabulary.specs.Code.{Name, Literal, Code, reading, spelling}
+use Rattle.vocabulary.specs.Code.{Name, Literal, Code, is_same_instr, reading, spelling}
 use Rattle.vocabulary.specs.declared.code.Instr.{Instr}
 use Rattle.vocabulary.specs.declared.code.Instruction.{Instruction}
 use Rattle.vocabulary.specs.declared.code.Instruction.TheVariants as instruction
@@ -35,9 +35,6 @@ instruction_text (instruction.Each a b d) = codes "EACH r" ++ (decimal a ++ (cod
 instruction_text (instruction.Sep b) = codes "SEP l" ++ decimal b
 instruction_text instruction.Next = codes "NEXT"
 
-abbrev pub is_same : Instr → Instr → Bool
-is_same x y = x.op == y.op && (x.a == y.a && (x.b == y.b && (x.c == y.c && x.d == y.d)))
-
 -- a mode is 0 or 1, and a count 1 to 9,999
 abbrev pub has_range : Instruction → Bool
 has_range (instruction.Put a c) = nat_le c 1
@@ -53,7 +50,7 @@ fields_text i =
 -- otherwise its fields
 abbrev pub text_of : Instr → Option Instruction → Text
 text_of i None = fields_text i
-text_of i (Some known) = if (is_same (spelling known) i && has_range known) then instruction_text known else fields_text i
+text_of i (Some known) = if (is_same_instr (spelling known) i && has_range known) then instruction_text known else fields_text i
 
 abbrev pub instr_text : Instr → Text
 instr_text i = text_of i (reading i)

@@ -78,10 +78,3 @@ pub(crate) fn has_range(instruction: Instruction) -> bool
         _ => true,
     }
 }
-
-/// Whether two instructions have the same fields.
-pub(crate) fn is_same(x: Instr, y: Instr) -> bool
-    ensures { result ≡ listing.is_same x y }
-{
-    x.op == y.op && x.a == y.a && x.b == y.b && x.c == y.c && x.d == y.d
-}

@@ -5,7 +5,7 @@ ghost use Rattle.std.specs.List.{flat_map};
 ghost use Rattle.vocabulary.specs.declared.code.Instruction.TheVariants as variant;
 ghost use Rattle.code_file.specs.Listing.{mode_word, instruction_text, byte_text, is_plain, name_line, literal_line, instr_line, instr_text, fields_text, lines_from, first_line};
 
-use crate::decode::{has_range, instruction, is_same, spelling};
+use crate::decode::{has_range, instruction, spelling};
 use crate::entry::{Literal, Name};
 use std::alloc::AllocError;
 use vocabulary::{Instr, Instruction};
@@ -66,9 +66,7 @@ fn push_instr(out: &mut String, instr: Instr) -> Result<(), AllocError>
     ensures { OnOk result (string_bytes out.new ≡ string_bytes out.old ++ instr_text instr) }
 {
     match instruction(instr) {
-        Some(known) if is_same(spelling(known), instr) && has_range(known) => push_known(
-            out, known,
-        ),
+        Some(known) if spelling(known) == instr && has_range(known) => push_known(out, known),
         _ => push_fields(out, instr),
     }
 }
