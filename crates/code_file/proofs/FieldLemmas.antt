@@ -7,8 +7,8 @@ use Rattle.std.proofs.Math.Seq.{take-append_seam}
 use Rattle.code_file.specs.Tables.{BeginsWith}
 use Rattle.std.proofs.lemmas.List.{take-append-drop, get_or_past}
 use Rattle.std.proofs.lemmas.Bool.{cases_lt}
-use Rattle.vocabulary.specs.Texts.{Text}
-use Rattle.vocabulary.specs.Code.{Name}
+use Rattle.text_model.specs.Texts.{Text}
+use Rattle.code_model.specs.Code.{Name}
 use Rattle.code_file.specs.Grammar.{number, kind_byte, name_field, IsName}
 
 pub kind_byte-kind : (k : ℕ) → k ≤ 1 → kind_byte (k == 1) ≡ k

@@ -3,9 +3,9 @@ use Rattle.std.proofs.Common.{◌≡◌, ◌<◌, ◌≤◌, ◌+◌, ◌*◌, �
 use Rattle.std.specs.Prelude.{◌==◌}
 use Rattle.std.specs.List.{flat_map}
 use Rattle.std.proofs.lemmas.List.{nil_from_length, take-append-drop}
-use Rattle.vocabulary.specs.Texts.{Text}
-use Rattle.vocabulary.specs.Code.{Name, Literal, Code}
-use Rattle.vocabulary.specs.declared.code.Instr.{Instr}
+use Rattle.text_model.specs.Texts.{Text}
+use Rattle.code_model.specs.Code.{Name, Literal, Code}
+use Rattle.code_model.specs.declared.code.Instr.{Instr}
 use Rattle.code_file.specs.declared.counts.Counts.{Counts}
 use Rattle.code_file.specs.declared.error.CodeErrorKind.TheVariants.{Trailing}
 use Rattle.code_file.specs.Grammar.{number, header, counts_of, spelled, most_bytes, name_field, literal_field, instr_field, IsName, IsLiteral, IsInstr, AreCounts, IsCodeFile}

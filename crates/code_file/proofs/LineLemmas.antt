@@ -1,7 +1,7 @@
 -- A line for each entry of a table.
 use Rattle.std.proofs.Common.{◌≡◌, ◌<◌, ◌+◌, ℕ, List, [], ◌∷◌, ◌++◌, length, take, get_or, sym, ◌∙◌, ap, append_assoc, arith}
 use Rattle.std.proofs.lemmas.List.{append-nil, length-take-le, take_more}
-use Rattle.vocabulary.specs.Texts.{Text}
+use Rattle.text_model.specs.Texts.{Text}
 use Rattle.code_file.specs.Listing.{lines_from}
 
 lines_from-push : {X : Type 0} (line : ℕ → X → Text) (n : ℕ) (xs : List X) (x : X)

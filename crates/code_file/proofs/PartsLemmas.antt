@@ -6,9 +6,9 @@ use Rattle.std.proofs.lemmas.Bool.{cases_lt, ltb-false, eqb-false}
 use Rattle.std.proofs.lemmas.List.{take-append-drop, length-take-le}
 use Rattle.std.proofs.lemmas.List.Concat.{flat_map-append}
 use Rattle.std.proofs.lemmas.List.Elements.{All-nil, All-cons}
-use Rattle.vocabulary.specs.Texts.{Text}
-use Rattle.vocabulary.specs.Code.{Name, Literal, Code}
-use Rattle.vocabulary.specs.declared.code.Instr.{Instr}
+use Rattle.text_model.specs.Texts.{Text}
+use Rattle.code_model.specs.Code.{Name, Literal, Code}
+use Rattle.code_model.specs.declared.code.Instr.{Instr}
 use Rattle.code_file.specs.declared.counts.Counts.{Counts}
 use Rattle.code_file.specs.declared.error.CodeError.{CodeError}
 use Rattle.code_file.specs.declared.error.CodeErrorKind.TheVariants.{BadName, BadLiteral}

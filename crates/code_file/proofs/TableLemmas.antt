@@ -6,7 +6,7 @@ use Rattle.std.proofs.lemmas.List.{append-nil, take-append-drop, length-take-le,
 use Rattle.std.proofs.Math.Seq.{take-append_seam}
 use Rattle.std.proofs.lemmas.List.Concat.{flat_map-append}
 use Rattle.std.proofs.lemmas.List.Elements.{All-nil, All-cons, All-push, All-head, All-tail}
-use Rattle.vocabulary.specs.Texts.{Text}
+use Rattle.text_model.specs.Texts.{Text}
 use Rattle.code_file.specs.declared.error.CodeError.{CodeError}
 use Rattle.code_file.specs.Fault.{after, IsTableOf, IsTable, IsTableFault}
 

@@ -3,10 +3,10 @@ use Rattle.std.proofs.Common.{◌≡◌, ◌<◌, ◌≤◌, ◌⊎◌, ℕ, Boo
 use Rattle.std.specs.Prelude.{◌&&◌, ◌==◌}
 use Rattle.std.proofs.lemmas.List.{append-nil}
 use Rattle.std.proofs.lemmas.Bool.{eqb-true, ne_eqb}
-use Rattle.vocabulary.specs.Texts.{Text, begins_with_triplet, is_hexadecimal, is_triplet, is_unreserved, is_reserved}
-use Rattle.vocabulary.specs.Writing.{is_unreserved_or_reserved}
+use Rattle.text_model.specs.Texts.{Text, begins_with_triplet, is_hexadecimal, is_triplet, is_unreserved, is_reserved}
+use Rattle.text_model.specs.Writing.{is_unreserved_or_reserved}
 use Rattle.code_file.specs.FromLeft.{is_uri_text}
-use Rattle.vocabulary.specs.UriText.{IsUriText, nothing, and_character, and_triplet}
+use Rattle.text_model.specs.UriText.{IsUriText, nothing, and_character, and_triplet}
 
 pub and_true : {a b : Bool} → a && b ≡ true → (a ≡ true) × (b ≡ true)
 and_true {a = true} {b = b} h = (refl, h)

@@ -1,7 +1,7 @@
 -- URI text as a test that reads from the left, which private functions cite. It is the set `IsUriText`.
 use Rattle.std.specs.Prelude.{Bool, true, [], ◌∷◌, ◌&&◌, if◌then◌else◌}
-use Rattle.vocabulary.specs.Texts.{Text, is_triplet}
-use Rattle.vocabulary.specs.Writing.{is_unreserved_or_reserved}
+use Rattle.text_model.specs.Texts.{Text, is_triplet}
+use Rattle.text_model.specs.Writing.{is_unreserved_or_reserved}
 
 -- from the left: a triplet or a character, and then more of the same
 unfoldable pub is_uri_text : Text → Bool

@@ -2,11 +2,11 @@
 use Rattle.std.specs.Prelude.{ℕ, ◌+◌, ◌/◌, ◌%◌, Bool, true, false, ◌&&◌, ◌==◌, not, nat_le, List, [], ◌∷◌, ◌++◌, Option, Some, None, length, codes, if◌then◌else◌}
 use Rattle.std.specs.List.{flat_map}
 use Rattle.std.specs.Fmt.{decimal, digits}
-use Rattle.vocabulary.specs.Texts.{Text}
-use Rattle.vocabulary.specs.Code.{Name, Literal, Code, is_same_instr, reading, spelling}
-use Rattle.vocabulary.specs.declared.code.Instr.{Instr}
-use Rattle.vocabulary.specs.declared.code.Instruction.{Instruction}
-use Rattle.vocabulary.specs.declared.code.Instruction.TheVariants as instruction
+use Rattle.text_model.specs.Texts.{Text}
+use Rattle.code_model.specs.Code.{Name, Literal, Code, is_same_instr, reading, spelling}
+use Rattle.code_model.specs.declared.code.Instr.{Instr}
+use Rattle.code_model.specs.declared.code.Instruction.{Instruction}
+use Rattle.code_model.specs.declared.code.Instruction.TheVariants as instruction
 
 -- ---- instructions
 

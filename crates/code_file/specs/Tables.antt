@@ -1,7 +1,7 @@
 -- The bytes of a file cut into its tables.
 use Rattle.std.specs.Prelude.{◌≡◌, ℕ, ◌*◌, ◌<◌, ◌++◌, List, length, take, All}
 use Rattle.std.specs.List.{HoldsAt}
-use Rattle.vocabulary.specs.Texts.{Text}
+use Rattle.text_model.specs.Texts.{Text}
 use Rattle.code_file.specs.declared.counts.Counts.{Counts}
 use Rattle.code_file.specs.Grammar.{header, AreCounts}
 use Rattle.code_file.specs.Fault.{AreNames, AreLiterals}

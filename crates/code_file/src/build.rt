@@ -1,15 +1,15 @@
 //! The parts of a code, made of tables that are good.
 
 ghost use Rattle.std.specs.Prelude.{◌≡◌, ◌≤◌, ◌<◌, ◌+◌, ◌*◌, ◌++◌, ℕ, List, length, IfOk, All};
-ghost use Rattle.vocabulary.specs.Code as code;
+ghost use Rattle.code_model.specs.Code as code;
 ghost use Rattle.code_file.specs.Grammar.{name_field, literal_field, instr_field, IsName, IsLiteral, IsInstr};
 ghost use Rattle.code_file.specs.Fault.{AreNames, AreLiterals, IsTableOf};
 ghost use Rattle.code_file.specs.Tables.{BeginsWith};
 
 use crate::entry::{Literal, Name};
 use crate::fields::{split_instr, split_number};
+use code_model::Instr;
 use std::alloc::{AllocError, Global};
-use vocabulary::Instr;
 
 /// The name with which the bytes begin, and what follows it.
 fn read_name(alloc: Global, bytes: &[u8]) -> Result<(Name, &[u8]), AllocError>

@@ -12,9 +12,9 @@ use crate::listing::{push_first_line, push_instr_lines, push_literal_lines, push
 use crate::parts::parts_fault;
 use crate::tables::Tables;
 use crate::write::{push_instrs, push_literals, push_names, push_number};
+use code_model::Instr;
 use std::alloc::{AllocError, Global};
 use std::marker::Model;
-use vocabulary::Instr;
 
 /// A code: at most 256 names, at most 1,024 literals, and 1 to 4,096 instructions, whose file has at
 /// most 65,536 bytes.
@@ -26,7 +26,7 @@ pub struct Code {
 }
 
 impl Model for Code {
-    ghost use Rattle.vocabulary.specs.Code as code;
+    ghost use Rattle.code_model.specs.Code as code;
     ghost use Rattle.code_file.specs.Grammar as grammar;
 
     ghost Value = { code.Code };

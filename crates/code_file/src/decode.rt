@@ -1,13 +1,13 @@
 //! The instructions that fields spell.
 
 ghost use Rattle.std.specs.Prelude.{◌≡◌};
-ghost use Rattle.vocabulary.specs.Code as code;
+ghost use Rattle.code_model.specs.Code as code;
 ghost use Rattle.code_file.specs.Listing as listing;
 
-use vocabulary::{Instr, Instruction};
+use code_model::{Instr, Instruction};
 
 /// The instruction that an operation's number names, whatever the fields hold that it does not use.
-#[tactic(auto, unfolding(vocabulary::specs::Code::reading))]
+#[tactic(auto, unfolding(code_model::specs::Code::reading))]
 pub fn instruction(instr: Instr) -> Option<Instruction>
     ensures { result ≡ code.reading instr }
 {

@@ -12,7 +12,7 @@ pub struct Name {
 
 impl Model for Name {
     ghost use Rattle.std.specs.Prelude.{string_bytes};
-    ghost use Rattle.vocabulary.specs.Code as code;
+    ghost use Rattle.code_model.specs.Code as code;
 
     ghost Value = { code.Name };
 
@@ -28,7 +28,7 @@ pub struct Literal {
 }
 
 impl Model for Literal {
-    ghost use Rattle.vocabulary.specs.Code as code;
+    ghost use Rattle.code_model.specs.Code as code;
 
     ghost Value = { code.Literal };
 

@@ -1,7 +1,7 @@
 //! The fields of a code file, from the front of its bytes. Nothing here takes memory.
 
 ghost use Rattle.std.specs.Prelude.{◌≡◌, ◌≤◌, ◌<◌, ◌+◌, ◌^◌, ◌++◌, ◌∷◌, ◌↔◌, ℕ, length, take, IsTrue, IfOk, IfErr, IfNone, IfSome, All};
-ghost use Rattle.vocabulary.specs.Code.{Name, Literal};
+ghost use Rattle.code_model.specs.Code.{Name, Literal};
 ghost use Rattle.code_file.specs.Grammar.{kind_byte, number, name_field, literal_field, instr_field, IsNameByte, IsName, IsTextOf, IsLiteral, IsInstr};
 ghost use Rattle.code_file.specs.Fault as fault;
 ghost use Rattle.code_file.specs.Fault.{IsFirstWrong, IsKindFault, IsNameLength, IsNameFault, IsLiteralFault};
@@ -9,7 +9,7 @@ ghost use Rattle.code_file.specs.Fault.{IsFirstWrong, IsKindFault, IsNameLength,
 use crate::error::{CodeError, CodeErrorKind};
 use crate::uri_text::is_uri_text;
 use byteorder::{BigEndian, ByteOrder};
-use vocabulary::Instr;
+use code_model::Instr;
 
 /// The number in the first two bytes, and what follows it.
 pub(crate) fn split_number(bytes: &[u8]) -> (u16, &[u8])

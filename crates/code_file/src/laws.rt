@@ -2,8 +2,8 @@
 
 ghost use Rattle.std.specs.Prelude.{◌≡◌, ◌<◌, ◌^◌, ℕ, [], ◌∷◌};
 ghost use Rattle.byteorder.specs.Endian.{big_number};
-ghost use Rattle.vocabulary.specs.Texts.{Text};
-ghost use Rattle.vocabulary.specs.Code.{Code};
+ghost use Rattle.text_model.specs.Texts.{Text};
+ghost use Rattle.code_model.specs.Code.{Code};
 ghost use Rattle.code_file.specs.declared.error.CodeError.{CodeError};
 ghost use Rattle.code_file.specs.declared.error.CodeErrorKind.TheVariants as kind;
 ghost use Rattle.code_file.specs.Grammar.{number, IsCodeFile};

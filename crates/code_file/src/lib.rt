@@ -16,11 +16,11 @@ mod uri_text;
 mod write;
 
 pub use code::Code;
+pub use code_model::Instr;
 pub use decode::{instruction, spelling};
 pub use entry::{Literal, Name};
 pub use error::{CodeError, CodeErrorKind};
 pub use tables::MAX_BYTES;
-pub use vocabulary::Instr;
 
 #[cfg(test)]
 mod tests;

@@ -2,13 +2,13 @@
 
 ghost use Rattle.std.specs.Prelude.{◌≡◌, ◌++◌, OnOk, string_bytes};
 ghost use Rattle.std.specs.List.{flat_map};
-ghost use Rattle.vocabulary.specs.declared.code.Instruction.TheVariants as variant;
+ghost use Rattle.code_model.specs.declared.code.Instruction.TheVariants as variant;
 ghost use Rattle.code_file.specs.Listing.{mode_word, instruction_text, byte_text, is_plain, name_line, literal_line, instr_line, instr_text, fields_text, lines_from, first_line};
 
 use crate::decode::{has_range, instruction, spelling};
 use crate::entry::{Literal, Name};
+use code_model::{Instr, Instruction};
 use std::alloc::AllocError;
-use vocabulary::{Instr, Instruction};
 
 fn mode(c: u16) -> &'static str
     ensures { result.now ≡ mode_word c }

@@ -11,7 +11,7 @@ use crate::entry::{Literal, Name};
 use crate::error::CodeErrorKind;
 use crate::fields::{first_wrong, is_name_length, is_text_of};
 use crate::tables::MAX_BYTES;
-use vocabulary::Instr;
+use code_model::Instr;
 
 /// How many bytes the names take, at most `usize::MAX`.
 fn names_len(names: &[Name]) -> usize

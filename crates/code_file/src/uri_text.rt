@@ -1,14 +1,14 @@
 //! URI text (RFC 3986, sections 2.1 to 2.3).
 
 ghost use Rattle.std.specs.Prelude.{◌≡◌, ◌↔◌, ◌<◌, length, true, false, IsTrue, IfNone, IfSome};
-ghost use Rattle.vocabulary.specs.Texts as texts;
+ghost use Rattle.text_model.specs.Texts as texts;
 ghost use Rattle.code_file.specs.FromLeft as from_left;
-ghost use Rattle.vocabulary.specs.Writing.{is_unreserved_or_reserved};
-ghost use Rattle.vocabulary.specs.UriText.{IsUriText};
+ghost use Rattle.text_model.specs.Writing.{is_unreserved_or_reserved};
+ghost use Rattle.text_model.specs.UriText.{IsUriText};
 
 /// Whether a byte may stand for itself: an unreserved or a reserved character (RFC 3986, sections 2.2
 /// and 2.3).
-#[tactic(auto, unfolding(vocabulary::specs::Texts::is_unreserved, vocabulary::specs::Texts::is_reserved))]
+#[tactic(auto, unfolding(text_model::specs::Texts::is_unreserved, text_model::specs::Texts::is_reserved))]
 fn is_plain(b: u8) -> bool
     ensures { result ≡ is_unreserved_or_reserved b }
 {

@@ -6,8 +6,8 @@ ghost use Rattle.code_file.specs.Grammar.{number, name_field, literal_field, ins
 
 use crate::entry::{Literal, Name};
 use byteorder::{BigEndian, ByteOrder};
+use code_model::Instr;
 use std::alloc::AllocError;
-use vocabulary::Instr;
 
 pub(crate) fn push_number(out: &mut Vec<u8>, n: u16) -> Result<(), AllocError>
     ensures { OnOk result (out.new.items ≡ out.old.items ++ number n) }

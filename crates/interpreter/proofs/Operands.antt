@@ -5,9 +5,9 @@ use Rattle.std.specs.List.{list_all, AllByRecursion}
 use Rattle.std.proofs.lemmas.Bool.{and_parts, ltb-true}
 use Rattle.std.proofs.lemmas.Option.{slice_get_within, get_or_from_slice_get}
 use Rattle.std.proofs.lemmas.List.Elements.{All-get_or}
-use Rattle.vocabulary.specs.Code.{Code, Literal}
-use Rattle.vocabulary.specs.UriText.{IsUriText}
-use Rattle.vocabulary.specs.declared.code.Instruction.{Instruction}
+use Rattle.code_model.specs.Code.{Code, Literal}
+use Rattle.text_model.specs.UriText.{IsUriText}
+use Rattle.code_model.specs.declared.code.Instruction.{Instruction}
 use Rattle.machine_model.specs.Operands.{Operand, Register, TextName, ListName, LinkText, Compared, Items, Mode, operands, is_in_range, is_register, is_in_table, has_table_kind, is_right, has_right_operands, is_link_text, literal_at, text_of_literal}
 use Rattle.code_file.specs.Grammar.{IsCode, IsLiteral, IsTextOf}
 use Rattle.interpreter.specs.Given.{IsGiven, AreGiven}

@@ -1,8 +1,8 @@
 -- From steps to outcomes, by the laws of the machine.
 use Rattle.std.proofs.Common.{◌≡◌, ℕ, ◌+◌, ◌≤◌, Some, None, refl, sym, ap, ◌∙◌, arith, add-one}
 use Rattle.std.specs.Prelude.{◌↔◌}
-use Rattle.vocabulary.specs.Code.{Code}
-use Rattle.vocabulary.specs.Environment.{Environment}
+use Rattle.code_model.specs.Code.{Code}
+use Rattle.environment_model.specs.Environment.{Environment}
 use Rattle.machine_model.specs.States.{Frame, State, Running, Ended, start}
 use Rattle.machine_model.specs.States as end
 use Rattle.machine_model.specs.Step.{Step}

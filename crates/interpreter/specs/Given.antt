@@ -1,9 +1,9 @@
 -- What is known of the operands of an instruction that can be read.
 use Rattle.std.specs.Prelude.{◌<◌, length}
 use Rattle.std.specs.List.{AllByRecursion}
-use Rattle.vocabulary.specs.Code.{Code}
-use Rattle.vocabulary.specs.UriText.{IsUriText}
-use Rattle.vocabulary.specs.declared.code.Instruction.{Instruction}
+use Rattle.code_model.specs.Code.{Code}
+use Rattle.text_model.specs.UriText.{IsUriText}
+use Rattle.code_model.specs.declared.code.Instruction.{Instruction}
 use Rattle.machine_model.specs.Operands.{Operand, Register, TextName, ListName, LinkText, Compared, Items, Mode, operands, literal_at}
 
 abbrev pub IsGiven : Code → Operand → Type 0

@@ -1,7 +1,7 @@
 -- What an answer says of a run.
 use Rattle.std.specs.Prelude.{◌≡◌, string_bytes}
-use Rattle.vocabulary.specs.Code.{Code}
-use Rattle.vocabulary.specs.Environment.{Environment}
+use Rattle.code_model.specs.Code.{Code}
+use Rattle.environment_model.specs.Environment.{Environment}
 use Rattle.machine_model.specs.Runs as run
 use Rattle.interpreter.specs.declared.run.Checked.{Checked}
 use Rattle.interpreter.specs.declared.run.Checked.TheVariants.{Link, NoLink, Stuck}

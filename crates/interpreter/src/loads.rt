@@ -1,8 +1,8 @@
 //! Instructions that load a value into a register.
 
 ghost use Rattle.std.specs.Prelude.{◌≡◌, ◌<◌, length};
-ghost use Rattle.vocabulary.specs.Number.{leading_number};
-ghost use Rattle.vocabulary.specs.Environment.{text_of, members_of};
+ghost use Rattle.text_model.specs.Number.{leading_number};
+ghost use Rattle.environment_model.specs.Environment.{text_of, members_of};
 ghost use Rattle.machine_model.specs.Operands.{name_at, literal_at};
 ghost use Rattle.machine_model.specs.Values as value;
 ghost use Rattle.machine_model.specs.Values.{text_or_undefined};

@@ -1,9 +1,9 @@
 //! Instructions that append to the output.
 
 ghost use Rattle.std.specs.Prelude.{◌≡◌, ◌<◌, ◌++◌, Some, IfOk, OnOk, string_bytes, if◌then◌else◌};
-ghost use Rattle.vocabulary.specs.UriText.{IsUriText};
-ghost use Rattle.vocabulary.specs.Writing.{written};
-ghost use Rattle.vocabulary.specs.Cut.{cut};
+ghost use Rattle.text_model.specs.UriText.{IsUriText};
+ghost use Rattle.text_model.specs.Writing.{written};
+ghost use Rattle.text_model.specs.Cut.{cut};
 ghost use Rattle.machine_model.specs.States.{on, printing};
 ghost use Rattle.machine_model.specs.Step.{Goes};
 ghost use Rattle.machine_model.specs.Next.{for_text, in_loop};
@@ -12,8 +12,8 @@ ghost use Rattle.interpreter.specs.Frames.{frame_of, move_in, moves};
 use crate::frame::{Frame, Move};
 use crate::value::Value;
 use std::alloc::AllocError;
+use text_model::Writing;
 use uri_text::{cut, encode};
-use vocabulary::Writing;
 
 /// Appends a text as it stands.
 fn append(out: &mut String, text: &[u8]) -> Result<(), AllocError>

@@ -6,7 +6,7 @@ ghost use Rattle.machine_model.specs.Next.{instruction_at};
 ghost use Rattle.interpreter.specs.Given.{AreGiven};
 
 use code_file::{Code, instruction, spelling};
-use vocabulary::Instruction;
+use code_model::Instruction;
 
 fn is_text_name(code: &Code, index: u16) -> bool
     ensures { result ≡ is_right code.now (TextName index) }

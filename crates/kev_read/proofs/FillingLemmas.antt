@@ -7,10 +7,10 @@ use Rattle.std.proofs.lemmas.List.Sums.{sum_by-cons, sum_by-append}
 use Rattle.std.specs.Borrow.{Bor}
 use Rattle.std.specs.List.{list_any}
 use Rattle.std.specs.Str.{bytes_eq}
-use Rattle.vocabulary.specs.Texts.{Text, texts_of}
-use Rattle.vocabulary.specs.Environment.{Environment, is_among, byte_count, member_count, with_text, with_member}
-use Rattle.vocabulary.proofs.Environments.{member_count-with_text}
-use Rattle.vocabulary.proofs.EnvironmentGrowth.{byte_count-with_text-le, byte_count-with_member-le, member_count-with_member-le}
+use Rattle.text_model.specs.Texts.{Text, texts_of}
+use Rattle.environment_model.specs.Environment.{Environment, is_among, byte_count, member_count, with_text, with_member}
+use Rattle.environment_model.proofs.Environments.{member_count-with_text}
+use Rattle.environment_model.proofs.EnvironmentGrowth.{byte_count-with_text-le, byte_count-with_member-le, member_count-with_member-le}
 use Rattle.target_vars.specs.declared.env.TheConstants.{MAX_BYTES, MAX_MEMBERS}
 use Rattle.target_vars.specs.declared.error.VarsError.{VarsError}
 use Rattle.target_vars.specs.declared.error.VarsError.TheVariants.{TooLarge, NoMemory}

@@ -2,7 +2,7 @@
 use Rattle.std.proofs.Common.{◌≤◌, List, length}
 use Rattle.std.proofs.lemmas.List.{length-map}
 use Rattle.std.proofs.lemmas.List.Sums.{length-filter, count_by-le-length}
-use Rattle.vocabulary.specs.Texts.{Text}
+use Rattle.text_model.specs.Texts.{Text}
 use Rattle.kev_read.specs.Pairs.{KeyValue, has_key, all_of}
 
 -- a key has no more values than there are pairs

@@ -1,8 +1,8 @@
 -- What the pairs of a request make of an environment.
 use Rattle.std.specs.Prelude.{◌≡◌, ◌↔◌, ◌⊎◌, ◌+◌, ◌<◌, Bool, false, ◌||◌, MatchBool, List, ◌∷◌, ◌++◌, length, fold, codes, if◌then◌else◌}
 use Rattle.std.specs.Str.{bytes_eq}
-use Rattle.vocabulary.specs.Texts.{Text}
-use Rattle.vocabulary.specs.Environment.{Environment, is_there, is_among, byte_count, member_count, with_text, with_member}
+use Rattle.text_model.specs.Texts.{Text}
+use Rattle.environment_model.specs.Environment.{Environment, is_there, is_among, byte_count, member_count, with_text, with_member}
 use Rattle.target_vars.specs.EnvValue.{stands_for_text}
 use Rattle.target_vars.specs.declared.env.TheConstants.{MAX_BYTES, MAX_MEMBERS}
 use Rattle.target_vars.specs.declared.error.VarsError.{VarsError}

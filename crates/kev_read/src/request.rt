@@ -1,10 +1,10 @@
 ghost use Rattle.std.specs.Prelude.{◌≡◌, ◌≤◌, ◌+◌, ◌*◌, [], length, IfErr, OnOk};
 ghost use Rattle.std.specs.Option.{option_copied};
-ghost use Rattle.vocabulary.specs.Environment.{byte_count, member_count};
+ghost use Rattle.environment_model.specs.Environment.{byte_count, member_count};
 ghost use Rattle.target_vars.specs.declared.env.TheConstants.{MAX_BYTES, MAX_MEMBERS};
 ghost use Rattle.kev_read.specs.Pairs as spec;
 ghost use Rattle.kev_read.specs.Filling.{filled, StopsAtPair};
-ghost use Rattle.vocabulary.specs.Texts.{texts_of};
+ghost use Rattle.text_model.specs.Texts.{texts_of};
 ghost use Rattle.kev_read.specs.Refusal.{is_other_version, states_other_version};
 
 use crate::filling::fill;

@@ -15,7 +15,7 @@ pub struct Values<'a, 'k> {
 
 impl<'a, 'k> Model for Values<'a, 'k> {
     ghost use Rattle.std.specs.Prelude.{List};
-    ghost use Rattle.vocabulary.specs.Texts.{Text};
+    ghost use Rattle.text_model.specs.Texts.{Text};
     ghost use Rattle.kev_read.specs.Pairs.{all_of};
 
     ghost Value = { List Text };

@@ -2,8 +2,8 @@
 use Rattle.std.proofs.Common.{◌≡◌, ℕ, zero, suc, ◌+◌, ◌-◌, ◌<◌, Option, Some, None, refl, sym, ap, ◌∙◌, subst, arith, add-one, ⊎_elim}
 use Rattle.std.specs.Prelude.{◌↔◌}
 use Rattle.std.proofs.lemmas.Bool.{cases_lt, cases_order}
-use Rattle.vocabulary.specs.Environment.{Environment}
-use Rattle.vocabulary.specs.Code.{Code}
+use Rattle.environment_model.specs.Environment.{Environment}
+use Rattle.code_model.specs.Code.{Code}
 use Rattle.machine_model.specs.States.{Frame, End, Link, NoLink, State, Running, Ended, start}
 use Rattle.machine_model.specs.Step.{Step}
 use Rattle.machine_model.specs.Runs.{After, Outcome, Link as linked, NoLink as unlinked, Stuck, ComesTo, HasOutcome}

@@ -2,8 +2,8 @@
 use Rattle.std.proofs.Common.{◌≡◌, ℕ, zero, suc, ◌+◌, ◌*◌, ◌<◌, ◌≤◌, length, Bool, true, false, refl, sym, subst, arith}
 use Rattle.std.specs.Prelude.{if◌then◌else◌}
 use Rattle.std.proofs.Math.Nat.{mul_comm}
-use Rattle.vocabulary.specs.Environment.{Environment, member_count, byte_count}
-use Rattle.vocabulary.specs.Code.{Code}
+use Rattle.environment_model.specs.Environment.{Environment, member_count, byte_count}
+use Rattle.code_model.specs.Code.{Code}
 use Rattle.machine_model.specs.States.{Frame, End, State, Running, Ended, start}
 use Rattle.machine_model.specs.Step.{Step}
 use Rattle.machine_model.specs.Runs.{After}

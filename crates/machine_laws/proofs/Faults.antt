@@ -3,7 +3,7 @@ use Rattle.std.proofs.Common.{◌≡◌, ℕ, zero, suc, ◌<◌, ◌≤◌, len
 use Rattle.std.specs.Prelude.{◌↔◌}
 use Rattle.std.proofs.lemmas.Bool.{cases_lt}
 use Rattle.std.proofs.lemmas.Option.{slice_get_past}
-use Rattle.vocabulary.specs.Code.{Code}
+use Rattle.code_model.specs.Code.{Code}
 use Rattle.machine_model.specs.First.{located, or_else, first_below}
 use Rattle.machine_model.specs.Form.{fault_in, fault_at, HasGoodForm, first_form_fault}
 

@@ -4,9 +4,9 @@ use Rattle.std.specs.Prelude.{slice_get}
 use Rattle.std.proofs.lemmas.Bool.{cases_lt}
 use Rattle.std.proofs.lemmas.Option.{slice_get_past}
 use Rattle.std.proofs.Math.Nat.{mul-le-mul_left, mul_comm}
-use Rattle.vocabulary.specs.Environment.{Environment, member_count, byte_count}
-use Rattle.vocabulary.specs.Code.{Code}
-use Rattle.vocabulary.specs.declared.code.Instruction.{Instruction}
+use Rattle.environment_model.specs.Environment.{Environment, member_count, byte_count}
+use Rattle.code_model.specs.Code.{Code}
+use Rattle.code_model.specs.declared.code.Instruction.{Instruction}
 use Rattle.machine_model.specs.Operands.{Reads}
 use Rattle.machine_model.specs.States.{Loop, Frame, State, Running, Ended, start}
 use Rattle.machine_model.specs.Step.{Move, IsInside, Leads, Step}

@@ -4,8 +4,8 @@ use Rattle.std.proofs.Common.{◌≡◌, ℕ, suc, ◌+◌, ◌-◌, ◌*◌, �
 use Rattle.std.specs.Prelude.{option_map, sum_by}
 use Rattle.std.proofs.Math.Nat.{mul-le-mul_left}
 use Rattle.std.proofs.lemmas.List.Sums.{sum_by-cons}
-use Rattle.vocabulary.specs.Texts.{Text}
-use Rattle.vocabulary.specs.Code.{Code}
+use Rattle.text_model.specs.Texts.{Text}
+use Rattle.code_model.specs.Code.{Code}
 use Rattle.machine_model.specs.States.{Loop}
 use Rattle.machine_model.specs.Form.{body_at}
 use Rattle.machine_model.specs.Budget.{where_outside, where_inside, outside, inside}

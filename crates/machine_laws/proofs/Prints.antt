@@ -2,17 +2,17 @@
 use Rattle.std.proofs.Common.{◌≡◌, ℕ, zero, suc, ◌+◌, ◌*◌, ◌<◌, ◌≤◌, [], length, Option, Some, None, true, sym, ap, ◌∙◌, subst, arith, length-append}
 use Rattle.std.specs.Prelude.{slice_get, nat_lt, if◌then◌else◌, ◌&&◌, option_map}
 use Rattle.std.proofs.lemmas.Bool.{and_parts}
-use Rattle.vocabulary.specs.Texts.{Text}
-use Rattle.vocabulary.specs.UriText.{IsUriText, nothing}
-use Rattle.vocabulary.specs.Writing.{written}
-use Rattle.vocabulary.specs.Cut.{cut}
-use Rattle.vocabulary.specs.Environment.{Environment, member_count, byte_count}
-use Rattle.vocabulary.specs.Code.{Code, reading_at}
-use Rattle.vocabulary.specs.declared.code.Instruction.{Instruction}
-use Rattle.vocabulary.specs.declared.code.Instruction.TheVariants.{Emit, Sep}
-use Rattle.vocabulary.proofs.UriTexts.{IsUriText-append, written-uri}
-use Rattle.vocabulary.proofs.Written.{length-written}
-use Rattle.vocabulary.proofs.Cuts.{length-cut}
+use Rattle.text_model.specs.Texts.{Text}
+use Rattle.text_model.specs.UriText.{IsUriText, nothing}
+use Rattle.text_model.specs.Writing.{written}
+use Rattle.text_model.specs.Cut.{cut}
+use Rattle.environment_model.specs.Environment.{Environment, member_count, byte_count}
+use Rattle.code_model.specs.Code.{Code, reading_at}
+use Rattle.code_model.specs.declared.code.Instruction.{Instruction}
+use Rattle.code_model.specs.declared.code.Instruction.TheVariants.{Emit, Sep}
+use Rattle.text_model.proofs.UriTexts.{IsUriText-append, written-uri}
+use Rattle.text_model.proofs.Written.{length-written}
+use Rattle.text_model.proofs.Cuts.{length-cut}
 use Rattle.machine_model.specs.declared.form.Body.{Body}
 use Rattle.machine_model.specs.Operands.{is_link_text, has_right_operands, literal_at, writing_of}
 use Rattle.machine_model.specs.States.{Frame, Link, NoLink, State, Running, Ended}

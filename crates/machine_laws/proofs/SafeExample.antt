@@ -1,12 +1,12 @@
 -- The laws at one code: it is safe, and what that says of it in numbers; and a code that is not safe.
 use Rattle.std.proofs.Common.{◌≡◌, ℕ, zero, suc, ◌+◌, ◌*◌, ◌≤◌, [], ◌∷◌, length, Some, None, true, refl, arith}
 use Rattle.std.specs.Prelude.{slice_get}
-use Rattle.vocabulary.specs.Texts.{is_unreserved, is_reserved}
-use Rattle.vocabulary.specs.UriText.{IsUriText}
-use Rattle.vocabulary.specs.Environment.{Environment, member_count, byte_count}
-use Rattle.vocabulary.specs.Code.{reading}
-use Rattle.vocabulary.specs.declared.code.Instruction.TheVariants as instruction
-use Rattle.vocabulary.proofs.UriTexts.{IsUriText-character}
+use Rattle.text_model.specs.Texts.{is_unreserved, is_reserved}
+use Rattle.text_model.specs.UriText.{IsUriText}
+use Rattle.environment_model.specs.Environment.{Environment, member_count, byte_count}
+use Rattle.code_model.specs.Code.{reading}
+use Rattle.code_model.specs.declared.code.Instruction.TheVariants as instruction
+use Rattle.text_model.proofs.UriTexts.{IsUriText-character}
 use Rattle.machine_model.specs.Operands.{has_right_operands, is_link_text, literal_at}
 use Rattle.machine_model.specs.States.{End, State, Running, Ended, start}
 use Rattle.machine_model.specs.Runs.{After, IsStuck}

@@ -1,9 +1,9 @@
 -- How a step changes place and loop: five ways for the 27 rules of the machine.
 use Rattle.std.proofs.Common.{◌≡◌, ℕ, ◌+◌, ◌<◌, [], ◌∷◌, Some, None, refl}
-use Rattle.vocabulary.specs.Texts.{Text}
-use Rattle.vocabulary.specs.Environment.{Environment}
-use Rattle.vocabulary.specs.Code.{Code}
-use Rattle.vocabulary.specs.declared.code.Instruction.{Instruction}
+use Rattle.text_model.specs.Texts.{Text}
+use Rattle.environment_model.specs.Environment.{Environment}
+use Rattle.code_model.specs.Code.{Code}
+use Rattle.code_model.specs.declared.code.Instruction.{Instruction}
 use Rattle.machine_model.specs.Values.{List as ListValue}
 use Rattle.machine_model.specs.States.{Loop, Frame, End}
 use Rattle.machine_model.specs.Step.{Move, Ends, Goes, Returns, begun_loop, next_turn, Does, halt, fail, jump, text, list, const, number, no_number, undefined, defined, empty, not_empty, no_member, a_member, equal, different, less, not_less, emit, put_text, cut_text, no_turn, enter, first_turn, later_turn, next_member, leave}

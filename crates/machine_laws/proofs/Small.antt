@@ -3,11 +3,11 @@ use Rattle.std.proofs.Common.{◌≡◌, ℕ, zero, suc, ◌+◌, ◌≤◌, Lis
 use Rattle.std.specs.Prelude.{slice_get, nat_lt, ◌==◌, if◌then◌else◌, ◌&&◌, bytes_eq, sum_by}
 use Rattle.std.proofs.lemmas.Bool.{and_parts}
 use Rattle.std.proofs.lemmas.List.Sums.{sum_by-cons}
-use Rattle.vocabulary.specs.Texts.{Text}
-use Rattle.vocabulary.specs.Environment.{Environment, Meaning, Single, Several, look_up, text_in, members_in, members_of, member_count, byte_count, meaning_bytes, meaning_members}
-use Rattle.vocabulary.specs.Code.{Code, Literal}
-use Rattle.vocabulary.specs.declared.code.Instruction.{Instruction}
-use Rattle.vocabulary.specs.declared.code.Instruction.TheVariants.{Const}
+use Rattle.text_model.specs.Texts.{Text}
+use Rattle.environment_model.specs.Environment.{Environment, Meaning, Single, Several, look_up, text_in, members_in, members_of, member_count, byte_count, meaning_bytes, meaning_members}
+use Rattle.code_model.specs.Code.{Code, Literal}
+use Rattle.code_model.specs.declared.code.Instruction.{Instruction}
+use Rattle.code_model.specs.declared.code.Instruction.TheVariants.{Const}
 use Rattle.machine_model.specs.Operands.{is_compared, has_right_operands, name_at, literal_at, text_of_literal}
 use Rattle.machine_model.specs.Values.{Value, Nothing, Undefined, Text as TextValue, List as ListValue, Number as NumberValue, text_or_undefined}
 use Rattle.machine_model.specs.States.{Loop, Frame, State, Running, Ended, put}

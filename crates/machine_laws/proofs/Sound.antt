@@ -4,12 +4,12 @@ use Rattle.std.specs.Prelude.{nat_lt, ◌||◌, not, option_map, bytes_eq}
 use Rattle.std.specs.List.{AllByRecursion}
 use Rattle.std.proofs.lemmas.Bool.{eqb-true, ltb-true, or_cases, false≢true, cases_lt}
 use Rattle.std.proofs.lemmas.Slice.Eq.{bytes_eq-Decides}
-use Rattle.vocabulary.specs.Texts.{Text}
-use Rattle.vocabulary.specs.Number.{leading_number}
-use Rattle.vocabulary.specs.Environment.{Environment, text_of, members_of}
-use Rattle.vocabulary.specs.Code.{Code, reading_at}
-use Rattle.vocabulary.specs.declared.code.Instruction.{Instruction}
-use Rattle.vocabulary.specs.declared.code.Instruction.TheVariants.{Halt, Fail, Jump, Text as LoadText, List as LoadList, Const, Number, Undef, Empty, NoList, Differ, Less, Emit, Put, Cut, Each, Sep, Next}
+use Rattle.text_model.specs.Texts.{Text}
+use Rattle.text_model.specs.Number.{leading_number}
+use Rattle.environment_model.specs.Environment.{Environment, text_of, members_of}
+use Rattle.code_model.specs.Code.{Code, reading_at}
+use Rattle.code_model.specs.declared.code.Instruction.{Instruction}
+use Rattle.code_model.specs.declared.code.Instruction.TheVariants.{Halt, Fail, Jump, Text as LoadText, List as LoadList, Const, Number, Undef, Empty, NoList, Differ, Less, Emit, Put, Cut, Each, Sep, Next}
 use Rattle.machine_model.specs.declared.form.Body.{Body}
 use Rattle.machine_model.specs.declared.kind.Kind.TheVariants.{Any, OptText, Text as TextKind, List as ListKind, Number as NumberKind}
 use Rattle.machine_model.specs.Operands.{name_at, literal_at}

@@ -2,8 +2,8 @@
 use Rattle.std.proofs.Common.{◌≡◌, ℕ, ◌+◌, ◌*◌, ◌<◌, ◌≤◌, length, Option, Some, None, refl, sym, ap, ◌∙◌, subst, arith}
 use Rattle.std.specs.Prelude.{option_map, sum_by}
 use Rattle.std.proofs.lemmas.List.Sums.{sum_by-cons}
-use Rattle.vocabulary.specs.Environment.{Environment, member_count, byte_count}
-use Rattle.vocabulary.specs.Code.{Code}
+use Rattle.environment_model.specs.Environment.{Environment, member_count, byte_count}
+use Rattle.code_model.specs.Code.{Code}
 use Rattle.machine_model.specs.States.{Loop, Frame, State, Running, Ended}
 use Rattle.machine_model.specs.Step.{Move, Leads, Step}
 use Rattle.machine_model.specs.Runs.{After}

@@ -1,6 +1,6 @@
 -- Sums over places.
 use Rattle.std.proofs.Common.{◌≡◌, ℕ, zero, suc, ◌+◌, ◌-◌, ◌*◌, ◌≤◌, Some, None, refl, sym, subst, arith}
-use Rattle.vocabulary.specs.Code.{Code}
+use Rattle.code_model.specs.Code.{Code}
 use Rattle.machine_model.specs.declared.form.Body.{Body}
 use Rattle.machine_model.specs.Form.{body_at}
 use Rattle.machine_model.specs.Budget.{total, where_outside, where_inside}

@@ -1,8 +1,8 @@
 //! Runs of any code on any environment.
 
 ghost use Rattle.std.specs.Prelude.{◌≡◌, ◌↔◌, ℕ, ◌+◌, ◌*◌, ◌<◌, ◌≤◌, length};
-ghost use Rattle.vocabulary.specs.Code.{Code};
-ghost use Rattle.vocabulary.specs.Environment.{Environment, member_count};
+ghost use Rattle.code_model.specs.Code.{Code};
+ghost use Rattle.environment_model.specs.Environment.{Environment, member_count};
 ghost use Rattle.machine_model.specs.States.{Frame, State, Running};
 ghost use Rattle.machine_model.specs.Runs.{After, EndsAfter, ComesTo, HasOutcome, Outcome};
 ghost use Rattle.machine_model.specs.Next.{course, course_of, outcome_of};

@@ -1,6 +1,6 @@
 //! What the verifier rests on.
 
-ghost use Rattle.vocabulary.specs.Code.{Code};
+ghost use Rattle.code_model.specs.Code.{Code};
 ghost use Rattle.machine_model.specs.Form.{HasGoodForm};
 ghost use Rattle.machine_model.specs.Typable.{IsTypable};
 ghost use Rattle.machine_model.specs.Safe.{IsFileCode, IsSafe};

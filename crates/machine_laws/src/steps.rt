@@ -1,8 +1,8 @@
 //! One step, and the states after many.
 
 ghost use Rattle.std.specs.Prelude.{◌≡◌, ◌↔◌, ℕ, Some};
-ghost use Rattle.vocabulary.specs.Code.{Code};
-ghost use Rattle.vocabulary.specs.Environment.{Environment};
+ghost use Rattle.code_model.specs.Code.{Code};
+ghost use Rattle.environment_model.specs.Environment.{Environment};
 ghost use Rattle.machine_model.specs.States.{State};
 ghost use Rattle.machine_model.specs.Step.{Step};
 ghost use Rattle.machine_model.specs.Runs.{After};

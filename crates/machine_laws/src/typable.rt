@@ -1,7 +1,7 @@
 //! Good form and kinds: what decides them, and that plain kinds suffice.
 
 ghost use Rattle.std.specs.Prelude.{◌≡◌, ◌↔◌, None};
-ghost use Rattle.vocabulary.specs.Code.{Code};
+ghost use Rattle.code_model.specs.Code.{Code};
 ghost use Rattle.machine_model.specs.Form.{HasGoodForm, first_form_fault};
 ghost use Rattle.machine_model.specs.Typable.{IsTypable};
 ghost use Rattle.machine_model.specs.PlainKinds.{IsLeast, IsPlainlyTypable, first_mismatch, plain_at};

@@ -1,8 +1,8 @@
 -- The budgets of small codes.
 use Rattle.std.proofs.Common.{◌≡◌, ℕ, List, [], ◌∷◌, refl, arith}
 use Rattle.std.specs.Prelude.{map}
-use Rattle.vocabulary.specs.Code.{Code, row, reading}
-use Rattle.vocabulary.specs.declared.code.Instruction.TheVariants as instruction
+use Rattle.code_model.specs.Code.{Code, row, reading}
+use Rattle.code_model.specs.declared.code.Instruction.TheVariants as instruction
 use Rattle.machine_model.specs.Form.{body_at}
 use Rattle.machine_model.specs.Budget.{longest_compared, total, Sums, sums_of, steps_bound, bytes_bound}
 use Rattle.machine_model.proofs.Listings.{list_code, issn_code, x_code, sample, with_fields, with_instruction}

@@ -2,9 +2,9 @@
 use Rattle.std.proofs.Common.{◌≡◌, ℕ, zero, suc, length, Option, Some, None, Bool, true, false, refl, sym, ap, ◌∙◌}
 use Rattle.std.specs.Prelude.{◌↔◌, option_and_then, nat_lt, nat_le, if◌then◌else◌}
 use Rattle.std.proofs.lemmas.Bool.{lt-ltb, le-leb, ltb-true, leb-true, and_parts, and_from}
-use Rattle.vocabulary.specs.Environment.{Environment}
-use Rattle.vocabulary.specs.Code.{Code}
-use Rattle.vocabulary.specs.declared.code.Instruction.{Instruction}
+use Rattle.environment_model.specs.Environment.{Environment}
+use Rattle.code_model.specs.Code.{Code}
+use Rattle.code_model.specs.declared.code.Instruction.{Instruction}
 use Rattle.machine_model.specs.Operands.{Reads}
 use Rattle.machine_model.specs.States.{Loop, Frame, State, Running, Ended}
 use Rattle.machine_model.specs.Step.{Move, Ends, Goes, Returns, IsInside, IsOnward, Leads, Step}

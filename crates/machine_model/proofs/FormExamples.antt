@@ -1,9 +1,9 @@
 -- The faults of form of small codes.
 use Rattle.std.proofs.Common.{◌≡◌, ℕ, List, [], ◌∷◌, Option, Some, None, refl}
 use Rattle.std.specs.Prelude.{map}
-use Rattle.vocabulary.specs.Code.{Code, row, reading}
-use Rattle.vocabulary.specs.declared.code.Instruction.{Instruction}
-use Rattle.vocabulary.specs.declared.code.Instruction.TheVariants as instruction
+use Rattle.code_model.specs.Code.{Code, row, reading}
+use Rattle.code_model.specs.declared.code.Instruction.{Instruction}
+use Rattle.code_model.specs.declared.code.Instruction.TheVariants as instruction
 use Rattle.machine_model.specs.declared.form.Body.{Body}
 use Rattle.machine_model.specs.declared.form.FormFault.{FormFault}
 use Rattle.machine_model.specs.declared.form.FormFault.TheVariants as fault

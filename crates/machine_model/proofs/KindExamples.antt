@@ -1,9 +1,9 @@
 -- Kinds of small codes: what is carried where, and the first mismatch.
 use Rattle.std.proofs.Common.{◌≡◌, ℕ, List, [], ◌∷◌, Option, Some, None, true, false, refl}
 use Rattle.std.specs.Prelude.{map, option_map, slice_index_or}
-use Rattle.vocabulary.specs.Code.{Code, reading}
-use Rattle.vocabulary.specs.declared.code.Instruction.{Instruction}
-use Rattle.vocabulary.specs.declared.code.Instruction.TheVariants as instruction
+use Rattle.code_model.specs.Code.{Code, reading}
+use Rattle.code_model.specs.declared.code.Instruction.{Instruction}
+use Rattle.code_model.specs.declared.code.Instruction.TheVariants as instruction
 use Rattle.machine_model.specs.declared.form.Body.{Body}
 use Rattle.machine_model.specs.declared.kind.Kind.{Kind}
 use Rattle.machine_model.specs.declared.kind.Kind.TheVariants.{Any, OptText, Text, List as ListKind, Number}

@@ -1,12 +1,12 @@
 -- Codes and environments for the examples.
 use Rattle.std.proofs.Common.{ℕ, ◌+◌, List, [], ◌∷◌, ◌++◌, true, false}
 use Rattle.std.specs.Prelude.{codes, take, drop, map}
-use Rattle.vocabulary.specs.Texts.{Text}
-use Rattle.vocabulary.specs.Code.{Name, Literal, Code, spelling}
-use Rattle.vocabulary.specs.Environment.{Environment, Single, Several}
-use Rattle.vocabulary.specs.declared.code.Instr.{Instr}
-use Rattle.vocabulary.specs.declared.code.Instruction.{Instruction}
-use Rattle.vocabulary.specs.declared.code.Instruction.TheVariants as instruction
+use Rattle.text_model.specs.Texts.{Text}
+use Rattle.code_model.specs.Code.{Name, Literal, Code, spelling}
+use Rattle.environment_model.specs.Environment.{Environment, Single, Several}
+use Rattle.code_model.specs.declared.code.Instr.{Instr}
+use Rattle.code_model.specs.declared.code.Instruction.{Instruction}
+use Rattle.code_model.specs.declared.code.Instruction.TheVariants as instruction
 
 abbrev pub text_name : Text → Name
 text_name t = record { list = false; text = t }

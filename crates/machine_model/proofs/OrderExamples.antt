@@ -1,9 +1,9 @@
 -- The order of the checks of form: of two that fail at a place, the earlier is its fault.
 use Rattle.std.proofs.Common.{◌≡◌, ℕ, List, [], ◌∷◌, Option, Some, refl}
 use Rattle.std.specs.Prelude.{map}
-use Rattle.vocabulary.specs.Code.{row, reading}
-use Rattle.vocabulary.specs.declared.code.Instr.{Instr}
-use Rattle.vocabulary.specs.declared.code.Instruction.TheVariants as instruction
+use Rattle.code_model.specs.Code.{row, reading}
+use Rattle.code_model.specs.declared.code.Instr.{Instr}
+use Rattle.code_model.specs.declared.code.Instruction.TheVariants as instruction
 use Rattle.machine_model.specs.declared.form.FormFault.{FormFault}
 use Rattle.machine_model.specs.declared.form.FormFault.TheVariants as fault
 use Rattle.machine_model.specs.First.{Located, first_below}

@@ -1,14 +1,14 @@
 -- Runs of small codes: where each comes to, and after how many steps.
 use Rattle.std.proofs.Common.{◌≡◌, ℕ, List, [], ◌∷◌, refl, ap, arith}
 use Rattle.std.specs.Prelude.{codes, map}
-use Rattle.vocabulary.specs.Texts.{Text, is_unreserved, is_reserved}
-use Rattle.vocabulary.specs.Writing.{written_u, written_ur}
-use Rattle.vocabulary.specs.Cut.{code_points, with_triplets}
-use Rattle.vocabulary.specs.Number.{leading_number, value_from}
-use Rattle.vocabulary.specs.Code.{Code, row, reading}
-use Rattle.vocabulary.specs.Environment.{Environment, look_up}
-use Rattle.vocabulary.specs.declared.code.Instruction.{Instruction}
-use Rattle.vocabulary.specs.declared.code.Instruction.TheVariants as instruction
+use Rattle.text_model.specs.Texts.{Text, is_unreserved, is_reserved}
+use Rattle.text_model.specs.Writing.{written_u, written_ur}
+use Rattle.text_model.specs.Cut.{code_points, with_triplets}
+use Rattle.text_model.specs.Number.{leading_number, value_from}
+use Rattle.code_model.specs.Code.{Code, row, reading}
+use Rattle.environment_model.specs.Environment.{Environment, look_up}
+use Rattle.code_model.specs.declared.code.Instruction.{Instruction}
+use Rattle.code_model.specs.declared.code.Instruction.TheVariants as instruction
 use Rattle.machine_model.specs.Operands.{has_right_operands}
 use Rattle.machine_model.specs.States.{Link, NoLink, Running, Ended, start, printing}
 use Rattle.machine_model.specs.Runs.{Outcome}

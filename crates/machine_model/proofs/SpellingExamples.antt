@@ -1,10 +1,10 @@
 -- How each instruction is spelled, and what is read of fields: the table of instructions as numbers.
 use Rattle.std.proofs.Common.{◌≡◌, List, [], ◌∷◌, Option, Some, None, refl}
 use Rattle.std.specs.Prelude.{map}
-use Rattle.vocabulary.specs.Code.{row, spelling, reading}
-use Rattle.vocabulary.specs.declared.code.Instr.{Instr}
-use Rattle.vocabulary.specs.declared.code.Instruction.{Instruction}
-use Rattle.vocabulary.specs.declared.code.Instruction.TheVariants as instruction
+use Rattle.code_model.specs.Code.{row, spelling, reading}
+use Rattle.code_model.specs.declared.code.Instr.{Instr}
+use Rattle.code_model.specs.declared.code.Instruction.{Instruction}
+use Rattle.code_model.specs.declared.code.Instruction.TheVariants as instruction
 
 -- an instruction, what spells it, and the same operation with other numbers in the fields that it does not use
 record Row : Type 0 where

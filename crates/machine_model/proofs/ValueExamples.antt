@@ -1,14 +1,14 @@
 -- What texts and names are worth to the machine, and which value each instruction takes.
 use Rattle.std.proofs.Common.{◌≡◌, List, [], ◌∷◌, Some, None, Bool, true, false, refl}
 use Rattle.std.specs.Prelude.{codes, map, is_some}
-use Rattle.vocabulary.specs.Texts.{is_unreserved}
-use Rattle.vocabulary.specs.Writing.{written_u}
-use Rattle.vocabulary.specs.Cut.{code_points}
-use Rattle.vocabulary.specs.Number.{leading_number, value_from}
-use Rattle.vocabulary.specs.Environment.{Environment, Single, Several, look_up, text_of, members_of, member_count, byte_count}
-use Rattle.vocabulary.specs.Code.{reading}
-use Rattle.vocabulary.specs.declared.code.Instruction.{Instruction}
-use Rattle.vocabulary.specs.declared.code.Instruction.TheVariants as instruction
+use Rattle.text_model.specs.Texts.{is_unreserved}
+use Rattle.text_model.specs.Writing.{written_u}
+use Rattle.text_model.specs.Cut.{code_points}
+use Rattle.text_model.specs.Number.{leading_number, value_from}
+use Rattle.environment_model.specs.Environment.{Environment, Single, Several, look_up, text_of, members_of, member_count, byte_count}
+use Rattle.code_model.specs.Code.{reading}
+use Rattle.code_model.specs.declared.code.Instruction.{Instruction}
+use Rattle.code_model.specs.declared.code.Instruction.TheVariants as instruction
 use Rattle.machine_model.specs.Operands.{has_right_operands}
 use Rattle.machine_model.specs.Values.{Value, Nothing, Undefined, Text as TextValue, List as ListValue, Number as NumberValue}
 use Rattle.machine_model.specs.States.{Frame, Running, start, holding}

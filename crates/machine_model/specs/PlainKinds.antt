@@ -1,7 +1,7 @@
 -- Plain kinds: the kinds of a place from those of earlier places alone.
 use Rattle.std.specs.Prelude.{◌≡◌, ℕ, zero, suc, List, [], ◌∷◌, Option, Some, None, ◌==◌, if◌then◌else◌, length}
 use Rattle.std.specs.List.{AllByRecursion}
-use Rattle.vocabulary.specs.Code.{Code}
+use Rattle.code_model.specs.Code.{Code}
 use Rattle.machine_model.specs.Operands.{register_count}
 use Rattle.machine_model.specs.First.{Located, or_else, first_below}
 use Rattle.machine_model.specs.Kinds.{kind_le, kind_join, Kinds, any_kinds, IsBelow, Edge, Need, needs_at, onward_at, back_at}

@@ -1,8 +1,8 @@
 -- What rules mean for a query, from the steps that give it.
 use Rattle.std.proofs.Common.{◌≡◌, List, [], Option, None, ap, ◌∙◌}
 use Rattle.std.specs.Borrow.{Bor}
-use Rattle.vocabulary.specs.Texts.{Text, texts_of}
-use Rattle.vocabulary.specs.Environment.{Environment}
+use Rattle.text_model.specs.Texts.{Text, texts_of}
+use Rattle.environment_model.specs.Environment.{Environment}
 use Rattle.kev_read.specs.Pairs.{pairs_of}
 use Rattle.kev_read.specs.Refusal.{refusal}
 use Rattle.kev_read.specs.Filling.{filled}

@@ -4,7 +4,7 @@ use Rattle.std.specs.Prelude.{◌≢◌, codes}
 use Rattle.std.specs.Borrow.{Bor}
 use Rattle.std.proofs.Common.{drop}
 use Rattle.std.proofs.lemmas.List.{length-map, map-append}
-use Rattle.vocabulary.specs.Texts.{Text, texts_of}
+use Rattle.text_model.specs.Texts.{Text, texts_of}
 use Rattle.openlink.specs.Words.{NoExpandWords, begins_with_option, list_options}
 
 two_words : (rest : List Text) (template query : Text) → rest ≡ template ∷ query ∷ [] → length rest ≡ 2

@@ -1,7 +1,7 @@
 -- What each command prints, and why it prints nothing.
 use Rattle.std.specs.Prelude.{◌≡◌, List, [], ◌∷◌, Bool, false, ◌||◌, codes}
 use Rattle.std.specs.Str.{bytes_eq}
-use Rattle.vocabulary.specs.Texts.{Text}
+use Rattle.text_model.specs.Texts.{Text}
 use Rattle.openlink.specs.Expand.{IsExpandLine, FailsToExpand}
 use Rattle.openlink.specs.Show.{IsShowLine, FailsToShow}
 use Rattle.openlink.specs.Link.{IsLinkLine, FailsToLink}

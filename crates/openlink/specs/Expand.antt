@@ -1,7 +1,7 @@
 -- What `expand` prints, from its words to the bytes, and why it prints nothing.
 use Rattle.std.specs.Prelude.{◌≡◌, List, [], ◌∷◌, ◌++◌, ◌⊎◌, Some, None}
-use Rattle.vocabulary.specs.Texts.{Text}
-use Rattle.vocabulary.specs.Environment.{look_up}
+use Rattle.text_model.specs.Texts.{Text}
+use Rattle.environment_model.specs.Environment.{look_up}
 use Rattle.uri_grammar.specs.declared.parts.Part.{Part}
 use Rattle.uri_grammar.specs.Texts.{IsTemplate, IsRefused}
 use Rattle.uri_template.specs.Expansion.{expansion}

@@ -1,6 +1,6 @@
 -- Faults: what a crate's error becomes, and the exit statuses.
 use Rattle.std.specs.Prelude.{◌≡◌, ℕ, Some}
-use Rattle.vocabulary.specs.Texts.{Text}
+use Rattle.text_model.specs.Texts.{Text}
 use Rattle.uri_grammar.specs.declared.error.TemplateError.{TemplateError}
 use Rattle.uri_grammar.specs.declared.error.TemplateErrorKind.{TemplateErrorKind}
 use Rattle.uri_grammar.specs.declared.error.TemplateErrorKind.TheVariants as template

@@ -1,7 +1,7 @@
 -- What `show` prints of a code file.
 use Rattle.std.specs.Prelude.{◌≡◌, ◌≢◌, ◌⊎◌, List, [], ◌∷◌, length}
-use Rattle.vocabulary.specs.Texts.{Text}
-use Rattle.vocabulary.specs.Code.{Code}
+use Rattle.text_model.specs.Texts.{Text}
+use Rattle.code_model.specs.Code.{Code}
 use Rattle.code_file.specs.Grammar.{IsCodeFile}
 use Rattle.code_file.specs.Fault.{IsFirstFault}
 use Rattle.code_file.specs.Listing.{listing}

@@ -2,7 +2,7 @@
 
 ghost use Rattle.std.specs.Prelude.{◌≡◌, ◌≢◌, ◌⊎◌, codes, string_bytes, IfOk, IfErr, OnOk};
 ghost use Rattle.std.specs.Io.KnownBytes.{Appends};
-ghost use Rattle.vocabulary.specs.Texts.{Text, texts_of};
+ghost use Rattle.text_model.specs.Texts.{Text, texts_of};
 ghost use Rattle.openlink.specs.Commands.{Prints, Fails, OutputFails};
 ghost use Rattle.openlink.specs.Faults.{status_of, IsDevice};
 ghost use Rattle.openlink.specs.declared.fault.Fault.{Fault};

@@ -1,7 +1,7 @@
 //! `expand [--list NAME].. TEMPLATE QUERY`: the expansion of a template for a request.
 
 ghost use Rattle.std.specs.Prelude.{IfOk, IfErr, string_bytes};
-ghost use Rattle.vocabulary.specs.Texts.{texts_of};
+ghost use Rattle.text_model.specs.Texts.{texts_of};
 ghost use Rattle.openlink.specs.Expand.{IsExpansion, IsExpandFault, IsExpandLine, FailsToExpand};
 
 use crate::fault::Fault;

@@ -1,7 +1,7 @@
 //! `link RULES QUERY`: the link that a rule file gives for a request.
 
 ghost use Rattle.std.specs.Prelude.{Some, IfOk, IfErr, string_bytes};
-ghost use Rattle.vocabulary.specs.Texts.{texts_of};
+ghost use Rattle.text_model.specs.Texts.{texts_of};
 ghost use Rattle.openlink.specs.Link.{IsMeaning, IsLinkFault, IsLinkLine, FailsToLink};
 
 use crate::fault::Fault;

@@ -1,7 +1,7 @@
 //! `show CODE`: the listing of a code file.
 
 ghost use Rattle.std.specs.Prelude.{IfOk, IfErr, string_bytes};
-ghost use Rattle.vocabulary.specs.Texts.{texts_of};
+ghost use Rattle.text_model.specs.Texts.{texts_of};
 ghost use Rattle.openlink.specs.Show.{IsListing, IsShowFault, IsShowLine, FailsToShow};
 
 use crate::fault::Fault;

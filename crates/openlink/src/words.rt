@@ -1,6 +1,6 @@
 //! The words of a command line, told apart.
 
-ghost use Rattle.vocabulary.specs.Texts.{texts_of};
+ghost use Rattle.text_model.specs.Texts.{texts_of};
 ghost use Rattle.std.specs.Prelude.{◌≡◌, ◌⊎◌, ◌∷◌, codes, true, drop, IfOk, IfErr, [], length, ◌≢◌, IfSome, IfNone};
 ghost use Rattle.openlink.specs.Words.{AreExpandWords, NoExpandWords, begins_with_option, behind_name};
 ghost use Rattle.std.specs.Option.{option_map};

@@ -7,7 +7,7 @@ use Rattle.std.proofs.lemmas.Bool.{or_cases, eqb-true, cases_lt, cases_Bool, bot
 use Rattle.std.proofs.lemmas.List.{append-nil, append_assoc}
 use Rattle.std.proofs.lemmas.List.Elements.{recursion_from_All, All-from_get_or}
 use Rattle.std.proofs.lemmas.Str.{encode_ascii, inside_one, length-le-encodes}
-use Rattle.vocabulary.specs.Texts.{Text}
+use Rattle.text_model.specs.Texts.{Text}
 use Rattle.rule_parser.specs.Statements.{escaped, is_special}
 
 -- the text that is left, behind a backslash that was read and waits for its character

@@ -3,7 +3,7 @@ use Rattle.std.proofs.Common.{◌≡◌, ℕ, List, [], ◌∷◌, ◌++◌, tru
 use Rattle.std.specs.Str.Lines.{lines}
 use Rattle.std.proofs.lemmas.Bool.{both_ways}
 use Rattle.std.proofs.lemmas.List.{append-nil}
-use Rattle.vocabulary.specs.Texts.{Text}
+use Rattle.text_model.specs.Texts.{Text}
 use Rattle.uri_grammar.specs.declared.parts.Part.{Part}
 use Rattle.uri_grammar.specs.declared.error.TemplateErrorKind.{TemplateErrorKind}
 use Rattle.uri_grammar.specs.Texts.{IsTemplate, IsRefused as IsRefusedTemplate}

@@ -3,7 +3,7 @@ use Rattle.std.proofs.Common.{◌≡◌, ◌≢◌, ◌≤◌, [], ◌∷◌, �
 use Rattle.std.specs.List.{list_all}
 use Rattle.std.specs.Char.{is_ascii_digit}
 use Rattle.std.proofs.lemmas.List.{append_cancel_right}
-use Rattle.vocabulary.specs.Texts.{Text}
+use Rattle.text_model.specs.Texts.{Text}
 use Rattle.uri_grammar.specs.Names.{IsName}
 use Rattle.rule_parser.specs.declared.rule.Bound.{Bound}
 use Rattle.rule_parser.specs.declared.rule.Bound.TheVariants as bound

@@ -3,7 +3,7 @@ use Rattle.std.proofs.Common.{◌≡◌, ℕ, ◌+◌, ◌<◌, ◌≤◌, zero,
 use Rattle.std.specs.List.{slice_index}
 use Rattle.std.proofs.lemmas.List.{append-nil, map-append, length-map, length-take, take_more, take_all}
 use Rattle.std.proofs.lemmas.List.Elements.{All-nil}
-use Rattle.vocabulary.specs.Texts.{Text}
+use Rattle.text_model.specs.Texts.{Text}
 use Rattle.rule_parser.specs.declared.error.RuleError.{RuleError}
 use Rattle.rule_parser.specs.declared.error.RuleErrorKind.TheVariants as kind
 use Rattle.rule_parser.specs.declared.error.RuleErrorKind.{RuleErrorKind}

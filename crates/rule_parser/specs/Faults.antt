@@ -1,7 +1,7 @@
 -- The first fault of bytes that spell no rules: lines that begin a set of rules, and then a line that cannot go on with it.
 use Rattle.std.specs.Prelude.{◌≡◌, ℕ, ◌+◌, ◌<◌, ◌≤◌, List, [], ◌∷◌, ◌++◌, Bool, true, false, Option, Some, None, is_some, is_none, ◌&&◌, ◌==◌, map, length, slice_index, All, IsUtf8, ◌⊎◌, if◌then◌else◌}
 use Rattle.std.specs.Str.Lines.{lines}
-use Rattle.vocabulary.specs.Texts.{Text}
+use Rattle.text_model.specs.Texts.{Text}
 use Rattle.uri_grammar.specs.declared.parts.Part.{Part}
 use Rattle.uri_grammar.specs.declared.error.TemplateErrorKind.{TemplateErrorKind}
 use Rattle.uri_grammar.specs.Texts.{IsTemplate, IsRefused as IsRefusedTemplate}

@@ -1,7 +1,7 @@
 -- Which bytes spell which rules.
 use Rattle.std.specs.Prelude.{◌≡◌, ℕ, ◌≤◌, List, [], ◌∷◌, Bool, false, not, ◌==◌, filter, map, length, IsUtf8}
 use Rattle.std.specs.Str.Lines.{lines}
-use Rattle.vocabulary.specs.Texts.{Text}
+use Rattle.text_model.specs.Texts.{Text}
 use Rattle.rule_parser.specs.Rules.{RuleSet, IsSound}
 use Rattle.rule_parser.specs.Statements.{line_of, statements}
 

@@ -3,10 +3,10 @@ use Rattle.std.specs.Prelude.{ℕ, [], ◌∷◌, Option, Some, None, Bool, true
 use Rattle.std.specs.List.{list_all, find}
 use Rattle.std.specs.Option.{option_map}
 use Rattle.std.specs.Str.{bytes_eq}
-use Rattle.vocabulary.specs.Texts.{Text}
-use Rattle.vocabulary.specs.Number.{leading_number}
+use Rattle.text_model.specs.Texts.{Text}
+use Rattle.text_model.specs.Number.{leading_number}
 use Rattle.uri_template.specs.Expansion.{expansion}
-use Rattle.vocabulary.specs.Environment.{Environment, LookUp, Meaning, Single, Several, look_up, view, text_in, members_in, is_among}
+use Rattle.environment_model.specs.Environment.{Environment, LookUp, Meaning, Single, Several, look_up, view, text_in, members_in, is_among}
 use Rattle.rule_parser.specs.declared.rule.Bound.{Bound}
 use Rattle.rule_parser.specs.declared.rule.Bound.TheVariants as bound
 use Rattle.rule_parser.specs.declared.rule.Guard.{Guard}

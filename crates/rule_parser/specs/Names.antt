@@ -1,8 +1,8 @@
 -- Which names stand for lists.
 use Rattle.std.specs.Prelude.{List, [], ◌∷◌, ◌++◌, Bool, not, filter, codes}
 use Rattle.std.specs.Str.{bytes_eq}
-use Rattle.vocabulary.specs.Texts.{Text}
-use Rattle.vocabulary.specs.Environment.{is_among}
+use Rattle.text_model.specs.Texts.{Text}
+use Rattle.environment_model.specs.Environment.{is_among}
 
 -- the keys of ANSI/NISO Z39.88 that can come more than once: authors, and identifiers of the referent
 abbrev pub standard_lists : List Text

@@ -1,7 +1,7 @@
 -- How far the lines of a rule text were read.
 use Rattle.std.specs.Prelude.{◌≡◌, ℕ, [], ◌∷◌, ◌++◌, Some, None, IfSome, length, ◌⊎◌}
 use Rattle.std.specs.Option.{option_map}
-use Rattle.vocabulary.specs.Texts.{Text}
+use Rattle.text_model.specs.Texts.{Text}
 use Rattle.rule_parser.specs.declared.error.RuleError.{RuleError}
 use Rattle.rule_parser.specs.declared.error.RuleErrorKind.TheVariants.{NoLink}
 use Rattle.rule_parser.specs.declared.error.TheConstants.{NO_MEMORY}

@@ -1,7 +1,7 @@
 -- What a line says, and how it is spelled.
 use Rattle.std.specs.Prelude.{ℕ, List, [], ◌∷◌, ◌++◌, map, Bool, ◌||◌, ◌==◌, codes, if◌then◌else◌}
 use Rattle.std.specs.List.{flat_map}
-use Rattle.vocabulary.specs.Texts.{Text}
+use Rattle.text_model.specs.Texts.{Text}
 use Rattle.uri_grammar.specs.Names.{IsName}
 use Rattle.rule_parser.specs.declared.rule.Bound.{Bound}
 use Rattle.rule_parser.specs.declared.rule.Bound.TheVariants as bound

@@ -3,7 +3,7 @@
 ghost use Rattle.std.specs.Prelude.{◌≡◌, IfOk, IfSome, string_bytes};
 ghost use Rattle.std.specs.List.{list_all};
 ghost use Rattle.std.specs.Option.{option_map};
-ghost use Rattle.vocabulary.specs.UriText.{IsUriText};
+ghost use Rattle.text_model.specs.UriText.{IsUriText};
 ghost use Rattle.rule_parser.specs.Meaning.{guard_holds as is_held, meaning as meaning_of};
 
 use crate::guards::all_hold;

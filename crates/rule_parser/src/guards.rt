@@ -4,8 +4,8 @@ ghost use Rattle.std.specs.Prelude.{◌≡◌, ◌<◌, [], length, slice_index_
 ghost use Rattle.std.specs.Str.{bytes_eq};
 ghost use Rattle.std.specs.List.{list_all};
 ghost use Rattle.std.specs.Option.{option_and_then};
-ghost use Rattle.vocabulary.specs.Environment.{text_in, is_among};
-ghost use Rattle.vocabulary.specs.Number.{leading_number as number_of};
+ghost use Rattle.environment_model.specs.Environment.{text_in, is_among};
+ghost use Rattle.text_model.specs.Number.{leading_number as number_of};
 ghost use Rattle.target_vars.specs.Members.{members_left};
 ghost use Rattle.rule_parser.specs.Meaning.{is_defined as stands_for_something, is_given as is_not_empty, is_text, bound_number as number_of_bound, is_at_least, is_at_most, is_within, guard_holds as is_held};
 

@@ -1,7 +1,7 @@
 //! What holds of every rule text.
 
 ghost use Rattle.std.specs.Prelude.{◌≡◌, ℕ};
-ghost use Rattle.vocabulary.specs.Texts.{Text};
+ghost use Rattle.text_model.specs.Texts.{Text};
 ghost use Rattle.rule_parser.specs.Rules.{RuleSet};
 ghost use Rattle.rule_parser.specs.Grammar.{IsRuleText};
 ghost use Rattle.rule_parser.specs.Faults.{IsRefused};

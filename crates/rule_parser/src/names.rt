@@ -1,5 +1,5 @@
 ghost use Rattle.std.specs.Prelude.{◌≡◌, IfOk};
-ghost use Rattle.vocabulary.specs.Environment.{is_among as is_one_of};
+ghost use Rattle.environment_model.specs.Environment.{is_among as is_one_of};
 ghost use Rattle.rule_parser.specs.Names.{is_list as stands_for_list};
 
 use std::alloc::{AllocError, Global};

@@ -3,9 +3,9 @@ use Rattle.std.proofs.Common.{◌≡◌, ℕ, ◌+◌, ◌<◌, ◌≤◌, List,
 use Rattle.std.proofs.lemmas.List.{length-map, map-append}
 use Rattle.std.proofs.lemmas.List.Elements.{All-push, All-nil}
 use Rattle.std.proofs.lemmas.List.Sums.{sum_by_push}
-use Rattle.vocabulary.specs.Texts.{Text}
-use Rattle.vocabulary.specs.Environment.{Environment, Entry, Meaning, Single, Several, look_up, is_there, text_in, text_of, byte_count, with_text, with_member}
-use Rattle.vocabulary.proofs.Environments.{byte_count-with_text, byte_count-with_member, with_text-new, with_member-new}
+use Rattle.text_model.specs.Texts.{Text}
+use Rattle.environment_model.specs.Environment.{Environment, Entry, Meaning, Single, Several, look_up, is_there, text_in, text_of, byte_count, with_text, with_member}
+use Rattle.environment_model.proofs.Environments.{byte_count-with_text, byte_count-with_member, with_text-new, with_member-new}
 use Rattle.target_vars.specs.EnvValue.{EachNameOnce}
 use Rattle.target_vars.specs.Layout.{piece, meaning_in, entries_in, laid_entries, span_count, spans_of, IsPiece, IsPlace, IsLaid}
 use Rattle.target_vars.specs.declared.place.Span.{Span}

@@ -5,9 +5,9 @@ use Rattle.std.proofs.lemmas.List.{take-append-le, drop-append-le, drop_more}
 use Rattle.std.proofs.lemmas.List.Quantifiers.{position-Some}
 use Rattle.std.proofs.lemmas.List.Sums.{sum_by-cons, sum_by-append}
 use Rattle.std.proofs.lemmas.Option.{slice_get_within, get_or_from_slice_get}
-use Rattle.vocabulary.specs.Texts.{Text}
-use Rattle.vocabulary.specs.Environment.{Entry, Several, look_up, is_there, member_count, meaning_members}
-use Rattle.vocabulary.proofs.Environments.{look_up-empty, look_up-same, look_up-other, look_up-append, member_count-cons}
+use Rattle.text_model.specs.Texts.{Text}
+use Rattle.environment_model.specs.Environment.{Entry, Several, look_up, is_there, member_count, meaning_members}
+use Rattle.environment_model.proofs.Environments.{look_up-empty, look_up-same, look_up-other, look_up-append, member_count-cons}
 use Rattle.target_vars.specs.Layout.{meaning_in, entries_in, span_count, spans_of}
 use Rattle.target_vars.specs.declared.place.Named.{Named}
 use Rattle.target_vars.specs.declared.place.Place.{Place}

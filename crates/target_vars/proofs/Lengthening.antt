@@ -5,9 +5,9 @@ use Rattle.std.proofs.lemmas.List.Elements.{All-append, All-cons, All-take, All-
 use Rattle.std.proofs.lemmas.List.Edits.{length-insert}
 use Rattle.std.proofs.lemmas.List.Sums.{sum_by_push, sum_by-set}
 use Rattle.std.proofs.lemmas.Option.{slice_get_within, get_or_from_slice_get}
-use Rattle.vocabulary.specs.Texts.{Text}
-use Rattle.vocabulary.specs.Environment.{Several, text_in, text_of, with_member, more}
-use Rattle.vocabulary.proofs.Environments.{byte_count-with_member, with_member-append, with_member-same}
+use Rattle.text_model.specs.Texts.{Text}
+use Rattle.environment_model.specs.Environment.{Several, text_in, text_of, with_member, more}
+use Rattle.environment_model.proofs.Environments.{byte_count-with_member, with_member-append, with_member-same}
 use Rattle.target_vars.specs.Layout.{piece, meaning_in, entries_in, laid_entries, span_count, spans_of, longer, IsPiece, IsLaid}
 use Rattle.target_vars.specs.declared.place.Span.{Span}
 use Rattle.target_vars.specs.declared.place.Named.{Named}

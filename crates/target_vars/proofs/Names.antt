@@ -1,9 +1,9 @@
 -- Each name stays there once.
 use Rattle.std.proofs.Common.{◌≡◌, [], ◌∷◌, ◌++◌, Bool, true, false, is_some, bytes_eq, refl, sym, ap, ◌∙◌, subst}
 use Rattle.std.proofs.lemmas.Slice.Eq.{bytes_eq-Decides}
-use Rattle.vocabulary.specs.Texts.{Text}
-use Rattle.vocabulary.specs.Environment.{Environment, Entry, Several, is_there, with_member}
-use Rattle.vocabulary.proofs.Environments.{look_up-empty, look_up-other, other_in_front, absent_behind, is_there-append, with_member-new, with_member-same, with_member-other, is_there-with_member}
+use Rattle.text_model.specs.Texts.{Text}
+use Rattle.environment_model.specs.Environment.{Environment, Entry, Several, is_there, with_member}
+use Rattle.environment_model.proofs.Environments.{look_up-empty, look_up-other, other_in_front, absent_behind, is_there-append, with_member-new, with_member-same, with_member-other, is_there-with_member}
 use Rattle.target_vars.specs.EnvValue.{EachNameOnce}
 
 differs_back : (a b : Text) → bytes_eq a b ≡ false → bytes_eq b a ≡ false

@@ -7,8 +7,8 @@ use Rattle.std.specs.Prelude.{slice_range}
 use Rattle.std.proofs.lemmas.List.Quantifiers.{position-Some}
 use Rattle.std.proofs.lemmas.Map.Keys.{any_passes_from_place}
 use Rattle.std.proofs.lemmas.Option.{slice_get-get_or, slice_get_read}
-use Rattle.vocabulary.specs.Texts.{Text}
-use Rattle.vocabulary.specs.Environment.{Meaning, look_up, is_there, text_in, text_of, members_in, members_of, member_count}
+use Rattle.text_model.specs.Texts.{Text}
+use Rattle.environment_model.specs.Environment.{Meaning, look_up, is_there, text_in, text_of, members_in, members_of, member_count}
 use Rattle.target_vars.specs.Layout.{piece, meaning_in, laid_entries, span_count, spans_of, IsLaid, IsPiece, IsPieces}
 use Rattle.target_vars.specs.declared.place.Span.{Span}
 use Rattle.target_vars.specs.declared.place.Named.{Named}

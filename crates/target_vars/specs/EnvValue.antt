@@ -1,7 +1,7 @@
 -- What callers see of an `Env`.
 use Rattle.std.specs.Prelude.{◌≡◌, Bool, false, is_some, [], ◌∷◌}
-use Rattle.vocabulary.specs.Texts.{Text}
-use Rattle.vocabulary.specs.Environment.{Environment, is_there, text_of}
+use Rattle.text_model.specs.Texts.{Text}
+use Rattle.environment_model.specs.Environment.{Environment, is_there, text_of}
 
 pub record EnvValue : Type 0 where
   pub entries : Environment

@@ -1,8 +1,8 @@
 -- How the entries of an `Env` lie in its buffer and its spans.
 use Rattle.std.specs.Prelude.{◌≡◌, ℕ, ◌+◌, ◌≤◌, List, [], ◌∷◌, map, take, drop, length, slice_range, sum_by, string_bytes, All}
 use Rattle.std.specs.Str.{IsCharBoundary}
-use Rattle.vocabulary.specs.Texts.{Text}
-use Rattle.vocabulary.specs.Environment.{Environment, Meaning, Single, Several, byte_count}
+use Rattle.text_model.specs.Texts.{Text}
+use Rattle.environment_model.specs.Environment.{Environment, Meaning, Single, Several, byte_count}
 use Rattle.target_vars.specs.EnvValue.{EachNameOnce}
 use Rattle.target_vars.specs.declared.place.Span.{Span}
 use Rattle.target_vars.specs.declared.place.Named.{Named}

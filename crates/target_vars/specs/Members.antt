@@ -1,6 +1,6 @@
 -- What callers see of the members of a list.
 use Rattle.std.specs.Prelude.{List, map}
-use Rattle.vocabulary.specs.Texts.{Text}
+use Rattle.text_model.specs.Texts.{Text}
 use Rattle.target_vars.specs.Layout.{piece}
 use Rattle.target_vars.specs.declared.members.Members.{Members}
 

@@ -1,6 +1,6 @@
 ghost use Rattle.std.specs.Prelude.{◌≡◌, ◌+◌, ◌<◌, ◌≤◌, ◌↔◌, ◌⊎◌, true, false, not, [], length, slice_get, IfOk, IfSome, IsTrue, OnOk, OnErr, IsUtf8};
 ghost use Rattle.std.specs.Option.{option_copied};
-ghost use Rattle.vocabulary.specs.Environment.{is_there, text_of, members_of, byte_count, member_count, with_text, with_member};
+ghost use Rattle.environment_model.specs.Environment.{is_there, text_of, members_of, byte_count, member_count, with_text, with_member};
 ghost use Rattle.target_vars.specs.EnvValue.{EachNameOnce, stands_for_text};
 ghost use Rattle.target_vars.specs.Members.{members_left};
 

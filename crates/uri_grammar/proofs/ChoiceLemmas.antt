@@ -4,8 +4,8 @@ use Rattle.std.specs.Str.{IsUtf8, chars}
 use Rattle.std.proofs.lemmas.Str.{encodes-chars}
 use Rattle.std.proofs.lemmas.Bool.{cases_Bool, eqb-true, eq-eqb, both_ways}
 use Rattle.std.proofs.lemmas.List.Elements.{All-nil, All-cons}
-use Rattle.vocabulary.specs.Texts.{Text}
-use Rattle.vocabulary.specs.Writing.{written_ur}
+use Rattle.text_model.specs.Texts.{Text}
+use Rattle.text_model.specs.Writing.{written_ur}
 use Rattle.uri_grammar.specs.declared.error.TemplateErrorKind.{TemplateErrorKind}
 use Rattle.uri_grammar.specs.declared.error.TemplateErrorKind.TheVariants as kind
 use Rattle.uri_grammar.specs.declared.parts.Op.{Op}

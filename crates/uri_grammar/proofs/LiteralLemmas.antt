@@ -3,7 +3,7 @@ use Rattle.std.proofs.Common.{◌≡◌, ℕ, ◌+◌, true, false, List, [], �
 use Rattle.std.specs.Prelude.{if◌then◌else◌}
 use Rattle.std.proofs.Math.Seq.{take-add}
 use Rattle.std.proofs.lemmas.Bool.{cond_both, cond-true, cond-false, eqb-true, and_parts}
-use Rattle.vocabulary.specs.Texts.{begins_with_triplet, is_triplet, is_hexadecimal}
+use Rattle.text_model.specs.Texts.{begins_with_triplet, is_triplet, is_hexadecimal}
 use Rattle.uri_grammar.specs.Literals.{is_literal_character, literal_item_len, AreLiterals, no_literals, literal_character, literal_triplet}
 use Rattle.uri_grammar.proofs.RunLemmas.{Run, no_item, next_item}
 

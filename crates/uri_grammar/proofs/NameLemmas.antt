@@ -6,10 +6,10 @@ use Rattle.std.proofs.lemmas.Bool.{cases_Bool, cond-true, cond-false, eqb-true, 
 use Rattle.std.proofs.lemmas.Bool.Decides.{nat_tests}
 use Rattle.std.proofs.lemmas.List.{length-take-le}
 use Rattle.std.proofs.lemmas.Str.{encode_ascii, encodes-append}
-use Rattle.vocabulary.specs.Texts.{begins_with_triplet, is_hexadecimal, is_unreserved, is_reserved}
-use Rattle.vocabulary.specs.Writing.{is_unreserved_or_reserved}
-use Rattle.vocabulary.specs.UriText.{IsUriText}
-use Rattle.vocabulary.proofs.UriTexts.{IsUriText-append, IsUriText-character, IsUriText-triplet}
+use Rattle.text_model.specs.Texts.{begins_with_triplet, is_hexadecimal, is_unreserved, is_reserved}
+use Rattle.text_model.specs.Writing.{is_unreserved_or_reserved}
+use Rattle.text_model.specs.UriText.{IsUriText}
+use Rattle.text_model.proofs.UriTexts.{IsUriText-append, IsUriText-character, IsUriText-triplet}
 use Rattle.uri_grammar.specs.Names.{is_name_character, varchar_len, next_len, IsVarchar, character_varchar, triplet_varchar, IsVarname, first_varchar, next_varchar, dotted_varchar, BeginsWithVarname}
 use Rattle.uri_grammar.proofs.RunLemmas.{Run, run-append, run_one, run_same}
 use Rattle.uri_grammar.proofs.LiteralLemmas.{percent_first}

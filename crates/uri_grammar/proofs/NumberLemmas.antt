@@ -4,7 +4,7 @@ use Rattle.std.specs.Prelude.{if◌then◌else◌, nat_le}
 use Rattle.std.specs.List.{list_all}
 use Rattle.std.specs.Char.{is_ascii_digit}
 use Rattle.std.proofs.lemmas.Bool.{and_parts, leb-true, false_from_ne_true, both_ways, cases_Bool, cond-true, cond-false}
-use Rattle.vocabulary.specs.Number.{value_from}
+use Rattle.text_model.specs.Number.{value_from}
 use Rattle.uri_grammar.specs.Literals.{is_between}
 use Rattle.uri_grammar.specs.Specs.{is_max_length}
 use Rattle.uri_grammar.specs.Reading.{number_of}

@@ -1,9 +1,9 @@
 -- What the grammar promises of every tree.
 use Rattle.std.proofs.Common.{ℕ, ◌<◌, List, [], ◌∷◌, ◌++◌, length, ap, sym, subst, arith, length-append, All, encode_utf8_all}
 use Rattle.std.proofs.lemmas.List.Elements.{All-nil, All-cons}
-use Rattle.vocabulary.specs.Texts.{Text}
-use Rattle.vocabulary.specs.UriText.{IsUriText}
-use Rattle.vocabulary.proofs.UriTexts.{written_ur-uri}
+use Rattle.text_model.specs.Texts.{Text}
+use Rattle.text_model.specs.UriText.{IsUriText}
+use Rattle.text_model.proofs.UriTexts.{written_ur-uri}
 use Rattle.uri_grammar.specs.declared.parts.Part.{Part}
 use Rattle.uri_grammar.specs.declared.parts.Part.TheVariants.{Literal, Expression}
 use Rattle.uri_grammar.specs.declared.parts.Spec.{Spec}

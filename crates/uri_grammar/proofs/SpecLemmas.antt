@@ -3,7 +3,7 @@ use Rattle.std.proofs.Common.{◌≡◌, ℕ, ◌+◌, ◌<◌, ◌≤◌, Bool,
 use Rattle.std.proofs.Math.Seq.{take-add, take-append-add}
 use Rattle.std.proofs.lemmas.Bool.{cases_Bool, cond-true, cond-false, eqb-true, and_parts, ltb-true, lt-ltb, false≢true}
 use Rattle.std.proofs.lemmas.List.{drop_more, length-take-le, drop-append-le}
-use Rattle.vocabulary.specs.Number.{value_from}
+use Rattle.text_model.specs.Number.{value_from}
 use Rattle.uri_grammar.specs.declared.error.TemplateError.{TemplateError}
 use Rattle.uri_grammar.specs.declared.error.TemplateErrorKind.{TemplateErrorKind}
 use Rattle.uri_grammar.specs.declared.parts.Spec.{Spec}

@@ -3,7 +3,7 @@ use Rattle.std.proofs.Common.{◌≡◌, ℕ, ◌+◌, ◌<◌, ◌≤◌, ⊎_e
 use Rattle.std.proofs.Math.Seq.{take-add, take-append-add}
 use Rattle.std.proofs.lemmas.Bool.{eqb-true}
 use Rattle.std.proofs.lemmas.List.{drop_more, length-take-le}
-use Rattle.vocabulary.specs.Writing.{written_ur}
+use Rattle.text_model.specs.Writing.{written_ur}
 use Rattle.uri_grammar.specs.declared.error.TemplateError.{TemplateError}
 use Rattle.uri_grammar.specs.declared.error.TemplateErrorKind.{TemplateErrorKind}
 use Rattle.uri_grammar.specs.declared.error.TemplateErrorKind.TheVariants as kind

@@ -1,6 +1,6 @@
 -- Literals (RFC 6570, section 2.1), over characters.
 use Rattle.std.specs.Prelude.{◌≡◌, ℕ, ◌%◌, ◌==◌, Bool, true, ◌||◌, ◌&&◌, nat_le, List, [], ◌∷◌, if◌then◌else◌}
-use Rattle.vocabulary.specs.Texts.{is_triplet, begins_with_triplet}
+use Rattle.text_model.specs.Texts.{is_triplet, begins_with_triplet}
 
 abbrev pub is_between : ℕ → ℕ → ℕ → Bool
 is_between low high c = nat_le low c && nat_le c high

@@ -1,7 +1,7 @@
 -- Names of variables (RFC 6570, section 2.3). Their characters are ASCII, so they are also their bytes.
 use Rattle.std.specs.Prelude.{◌≡◌, ℕ, ◌+◌, ◌≤◌, Bool, true, ◌||◌, ◌==◌, List, [], ◌∷◌, ◌++◌, length, if◌then◌else◌}
 use Rattle.std.specs.Char.{is_ascii_alphanumeric}
-use Rattle.vocabulary.specs.Texts.{Text, is_triplet, begins_with_triplet}
+use Rattle.text_model.specs.Texts.{Text, is_triplet, begins_with_triplet}
 
 -- ALPHA / DIGIT / "_"
 abbrev pub is_name_character : ℕ → Bool

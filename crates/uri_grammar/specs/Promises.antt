@@ -1,6 +1,6 @@
 -- What every tree of the grammar keeps to.
 use Rattle.std.specs.Prelude.{◌≡◌, ◌<◌, ◌≤◌, true, length, All}
-use Rattle.vocabulary.specs.UriText.{IsUriText}
+use Rattle.text_model.specs.UriText.{IsUriText}
 use Rattle.uri_grammar.specs.declared.parts.Part.{Part}
 use Rattle.uri_grammar.specs.declared.parts.Part.TheVariants.{Literal, Expression}
 use Rattle.uri_grammar.specs.declared.parts.Spec.{Spec}

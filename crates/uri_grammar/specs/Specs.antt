@@ -2,7 +2,7 @@
 use Rattle.std.specs.Prelude.{◌≡◌, ◌≢◌, ℕ, Bool, true, false, ◌&&◌, nat_le, List, [], ◌∷◌, ◌++◌, length, All}
 use Rattle.std.specs.List.{list_all}
 use Rattle.std.specs.Char.{is_ascii_digit}
-use Rattle.vocabulary.specs.Number.{value_from}
+use Rattle.text_model.specs.Number.{value_from}
 use Rattle.uri_grammar.specs.declared.parts.Spec.{Spec}
 use Rattle.uri_grammar.specs.Literals.{is_between}
 use Rattle.uri_grammar.specs.Names.{IsName}

@@ -1,6 +1,6 @@
 -- Templates (RFC 6570, section 2): which characters spell which parts.
 use Rattle.std.specs.Prelude.{◌≡◌, ℕ, ◌<◌, List, [], ◌∷◌, ◌++◌, length, encode_utf8_all}
-use Rattle.vocabulary.specs.Writing.{written_ur}
+use Rattle.text_model.specs.Writing.{written_ur}
 use Rattle.uri_grammar.specs.declared.parts.Part.{Part}
 use Rattle.uri_grammar.specs.declared.parts.Part.TheVariants.{Literal, Expression}
 use Rattle.uri_grammar.specs.Literals.{AreLiterals}

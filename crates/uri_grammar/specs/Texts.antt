@@ -1,6 +1,6 @@
 -- Texts, as bytes, that are templates, and texts that are refused.
 use Rattle.std.specs.Prelude.{◌≡◌, ℕ, ◌<◌, ◌≤◌, List, length, encode_utf8_all, ◌⊎◌}
-use Rattle.vocabulary.specs.Texts.{Text}
+use Rattle.text_model.specs.Texts.{Text}
 use Rattle.uri_grammar.specs.declared.error.TemplateErrorKind.{TemplateErrorKind}
 use Rattle.uri_grammar.specs.declared.error.TemplateErrorKind.TheVariants.{TooLong}
 use Rattle.uri_grammar.specs.declared.parts.Part.{Part}

@@ -1,5 +1,5 @@
 ghost use Rattle.std.specs.Prelude.{◌≡◌, ◌<◌, ◌≤◌, IfOk, IfSome, IfNone, length, slice_index, take, encode_utf8_all, string_bytes};
-ghost use Rattle.vocabulary.specs.Texts.{is_hexadecimal};
+ghost use Rattle.text_model.specs.Texts.{is_hexadecimal};
 ghost use Rattle.uri_grammar.specs.Specs.{Lacks};
 
 use std::alloc::{AllocError, Global};

@@ -2,7 +2,7 @@
 
 ghost use Rattle.std.specs.Prelude.{◌≡◌, ◌⊎◌, ℕ, List, All};
 ghost use Rattle.std.specs.Str.{IsUtf8};
-ghost use Rattle.vocabulary.specs.Texts.{Text};
+ghost use Rattle.text_model.specs.Texts.{Text};
 ghost use Rattle.uri_grammar.specs.declared.error.TemplateErrorKind.{TemplateErrorKind};
 ghost use Rattle.uri_grammar.specs.declared.parts.Part.{Part};
 ghost use Rattle.uri_grammar.specs.Texts.{IsTemplate, IsRefused};

@@ -1,5 +1,5 @@
 ghost use Rattle.std.specs.Prelude.{◌≡◌, ◌<◌, ◌≤◌, ◌^◌, IfOk, length, take, drop, encode_utf8_all};
-ghost use Rattle.vocabulary.specs.Writing.{written_ur};
+ghost use Rattle.text_model.specs.Writing.{written_ur};
 ghost use Rattle.uri_grammar.specs.Literals.{is_literal_character, literal_item_len, AreLiterals};
 ghost use Rattle.uri_grammar.specs.declared.parts.Part.{Part};
 

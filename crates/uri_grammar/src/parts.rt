@@ -10,7 +10,7 @@ pub struct Text {
 
 impl Model for Text {
     ghost use Rattle.std.specs.Prelude.{string_bytes};
-    ghost use Rattle.vocabulary.specs.Texts.{Text};
+    ghost use Rattle.text_model.specs.Texts.{Text};
 
     ghost Value = { Text };
 

@@ -1,9 +1,9 @@
 -- Examples of RFC 6570, sections 3.2.2 to 3.2.9, and some of what it leaves open, computed by the definition.
 use Rattle.std.proofs.Common.{◌≡◌, ℕ, List, [], ◌∷◌, true, false, refl, codes}
-use Rattle.vocabulary.specs.Texts.{Text, is_unreserved, is_reserved}
-use Rattle.vocabulary.specs.Writing.{written_u, written_ur}
-use Rattle.vocabulary.specs.Cut.{code_points, with_triplets}
-use Rattle.vocabulary.specs.Environment.{Environment, Single, Several, look_up}
+use Rattle.text_model.specs.Texts.{Text, is_unreserved, is_reserved}
+use Rattle.text_model.specs.Writing.{written_u, written_ur}
+use Rattle.text_model.specs.Cut.{code_points, with_triplets}
+use Rattle.environment_model.specs.Environment.{Environment, Single, Several, look_up}
 use Rattle.uri_grammar.specs.declared.parts.Op.{Op}
 use Rattle.uri_grammar.specs.declared.parts.Op.TheVariants as operator
 use Rattle.uri_grammar.specs.declared.parts.Spec.{Spec}

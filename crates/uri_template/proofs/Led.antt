@@ -4,8 +4,8 @@ use Rattle.std.specs.Prelude.{is_none}
 use Rattle.std.specs.List.{flat_map, filter_map, cons_option}
 use Rattle.std.proofs.Math.Dec.{eqb-suc-zero}
 use Rattle.std.proofs.lemmas.List.{drop_more}
-use Rattle.vocabulary.specs.Texts.{Text}
-use Rattle.vocabulary.specs.Environment.{Meaning, Single, Several, LookUp, text_in, members_in}
+use Rattle.text_model.specs.Texts.{Text}
+use Rattle.environment_model.specs.Environment.{Meaning, Single, Several, LookUp, text_in, members_in}
 use Rattle.uri_grammar.specs.declared.parts.Spec.{Spec}
 use Rattle.uri_template.specs.Expansion.{Style, item, prefix, joined_by, list_piece, several_piece, piece, pieces, led}
 use Rattle.uri_template.specs.Pieces.{lead, pieces_from, led_piece, list_head, member_text, member_sep}

@@ -2,11 +2,11 @@
 use Rattle.std.proofs.Common.{ℕ, zero, suc, List, [], ◌∷◌, ◌++◌, map, Option, Some, None, Bool, true, false, refl, codes, arith}
 use Rattle.std.specs.Prelude.{if◌then◌else◌, All}
 use Rattle.std.specs.List.{flat_map, cons_option}
-use Rattle.vocabulary.specs.Texts.{Text, is_unreserved, is_reserved}
-use Rattle.vocabulary.specs.Writing.{written}
-use Rattle.vocabulary.specs.UriText.{IsUriText, nothing}
-use Rattle.vocabulary.specs.Environment.{Meaning, Single, Several, LookUp}
-use Rattle.vocabulary.proofs.UriTexts.{IsUriText-append, IsUriText-character, written-uri}
+use Rattle.text_model.specs.Texts.{Text, is_unreserved, is_reserved}
+use Rattle.text_model.specs.Writing.{written}
+use Rattle.text_model.specs.UriText.{IsUriText, nothing}
+use Rattle.environment_model.specs.Environment.{Meaning, Single, Several, LookUp}
+use Rattle.text_model.proofs.UriTexts.{IsUriText-append, IsUriText-character, written-uri}
 use Rattle.uri_grammar.specs.declared.parts.Spec.{Spec}
 use Rattle.uri_grammar.specs.declared.parts.Part.{Part}
 use Rattle.uri_grammar.specs.declared.parts.Part.TheVariants.{Literal, Expression}

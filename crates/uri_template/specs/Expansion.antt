@@ -1,12 +1,12 @@
 -- The expansion of a template (RFC 6570, section 3), a function of its tree and a look-up.
 use Rattle.std.specs.Prelude.{ℕ, zero, suc, List, [], ◌∷◌, ◌++◌, Option, Some, None, Bool, true, false, if◌then◌else◌, codes, map}
 use Rattle.std.specs.List.{flat_map, filter_map}
-use Rattle.vocabulary.specs.Texts.{Text}
-use Rattle.vocabulary.specs.Writing.{written}
-use Rattle.vocabulary.specs.Cut.{cut}
-use Rattle.vocabulary.specs.Environment.{Meaning, Single, Several, LookUp}
-use Rattle.vocabulary.specs.declared.writing.Writing.{Writing}
-use Rattle.vocabulary.specs.declared.writing.Writing.TheVariants.{U, UR}
+use Rattle.text_model.specs.Texts.{Text}
+use Rattle.text_model.specs.Writing.{written}
+use Rattle.text_model.specs.Cut.{cut}
+use Rattle.environment_model.specs.Environment.{Meaning, Single, Several, LookUp}
+use Rattle.text_model.specs.declared.writing.Writing.{Writing}
+use Rattle.text_model.specs.declared.writing.Writing.TheVariants.{U, UR}
 use Rattle.uri_grammar.specs.declared.parts.Op.{Op}
 use Rattle.uri_grammar.specs.declared.parts.Op.TheVariants as operator
 use Rattle.uri_grammar.specs.declared.parts.Spec.{Spec}

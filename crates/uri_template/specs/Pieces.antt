@@ -1,7 +1,7 @@
 -- Pieces one after another, as they are appended.
 use Rattle.std.specs.Prelude.{List, [], ◌∷◌, ◌++◌, Option, Some, None, Bool, true, false, if◌then◌else◌, codes}
-use Rattle.vocabulary.specs.Texts.{Text}
-use Rattle.vocabulary.specs.Writing.{written}
+use Rattle.text_model.specs.Texts.{Text}
+use Rattle.text_model.specs.Writing.{written}
 use Rattle.uri_template.specs.Expansion.{Style, item}
 
 -- what stands before a piece

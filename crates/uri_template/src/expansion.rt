@@ -1,8 +1,8 @@
 //! The expansion of a template: its expressions, and the whole.
 
 ghost use Rattle.std.specs.Prelude.{◌≡◌, ◌++◌, ◌&&◌, is_none, OnOk, IfOk, string_bytes};
-ghost use Rattle.vocabulary.specs.Environment.{look_up};
-ghost use Rattle.vocabulary.specs.UriText.{IsUriText};
+ghost use Rattle.environment_model.specs.Environment.{look_up};
+ghost use Rattle.text_model.specs.UriText.{IsUriText};
 ghost use Rattle.uri_template.specs.Expansion.{style_of, piece, pieces, led, part_text, expansion};
 ghost use Rattle.uri_template.specs.Pieces.{led_piece};
 

@@ -2,8 +2,8 @@
 //! nothing.
 
 ghost use Rattle.std.specs.Prelude.{◌≡◌, List, [], ◌++◌, None, All};
-ghost use Rattle.vocabulary.specs.Environment.{LookUp};
-ghost use Rattle.vocabulary.specs.UriText.{IsUriText};
+ghost use Rattle.environment_model.specs.Environment.{LookUp};
+ghost use Rattle.text_model.specs.UriText.{IsUriText};
 ghost use Rattle.uri_grammar.specs.declared.parts.Op.{Op};
 ghost use Rattle.uri_grammar.specs.declared.parts.Spec.{Spec};
 ghost use Rattle.uri_grammar.specs.declared.parts.Part.{Part};

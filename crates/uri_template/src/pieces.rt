@@ -1,7 +1,7 @@
 //! The piece of a variable (RFC 6570, section 3.2.1).
 
 ghost use Rattle.std.specs.Prelude.{◌≡◌, ◌≤◌, ◌<◌, ◌==◌, ◌++◌, [], length, map, slice_index_or, OnOk, string_bytes};
-ghost use Rattle.vocabulary.specs.Writing.{written};
+ghost use Rattle.text_model.specs.Writing.{written};
 ghost use Rattle.target_vars.specs.Members.{members_left};
 ghost use Rattle.uri_template.specs.Expansion.{item, prefix, joined_by, list_piece};
 ghost use Rattle.uri_template.specs.Pieces.{list_head, member_text, member_sep, lead};
@@ -9,11 +9,11 @@ ghost use Rattle.uri_template.specs.Pieces.{list_head, member_text, member_sep, 
 use crate::style::Style;
 use std::alloc::AllocError;
 use target_vars::{MAX_BYTES, Members};
+use text_model::Writing;
 use uri_grammar::Spec;
 use uri_text::{cut, encode};
-use vocabulary::Writing;
 
-#[tactic(auto, using(vocabulary::proofs::Written::length_laws))]
+#[tactic(auto, using(text_model::proofs::Written::length_laws))]
 fn push_written(out: &mut String, text: &[u8], writing: Writing) -> Result<(), AllocError>
     requires { length text.now ≤ MAX_BYTES }
     ensures { OnOk result (string_bytes out.new ≡ string_bytes out.old ++ written writing text.now) }

@@ -4,8 +4,8 @@ ghost use Rattle.std.specs.Prelude.{◌≡◌};
 ghost use Rattle.uri_template.specs.Expansion.{style_of};
 
 use std::marker::Model;
+use text_model::Writing;
 use uri_grammar::Op;
-use vocabulary::Writing;
 
 /// How an expression is written, by its operator.
 #[derive(Drop)]

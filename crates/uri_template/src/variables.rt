@@ -2,7 +2,7 @@
 
 ghost use Rattle.std.specs.Prelude.{◌≡◌, ◌≤◌, length, IfSome};
 ghost use Rattle.std.specs.Option.{option_copied};
-ghost use Rattle.vocabulary.specs.Environment.{LookUp, look_up, text_in, members_in};
+ghost use Rattle.environment_model.specs.Environment.{LookUp, look_up, text_in, members_in};
 ghost use Rattle.target_vars.specs.Members.{members_left};
 
 use target_vars::{Env, MAX_BYTES, Members};

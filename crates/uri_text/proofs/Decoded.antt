@@ -6,8 +6,8 @@ use Rattle.std.proofs.lemmas.Bool.{and_parts, eqb-true, cond-false}
 use Rattle.std.proofs.lemmas.Bool.Decides.{nat_tests}
 use Rattle.percent_encoding.specs.Percent.{percent_decode, is_escape}
 use Rattle.percent_encoding.proofs.PercentLemmas.{percent_decode-nil, percent_decode_escape, percent_decode_not_percent, percent_decode-percent_encode_byte}
-use Rattle.vocabulary.specs.Texts.{Text, is_unreserved, is_reserved, is_triplet, is_hexadecimal}
-use Rattle.vocabulary.specs.Writing.{written_byte, is_unreserved_or_reserved, written_u, written_ur}
+use Rattle.text_model.specs.Texts.{Text, is_unreserved, is_reserved, is_triplet, is_hexadecimal}
+use Rattle.text_model.specs.Writing.{written_byte, is_unreserved_or_reserved, written_u, written_ur}
 use Rattle.uri_text.proofs.PercentBytes.{percent_encode_byte_triplet}
 
 abbrev AreBytes : Text → Type 0

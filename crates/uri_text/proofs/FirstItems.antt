@@ -7,9 +7,9 @@ use Rattle.std.proofs.lemmas.Bool.Decides.{nat_tests}
 use Rattle.std.proofs.Math.Seq.{take-add}
 use Rattle.std.proofs.lemmas.List.{drop-drop, length-drop}
 use Rattle.std.proofs.lemmas.List.Sums.{prefix_len-le-length}
-use Rattle.vocabulary.specs.Texts.{Text, is_hexadecimal, is_triplet}
-use Rattle.vocabulary.specs.Cut.{is_continuation, code_points, with_triplets, items, cut}
-use Rattle.vocabulary.proofs.Cuts.{code_points-next, begins_with_triplet_points, with_triplets-first, with_triplets-triplet, cut-item, cut-nothing}
+use Rattle.text_model.specs.Texts.{Text, is_hexadecimal, is_triplet}
+use Rattle.text_model.specs.Cut.{is_continuation, code_points, with_triplets, items, cut}
+use Rattle.text_model.proofs.Cuts.{code_points-next, begins_with_triplet_points, with_triplets-first, with_triplets-triplet, cut-item, cut-nothing}
 use Rattle.uri_text.specs.Items.{writing_of, continues, code_point_length, begins_with_triplet_item, item_length}
 
 hexadecimal_alone : (b : ℕ) → is_hexadecimal b ≡ true → is_continuation b ≡ false

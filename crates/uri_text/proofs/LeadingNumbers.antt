@@ -9,8 +9,8 @@ use Rattle.std.proofs.lemmas.Bool.{cond-true, cond-false, le-leb, lt-leb, ne_eqb
 use Rattle.std.proofs.lemmas.Bool.Decides.{nat_tests}
 use Rattle.std.proofs.Math.ListN.{drop_of_length-le}
 use Rattle.std.proofs.Math.Nat.{pow-succ', pow-le-pow_right}
-use Rattle.vocabulary.specs.Texts.{Text}
-use Rattle.vocabulary.specs.Number.{leading_digits, value_from, leading_number}
+use Rattle.text_model.specs.Texts.{Text}
+use Rattle.text_model.specs.Number.{leading_digits, value_from, leading_number}
 
 -- so many bytes at the front are digits, and this is their value
 pub record HasRead (t : Text) (count value : ℕ) : Type 0 where

@@ -1,10 +1,10 @@
 -- How long the item at the front of a text is (RFC 6570, section 2.4.1).
 use Rattle.std.specs.Prelude.{ℕ, ◌+◌, [], ◌∷◌, Bool, true, false, not, ◌&&◌, if◌then◌else◌}
 use Rattle.std.specs.List.{prefix_len}
-use Rattle.vocabulary.specs.Texts.{Text, is_triplet}
-use Rattle.vocabulary.specs.Cut.{is_continuation}
-use Rattle.vocabulary.specs.declared.writing.Writing.{Writing}
-use Rattle.vocabulary.specs.declared.writing.Writing.TheVariants.{U, UR}
+use Rattle.text_model.specs.Texts.{Text, is_triplet}
+use Rattle.text_model.specs.Cut.{is_continuation}
+use Rattle.text_model.specs.declared.writing.Writing.{Writing}
+use Rattle.text_model.specs.declared.writing.Writing.TheVariants.{U, UR}
 
 -- the writing under which whole triplets are items, or the one under which they are not
 abbrev pub writing_of : Bool → Writing

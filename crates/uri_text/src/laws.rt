@@ -2,8 +2,8 @@
 
 ghost use Rattle.std.specs.Prelude.{◌≡◌, ◌<◌, All};
 ghost use Rattle.percent_encoding.specs.Percent.{percent_decode};
-ghost use Rattle.vocabulary.specs.Texts.{Text};
-ghost use Rattle.vocabulary.specs.Writing.{written_u, written_ur};
+ghost use Rattle.text_model.specs.Texts.{Text};
+ghost use Rattle.text_model.specs.Writing.{written_u, written_ur};
 
 /// Percent-decoding what U writes of bytes gives the bytes back: U loses nothing, and writes no two
 /// texts alike (RFC 3986, section 2.1).

@@ -4,7 +4,7 @@
 mod tests;
 
 ghost use Rattle.std.specs.Prelude.{◌≡◌, ◌<◌, ◌^◌, IfSome};
-ghost use Rattle.vocabulary.specs.Number.{leading_number};
+ghost use Rattle.text_model.specs.Number.{leading_number};
 
 /// The value of the decimal digits with which the text begins, where these are 1 to 9; `None` where
 /// there is none, or where ten or more follow one another. Leading zeros count as digits.

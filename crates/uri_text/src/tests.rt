@@ -3,11 +3,11 @@ ghost use Rattle.std.specs.Prelude.{◌≤◌, length};
 use crate::{cut, encode, encode_u, encode_ur};
 use std::alloc::{AllocError, Global};
 use std::test::Fail;
-use vocabulary::Writing;
+use text_model::Writing;
 
 const LONGEST: usize = 100;
 
-#[tactic(auto, using(vocabulary::proofs::Written::length_laws))]
+#[tactic(auto, using(text_model::proofs::Written::length_laws))]
 fn written(alloc: Global, text: &[u8], writing: Writing) -> Result<String, AllocError>
     requires { length text.now ≤ LONGEST }
 {
@@ -51,7 +51,7 @@ fn texts_are_written(rt: HostRuntime) -> Result<(), Fail> {
 }
 
 #[test]
-#[tactic(auto, using(vocabulary::proofs::Written::length_laws))]
+#[tactic(auto, using(text_model::proofs::Written::length_laws))]
 fn writing_appends_in_the_room_that_is_there(rt: HostRuntime) -> Result<(), Fail> {
     let mut out = String::from_str(rt.alloc(), "a=")?;
     out.reserve(3)?;

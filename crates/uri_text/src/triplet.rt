@@ -1,7 +1,7 @@
 //! Triplets: `%` and two hexadecimal digits (RFC 3986, section 2.1).
 
 ghost use Rattle.std.specs.Prelude.{◌≡◌, ◌&&◌};
-ghost use Rattle.vocabulary.specs.Texts.{is_hexadecimal, begins_with_triplet};
+ghost use Rattle.text_model.specs.Texts.{is_hexadecimal, begins_with_triplet};
 
 // Whether both are hexadecimal digits, in upper or lower case.
 pub(crate) fn are_hexadecimal(high: u8, low: u8) -> bool

@@ -1,15 +1,15 @@
 //! The two ways in which a text is written.
 
 ghost use Rattle.std.specs.Prelude.{◌≡◌, true, ◌+◌, ◌*◌, ◌<◌, ◌≤◌, ◌++◌, length, string_bytes, string_len, string_capacity};
-ghost use Rattle.vocabulary.specs.Texts.{is_unreserved, is_reserved, begins_with_triplet};
-ghost use Rattle.vocabulary.specs.Writing.{written, written_u, written_ur, written_byte, is_unreserved_or_reserved};
-ghost use Rattle.vocabulary.specs.UriText.{IsUriText};
+ghost use Rattle.text_model.specs.Texts.{is_unreserved, is_reserved, begins_with_triplet};
+ghost use Rattle.text_model.specs.Writing.{written, written_u, written_ur, written_byte, is_unreserved_or_reserved};
+ghost use Rattle.text_model.specs.UriText.{IsUriText};
 
 use crate::triplet::begins_with_triplet;
 use percent_encoding::percent_encode_byte;
-use vocabulary::Writing;
+use text_model::Writing;
 
-#[tactic(auto, unfolding(vocabulary::specs::Texts::is_unreserved))]
+#[tactic(auto, unfolding(text_model::specs::Texts::is_unreserved))]
 fn is_unreserved(byte: u8) -> bool
     ensures value { result ≡ is_unreserved byte }
     ensures ascii { is_unreserved byte ≡ true → byte < 128 }
@@ -17,7 +17,7 @@ fn is_unreserved(byte: u8) -> bool
     byte.is_ascii_alphanumeric() || matches!(byte, b'-' | b'.' | b'_' | b'~')
 }
 
-#[tactic(auto, unfolding(vocabulary::specs::Texts::is_reserved))]
+#[tactic(auto, unfolding(text_model::specs::Texts::is_reserved))]
 fn is_reserved(byte: u8) -> bool
     ensures value { result ≡ is_reserved byte }
     ensures ascii { is_reserved byte ≡ true → byte < 128 }

@@ -1,6 +1,6 @@
 use super::instr;
 use crate::{instruction, spelling};
-use vocabulary::Instruction;
+use code_model::Instruction;
 
 #[test]
 fn decodes_an_instruction_whatever_its_unused_fields(rt: HostRuntime) {

@@ -1,6 +1,6 @@
 use Rattle.std.proofs.Common.{◌∷◌, List, ℕ, sym, ap, ◌∙◌, subst, arith}
 use Rattle.std.proofs.lemmas.Result.{err_from_is_err_and}
-use Rattle.vocabulary.specs.Code.{Literal}
+use Rattle.code_model.specs.Code.{Literal}
 use Rattle.code_file.specs.Grammar.{kind_byte}
 use Rattle.code_file.specs.Fault.{IsLiteralFault, in_kind, no_length, no_text, bad_text}
 use Rattle.code_file.proofs.FieldLemmas.{literal_spelled}

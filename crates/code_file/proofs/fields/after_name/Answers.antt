@@ -1,7 +1,7 @@
 use Rattle.std.proofs.Common.{sym, subst, arith}
 use Rattle.std.proofs.lemmas.List.{nil_from_length}
 use Rattle.std.proofs.lemmas.Result.{err_from_is_err_and}
-use Rattle.vocabulary.specs.Code.{Name}
+use Rattle.code_model.specs.Code.{Name}
 use Rattle.code_file.specs.Fault.{IsNameFault, in_kind, no_length, bad_length, no_text, bad_text}
 use Rattle.code_file.proofs.FieldLemmas.{name_head, name_spelled}
 use Rattle.code_file.proofs.fields.after_name.Goals as goal

@@ -1,4 +1,4 @@
-use Rattle.vocabulary.proofs.UriAscii.{IsUriText-utf8}
+use Rattle.text_model.proofs.UriAscii.{IsUriText-utf8}
 use Rattle.interpreter.proofs.Results.{is_ok_unless}
 use Rattle.interpreter.proofs.printing.append.Goals as goal
 

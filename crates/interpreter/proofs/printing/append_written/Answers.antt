@@ -1,5 +1,5 @@
 use Rattle.std.proofs.Common.{arith}
-use Rattle.vocabulary.proofs.Written.{length-written}
+use Rattle.text_model.proofs.Written.{length-written}
 use Rattle.interpreter.proofs.printing.append_written.Goals as goal
 
 pub encode-requires : goal.encode-requires

@@ -1,5 +1,5 @@
 use Rattle.kev_read.specs.Filling.{StopsAtPair}
-use Rattle.vocabulary.specs.Texts.{texts_of}
+use Rattle.text_model.specs.Texts.{texts_of}
 use Rattle.kev_read.proofs.FillingLemmas.{stops_at, IfErr_passed_on}
 use Rattle.kev_read.proofs.filling.fill.Goals as goal
 

@@ -1,6 +1,6 @@
 use Rattle.std.proofs.Common.{◌≡◌, take}
 use Rattle.kev_read.specs.Filling.{filled}
-use Rattle.vocabulary.specs.Texts.{texts_of}
+use Rattle.text_model.specs.Texts.{texts_of}
 use Rattle.kev_read.proofs.filling.fill.Given as goal
 
 -- the pairs so far were added

@@ -1,7 +1,7 @@
 use Rattle.std.proofs.Common.{string_bytes}
 use Rattle.std.specs.Prelude.{codes}
 use Rattle.std.proofs.lemmas.Result.{IfOk-weaker, IfErr-weaker}
-use Rattle.vocabulary.specs.Texts.{texts_of}
+use Rattle.text_model.specs.Texts.{texts_of}
 use Rattle.openlink.specs.Commands.{prints_expansion, prints_link, prints_listing, no_expansion, no_link, no_listing}
 use Rattle.openlink.proofs.CommandLemmas.{no_name, prints_behind, fails_behind}
 use Rattle.openlink.proofs.commands.answer.Goals as goal

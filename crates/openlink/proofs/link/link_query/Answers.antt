@@ -1,6 +1,6 @@
 use Rattle.std.proofs.Common.{string_bytes, sym, ap, ◌∙◌}
 use Rattle.std.specs.Option.{option_map}
-use Rattle.vocabulary.specs.Texts.{texts_of}
+use Rattle.text_model.specs.Texts.{texts_of}
 use Rattle.openlink.proofs.LinkLemmas.{means}
 use Rattle.openlink.proofs.link.link_query.Goals as goal
 

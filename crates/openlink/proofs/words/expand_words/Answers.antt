@@ -1,4 +1,4 @@
-use Rattle.vocabulary.specs.Texts.{texts_of}
+use Rattle.text_model.specs.Texts.{texts_of}
 use Rattle.std.proofs.Common.{inr, subst, sym, ◌∙◌, refl, arith}
 use Rattle.openlink.specs.Words.{NoExpandWords}
 use Rattle.openlink.proofs.WordLemmas.{no_words, next_option, length-texts_of}

@@ -1,4 +1,4 @@
-use Rattle.vocabulary.specs.Texts.{texts_of}
+use Rattle.text_model.specs.Texts.{texts_of}
 use Rattle.std.proofs.Common.{◌≡◌, ◌++◌, length}
 use Rattle.openlink.specs.Words.{list_options}
 use Rattle.openlink.proofs.words.expand_words.Given as goal

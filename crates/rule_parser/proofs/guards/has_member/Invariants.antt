@@ -1,6 +1,6 @@
 -- No member so far is the text.
 use Rattle.std.proofs.Common.{◌≡◌, false, take}
-use Rattle.vocabulary.specs.Environment.{is_among}
+use Rattle.environment_model.specs.Environment.{is_among}
 use Rattle.target_vars.specs.Members.{members_left}
 use Rattle.rule_parser.proofs.guards.has_member.Given as goal
 

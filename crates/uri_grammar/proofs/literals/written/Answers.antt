@@ -1,5 +1,5 @@
 use Rattle.std.proofs.Common.{arith}
-use Rattle.vocabulary.proofs.Written.{length-written_ur}
+use Rattle.text_model.proofs.Written.{length-written_ur}
 use Rattle.uri_grammar.proofs.literals.written.Goals as goal
 
 pub encode_ur-requires : goal.encode_ur-requires

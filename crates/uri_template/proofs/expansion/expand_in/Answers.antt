@@ -1,6 +1,6 @@
 use Rattle.std.proofs.Common.{◌≡◌, ◌∙◌, List, take, string_bytes, sym, subst}
 use Rattle.std.proofs.lemmas.List.{take_all}
-use Rattle.vocabulary.specs.UriText.{IsUriText}
+use Rattle.text_model.specs.UriText.{IsUriText}
 use Rattle.uri_grammar.specs.declared.parts.Part.{Part}
 use Rattle.uri_template.specs.Expansion.{expansion}
 use Rattle.uri_template.proofs.UriExpansions.{expansion-uri}

@@ -1,5 +1,5 @@
 use Rattle.std.proofs.Common.{◌≡◌, ◌≤◌, ◌++◌, length, take, drop}
-use Rattle.vocabulary.specs.Cut.{cut}
+use Rattle.text_model.specs.Cut.{cut}
 use Rattle.uri_text.specs.Items.{writing_of}
 use Rattle.uri_text.proofs.items.cut.Given as goal
 

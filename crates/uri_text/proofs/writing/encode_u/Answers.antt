@@ -1,7 +1,7 @@
 use Rattle.std.proofs.Common.{◌≡◌, ◌∙◌, ◌+◌, ◌++◌, sym, get_or, drop, string_bytes, string_len, string_capacity, append-nil, add-zero, arith}
-use Rattle.vocabulary.specs.Writing.{written_u, written_byte}
-use Rattle.vocabulary.proofs.UriTexts.{written_u-uri}
-use Rattle.vocabulary.proofs.Written.{written_u-drop, written_u-ended, length-written_u}
+use Rattle.text_model.specs.Writing.{written_u, written_byte}
+use Rattle.text_model.proofs.UriTexts.{written_u-uri}
+use Rattle.text_model.proofs.Written.{written_u-drop, written_u-ended, length-written_u}
 use Rattle.uri_text.proofs.Rests.{bytes_left, len_left, room_left, room_for}
 use Rattle.uri_text.proofs.writing.encode_u.Goals as goal
 

@@ -1,5 +1,5 @@
 use Rattle.std.proofs.Common.{◌≡◌, ◌+◌, ◌≤◌, ◌++◌, length, drop, string_bytes, string_len, string_capacity}
-use Rattle.vocabulary.specs.Writing.{written_u}
+use Rattle.text_model.specs.Writing.{written_u}
 use Rattle.uri_text.proofs.writing.encode_u.Given as goal
 
 -- what is written with what is still to write is the whole, and there is room for it

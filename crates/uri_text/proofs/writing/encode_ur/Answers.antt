@@ -1,8 +1,8 @@
 use Rattle.std.proofs.Common.{◌≡◌, ◌+◌, ◌++◌, ◌<◌, ◌≤◌, ◌∙◌, sym, length, string_bytes, string_len, string_capacity, append-nil, add-zero, get_or, arith}
 use Rattle.std.proofs.lemmas.Bool.{eqb-true, eqb-false}
-use Rattle.vocabulary.specs.Writing.{written_ur, written_byte}
-use Rattle.vocabulary.proofs.UriTexts.{written_ur-uri}
-use Rattle.vocabulary.proofs.Written.{written_ur-nothing, written_ur-triplet, written_ur-byte, length-written_ur}
+use Rattle.text_model.specs.Writing.{written_ur, written_byte}
+use Rattle.text_model.proofs.UriTexts.{written_ur-uri}
+use Rattle.text_model.proofs.Written.{written_ur-nothing, written_ur-triplet, written_ur-byte, length-written_ur}
 use Rattle.uri_text.proofs.Rests.{bytes_left, len_left, room_left, room_for, first_of_take}
 use Rattle.uri_text.proofs.writing.encode_ur.Goals as goal
 

@@ -1,7 +1,7 @@
 use Rattle.std.proofs.Common.{◌≡◌, ◌≤◌, ◌+◌, [], ◌∷◌, ◌++◌, length, take, insert, slice_set, position, Some, None, is_some, false, true, string_bytes, refl, sym, ap, ◌∙◌, arith}
 use Rattle.std.proofs.lemmas.Str.{IsUtf8-string_bytes}
-use Rattle.vocabulary.specs.Environment.{text_of, with_member, byte_count, member_count}
-use Rattle.vocabulary.proofs.Environments.{with_member-text}
+use Rattle.environment_model.specs.Environment.{text_of, with_member, byte_count, member_count}
+use Rattle.environment_model.proofs.Environments.{with_member-text}
 use Rattle.target_vars.specs.EnvValue.{EnvValue}
 use Rattle.target_vars.specs.Layout.{laid_entries, spans_of, longer}
 use Rattle.target_vars.specs.declared.place.Span.{Span}

@@ -1,5 +1,5 @@
 use Rattle.std.proofs.Common.{position, is_some, string_bytes, sym, ap, ◌∙◌}
-use Rattle.vocabulary.specs.Environment.{is_there}
+use Rattle.environment_model.specs.Environment.{is_there}
 use Rattle.target_vars.specs.EnvValue.{EnvValue}
 use Rattle.target_vars.proofs.Layouts.{is_named}
 use Rattle.target_vars.proofs.Readers.{is_there-position}

@@ -1,6 +1,6 @@
 use Rattle.std.proofs.Common.{◌≡◌, ◌+◌, Some, None, map, take, position, string_bytes, sym, ap, ◌∙◌}
 use Rattle.std.specs.Prelude.{slice_range}
-use Rattle.vocabulary.specs.Environment.{members_in, members_of}
+use Rattle.environment_model.specs.Environment.{members_in, members_of}
 use Rattle.target_vars.specs.EnvValue.{EnvValue}
 use Rattle.target_vars.specs.Layout.{piece, spans_of}
 use Rattle.target_vars.proofs.Layouts.{is_named}

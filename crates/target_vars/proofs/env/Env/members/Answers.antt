@@ -1,5 +1,5 @@
 use Rattle.std.proofs.Common.{ap, arith, string_bytes}
-use Rattle.vocabulary.specs.Environment.{member_count}
+use Rattle.environment_model.specs.Environment.{member_count}
 use Rattle.target_vars.specs.EnvValue.{EnvValue}
 use Rattle.target_vars.proofs.Readers.{member_count-laid}
 use Rattle.target_vars.proofs.env.Env.members.Goals as goal

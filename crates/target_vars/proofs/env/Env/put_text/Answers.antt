@@ -1,6 +1,6 @@
 use Rattle.std.proofs.Common.{◌≡◌, ◌≤◌, ◌+◌, [], ◌∷◌, ◌++◌, length, false, string_bytes, refl, sym, ap, ◌∙◌, arith}
 use Rattle.std.proofs.lemmas.Str.{IsUtf8-string_bytes}
-use Rattle.vocabulary.specs.Environment.{is_there, with_text, byte_count}
+use Rattle.environment_model.specs.Environment.{is_there, with_text, byte_count}
 use Rattle.target_vars.specs.EnvValue.{EnvValue}
 use Rattle.target_vars.specs.Layout.{laid_entries}
 use Rattle.target_vars.specs.declared.place.Span.{Span}

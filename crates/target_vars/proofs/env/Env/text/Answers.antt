@@ -1,5 +1,5 @@
 use Rattle.std.proofs.Common.{◌≡◌, Some, None, position, string_bytes, option_copied, sym, ap, ◌∙◌}
-use Rattle.vocabulary.specs.Environment.{text_in, text_of}
+use Rattle.environment_model.specs.Environment.{text_in, text_of}
 use Rattle.target_vars.specs.EnvValue.{EnvValue}
 use Rattle.target_vars.specs.Layout.{piece}
 use Rattle.target_vars.proofs.Layouts.{is_named}

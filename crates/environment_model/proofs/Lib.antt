@@ -1,0 +1,2 @@
+pub mod EnvironmentGrowth
+pub mod Environments

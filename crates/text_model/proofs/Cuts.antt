@@ -1,0 +1,117 @@
+-- The items of a text: where the first one ends, and what the first n of them join to.
+use Rattle.std.proofs.Common.{◌≡◌, ℕ, zero, suc, ◌+◌, ◌≤◌, List, [], ◌∷◌, ◌++◌, length, take, drop, Bool, cond, sym, true, false, refl, ap, ◌∙◌, subst, arith, add-one, append_assoc, length-append}
+use Rattle.std.specs.Prelude.{if◌then◌else◌}
+use Rattle.std.specs.List.{prefix_len}
+use Rattle.std.proofs.lemmas.Bool.{cond-true, cond-false}
+use Rattle.std.proofs.lemmas.Grind.{flat_map-append}
+use Rattle.text_model.specs.Texts.{Text}
+use Rattle.text_model.specs.Cut.{is_continuation, with_byte, code_points, are_triplet, with_triplets, items, joined, cut}
+use Rattle.text_model.specs.declared.writing.Writing.{Writing}
+use Rattle.text_model.specs.declared.writing.Writing.TheVariants.{U, UR}
+
+-- ---- the items of a text joined are the text
+
+joined-with_byte : (b : ℕ) (points : List Text) → joined (with_byte b points) ≡ b ∷ joined points
+joined-with_byte b [] = refl
+joined-with_byte b ([] ∷ points) = refl
+joined-with_byte b ((next ∷ t) ∷ points) = by_test (is_continuation next)
+  where
+    by_test : (x : Bool) → joined (if x then ((b ∷ next ∷ t) ∷ points) else ((b ∷ []) ∷ (next ∷ t) ∷ points)) ≡ b ∷ joined ((next ∷ t) ∷ points)
+    by_test true = refl
+    by_test false = refl
+
+pub joined-code_points : (t : Text) → joined (code_points t) ≡ t
+unfolding code_points
+joined-code_points [] = refl
+joined-code_points (b ∷ t) = joined-with_byte b (code_points t) ∙ ap (λ x. b ∷ x) (joined-code_points t)
+
+joined-with_triplets : (points : List Text) → joined (with_triplets points) ≡ joined points
+unfolding with_triplets
+joined-with_triplets [] = refl
+joined-with_triplets (p ∷ []) = refl
+joined-with_triplets (p ∷ q ∷ []) = refl
+joined-with_triplets (p ∷ q ∷ r ∷ points) = by_test (are_triplet p q r) (joined-with_triplets points) (joined-with_triplets (q ∷ r ∷ points))
+  where
+    by_test : (x : Bool) → joined (with_triplets points) ≡ joined points → joined (with_triplets (q ∷ r ∷ points)) ≡ joined (q ∷ r ∷ points) → joined (if x then ((p ++ q ++ r) ∷ with_triplets points) else (p ∷ with_triplets (q ∷ r ∷ points))) ≡ p ++ (q ++ (r ++ joined points))
+    by_test true i j = ap (λ x. (p ++ q ++ r) ++ x) i ∙ (append_assoc (p ++ q) r (joined points) ∙ append_assoc p q (r ++ joined points))
+    by_test false i j = ap (λ x. p ++ x) j
+
+pub joined-items : (w : Writing) (t : Text) → joined (items w t) ≡ t
+joined-items U t = joined-code_points t
+joined-items UR t = joined-with_triplets (code_points t) ∙ joined-code_points t
+
+pub joined-append : (xs ys : List Text) → joined (xs ++ ys) ≡ joined xs ++ joined ys
+joined-append xs ys = flat_map-append (λ t. t) xs ys
+
+-- ---- a cut
+
+length-joined-take : (texts : List Text) (n : ℕ) → length (joined (take n texts)) ≤ length (joined texts)
+length-joined-take texts zero = omega arith
+length-joined-take [] (suc n) = omega arith
+length-joined-take (t ∷ texts) (suc n) =
+    omega (arith, length-joined-take texts n, length-append t (joined (take n texts)), length-append t (joined texts))
+
+-- no cut is longer than its text
+pub length-cut : (w : Writing) (t : Text) (n : ℕ) → length (cut w t n) ≤ length t
+length-cut w t n = subst (λ x. length (cut w t n) ≤ length x) (joined-items w t) (length-joined-take (items w t) n)
+
+take-long : (texts : List Text) (n : ℕ) → length texts ≤ n → take n texts ≡ texts
+take-long [] zero h = refl
+take-long [] (suc n) h = refl
+take-long (t ∷ texts) zero h = absurd (omega arith)
+take-long (t ∷ texts) (suc n) h = let shorter : length texts ≤ n = omega arith in ap (λ x. t ∷ x) (take-long texts n shorter)
+
+-- and a cut that is longer than the items keeps all
+pub cut-long : (w : Writing) (t : Text) (n : ℕ) → length (items w t) ≤ n → cut w t n ≡ t
+cut-long w t n h = ap joined (take-long (items w t) n h) ∙ joined-items w t
+
+pub cut-zero : (w : Writing) (t : Text) → cut w t 0 ≡ []
+cut-zero w t = refl
+
+pub cut-nothing : (w : Writing) (t : Text) (n : ℕ) → length t ≡ 0 → cut w t n ≡ []
+unfolding code_points with_triplets
+cut-nothing U [] zero e = refl
+cut-nothing U [] (suc n) e = refl
+cut-nothing UR [] zero e = refl
+cut-nothing UR [] (suc n) e = refl
+cut-nothing w (b ∷ t) n e = absurd (omega arith)
+
+-- an item at the front is the first of the cut
+pub cut-item : (w : Writing) (t front rest : Text) (n : ℕ) → items w t ≡ front ∷ items w rest → cut w t (n + 1) ≡ front ++ cut w rest n
+cut-item w t front rest n e = ap (λ x. joined (take (n + 1) x)) e ∙ first n
+  where
+    first : (m : ℕ) → joined (take (m + 1) (front ∷ items w rest)) ≡ front ++ joined (take m (items w rest))
+    first m = rw add-one refl
+
+-- ---- where the first item ends
+
+-- the code point and the two behind it are the characters of a triplet
+abbrev pub begins_with_triplet_points : Text → List Text → Bool
+begins_with_triplet_points p [] = false
+begins_with_triplet_points p (q ∷ []) = false
+begins_with_triplet_points p (q ∷ r ∷ points) = are_triplet p q r
+
+-- a byte and the bytes of its code point behind it come first
+pub code_points-next : (b : ℕ) (t : Text) → code_points (b ∷ t) ≡ (b ∷ take (prefix_len is_continuation t) t) ∷ code_points (drop (prefix_len is_continuation t) t)
+unfolding code_points
+code_points-next b [] = refl
+code_points-next b (c ∷ t) = ap (with_byte b) (code_points-next c t) ∙ by_test (code_points-next c t) (is_continuation c)
+  where
+    k : ℕ
+    k = prefix_len is_continuation t
+
+    by_test : code_points (c ∷ t) ≡ (c ∷ take k t) ∷ code_points (drop k t) → (x : Bool) → (if x then ((b ∷ c ∷ take k t) ∷ code_points (drop k t)) else ((b ∷ []) ∷ (c ∷ take k t) ∷ code_points (drop k t))) ≡ (b ∷ take (cond x (1 + k) 0) (c ∷ t)) ∷ code_points (drop (cond x (1 + k) 0) (c ∷ t))
+    by_test next true = let e : 1 + k ≡ suc k = omega arith in rw e refl
+    by_test next false = ap (λ x. (b ∷ []) ∷ x) (sym next)
+
+-- three code points that are no triplet: the first is an item
+pub with_triplets-first : (p : Text) (points : List Text) → begins_with_triplet_points p points ≡ false → with_triplets (p ∷ points) ≡ p ∷ with_triplets points
+unfolding with_triplets
+with_triplets-first p [] e = refl
+with_triplets-first p (q ∷ []) e = refl
+with_triplets-first p (q ∷ r ∷ points) e = cond-false (are_triplet p q r) _ _ e
+
+-- three code points that are a triplet are an item
+pub with_triplets-triplet : (p q r : Text) (points : List Text) → are_triplet p q r ≡ true → with_triplets (p ∷ q ∷ r ∷ points) ≡ (p ++ q ++ r) ∷ with_triplets points
+unfolding with_triplets
+with_triplets-triplet p q r points e = cond-true (are_triplet p q r) _ _ e

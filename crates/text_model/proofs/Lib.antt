@@ -1,0 +1,5 @@
+pub mod UriTexts
+pub mod Written
+pub mod Cuts
+pub mod UriAscii
+pub mod CodePoints

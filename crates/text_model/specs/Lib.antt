@@ -1,0 +1,5 @@
+pub mod Texts
+pub mod Writing
+pub mod UriText
+pub mod Cut
+pub mod Number

@@ -1,0 +1,8 @@
+//! Texts: the classes of their bytes, how they are written into a link, their items and their leading
+//! number. Definitions and their laws; nothing here runs.
+#![tactic(auto)]
+
+pub mod laws;
+mod writing;
+
+pub use writing::Writing;

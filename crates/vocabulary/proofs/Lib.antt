@@ -1,7 +1,0 @@
-pub mod EnvironmentGrowth
-pub mod UriTexts
-pub mod Written
-pub mod Cuts
-pub mod UriAscii
-pub mod CodePoints
-pub mod Environments

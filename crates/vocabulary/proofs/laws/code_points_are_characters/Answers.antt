@@ -1,5 +1,0 @@
-use Rattle.vocabulary.proofs.CodePoints.{code_points-encode_utf8_all}
-use Rattle.vocabulary.proofs.laws.code_points_are_characters.Goals as goal
-
-pub returns : goal.returns
-returns c = code_points-encode_utf8_all

@@ -1,5 +1,0 @@
-use Rattle.vocabulary.proofs.CodePoints.{cut-encode_utf8_all}
-use Rattle.vocabulary.proofs.laws.cut_takes_characters.Goals as goal
-
-pub returns : goal.returns
-returns c = cut-encode_utf8_all
