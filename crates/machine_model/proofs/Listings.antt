@@ -21,7 +21,7 @@ abbrev pub compared_text : Text → Literal
 compared_text t = record { compared = true; bytes = t }
 
 abbrev pub code : List Name → List Literal → List Instruction → Code
-code names literals instructions = record { names = names; literals = literals; instrs = map spelling instructions }
+code names literals instructions = record { version = 1; names = names; literals = literals; instrs = map spelling instructions }
 
 -- the same code with other fields at a place
 abbrev pub with_fields : ℕ → Instr → Code → Code

@@ -8,6 +8,8 @@ pub mod First
 pub mod Form
 pub mod Kinds
 pub mod Typable
-pub mod PlainKinds
+pub mod Fitting
+pub mod Mismatch
 pub mod Budget
 pub mod Safe
+pub mod Passes

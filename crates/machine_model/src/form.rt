@@ -10,11 +10,11 @@ pub struct Body {
 /// Why the instruction at a place is not of good form, in the order in which it is decided.
 #[derive(Clone, Copy, Debug, PartialEq, Eq)]
 pub enum FormFault {
-    /// No operation has this number.
+    /// No operation of the code's version has this number.
     UnknownOp,
     /// A field that the operation does not use is not 0, a mode is above 1, or a count is not 1 to 9999.
     BadField,
-    /// There is no such register.
+    /// The code's version has no such register.
     BadRegister,
     /// The table has no such entry.
     BadIndex,

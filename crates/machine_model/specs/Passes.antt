@@ -1,0 +1,107 @@
+-- A helper that computes: kinds joined along all edges, again and again. What it comes to is at or below every
+-- closed table, so where it is closed it is the least one.
+use Rattle.std.specs.Prelude.{ℕ, zero, suc, ◌-◌, List, [], ◌∷◌, Option, Some, None, option_map, option_and_then, Bool, true, false, ◌&&◌, length, replicate, slice_get, slice_index_or}
+use Rattle.std.specs.List.{list_all}
+use Rattle.code_model.specs.Code.{Code}
+use Rattle.machine_model.specs.declared.kind.Kind.{Kind}
+use Rattle.machine_model.specs.declared.kind.Kind.TheVariants.{Any}
+use Rattle.machine_model.specs.First.{Located}
+use Rattle.machine_model.specs.Operands.{register_count}
+use Rattle.machine_model.specs.Kinds.{kind_le, kind_join, Kinds, any_kinds, Edge, edges_at}
+use Rattle.machine_model.specs.Typable.{Table}
+use Rattle.machine_model.specs.Mismatch.{first_mismatch}
+
+-- ---- the kinds of the registers that a code may name
+
+abbrev pub Row : Type 0
+Row = List Kind
+
+-- of the registers past a row nothing is known
+abbrev pub kinds_in : Row → Kinds
+kinds_in row r = slice_index_or row r Any
+
+-- the kinds of the first n registers
+unfoldable pub listed : ℕ → Kinds → Row
+listed zero ks = []
+listed (suc n) ks = ks 0 ∷ listed n (λ r. ks (suc r))
+
+unfoldable pub joined : Row → Kinds → Row
+joined [] ks = []
+joined (k ∷ row) ks = kind_join k (ks 0) ∷ joined row (λ r. ks (suc r))
+
+-- the kinds of the first registers are at or below those of a row
+unfoldable pub is_within : ℕ → Kinds → Row → Bool
+is_within zero ks row = true
+is_within (suc n) ks [] = true
+is_within (suc n) ks (k ∷ row) = kind_le (ks 0) k && is_within n (λ r. ks (suc r)) row
+
+-- ---- a row for each place that an edge has reached
+
+abbrev pub Rows : Type 0
+Rows = List (Option Row)
+
+abbrev pub row_at : Rows → ℕ → Option Row
+row_at rows p = option_and_then (λ o. o) (slice_get rows p)
+
+abbrev pub table_in : Rows → Table
+table_in rows p = option_map kinds_in (row_at rows p)
+
+abbrev pub arrived : ℕ → Kinds → Option Row → Row
+arrived n ks None = listed n ks
+arrived n ks (Some row) = joined row ks
+
+-- kinds carried to a place are joined with what was carried there before
+unfoldable pub carried : ℕ → ℕ → Kinds → Rows → Rows
+carried n to ks [] = []
+carried n zero ks (o ∷ rows) = Some (arrived n ks o) ∷ rows
+carried n (suc to) ks (o ∷ rows) = o ∷ carried n to ks rows
+
+abbrev pub carried_all : ℕ → List Edge → Rows → Rows
+carried_all n [] rows = rows
+carried_all n (e ∷ es) rows = carried_all n es (carried n e.to e.kinds rows)
+
+abbrev pub edges_from : Code → ℕ → Option Row → List Edge
+edges_from c p None = []
+edges_from c p (Some row) = edges_at c p (kinds_in row)
+
+abbrev pub followed : Code → ℕ → Rows → Rows
+followed c p rows = carried_all (register_count c) (edges_from c p (row_at rows p)) rows
+
+-- along the edges of the places below n, in rising order
+unfoldable pub pass : Code → ℕ → Rows → Rows
+pass c zero rows = rows
+pass c (suc p) rows = followed c p (pass c p rows)
+
+-- place 0 alone, with nothing known of any register
+abbrev pub first_rows : Code → Rows
+first_rows c = Some (listed (register_count c) any_kinds) ∷ replicate (length c.instrs - 1) None
+
+-- after n passes along all edges
+unfoldable pub passes : Code → ℕ → Rows
+passes c zero = first_rows c
+passes c (suc n) = pass c (length c.instrs) (passes c n)
+
+-- ---- whether another pass would change nothing
+
+abbrev pub is_reached : ℕ → Rows → Edge → Bool
+is_reached n rows e = within (row_at rows e.to)
+  where
+    within : Option Row → Bool
+    within None = false
+    within (Some row) = is_within n e.kinds row
+
+-- each edge from a place below n leads to a row at or above what it carries
+unfoldable pub is_closed : Code → ℕ → Rows → Bool
+is_closed c zero rows = true
+is_closed c (suc p) rows = is_closed c p rows && list_all (is_reached (register_count c) rows) (edges_from c p (row_at rows p))
+
+-- whether n passes find the least table, and the first mismatch in what they find
+pub record Found : Type 0 where
+  pub least : Bool
+  pub mismatch : Option (Located ℕ)
+
+abbrev pub found_in : Code → Rows → Found
+found_in c rows = record { least = is_closed c (length c.instrs) rows; mismatch = first_mismatch c (table_in rows) }
+
+abbrev pub found : Code → ℕ → Found
+found c n = found_in c (passes c n)
