@@ -2,7 +2,7 @@
 use Rattle.std.proofs.Common.{ℕ, ◌+◌, List, [], ◌∷◌, ◌++◌, true, false}
 use Rattle.std.specs.Prelude.{codes, take, drop, map}
 use Rattle.text_model.specs.Texts.{Text}
-use Rattle.code_model.specs.Code.{Name, Literal, Code, spelling}
+use Rattle.code_model.specs.Code.{Name, Literal, Code, spelling, upgraded}
 use Rattle.environment_model.specs.Environment.{Environment, Single, Several}
 use Rattle.code_model.specs.declared.code.Instr.{Instr}
 use Rattle.code_model.specs.declared.code.Instruction.{Instruction}
@@ -77,6 +77,10 @@ sample instructions =
     ∷ compared_text (195 ∷ 169 ∷ codes "%41b")
     ∷ [])
     instructions
+
+-- the same as code of version 2
+abbrev pub second : List Instruction → Code
+second instructions = upgraded (sample instructions)
 
 abbrev pub a_text : Text → Text → Environment
 a_text name t = record { name = name; meaning = Single t } ∷ []

@@ -1,0 +1,124 @@
+-- The budgets of small codes.
+use Rattle.std.proofs.Common.{◌≡◌, ℕ, List, [], ◌∷◌, refl, arith}
+use Rattle.std.specs.Prelude.{map, length, ◌+◌, ◌++◌}
+use Rattle.code_model.specs.Code.{Code, row, reading, upgraded}
+use Rattle.code_model.specs.declared.code.Instruction.{Instruction}
+use Rattle.code_model.specs.declared.code.Instruction.TheVariants as instruction
+use Rattle.machine_model.specs.Form.{body_at}
+use Rattle.machine_model.specs.Budget.{longest_compared, is_kept, total, Sums, sums_of, steps_bound, bytes_bound}
+use Rattle.machine_model.proofs.Listings.{list_code, issn_code, x_code, sample, with_fields, with_instruction}
+
+abbrev sums : ℕ → ℕ → ℕ → ℕ → ℕ → ℕ → Sums
+sums s0 s1 o0 o1 o2 o3 = record { s0 = s0; s1 = s1; o0 = o0; o1 = o1; o2 = o2; o3 = o3 }
+
+record Case : Type 0 where
+  code : Code
+  sums : Sums
+
+abbrev case : Code → Sums → Case
+case c s = record { code = c; sums = s }
+
+-- the longest comparison text of the sample has ten bytes, so each PUT and CUT counts 30
+abbrev cases : List Case
+cases =
+    case list_code (sums 3 3 0 1 3 0)
+    ∷ case issn_code (sums 10 0 17 0 3 0)
+    ∷ case x_code (sums 4 0 0 0 3 0)
+    ∷ case (sample (instruction.Emit 0 ∷ instruction.Halt ∷ [])) (sums 2 0 1 0 0 0)
+    -- an entry of the other kind counts by its length, and a missing one by 0
+    ∷ case (sample (instruction.Emit 1 ∷ instruction.Emit 9 ∷ instruction.Halt ∷ [])) (sums 3 0 2 0 0 0)
+    -- a SEP in no body counts for nothing
+    ∷ case (sample (instruction.Sep 1 ∷ instruction.Halt ∷ [])) (sums 2 0 0 0 0 0)
+    ∷ case (sample (instruction.Put 0 0 ∷ instruction.Cut 0 1 1 ∷ instruction.Halt ∷ [])) (sums 3 0 60 0 6 0)
+    -- in a body: EMIT, SEP, and PUT and CUT of the element, or of another register
+    ∷ case (sample (instruction.List 0 0 ∷ instruction.Each 1 0 7 ∷ instruction.Emit 0 ∷ instruction.Sep 1 ∷ instruction.Put 1 0 ∷ instruction.Cut 1 1 0 ∷ instruction.Next ∷ instruction.Halt ∷ [])) (sums 3 5 0 3 6 0)
+    ∷ case (sample (instruction.List 0 0 ∷ instruction.Each 1 0 5 ∷ instruction.Put 2 0 ∷ instruction.Cut 0 1 0 ∷ instruction.Next ∷ instruction.Halt ∷ [])) (sums 3 3 0 60 0 6)
+    -- places that no step reaches count, and other faults change nothing
+    ∷ case (sample (instruction.Halt ∷ instruction.Emit 0 ∷ instruction.Halt ∷ [])) (sums 3 0 1 0 0 0)
+    ∷ case (with_fields 1 (row 16 1 0 7 5) list_code) (sums 3 3 0 1 3 0)
+    ∷ case (with_fields 3 (row 14 99 9 9 9) list_code) (sums 3 3 0 1 0 3)
+    ∷ case (with_fields 0 (row 19 0 0 0 0) list_code) (sums 3 3 0 1 3 0)
+    -- an EACH whose end is past the code, or before it, begins no body
+    ∷ case (sample (instruction.List 0 0 ∷ instruction.Each 1 0 3 ∷ instruction.Next ∷ [])) (sums 3 0 0 0 0 0)
+    ∷ case (sample (instruction.Next ∷ instruction.Halt ∷ instruction.Each 0 0 1 ∷ instruction.Halt ∷ instruction.Halt ∷ [])) (sums 5 0 0 0 0 0)
+    -- without its NEXT the list code has no body
+    ∷ case (with_instruction 4 (instruction.Emit 0) list_code) (sums 6 0 1 0 3 0)
+    ∷ []
+
+cases_hold : map (λ x. sums_of x.code) cases ≡ map (λ x. x.sums) cases
+unfolding total longest_compared is_kept body_at reading
+cases_hold = refl
+
+-- ---- PUT of the element: the body writes it, before or behind the PUT, or it stays as it is
+
+-- over `list`, with so many places in the body; r1 is the element
+abbrev loop : List Instruction → Code
+loop body = sample (instruction.List 0 0 ∷ instruction.Each 1 0 (length body + 2) ∷ (body ++ (instruction.Halt ∷ [])))
+
+-- with one PUT in a body of so many places
+abbrev of_the_element : ℕ → Sums
+of_the_element n = sums 3 n 0 0 3 0
+
+abbrev of_another : ℕ → Sums
+of_another n = sums 3 n 0 30 0 3
+
+abbrev element_cases : List Case
+element_cases =
+    case (loop (instruction.Put 1 0 ∷ instruction.Next ∷ [])) (of_the_element 2)
+    ∷ case (loop (instruction.Text 1 1 ∷ instruction.Put 1 0 ∷ instruction.Next ∷ [])) (of_another 3)
+    ∷ case (loop (instruction.Put 1 0 ∷ instruction.Text 1 1 ∷ instruction.Next ∷ [])) (of_another 3)
+    ∷ case (loop (instruction.Put 1 0 ∷ instruction.List 1 0 ∷ instruction.Next ∷ [])) (of_another 3)
+    ∷ case (loop (instruction.Put 1 0 ∷ instruction.Const 1 1 ∷ instruction.Next ∷ [])) (of_another 3)
+    ∷ case (loop (instruction.Put 1 0 ∷ instruction.Number 1 1 4 ∷ instruction.Next ∷ [])) (of_another 3)
+    -- writing another register, or reading the element
+    ∷ case (loop (instruction.Const 2 1 ∷ instruction.Put 1 0 ∷ instruction.Next ∷ [])) (of_the_element 3)
+    ∷ case (loop (instruction.Number 2 1 4 ∷ instruction.Put 1 0 ∷ instruction.Next ∷ [])) (of_the_element 3)
+    ∷ case (loop (instruction.Undef 1 3 ∷ instruction.Put 1 0 ∷ instruction.Next ∷ [])) (of_the_element 3)
+    ∷ case (loop (instruction.Empty 1 3 ∷ instruction.Put 1 0 ∷ instruction.Next ∷ [])) (of_the_element 3)
+    -- before the body and behind it the register may be written
+    ∷ case (sample (instruction.Const 1 1 ∷ instruction.List 0 0 ∷ instruction.Each 1 0 5 ∷ instruction.Put 1 0 ∷ instruction.Next ∷ instruction.Const 1 1 ∷ instruction.Halt ∷ [])) (sums 5 2 0 0 3 0)
+    -- the element of another body
+    ∷ case (sample (instruction.List 0 0 ∷ instruction.Each 1 0 3 ∷ instruction.Next ∷ instruction.Each 2 0 6 ∷ instruction.Put 1 0 ∷ instruction.Next ∷ instruction.Halt ∷ [])) (sums 4 3 0 30 0 3)
+    -- COUNT writes its register in version 2; in version 1 its number names nothing
+    ∷ case (upgraded (loop (instruction.Put 1 0 ∷ instruction.Count 1 0 ∷ instruction.Next ∷ []))) (of_another 3)
+    ∷ case (upgraded (loop (instruction.Put 1 0 ∷ instruction.Count 2 1 ∷ instruction.Next ∷ []))) (of_the_element 3)
+    ∷ case (loop (instruction.Put 1 0 ∷ instruction.Count 1 0 ∷ instruction.Next ∷ [])) (of_the_element 3)
+    ∷ []
+
+element_cases_hold : map (λ x. sums_of x.code) element_cases ≡ map (λ x. x.sums) element_cases
+unfolding total longest_compared is_kept body_at reading
+element_cases_hold = refl
+
+-- ---- the bounds
+
+list_steps : steps_bound (sums_of list_code) 3 ≡ 12
+unfolding total body_at reading
+list_steps = refl
+
+list_bytes : bytes_bound (sums_of list_code) 3 12 ≡ 39
+unfolding total longest_compared is_kept body_at reading
+list_bytes = refl
+
+issn_bytes : bytes_bound (sums_of issn_code) 0 9 ≡ 44
+unfolding total longest_compared is_kept body_at reading
+issn_bytes = refl
+
+-- outside bodies the members count for nothing
+x_steps : steps_bound (sums_of x_code) 5 ≡ 4
+unfolding total body_at reading
+x_steps = refl
+
+x_bytes : bytes_bound (sums_of x_code) 5 7 ≡ 21
+unfolding total longest_compared is_kept body_at reading
+x_bytes = refl
+
+-- each sum in its place: by nothing, by M, by E, and by both
+all_terms : bytes_bound (sums 9 9 1000 100 10 1) 3 7 ≡ 1391
+all_terms = refl
+
+-- ---- what must not hold
+
+-- a body counts once a turn, and not once
+not_once : (sums_of list_code).s0 ≡ 6 → ⊥
+unfolding total body_at reading
+not_once e = let once : 3 ≡ 6 = e in absurd (omega (arith, once))
