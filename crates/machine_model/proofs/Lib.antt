@@ -1,6 +1,11 @@
 pub mod Moves
 pub mod Readings
 pub mod Decides
+pub mod Bodies
+pub mod GoodPlaces
+pub mod Faults
+pub mod Orders
+pub mod Fitting
 pub mod Listings
 mod SpellingExamples
 mod ValueExamples

@@ -1,36 +1,16 @@
--- Values and the kinds that they fit.
+-- What it says of a value that it has a kind, and of registers that they fit kinds.
 use Rattle.std.proofs.Common.{◌≡◌, ℕ, List, Option, Some, None, Bool, true, false, refl, sym, subst, ◌⊎◌, inl, inr}
 use Rattle.std.specs.Prelude.{◌==◌, if◌then◌else◌}
 use Rattle.std.proofs.lemmas.Bool.{eqb-true}
 use Rattle.text_model.specs.Texts.{Text}
 use Rattle.machine_model.specs.declared.kind.Kind.{Kind}
 use Rattle.machine_model.specs.declared.kind.Kind.TheVariants.{Any, OptText, Text as TextKind, List as ListKind, Number as NumberKind}
-use Rattle.machine_model.specs.Values.{Value, Nothing, Undefined, Text as TextValue, List as ListValue, Number as NumberValue, text_or_undefined}
+use Rattle.machine_model.specs.Values.{Value, Undefined, Text as TextValue, List as ListValue, Number as NumberValue, text_or_undefined}
 use Rattle.machine_model.specs.States.{put}
-use Rattle.machine_model.specs.Kinds.{kind_le, Kinds, IsBelow, need}
+use Rattle.machine_model.specs.Kinds.{Kinds, IsBelow, need}
 use Rattle.machine_model.specs.Typable.{IsMet}
-
--- the least kind of a value
-abbrev pub kind_of : Value → Kind
-kind_of Nothing = Any
-kind_of Undefined = OptText
-kind_of (TextValue t) = TextKind
-kind_of (ListValue ts) = ListKind
-kind_of (NumberValue n) = NumberKind
-
-abbrev pub HasKind : Value → Kind → Type 0
-HasKind x k = kind_le (kind_of x) k ≡ true
-
-pub kind_le_trans : (k m n : Kind) → kind_le k m ≡ true → kind_le m n ≡ true → kind_le k n ≡ true
-kind_le_trans k m Any e f = refl
-kind_le_trans k Any _ e f = cc
-kind_le_trans TextKind TextKind TextKind e f = refl
-kind_le_trans TextKind TextKind OptText e f = refl
-kind_le_trans TextKind OptText OptText e f = refl
-kind_le_trans OptText OptText OptText e f = refl
-kind_le_trans ListKind ListKind ListKind e f = refl
-kind_le_trans NumberKind NumberKind NumberKind e f = refl
-kind_le_trans _ _ _ e f = cc
+use Rattle.machine_model.specs.Fitting.{kind_of, HasKind, Fits}
+use Rattle.machine_model.proofs.Orders.{kind_le_trans}
 
 pub is_text : (x : Value) → HasKind x TextKind → (t : Text) × (x ≡ TextValue t)
 is_text (TextValue t) h = (t, refl)
@@ -52,10 +32,6 @@ is_number _ h = absurd (cc)
 pub text_or_undefined-kind : (o : Option Text) → HasKind (text_or_undefined o) OptText
 text_or_undefined-kind None = refl
 text_or_undefined-kind (Some t) = refl
-
--- registers of these kinds
-pub record Fits (ks : Kinds) (regs : ℕ → Value) : Type 0 where
-  pub at : (r : ℕ) → HasKind (regs r) (ks r)
 
 pub fits_put : (ks : Kinds) (regs : ℕ → Value) (a : ℕ) (k : Kind) (x : Value) → Fits ks regs → HasKind x k → Fits (put ks a k) (put regs a x)
 fits_put ks regs a k x f h = record { at = λ r. by_test r (r == a) }
