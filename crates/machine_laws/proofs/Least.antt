@@ -1,116 +1,91 @@
--- Plain kinds are the least: at or below every table that is closed under the same edges.
-use Rattle.std.proofs.Common.{◌≡◌, ℕ, zero, suc, List, [], ◌∷◌, Option, Some, None, Bool, true, false, refl, sym, ap, ◌∙◌, subst}
-use Rattle.std.specs.Prelude.{◌==◌, if◌then◌else◌}
+-- The least table of a code: there is at most one, it decides whether the code is typable, and with it the first
+-- mismatch.
+use Rattle.std.proofs.Common.{◌≡◌, ℕ, ◌<◌, ◌≤◌, List, [], ◌∷◌, length, Option, Some, None, Bool, true, false, refl, sym, ap, ◌∙◌, subst, ⊎_elim}
+use Rattle.std.specs.Prelude.{◌↔◌, if◌then◌else◌, option_and_then}
 use Rattle.std.specs.List.{AllByRecursion}
-use Rattle.std.proofs.lemmas.Bool.{eqb-true}
-use Rattle.code_model.specs.Code.{Code, reading_at}
-use Rattle.code_model.specs.declared.code.Instruction.{Instruction}
-use Rattle.code_model.specs.declared.code.Instruction.TheVariants.{Halt, Fail, Text as LoadText, List as LoadList, Const, Number, Undef, Empty, NoList, Differ, Less, Each, Next}
-use Rattle.machine_model.specs.declared.form.Body.{Body}
-use Rattle.machine_model.specs.declared.kind.Kind.{Kind}
-use Rattle.machine_model.specs.declared.kind.Kind.TheVariants.{Any, OptText, Text as TextKind, List as ListKind, Number as NumberKind}
-use Rattle.machine_model.specs.States.{put}
-use Rattle.machine_model.specs.Form.{body_at, HasGoodForm}
-use Rattle.machine_model.specs.Kinds.{kind_le, kind_join, Kinds, any_kinds, IsBelow, Edge, edges_on, for_instruction}
-use Rattle.machine_model.specs.Typable.{Table, Holds}
-use Rattle.machine_model.specs.PlainKinds.{join, brought, edges_of, arriving, plain_at}
+use Rattle.std.proofs.Math.Path.{fun_ext}
+use Rattle.std.proofs.lemmas.Bool.{cases_lt}
+use Rattle.std.proofs.lemmas.Option.{slice_get_past}
+use Rattle.code_model.specs.Code.{Code, reading, reading_at}
+use Rattle.machine_model.specs.First.{Located, first_below}
+use Rattle.machine_model.specs.Kinds.{kind_le, Kinds, IsBelow, Need, for_instruction, needs, needs_at}
+use Rattle.machine_model.specs.Typable.{Table, IsMet, MeetsNeeds, IsTypable, TableBelow, IsLeast}
+use Rattle.machine_model.specs.Mismatch.{first_unmet, unmet_in, mismatch_at, first_mismatch, IsFirstMismatch}
 use Rattle.machine_model.proofs.Moves.{some_one}
-use Rattle.machine_model.specs.PlainKinds.{IsOnwardClosed, TableBelow, IsLeast}
-use Rattle.machine_laws.proofs.Fitting.{kind_le_trans}
-use Rattle.machine_laws.proofs.Plain.{kind_le_refl, plain_closed}
+use Rattle.machine_model.proofs.Faults.{none_below, first_none}
+use Rattle.machine_model.proofs.Orders.{kind_le_trans, below_antisym}
 
--- the join of two kinds is at or below each kind above both
-pub kind_join-least : (k m n : Kind) → kind_le k n ≡ true → kind_le m n ≡ true → kind_le (kind_join k m) n ≡ true
-kind_join-least k m Any e f = refl
-kind_join-least TextKind TextKind TextKind e f = refl
-kind_join-least TextKind TextKind OptText e f = refl
-kind_join-least TextKind OptText OptText e f = refl
-kind_join-least OptText TextKind OptText e f = refl
-kind_join-least OptText OptText OptText e f = refl
-kind_join-least ListKind ListKind ListKind e f = refl
-kind_join-least NumberKind NumberKind NumberKind e f = refl
-kind_join-least _ _ _ e f = cc
+-- ---- there is at most one
 
-pub put_below : (ks ms : Kinds) (a : ℕ) (k : Kind) → IsBelow ks ms → IsBelow (put ks a k) (put ms a k)
-put_below ks ms a k b = record { at = λ r. by_test r (r == a) }
+same_row : (p : ℕ) (t u : Table) → TableBelow t u → TableBelow u t → t p ≡ u p
+same_row p t u b d = by_kinds (t p) refl (u p) refl
   where
-    by_test : (r : ℕ) (t : Bool) → kind_le (if t then k else ks r) (if t then k else ms r) ≡ true
-    by_test r true = kind_le_refl k
-    by_test r false = b.at r
+    by_kinds : (o : Option Kinds) → t p ≡ o → (o' : Option Kinds) → u p ≡ o' → o ≡ o'
+    by_kinds None e None e' = refl
+    by_kinds None e (Some ms) e' = let k = d p ms e' in let none : None ≡ Some k.0 = sym e ∙ k.1 in absurd (cc)
+    by_kinds (Some ks) e o' e' =
+        let k = b p ks e in
+        let m = d p k.0 k.1 in
+        let back : m.0 ≡ ks = some_one (sym m.1 ∙ e) in
+        let same : ks ≡ k.0 = below_antisym ks k.0 k.2 (subst (IsBelow k.0) back m.2) in
+        ap Some same ∙ sym k.1 ∙ e'
 
-abbrev pub EdgesBelow : List Edge → List Edge → Type 0
-EdgesBelow [] [] = Unit {0}
-EdgesBelow (e ∷ es) (f ∷ fs) = (e.to ≡ f.to) × IsBelow e.kinds f.kinds × EdgesBelow es fs
-EdgesBelow _ _ = ⊥
+pub least_once : (c : Code) (t u : Table) → IsLeast c t → IsLeast c u → t ≡ u
+least_once c t u l m = fun_ext (λ p. same_row p t u (l.least u m.closed) (m.least t l.closed))
 
--- smaller kinds are carried to the same places, and are smaller there
-pub edges_below : (p : ℕ) (ks ms : Kinds) (o : Option Body) (i : Instruction) → IsBelow ks ms → EdgesBelow (edges_on p ks o i) (edges_on p ms o i)
-edges_below p ks ms o Halt b = tt
-edges_below p ks ms o Fail b = tt
-edges_below p ks ms o (LoadText a x) b = (refl, put_below ks ms a OptText b, tt)
-edges_below p ks ms o (LoadList a x) b = (refl, put_below ks ms a ListKind b, tt)
-edges_below p ks ms o (Const a x) b = (refl, put_below ks ms a TextKind b, tt)
-edges_below p ks ms o (Number a x d) b = (refl, put_below ks ms a NumberKind b, (refl, b, tt))
-edges_below p ks ms o (Undef a d) b = (refl, put_below ks ms a TextKind b, (refl, b, tt))
-edges_below p ks ms o (Empty a d) b = (refl, b, (refl, b, tt))
-edges_below p ks ms o (NoList a d) b = (refl, b, (refl, b, tt))
-edges_below p ks ms o (Differ a x d) b = (refl, b, (refl, b, tt))
-edges_below p ks ms o (Less a x d) b = (refl, b, (refl, b, tt))
-edges_below p ks ms o (Each a x d) b = (refl, put_below ks ms a TextKind b, (refl, put_below ks ms a Any b, tt))
-edges_below p ks ms None Next b = (refl, b, tt)
-edges_below p ks ms (Some l) Next b = (refl, put_below ks ms l.element Any b, tt)
-edges_below p ks ms o _ b = (refl, b, tt)
+-- ---- it decides whether the code is typable
 
-below_trans : (ks ms ns : Kinds) → IsBelow ks ms → IsBelow ms ns → IsBelow ks ns
-below_trans ks ms ns b d = record { at = λ r. kind_le_trans (ks r) (ms r) (ns r) (b.at r) (d.at r) }
+met_below : (ks ms : Kinds) (ns : List Need) → IsBelow ks ms → AllByRecursion (IsMet ms) ns → AllByRecursion (IsMet ks) ns
+met_below ks ms [] b h = tt
+met_below ks ms (n ∷ ns) b h = (kind_le_trans (ks n.register) (ms n.register) n.kind (b.at n.register) h.0, met_below ks ms ns b h.1)
 
--- kinds, where there are any, are at or below those of another place
-abbrev OptBelow : Option Kinds → Option Kinds → Type 0
-OptBelow None o = Unit {0}
-OptBelow (Some ks) o = (ms : Kinds) × (o ≡ Some ms) × IsBelow ks ms
+pub least_decides : (c : Code) (t : Table) → IsLeast c t → MeetsNeeds c t ↔ IsTypable c
+least_decides c t l = (
+  λ m. (t, l.closed, m),
+  λ y. record { at = λ p ks known. let b = l.least y.0 y.1 p ks known in met_below ks b.0 (needs_at c p) b.2 (y.2.at p b.0 b.1) },
+)
 
-join_below : (a b o : Option Kinds) → OptBelow a o → OptBelow b o → OptBelow (join a b) o
-join_below None b o h k = k
-join_below (Some x) None o h k = h
-join_below (Some x) (Some y) o h k =
-    let same : k.0 ≡ h.0 = some_one (sym k.1 ∙ h.1) in
-    let y_below : IsBelow y h.0 = subst (IsBelow y) same k.2 in
-    (h.0, h.1, record { at = λ r. kind_join-least (x r) (y r) (h.0 r) (h.2.at r) (y_below.at r) })
+-- ---- and the first mismatch
 
-module _ (c : Code) (u : Table) (closed : IsOnwardClosed c u) where
-  holds_below : (es fs : List Edge) → EdgesBelow es fs → AllByRecursion (Holds u) fs → AllByRecursion (Holds u) es
-  holds_below [] [] b h = tt
-  holds_below (e ∷ es) (f ∷ fs) b h = ((h.0.0, ap u b.0 ∙ h.0.1, below_trans e.kinds f.kinds h.0.0 b.1 h.0.2), holds_below es fs b.2 h.1)
-  holds_below _ _ b h = absurd b
+all_met : (ks : Kinds) (ns : List Need) → first_unmet ks ns ≡ None → AllByRecursion (IsMet ks) ns
+all_met ks [] h = tt
+all_met ks (n ∷ ns) h = by_test (all_met ks ns) (kind_le (ks n.register) n.kind) refl h
+  where
+    by_test : (first_unmet ks ns ≡ None → AllByRecursion (IsMet ks) ns) → (t : Bool) → kind_le (ks n.register) n.kind ≡ t → (if t then first_unmet ks ns else Some n.register) ≡ None → AllByRecursion (IsMet ks) (n ∷ ns)
+    by_test rest true e h = (e, rest h)
+    by_test rest false e h = absurd (cc)
 
-  brought_below : (p : ℕ) (es : List Edge) → AllByRecursion (Holds u) es → OptBelow (brought p es) (u p)
-  brought_below p [] h = tt
-  brought_below p (e ∷ es) h = by_test (brought_below p es h.1) (e.to == p) refl
-    where
-      by_test : OptBelow (brought p es) (u p) → (t : Bool) → (e.to == p) ≡ t → OptBelow (if t then join (Some e.kinds) (brought p es) else brought p es) (u p)
-      by_test rest true q = join_below (Some e.kinds) (brought p es) (u p) (h.0.0, ap u (sym (eqb-true e.to p q)) ∙ h.0.1, h.0.2) rest
-      by_test rest false q = rest
+none_unmet : (ks : Kinds) (ns : List Need) → AllByRecursion (IsMet ks) ns → first_unmet ks ns ≡ None
+none_unmet ks [] h = refl
+none_unmet ks (n ∷ ns) h = rw h.0 (none_unmet ks ns h.1)
 
-  edges_hold : (n : ℕ) (o : Option Kinds) → OptBelow o (u n) → AllByRecursion (Holds u) (edges_of c n o)
-  edges_hold n None h = tt
-  edges_hold n (Some ks) h = by_reading (reading_at c n) (closed.onward n h.0 h.1)
-    where
-      by_reading : (o : Option Instruction) → AllByRecursion (Holds u) (for_instruction o (edges_on n h.0 (body_at c n))) → AllByRecursion (Holds u) (for_instruction o (edges_on n ks (body_at c n)))
-      by_reading None k = tt
-      by_reading (Some i) k = holds_below (edges_on n ks (body_at c n) i) (edges_on n h.0 (body_at c n) i) (edges_below n ks h.0 (body_at c n) i h.2) k
+-- past the code nothing is needed
+needs_past : (c : Code) (p : ℕ) → length c.instrs ≤ p → needs_at c p ≡ []
+needs_past c p le = ap (λ o. for_instruction o needs) (ap (option_and_then (reading c.version)) (slice_get_past c.instrs p le))
 
-  arriving_below : (n p : ℕ) → OptBelow (arriving c n p) (u p)
-  unfolding arriving
-  arriving_below zero p = by_test (p == 0) refl
-    where
-      by_test : (t : Bool) → (p == 0) ≡ t → OptBelow (if t then Some any_kinds else None) (u p)
-      by_test true q = (any_kinds, ap u (eqb-true p 0 q) ∙ closed.first, record { at = λ r. refl })
-      by_test false q = tt
-  arriving_below (suc n) p = join_below (arriving c n p) _ (u p) (arriving_below n p) (brought_below p (edges_of c n (arriving c n n)) (edges_hold n (arriving c n n) (arriving_below n n)))
+met_at : (c : Code) (t : Table) (p : ℕ) → MeetsNeeds c t → mismatch_at c t p ≡ None
+unfolding mismatch_at
+met_at c t p m = by_kinds (t p) refl
+  where
+    by_kinds : (o : Option Kinds) → t p ≡ o → unmet_in (needs_at c p) o ≡ None
+    by_kinds None e = refl
+    by_kinds (Some ks) e = none_unmet ks (needs_at c p) (m.at p ks e)
 
-  plain_below : TableBelow (plain_at c) u
-  plain_below p ks e = subst (λ o. OptBelow o (u p)) e (arriving_below p p)
+all_met_at : (c : Code) (t : Table) (p : ℕ) (ks : Kinds) → t p ≡ Some ks → mismatch_at c t p ≡ None → AllByRecursion (IsMet ks) (needs_at c p)
+unfolding mismatch_at
+all_met_at c t p ks known h = all_met ks (needs_at c p) (rw known at h)
 
--- the plain kinds of a code of good form are the least table that is closed but for returns
-pub plain_least : (c : Code) → HasGoodForm c → IsLeast c (plain_at c)
-plain_least c form = record { closed = plain_closed c form; least = λ u closed. plain_below c u closed }
+pub mismatch_decides : (c : Code) (t : Table) → MeetsNeeds c t ↔ (first_mismatch c t ≡ None)
+mismatch_decides c t = (
+  λ m. first_none (mismatch_at c t) (length c.instrs) (λ p lt. met_at c t p m),
+  λ h. record {
+    at = λ p ks known. ⊎_elim (λ lt. all_met_at c t p ks known (none_below (mismatch_at c t) (length c.instrs) h p lt)) (λ le. subst (AllByRecursion (IsMet ks)) (sym (needs_past c p le)) tt) (cases_lt p (length c.instrs));
+  },
+)
+
+-- a code has at most one first mismatch, and with one it is not typable
+pub one_first_mismatch : (c : Code) (m n : Located ℕ) → IsFirstMismatch c m → IsFirstMismatch c n → m ≡ n
+one_first_mismatch c m n h g = some_one (sym h.2 ∙ ap (first_mismatch c) (least_once c h.0 g.0 h.1 g.1) ∙ g.2)
+
+pub mismatch_untypable : (c : Code) (m : Located ℕ) → IsFirstMismatch c m → IsTypable c → ⊥
+mismatch_untypable c m h y = let none = (mismatch_decides c h.0).0 ((least_decides c h.0 h.1).1 y) in absurd (cc (h.2, none))

@@ -96,18 +96,18 @@ module _ (c : Code) (v : Environment) where
       let low : l.start ≤ p = h.low in
       record { low = i.0; high = i.1; turns = h.turns; few = h.few; whole = h.whole; bound = omega (arith, h.bound) }
 
-  by_shape : (s : Frame) (m : Move) (new : State) (k : ℕ) → FrameSmall (member_count v) (byte_count v) (text_limit c v) s → s.place < length c.instrs → Shape s m → Leads c s.place m new → AtMost s.loop s.place k → StateAtMost new (k + 1)
-  by_shape s _ new k small lt (ends e) led h = subst (λ x. StateAtMost x (k + 1)) (sym led) tt
-  by_shape s _ new k small lt (onward f same) led h =
-      let i : IsInside s.loop f.place = subst (λ l. IsInside l f.place) same led.0.inside in
-      subst (λ x. StateAtMost x (k + 1)) (sym led.1) (subst (λ l. AtMost l f.place (k + 1)) (sym same) (onward_on s.place k f s.loop i led.0.forward h))
-  by_shape s _ new k small lt (enters f l r u none held into first place inside) led h =
+  by_shape : (s : Frame) (i : Instruction) (m : Move) (new : State) (k : ℕ) → FrameSmall (member_count v) (byte_count v) (text_limit c v) s → s.place < length c.instrs → Shape s i m → Leads c s.place m new → AtMost s.loop s.place k → StateAtMost new (k + 1)
+  by_shape s i _ new k small lt (ends e) led h = subst (λ x. StateAtMost x (k + 1)) (sym led) tt
+  by_shape s i _ new k small lt (onward f same kept) led h =
+      let here : IsInside s.loop f.place = subst (λ l. IsInside l f.place) same led.0.inside in
+      subst (λ x. StateAtMost x (k + 1)) (sym led.1) (subst (λ l. AtMost l f.place (k + 1)) (sym same) (onward_on s.place k f s.loop here led.0.forward h))
+  by_shape s i _ new k small lt (enters f l r u none held into first place inside holds) led h =
       let none_yet : k ≤ (member_count v + 1) * s.place = subst (λ o. AtMost o s.place k) none h in
       let x = subst (IsSmall (member_count v) (byte_count v) (text_limit c v)) held (small.registers r) in
       let on' = step_past (member_count v + 1) s.place f.place k (omega arith) (omega (arith, place)) none_yet in
       let starts : InTurn l f.place (k + 1) = record { low = omega (arith, first); high = inside; turns = 0; few = omega (arith, x.0); whole = λ z. absurd (omega (arith, z)); bound = rw first (omega (arith, on')) } in
       subst (λ y. StateAtMost y (k + 1)) (sym led.1) (subst (λ o. AtMost o f.place (k + 1)) (sym into) starts)
-  by_shape s _ new k small lt (again f l l' u was into last left s1 s2 place) led h =
+  by_shape s i _ new k small lt (again f l l' u was into last left s1 s2 place holds) led h =
       let t : InTurn l s.place k = subst (λ o. AtMost o s.place k) was h in
       let low : l.start ≤ s.place = t.low in
       let same : (s.place - l.start) + 1 ≡ l.end - l.start = omega (arith, last) in
@@ -123,7 +123,7 @@ module _ (c : Code) (v : Environment) where
         bound = rw (s1, s2, place, none) (omega (arith, turn));
       } in
       subst (λ y. StateAtMost y (k + 1)) (sym led) (subst (λ o. AtMost o f.place (k + 1)) (sym into) next')
-  by_shape s _ new k small lt (leaves f l was into last left place) led h =
+  by_shape s i _ new k small lt (leaves f l was into last left place) led h =
       let t : InTurn l s.place k = subst (λ o. AtMost o s.place k) was h in
       let past = past_body s.place k l t last in
       let out : AtMost None f.place (k + 1) = subst (λ n. k + 1 ≤ (member_count v + 1) * n) (sym place) past in
@@ -133,7 +133,7 @@ module _ (c : Code) (v : Environment) where
   stepped (Ended e) new k a h st = absurd st
   stepped (Running s) new k a h st =
       let lt = reads_within c s.place st.0 st.1 in
-      (by_shape s st.2 new k (small_after c v k (Running s) a) lt (shape c v s st.0 st.2 st.3) st.4 h, steps_left s.loop s.place k h lt)
+      (by_shape s st.0 st.2 new k (small_after c v k (Running s) a) lt (shape c v s st.0 st.2 st.3) st.4 h, steps_left s.loop s.place k h lt)
 
   pub at_most : (k : ℕ) (s : State) → After c v k s → StateAtMost s k × (k ≤ (member_count v + 1) * length c.instrs)
   unfolding After

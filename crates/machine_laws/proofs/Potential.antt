@@ -9,8 +9,8 @@ use Rattle.code_model.specs.Code.{Code}
 use Rattle.machine_model.specs.States.{Loop}
 use Rattle.machine_model.specs.Form.{body_at}
 use Rattle.machine_model.specs.Budget.{where_outside, where_inside, outside, inside}
-use Rattle.machine_laws.proofs.Bodies.{is_in}
-use Rattle.machine_laws.proofs.Sound.{body_of}
+use Rattle.machine_model.proofs.Bodies.{is_in}
+use Rattle.machine_model.specs.Fitting.{body_of}
 use Rattle.machine_laws.proofs.Sums.{outer, inner, total_le, total_outside, total_inside}
 
 -- ---- arithmetic: B and D are the weights of a body, e and d those of its part before a place, and w and t
@@ -32,12 +32,11 @@ all_turns o a b M E turns bytes B D g lt lb h =
     omega arith
 
 module _ (c : Code) (w t : ℕ → ℕ) (M E : ℕ) where
-  -- g was spent before place p of a loop's turn: the turns that are over, the bytes of their members, and the
-  -- bytes of this turn's member
-  pub record SpentInLoop (l : Loop) (p g : ℕ) : Type 0 where
+  -- g was spent before place p of a loop's turn, whose member has so many bytes: the turns that are over, and the
+  -- bytes of their members
+  pub record SpentInLoop (l : Loop) (member p g : ℕ) : Type 0 where
     pub turns : ℕ
     pub past : ℕ
-    pub member : ℕ
     pub few : turns + 1 + length l.left ≤ M
     pub small : past + member + sum_by length l.left ≤ E
     pub bound : g ≤ outer c w l.start + M * inner c w l.start + E * inner c t l.start
@@ -45,18 +44,14 @@ module _ (c : Code) (w t : ℕ → ℕ) (M E : ℕ) where
         + (inner c w p - inner c w l.start) + member * (inner c t p - inner c t l.start)
 
   -- g was spent before place p
-  abbrev pub SpentIn : Option Loop → ℕ → ℕ → Type 0
-  SpentIn None p g = g ≤ outer c w p + M * inner c w p + E * inner c t p
-  SpentIn (Some l) p g = SpentInLoop l p g
+  abbrev pub SpentIn : Option Loop → ℕ → ℕ → ℕ → Type 0
+  SpentIn None member p g = g ≤ outer c w p + M * inner c w p + E * inner c t p
+  SpentIn (Some l) member p g = SpentInLoop l member p g
 
-  -- the bytes of the turn's member
-  abbrev pub member_bytes : (l : Option Loop) (p g : ℕ) → SpentIn l p g → ℕ
-  member_bytes None p g h = 0
-  member_bytes (Some l) p g h = h.member
-
-  -- what a step at p may spend
-  abbrev pub Within : (l : Option Loop) (p g : ℕ) → SpentIn l p g → ℕ → Type 0
-  Within l p g h g' = g' ≤ g + w p + t p * member_bytes l p g h
+  -- what a step at p may spend; outside of loops no byte of a member
+  abbrev pub Within : Option Loop → ℕ → ℕ → ℕ → ℕ → Type 0
+  Within None member p g g' = g' ≤ g + w p
+  Within (Some l) member p g g' = g' ≤ g + w p + t p * member
 
   -- what stands before a place of a body, and the place itself, are part of the body
   part : (f : ℕ → ℕ) (p q : ℕ) (l : Loop) → Some (body_of l) ≡ body_at c p → p < q → (inner c f p - inner c f l.start) + f p ≤ inner c f q - inner c f l.start
@@ -68,34 +63,33 @@ module _ (c : Code) (w t : ℕ → ℕ) (M E : ℕ) where
       omega arith
 
   -- on in the same loop, or in none
-  pub spent_onward : (p q g g' : ℕ) (l : Option Loop) → option_map body_of l ≡ body_at c p → p < q → (h : SpentIn l p g) → Within l p g h g' → SpentIn l q g'
-  spent_onward p q g g' None e lt h le =
+  pub spent_onward : (p q g g' member : ℕ) (l : Option Loop) → option_map body_of l ≡ body_at c p → p < q → SpentIn l member p g → Within l member p g g' → SpentIn l member q g'
+  spent_onward p q g g' member None e lt h le =
       let here = total_outside c w p (sym e) in
       let m1 = total_le (where_outside c w) (suc p) q (omega arith) in
       let m2 = mul-le-mul_left M (total_le (where_inside c w) p q (omega arith)) in
       let m3 = mul-le-mul_left E (total_le (where_inside c t) p q (omega arith)) in
       omega arith
-  spent_onward p q g g' (Some l) e lt h le = record {
+  spent_onward p q g g' member (Some l) e lt h le = record {
     turns = h.turns;
     past = h.past;
-    member = h.member;
     few = h.few;
     small = h.small;
-    bound = further _ h.member _ _ (w p) _ _ (t p) g g' (part w p q l e lt) (part t p q l e lt) h.bound le;
+    bound = further _ member _ _ (w p) _ _ (t p) g g' (part w p q l e lt) (part t p q l e lt) h.bound le;
   }
 
   -- into a loop
-  pub spent_entering : (p g g' : ℕ) (l : Loop) (u : Text) → body_at c p ≡ None → l.start ≡ p + 1 → 1 + length l.left ≤ M → length u + sum_by length l.left ≤ E → (h : SpentIn None p g) → Within None p g h g' → SpentIn (Some l) l.start g'
-  spent_entering p g g' l u e first few small h le =
+  pub spent_entering : (p g g' member : ℕ) (l : Loop) → body_at c p ≡ None → l.start ≡ p + 1 → 1 + length l.left ≤ M → member + sum_by length l.left ≤ E → SpentIn None 0 p g → Within None 0 p g g' → SpentIn (Some l) member l.start g'
+  spent_entering p g g' member l e first few small h le =
       let here = total_outside c w p e in
       let m1 = total_le (where_outside c w) (suc p) l.start (omega arith) in
       let m2 = mul-le-mul_left M (total_le (where_inside c w) p l.start (omega arith)) in
       let m3 = mul-le-mul_left E (total_le (where_inside c t) p l.start (omega arith)) in
-      record { turns = 0; past = 0; member = length u; few = omega arith; small = omega arith; bound = omega arith }
+      record { turns = 0; past = 0; few = omega arith; small = omega arith; bound = omega arith }
 
   -- the whole of a loop, at its last place
-  whole : (p g g' : ℕ) (l : Loop) → Some (body_of l) ≡ body_at c p → (h : SpentIn (Some l) p g) → Within (Some l) p g h g' → g' ≤ outer c w l.start + M * inner c w l.end + E * inner c t l.end
-  whole p g g' l e h le =
+  whole : (p g g' member : ℕ) (l : Loop) → Some (body_of l) ≡ body_at c p → SpentIn (Some l) member p g → Within (Some l) member p g g' → g' ≤ outer c w l.start + M * inner c w l.end + E * inner c t l.end
+  whole p g g' member l e h le =
       let i = is_in c p (body_of l) (sym e) in
       let low : l.start ≤ p = i.low in
       let high : p < l.end = i.high in
@@ -103,47 +97,46 @@ module _ (c : Code) (w t : ℕ → ℕ) (M E : ℕ) where
       let in_t = total_le (where_inside c t) l.start l.end (omega arith) in
       let ew : inner c w l.start + (inner c w l.end - inner c w l.start) ≡ inner c w l.end = omega arith in
       let et : inner c t l.start + (inner c t l.end - inner c t l.start) ≡ inner c t l.end = omega arith in
-      let turn = one_more _ h.member h.turns h.past _ _ _ (w p) _ (t p) g g' (part w p l.end l e high) (part t p l.end l e high) h.bound le in
-      let all = all_turns (outer c w l.start) (inner c w l.start) (inner c t l.start) M E (h.turns + 1) (h.past + h.member) _ _ g' (omega (arith, h.few)) (omega (arith, h.small)) turn in
+      let turn = one_more _ member h.turns h.past _ _ _ (w p) _ (t p) g g' (part w p l.end l e high) (part t p l.end l e high) h.bound le in
+      let all = all_turns (outer c w l.start) (inner c w l.start) (inner c t l.start) M E (h.turns + 1) (h.past + member) _ _ g' (omega (arith, h.few)) (omega (arith, h.small)) turn in
       rw (ew, et) at all
 
   -- out of a loop
-  pub spent_leaving : (p g g' : ℕ) (l : Loop) → Some (body_of l) ≡ body_at c p → (h : SpentIn (Some l) p g) → Within (Some l) p g h g' → SpentIn None l.end g'
-  spent_leaving p g g' l e h le =
+  pub spent_leaving : (p g g' member : ℕ) (l : Loop) → Some (body_of l) ≡ body_at c p → SpentIn (Some l) member p g → Within (Some l) member p g g' → SpentIn None 0 l.end g'
+  spent_leaving p g g' member l e h le =
       let i = is_in c p (body_of l) (sym e) in
       let low : l.start ≤ p = i.low in
       let high : p < l.end = i.high in
       let m = total_le (where_outside c w) l.start l.end (omega arith) in
-      omega (arith, whole p g g' l e h le)
+      omega (arith, whole p g g' member l e h le)
 
   -- on to a loop's next member
-  pub spent_again : (p g g' : ℕ) (l l' : Loop) (u : Text) → Some (body_of l) ≡ body_at c p → l.left ≡ u ∷ l'.left → l'.start ≡ l.start → l'.end ≡ l.end → (h : SpentIn (Some l) p g) → Within (Some l) p g h g' → SpentIn (Some l') l.start g'
-  spent_again p g g' l l' u e left starts ends' h le =
+  pub spent_again : (p g g' member next : ℕ) (l l' : Loop) (u : Text) → Some (body_of l) ≡ body_at c p → l.left ≡ u ∷ l'.left → next ≤ length u → l'.start ≡ l.start → l'.end ≡ l.end → SpentIn (Some l) member p g → Within (Some l) member p g g' → SpentIn (Some l') next l.start g'
+  spent_again p g g' member next l l' u e left short starts ends' h le =
       let i = is_in c p (body_of l) (sym e) in
       let high : p < l.end = i.high in
-      let turn = one_more _ h.member h.turns h.past _ _ _ (w p) _ (t p) g g' (part w p l.end l e high) (part t p l.end l e high) h.bound le in
+      let turn = one_more _ member h.turns h.past _ _ _ (w p) _ (t p) g g' (part w p l.end l e high) (part t p l.end l e high) h.bound le in
       let count : length l.left ≡ 1 + length l'.left = ap length left ∙ (omega arith) in
       let bytes : sum_by length l.left ≡ length u + sum_by length l'.left = ap (sum_by length) left ∙ sum_by-cons length u l'.left in
       let none_w : inner c w l.start - inner c w l.start ≡ 0 = omega arith in
       let none_t : inner c t l.start - inner c t l.start ≡ 0 = omega arith in
       record {
         turns = h.turns + 1;
-        past = h.past + h.member;
-        member = length u;
+        past = h.past + member;
         few = omega (arith, h.few, count);
         small = omega (arith, h.small, bytes);
         bound = rw (starts, ends', none_w, none_t) (omega (arith, turn));
       }
 
   -- all that a run may spend, with the step at a place in the code
-  pub spent_at_end : (p g g' : ℕ) (l : Option Loop) → option_map body_of l ≡ body_at c p → p < length c.instrs → (h : SpentIn l p g) → Within l p g h g' → g' ≤ outside c w + M * inside c w + E * inside c t
-  spent_at_end p g g' None e lt h le =
+  pub spent_at_end : (p g g' member : ℕ) (l : Option Loop) → option_map body_of l ≡ body_at c p → p < length c.instrs → SpentIn l member p g → Within l member p g g' → g' ≤ outside c w + M * inside c w + E * inside c t
+  spent_at_end p g g' member None e lt h le =
       let here = total_outside c w p (sym e) in
       let m1 = total_le (where_outside c w) (suc p) (length c.instrs) (omega arith) in
       let m2 = mul-le-mul_left M (total_le (where_inside c w) p (length c.instrs) (omega arith)) in
       let m3 = mul-le-mul_left E (total_le (where_inside c t) p (length c.instrs) (omega arith)) in
       omega arith
-  spent_at_end p g g' (Some l) e lt h le =
+  spent_at_end p g g' member (Some l) e lt h le =
       let i = is_in c p (body_of l) (sym e) in
       let low : l.start ≤ p = i.low in
       let high : p < l.end = i.high in
@@ -151,4 +144,4 @@ module _ (c : Code) (w t : ℕ → ℕ) (M E : ℕ) where
       let m1 = total_le (where_outside c w) l.start (length c.instrs) (omega arith) in
       let m2 = mul-le-mul_left M (total_le (where_inside c w) l.end (length c.instrs) (omega arith)) in
       let m3 = mul-le-mul_left E (total_le (where_inside c t) l.end (length c.instrs) (omega arith)) in
-      omega (arith, whole p g g' l e h le)
+      omega (arith, whole p g g' member l e h le)

@@ -11,7 +11,7 @@ use Rattle.code_model.specs.declared.code.Instruction.TheVariants.{Const}
 use Rattle.machine_model.specs.Operands.{is_compared, has_right_operands, name_at, literal_at, text_of_literal}
 use Rattle.machine_model.specs.Values.{Value, Nothing, Undefined, Text as TextValue, List as ListValue, Number as NumberValue, text_or_undefined}
 use Rattle.machine_model.specs.States.{Loop, Frame, State, Running, Ended, put}
-use Rattle.machine_model.specs.Step.{Move, Ends, Goes, Returns, Does, halt, fail, text, list, const, number, no_turn, enter, next_member, leave, Leads, Step}
+use Rattle.machine_model.specs.Step.{Move, Ends, Goes, Returns, Does, halt, fail, text, list, const, number, no_turn, enter, next_member, leave, count, Leads, Step}
 use Rattle.machine_model.specs.Runs.{After}
 use Rattle.machine_model.specs.Budget.{compared_length, longest_compared}
 
@@ -109,6 +109,7 @@ module _ (c : Code) (v : Environment) where
   small_move s _ _ h ok (list a b) = let x = meaning_small v (name_at c b) in record { registers = small_put s a (ListValue (members_of v (name_at c b))) h.registers (x.0, x.1); left = h.left }
   small_move s _ _ h ok (const a b) = record { registers = small_put s a (TextValue (literal_at c b)) h.registers (omega (arith, literal_small c.literals b (const_compared c a b ok))); left = h.left }
   small_move s _ _ h ok (number a b d n t e f) = record { registers = small_put s a (NumberValue n) h.registers tt; left = h.left }
+  small_move s _ _ h ok (count a b ts e) = record { registers = small_put s a (NumberValue (length ts)) h.registers tt; left = h.left }
   small_move s _ _ h ok (enter a b d t ts e lt f) =
       let x = subst (IsSmall (member_count v) (byte_count v) (text_limit c v)) f (h.registers b) in
       let all : length t + sum_by length ts ≤ byte_count v = rw (sum_by-cons length t ts) at x.1 in

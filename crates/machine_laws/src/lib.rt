@@ -1,15 +1,2 @@
 //! The laws of the byte-code machine, each the contract of a function that does nothing.
 #![tactic(auto)]
-
-mod runs;
-mod safe;
-mod steps;
-mod typable;
-
-pub use runs::{course_is_decided, every_run_ends, run_ends_once, running_comes_before_the_end};
-pub use safe::typable_code_is_safe;
-pub use steps::{no_state_has_two_next_states, states_after_steps_are_decided, step_is_decided};
-pub use typable::{
-    form_is_decided, plain_kinds_are_decided, plain_kinds_are_least,
-    plainly_typable_code_is_typable,
-};
