@@ -59,9 +59,9 @@ module _ (c : Code) where
           by_test true k = ap value_bytes (kept l.element (subst (λ o. writes l.element o ≡ false) r (unwritten s.place (body_of l) (sym e) k)))
 
   -- at the head of a turn it is the member of the turn
-  pub hand_of_turn : (f : Frame) (l : Loop) (u : Text) → f.loop ≡ Some l → f.registers l.element ≡ TextValue u → at_hand f ≤ length u
-  hand_of_turn f l u into holds = subst (λ o. hand_in f.registers o ≤ length u) (sym into) (by_test (keeps_element c (body_of l)))
+  pub hand_of_turn : (regs : ℕ → Value) (l : Loop) (u : Text) → regs l.element ≡ TextValue u → hand_in regs (Some l) ≤ length u
+  hand_of_turn regs l u holds = by_test (keeps_element c (body_of l))
     where
-      by_test : (t : Bool) → (if t then value_bytes (f.registers l.element) else 0) ≤ length u
+      by_test : (t : Bool) → (if t then value_bytes (regs l.element) else 0) ≤ length u
       by_test true = rw holds (omega arith)
       by_test false = omega arith

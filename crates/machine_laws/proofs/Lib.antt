@@ -6,3 +6,7 @@ pub mod Sums
 pub mod Limit
 pub mod Potential
 pub mod AtHand
+pub mod Spending
+pub mod Ends
+pub mod Prints
+pub mod Courses

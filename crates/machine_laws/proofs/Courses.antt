@@ -1,0 +1,100 @@
+-- Each run has one course, and the function that computes it finds it.
+use Rattle.std.proofs.Common.{◌≡◌, ℕ, zero, suc, ◌+◌, ◌-◌, ◌<◌, Option, Some, None, refl, sym, ap, ◌∙◌, subst, arith, add-one, ⊎_elim}
+use Rattle.std.specs.Prelude.{◌↔◌}
+use Rattle.std.proofs.lemmas.Bool.{cases_lt, cases_order}
+use Rattle.environment_model.specs.Environment.{Environment}
+use Rattle.code_model.specs.Code.{Code}
+use Rattle.machine_model.specs.States.{Frame, End, Link, NoLink, State, Running, Ended, start}
+use Rattle.machine_model.specs.Step.{Step}
+use Rattle.machine_model.specs.Runs.{After, Outcome, Link as linked, NoLink as unlinked, Stuck, ComesTo, HasOutcome}
+use Rattle.machine_model.specs.Next.{next_state, step_limit, outcome_at, Course, on_from, course_from, course_of, outcome_of}
+use Rattle.machine_model.proofs.Decides.{after_one, Step-next_state, next_state-Step}
+use Rattle.machine_laws.proofs.Limit.{within_limit}
+
+module _ (c : Code) (v : Environment) where
+  after_suc : (k : ℕ) (old new : State) → After c v k old → Step c v old new → After c v (suc k) new
+  unfolding After
+  after_suc k old new h st = (old, h, st)
+
+  -- one more step
+  pub after_more : (k : ℕ) (old new : State) → After c v k old → Step c v old new → After c v (k + 1) new
+  after_more k old new h st = rw add-one (after_suc k old new h st)
+
+  -- a state that was passed had a step
+  passed : (j k : ℕ) (x : State) → After c v (suc (j + k)) x → (s : State) × (new : State) × After c v k s × Step c v s new
+  unfolding After
+  passed zero k x h = let e : 0 + k ≡ k = omega arith in (h.0, x, subst (λ n. After c v n h.0) e h.1, h.2)
+  passed (suc j) k x h = let e : suc j + k ≡ suc (j + k) = omega arith in passed j k h.0 (subst (λ n. After c v n h.0) e h.1)
+
+  -- so a state without a step is the last
+  no_later : (k m : ℕ) (s x : State) → ((new : State) → Step c v s new → ⊥) → k < m → After c v k s → After c v m x → ⊥
+  no_later k m s x ended lt h g =
+      let e : m ≡ suc ((m - suc k) + k) = omega arith in
+      let p = passed (m - suc k) k x (subst (λ n. After c v n x) e g) in
+      ended p.1 (subst (λ y. Step c v y p.1) (after_one c v k p.0 s p.2 h) p.3)
+
+  -- two states without a step are one, after as many steps
+  last_once : (k m : ℕ) (s x : State) → ((new : State) → Step c v s new → ⊥) → ((new : State) → Step c v x new → ⊥) → After c v k s → After c v m x → k ≡ m
+  last_once k m s x es ex h g =
+      ⊎_elim (λ e. e) (λ o. ⊎_elim (λ lt. absurd (no_later k m s x es lt h g)) (λ lt. absurd (no_later m k x s ex lt g h)) o) (cases_order k m)
+
+  -- a run ends once
+  pub ends_once : (k m : ℕ) (a b : End) → After c v k (Ended a) → After c v m (Ended b) → k ≡ m
+  ends_once k m a b h g = last_once k m (Ended a) (Ended b) (λ new st. st) (λ new st. st) h g
+
+  -- a running state comes before the end
+  pub running_before : (k m : ℕ) (s : Frame) (b : End) → After c v k (Running s) → After c v m (Ended b) → k < m
+  running_before k m s b h g =
+      ⊎_elim (λ lt. lt) (λ le. ⊎_elim (λ lt. absurd (no_later m k (Ended b) (Running s) (λ new st. st) lt g h)) (λ le'. let e : m ≡ k = omega arith in let f : Ended b ≡ Running s = after_one c v k (Ended b) (Running s) (subst (λ n. After c v n (Ended b)) e g) h in absurd (cc)) (cases_lt m k)) (cases_lt k m)
+
+  -- ---- courses
+
+  -- where a run comes to is its last state
+  last_state : (k : ℕ) (o : Outcome) → ComesTo c v k o → (s : State) × After c v k s × ((new : State) → Step c v s new → ⊥) × (outcome_at s ≡ o)
+  last_state k (linked t) h = (Ended (Link t), h, λ new st. st, refl)
+  last_state k unlinked h = (Ended NoLink, h, λ new st. st, refl)
+  last_state k (Stuck p) h = (Running h.0, h.1, h.3, ap Stuck h.2)
+
+  comes_to : (k : ℕ) (s : State) → After c v k s → ((new : State) → Step c v s new → ⊥) → ComesTo c v k (outcome_at s)
+  comes_to k (Ended (Link t)) h f = h
+  comes_to k (Ended NoLink) h f = h
+  comes_to k (Running s) h f = (s, h, refl, f)
+
+  -- a run has one course
+  pub one_course : (k m : ℕ) (o p : Outcome) → ComesTo c v k o → ComesTo c v m p → (k ≡ m) × (o ≡ p)
+  one_course k m o p h g =
+      let s = last_state k o h in
+      let x = last_state m p g in
+      let e : k ≡ m = last_once k m s.0 x.0 s.2 x.2 s.1 x.1 in
+      let same : s.0 ≡ x.0 = after_one c v m s.0 x.0 (subst (λ n. After c v n s.0) e s.1) x.1 in
+      (e, sym s.3 ∙ ap outcome_at same ∙ x.3)
+
+  found : (n k : ℕ) (s : State) → n + k ≡ step_limit c v → After c v k s → ComesTo c v (course_from c v n k s).steps (course_from c v n k s).outcome
+  unfolding course_from
+  found zero k s e h = comes_to k s h (λ new st. let le = within_limit c v (k + 1) new (after_more k s new h st) in absurd (omega (arith, le, e)))
+  found (suc n) k s e h = by_next (λ new a. found n (suc k) new (omega (arith, e)) a) (next_state c v s) refl
+    where
+      by_next : ((new : State) → After c v (suc k) new → ComesTo c v (course_from c v n (suc k) new).steps (course_from c v n (suc k) new).outcome) → (o : Option State) → next_state c v s ≡ o → (λ (x : Course). ComesTo c v x.steps x.outcome) (on_from o (course_from c v n (suc k)) (record { outcome = outcome_at s; steps = k }))
+      by_next go None q = comes_to k s h (λ new st. let f = Step-next_state c v s new st in absurd (cc (q, f)))
+      by_next go (Some new) q = go new (after_suc k s new h (next_state-Step c v s new q))
+
+  -- every run comes to an outcome, within the limit
+  pub course_found : ComesTo c v (course_of c v).steps (course_of c v).outcome
+  unfolding After
+  course_found = found (step_limit c v) 0 (Running start) (omega arith) refl
+
+  courses_same : (x : Course) (k : ℕ) (o : Outcome) → (x.steps ≡ k) × (x.outcome ≡ o) → x ≡ record { outcome = o; steps = k }
+  courses_same x k o h = λ i. record { outcome = h.1 i; steps = h.0 i }
+
+  -- a run comes to what is computed, and to nothing else
+  pub course_decided : (k : ℕ) (o : Outcome) → ComesTo c v k o ↔ (course_of c v ≡ record { outcome = o; steps = k })
+  course_decided k o = (
+    λ h. courses_same (course_of c v) k o (one_course (course_of c v).steps k (course_of c v).outcome o course_found h),
+    λ e. subst (λ (x : Course). ComesTo c v x.steps x.outcome) e course_found,
+  )
+
+  pub outcome_decided : (o : Outcome) → HasOutcome c v o ↔ (outcome_of c v ≡ o)
+  outcome_decided o = (
+    λ h. (one_course (course_of c v).steps h.0 (course_of c v).outcome o course_found h.1).1,
+    λ e. ((course_of c v).steps, subst (ComesTo c v (course_of c v).steps) e course_found),
+  )
