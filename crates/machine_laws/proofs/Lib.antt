@@ -10,3 +10,5 @@ pub mod Spending
 pub mod Ends
 pub mod Prints
 pub mod Courses
+pub mod Registers
+pub mod PassLemmas

@@ -177,7 +177,6 @@ module _ (c : Code) (t : Table) where
         by_turn (Some l) e (Some o) eo same i =
             let same' : body_of l ≡ o = some_one same in
             by_left l e (eo ∙ ap Some (sym same')) (eqb-true (s.place + 1) o.end i ∙ ap (λ (x : Body). x.end) (sym same')) l.left refl
-
     goes (Count a b) g n h = let x = is_list (s.registers b) (fits_need k.kinds s.registers b ListKind k.fits n.0) in fall (Count a b) _ _ _ g refl refl refl (count a b x.0 x.1) h.0 (fits_put k.kinds s.registers a NumberKind (NumberValue (length x.0)) k.fits refl)
 
 -- every reached state of a typable code of good form is described by the table, and goes on

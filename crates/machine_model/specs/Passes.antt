@@ -1,13 +1,13 @@
 -- A helper that computes: kinds joined along all edges, again and again. What it comes to is at or below every
 -- closed table, so where it is closed it is the least one.
-use Rattle.std.specs.Prelude.{ℕ, zero, suc, ◌-◌, List, [], ◌∷◌, Option, Some, None, option_map, option_and_then, Bool, true, false, ◌&&◌, length, replicate, slice_get, slice_index_or}
+use Rattle.std.specs.Prelude.{ℕ, zero, suc, ◌-◌, List, [], ◌∷◌, Option, Some, None, option_map, option_and_then, Bool, true, false, ◌&&◌, length, slice_get, slice_index_or}
 use Rattle.std.specs.List.{list_all}
 use Rattle.code_model.specs.Code.{Code}
 use Rattle.machine_model.specs.declared.kind.Kind.{Kind}
 use Rattle.machine_model.specs.declared.kind.Kind.TheVariants.{Any}
 use Rattle.machine_model.specs.First.{Located}
 use Rattle.machine_model.specs.Operands.{register_count}
-use Rattle.machine_model.specs.Kinds.{kind_le, kind_join, Kinds, any_kinds, Edge, edges_at}
+use Rattle.machine_model.specs.Kinds.{kind_le, kind_join, Kinds, any_kinds, Edge, edge, edges_at}
 use Rattle.machine_model.specs.Typable.{Table}
 use Rattle.machine_model.specs.Mismatch.{first_mismatch}
 
@@ -29,11 +29,10 @@ unfoldable pub joined : Row → Kinds → Row
 joined [] ks = []
 joined (k ∷ row) ks = kind_join k (ks 0) ∷ joined row (λ r. ks (suc r))
 
--- the kinds of the first registers are at or below those of a row
-unfoldable pub is_within : ℕ → Kinds → Row → Bool
-is_within zero ks row = true
-is_within (suc n) ks [] = true
-is_within (suc n) ks (k ∷ row) = kind_le (ks 0) k && is_within n (λ r. ks (suc r)) row
+-- kinds are at or below those of a row
+unfoldable pub is_within : Kinds → Row → Bool
+is_within ks [] = true
+is_within ks (k ∷ row) = kind_le (ks 0) k && is_within (λ r. ks (suc r)) row
 
 -- ---- a row for each place that an edge has reached
 
@@ -72,9 +71,13 @@ unfoldable pub pass : Code → ℕ → Rows → Rows
 pass c zero rows = rows
 pass c (suc p) rows = followed c p (pass c p rows)
 
+unfoldable pub none_reached : ℕ → Rows
+none_reached zero = []
+none_reached (suc n) = None ∷ none_reached n
+
 -- place 0 alone, with nothing known of any register
 abbrev pub first_rows : Code → Rows
-first_rows c = Some (listed (register_count c) any_kinds) ∷ replicate (length c.instrs - 1) None
+first_rows c = Some (listed (register_count c) any_kinds) ∷ none_reached (length c.instrs - 1)
 
 -- after n passes along all edges
 unfoldable pub passes : Code → ℕ → Rows
@@ -83,17 +86,18 @@ passes c (suc n) = pass c (length c.instrs) (passes c n)
 
 -- ---- whether another pass would change nothing
 
-abbrev pub is_reached : ℕ → Rows → Edge → Bool
-is_reached n rows e = within (row_at rows e.to)
-  where
-    within : Option Row → Bool
-    within None = false
-    within (Some row) = is_within n e.kinds row
+abbrev pub is_covered : Kinds → Option Row → Bool
+is_covered ks None = false
+is_covered ks (Some row) = is_within ks row
 
--- each edge from a place below n leads to a row at or above what it carries
+-- an edge leads to a row at or above what it carries
+abbrev pub is_reached : Rows → Edge → Bool
+is_reached rows e = is_covered e.kinds (row_at rows e.to)
+
+-- nothing is known at place 0, and each edge from a place below n leads to a row at or above what it carries
 unfoldable pub is_closed : Code → ℕ → Rows → Bool
-is_closed c zero rows = true
-is_closed c (suc p) rows = is_closed c p rows && list_all (is_reached (register_count c) rows) (edges_from c p (row_at rows p))
+is_closed c zero rows = is_reached rows (edge 0 any_kinds)
+is_closed c (suc p) rows = is_closed c p rows && list_all (is_reached rows) (edges_from c p (row_at rows p))
 
 -- whether n passes find the least table, and the first mismatch in what they find
 pub record Found : Type 0 where
