@@ -1,13 +1,13 @@
 -- The least table of a code: there is at most one, it decides whether the code is typable, and with it the first
 -- mismatch.
-use Rattle.std.proofs.Common.{◌≡◌, ℕ, ◌<◌, ◌≤◌, List, [], ◌∷◌, length, Option, Some, None, Bool, true, false, refl, sym, ap, ◌∙◌, subst, ⊎_elim}
+use Rattle.std.proofs.Common.{◌≡◌, ℕ, ◌≤◌, List, [], ◌∷◌, length, Option, Some, None, Bool, true, false, refl, sym, ap, ◌∙◌, subst, ⊎_elim}
 use Rattle.std.specs.Prelude.{◌↔◌, if◌then◌else◌, option_and_then}
 use Rattle.std.specs.List.{AllByRecursion}
 use Rattle.std.proofs.Math.Path.{fun_ext}
 use Rattle.std.proofs.lemmas.Bool.{cases_lt}
 use Rattle.std.proofs.lemmas.Option.{slice_get_past}
-use Rattle.code_model.specs.Code.{Code, reading, reading_at}
-use Rattle.machine_model.specs.First.{Located, first_below}
+use Rattle.code_model.specs.Code.{Code, reading}
+use Rattle.machine_model.specs.First.{Located}
 use Rattle.machine_model.specs.Kinds.{kind_le, Kinds, IsBelow, Need, for_instruction, needs, needs_at}
 use Rattle.machine_model.specs.Typable.{Table, IsMet, MeetsNeeds, IsTypable, TableBelow, IsLeast}
 use Rattle.machine_model.specs.Mismatch.{first_unmet, unmet_in, mismatch_at, first_mismatch, IsFirstMismatch}

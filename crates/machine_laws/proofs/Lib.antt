@@ -12,3 +12,5 @@ pub mod Prints
 pub mod Courses
 pub mod Registers
 pub mod PassLemmas
+pub mod Upgrades
+mod SafeExample

@@ -1,5 +1,5 @@
 -- What the runs of a typable code of good form spend, step by step.
-use Rattle.std.proofs.Common.{◌≡◌, ℕ, ◌+◌, ◌*◌, ◌<◌, ◌≤◌, length, Option, Some, None, refl, sym, ap, ◌∙◌, subst, arith}
+use Rattle.std.proofs.Common.{◌≡◌, ℕ, ◌+◌, ◌*◌, ◌<◌, ◌≤◌, length, Option, Some, None, sym, ap, ◌∙◌, subst, arith}
 use Rattle.std.specs.Prelude.{option_map, sum_by}
 use Rattle.std.proofs.lemmas.List.Sums.{sum_by-cons}
 use Rattle.environment_model.specs.Environment.{Environment, member_count, byte_count}

@@ -1,0 +1,24 @@
+//! What stays as it is where a code becomes code of version 2.
+
+ghost use Rattle.std.specs.Prelude.{◌≡◌, ◌↔◌, ℕ, ◌⊎◌};
+ghost use Rattle.text_model.specs.Texts.{Text};
+ghost use Rattle.environment_model.specs.Environment.{Environment};
+ghost use Rattle.code_model.specs.Code.{Code, upgraded};
+ghost use Rattle.machine_model.specs.States.{State};
+ghost use Rattle.machine_model.specs.Runs.{After, ComesTo, Outcome, Link, NoLink};
+ghost use Rattle.machine_model.specs.Form.{HasGoodForm};
+ghost use Rattle.machine_model.specs.Typable.{IsTypable};
+ghost use Rattle.machine_model.specs.Budget.{sums_of};
+
+/// A code that comes to a link or to no link comes to the same as code of version 2, after as many steps, and by
+/// the same states. Good form is kept; and of code of good form whether it is typable, and its budget. Code of
+/// version 2 stays what it is.
+pub fn upgrade_keeps_what_code_does()
+    ensures states { (c : Code) (v : Environment) (k : ℕ) (s : State) → After c v k s → After (upgraded c) v k s }
+    ensures outcome { (c : Code) (v : Environment) (k : ℕ) (o : Outcome) →
+        (o ≡ NoLink) ⊎ ((text : Text) × (o ≡ Link text)) → ComesTo c v k o → ComesTo (upgraded c) v k o }
+    ensures form { (c : Code) → HasGoodForm c → HasGoodForm (upgraded c) }
+    ensures typable { (c : Code) → HasGoodForm c → IsTypable c ↔ IsTypable (upgraded c) }
+    ensures budget { (c : Code) → HasGoodForm c → sums_of (upgraded c) ≡ sums_of c }
+    ensures second { (c : Code) → c.version ≡ 2 → upgraded c ≡ c }
+{}
