@@ -52,7 +52,7 @@ is_name_byte_or_not b = elim (cases_lt b 0x21) [
   ]
 ]
 
-first_wrong_of : (text : Text) → All IsNameByte text ⊎ ((place : ℕ) × IsFirstWrong text place)
+pub first_wrong_of : (text : Text) → All IsNameByte text ⊎ ((place : ℕ) × IsFirstWrong text place)
 first_wrong_of [] = inl (All-nil IsNameByte)
 first_wrong_of (b ∷ text) = elim (is_name_byte_or_not b) [
   | inr wrong ↦ inr (0, record { within = omega arith; before = All-nil IsNameByte; wrong = wrong })
