@@ -1,30 +1,20 @@
 -- All bytes have a code or a first fault: each field is good or faulty, from the first to the last.
 use Rattle.std.proofs.Common.{◌≡◌, ◌<◌, ◌≤◌, ◌+◌, ◌*◌, ◌⊎◌, ℕ, [], ◌∷◌, ◌++◌, length, take, drop, refl, sym, ◌∙◌, ap, subst, inl, inr, arith, Option, Some, None}
 use Rattle.std.specs.Prelude.{All}
-use Rattle.std.proofs.lemmas.Bool.{cases_lt, cases_order}
+use Rattle.std.proofs.lemmas.Bool.{cases_lt, cases_eq}
 use Rattle.std.proofs.lemmas.List.{append-nil, take-append-drop, length-take-le, get_or_past, nil_from_length}
 use Rattle.text_model.specs.Texts.{Text}
 use Rattle.code_model.specs.Code.{Code}
-use Rattle.code_file.specs.declared.header.Header.{Header}
 use Rattle.code_file.specs.declared.limits.TheConstants.{MAX_BYTES}
 use Rattle.code_file.specs.declared.error.CodeError.{CodeError}
 use Rattle.code_file.specs.Grammar.{digit_byte, magic, number, name_field, literal_field, header_field, IsVersion, IsName, IsLiteral, IsCodeFile}
 use Rattle.code_file.specs.Fault.{IsNameFault, IsLiteralFault, header_fault, PastMagic, PastCounts, PastHeader, PastNames, PastLiterals, IsFieldFault, bad_magic, no_counts, bad_counts, in_names, in_literals, in_instrs, IsFirstFault, too_long, in_field}
-use Rattle.code_file.specs.Tables.{AreTables}
+use Rattle.code_file.specs.Private.Tables.{AreTables}
 use Rattle.code_file.proofs.FileLemmas.{AreBytes, bytes_right, number_of_bytes, number_small, code_of_tables, trailing_here, five_parts}
 use Rattle.code_file.proofs.PartsLemmas.{allowed_header}
 use Rattle.code_file.proofs.EntryDecisions.{name_or_fault, literal_or_fault, table_or_fault}
 
 -- ---- the magic
-
-same_or_not : (m n : ℕ) → (m ≡ n) ⊎ (m ≡ n → ⊥)
-same_or_not m n = elim (cases_order m n) [
-  | inl same ↦ inl same
-  | inr other ↦ inr (λ h. elim other [
-    | inl less ↦ omega arith
-    | inr more ↦ omega arith
-  ])
-]
 
 past_magic : (version d : ℕ) (rest : Text) → IsVersion version → d ≡ digit_byte version
     → PastMagic (79 ∷ 76 ∷ 75 ∷ d ∷ rest) ⊎ (PastMagic (79 ∷ 76 ∷ 75 ∷ d ∷ rest) → ⊥)
@@ -40,9 +30,9 @@ no_version d rest one two p =
     ]
 
 version_or_not : (d : ℕ) (rest : Text) → PastMagic (79 ∷ 76 ∷ 75 ∷ d ∷ rest) ⊎ (PastMagic (79 ∷ 76 ∷ 75 ∷ d ∷ rest) → ⊥)
-version_or_not d rest = elim (same_or_not d 49) [
+version_or_not d rest = elim (cases_eq d 49) [
   | inl one ↦ past_magic 1 d rest (inl refl) one
-  | inr other ↦ elim (same_or_not d 50) [
+  | inr other ↦ elim (cases_eq d 50) [
     | inl two ↦ past_magic 2 d rest (inr refl) two
     | inr none ↦ inr (no_version d rest other none)
   ]
@@ -53,11 +43,11 @@ magic_or_not [] = inr (λ p. let h = p.spells in cc)
 magic_or_not (a ∷ []) = inr (λ p. let h = p.spells in cc)
 magic_or_not (a ∷ b ∷ []) = inr (λ p. let h = p.spells in cc)
 magic_or_not (a ∷ b ∷ c ∷ []) = inr (λ p. let h = p.spells in cc)
-magic_or_not (a ∷ b ∷ c ∷ d ∷ rest) = elim (same_or_not a 79) [
+magic_or_not (a ∷ b ∷ c ∷ d ∷ rest) = elim (cases_eq a 79) [
   | inr differs ↦ inr (λ p. differs (let h = p.spells in cc))
-  | inl first ↦ elim (same_or_not b 76) [
+  | inl first ↦ elim (cases_eq b 76) [
     | inr differs ↦ inr (λ p. differs (let h = p.spells in cc))
-    | inl second ↦ elim (same_or_not c 75) [
+    | inl second ↦ elim (cases_eq c 75) [
       | inr differs ↦ inr (λ p. differs (let h = p.spells in cc))
       | inl third ↦ rw (first, second, third) (version_or_not d rest)
     ]

@@ -11,7 +11,7 @@ use Rattle.code_file.specs.declared.limits.TheConstants.{MAX_BYTES}
 use Rattle.code_file.specs.declared.error.CodeErrorKind.TheVariants.{Trailing}
 use Rattle.code_file.specs.Grammar.{number, header_field, header_of, spelled, name_field, literal_field, instr_field, IsName, IsLiteral, IsInstr, IsHeader, IsCodeFile}
 use Rattle.code_file.specs.Fault.{fault, IsTableOf, IsTable, IsFieldFault, trailing}
-use Rattle.code_file.specs.Tables.{AreTables}
+use Rattle.code_file.specs.Private.Tables.{AreTables}
 use Rattle.code_file.proofs.TableLemmas.{table_none, table_cons}
 
 -- ---- bytes

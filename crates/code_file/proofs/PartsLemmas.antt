@@ -15,7 +15,7 @@ use Rattle.code_file.specs.declared.error.CodeError.{CodeError}
 use Rattle.code_file.specs.declared.error.CodeErrorKind.TheVariants.{BadName, BadLiteral}
 use Rattle.code_file.specs.Grammar.{spelled, header_of, name_field, literal_field, instr_field, IsNameByte, IsVersion, IsName, IsLiteral, IsHeader}
 use Rattle.code_file.specs.Fault.{fault, after, IsFirstWrong, IsNameFault, IsLiteralFault, bad_length, bad_text, header_fault, IsTableFault, IsHeaderField, in_names, in_literals, IsFirstFault, in_field}
-use Rattle.code_file.specs.Tables.{IsFirstBad}
+use Rattle.code_file.specs.Private.Tables.{IsFirstBad}
 
 pub length-instrs : (is : List Instr) → length (flat_map instr_field is) ≡ 8 * length is
 length-instrs [] = refl

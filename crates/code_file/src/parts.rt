@@ -4,7 +4,7 @@ ghost use Rattle.std.specs.Prelude.{◌≡◌, ◌≤◌, ◌<◌, ◌*◌, ◌+
 ghost use Rattle.std.specs.List.{flat_map};
 ghost use Rattle.code_file.specs.Grammar.{IsCode, spelled, code_of, name_field, literal_field, instr_field, IsVersion, IsName, IsLiteral, IsTextOf};
 ghost use Rattle.code_file.specs.Fault.{fault, IsFirstFault};
-ghost use Rattle.code_file.specs.Tables.{IsFirstBad};
+ghost use Rattle.code_file.specs.Private.Tables.{IsFirstBad};
 
 use crate::entry::{Literal, Name};
 use crate::error::CodeErrorKind;

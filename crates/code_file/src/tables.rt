@@ -3,7 +3,7 @@
 ghost use Rattle.std.specs.Prelude.{◌≡◌, ◌≤◌, ◌<◌, ◌+◌, ◌*◌, ◌^◌, ◌++◌, ℕ, List, length, IfNone, IfSome, IfOk, IfErr};
 ghost use Rattle.code_file.specs.Grammar.{magic, header_field, IsVersion, IsHeader};
 ghost use Rattle.code_file.specs.Fault.{AreNames, AreLiterals, IsFaultOfNames, IsFaultOfLiterals, PastMagic, IsFieldFault, IsFirstFault};
-ghost use Rattle.code_file.specs.Tables.{AreTables};
+ghost use Rattle.code_file.specs.Private.Tables.{AreTables};
 
 use crate::error::{CodeError, CodeErrorKind};
 use crate::fields::{after_literal, after_name, cut_short, split_number};
