@@ -6,4 +6,7 @@ pub mod PartsLemmas
 pub mod LineLemmas
 pub mod StageLemmas
 pub mod EntryLaws
+pub mod ReadingStages
 pub mod FileLaws
+pub mod EntryDecisions
+pub mod FileDecisions

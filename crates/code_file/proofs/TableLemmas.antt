@@ -2,13 +2,12 @@
 use Rattle.std.proofs.Common.{◌≡◌, ◌<◌, ◌≤◌, ◌+◌, ◌-◌, ℕ, suc, List, [], ◌∷◌, ◌++◌, length, take, drop, refl, sym, ◌∙◌, ap, subst, append_assoc, arith, length-append}
 use Rattle.std.specs.Prelude.{All}
 use Rattle.std.specs.List.{flat_map}
-use Rattle.std.proofs.lemmas.List.{append-nil, take-append-drop, length-take-le, nil_from_length}
+use Rattle.std.proofs.lemmas.List.{append-nil, take-append-drop, nil_from_length}
 use Rattle.std.proofs.Math.Seq.{take-append_seam}
 use Rattle.std.proofs.lemmas.List.Concat.{flat_map-append}
 use Rattle.std.proofs.lemmas.List.Elements.{All-nil, All-cons, All-push, All-head, All-tail}
 use Rattle.text_model.specs.Texts.{Text}
-use Rattle.code_file.specs.declared.error.CodeError.{CodeError}
-use Rattle.code_file.specs.Fault.{after, IsTableOf, IsTable, IsTableFault}
+use Rattle.code_file.specs.Fault.{after, IsTableOf, IsTable}
 
 pub table_none : {X : Type 0} (IsGood : X → Type 0) (field : X → Text) → IsTable IsGood field 0 []
 table_none IsGood field = ([], record { good = All-nil IsGood; counted = refl; spells = refl })
@@ -38,22 +37,6 @@ so_far_more IsGood field n at next bytes rest after t within is x good spells eq
     let front : take next bytes ≡ take at bytes ++ field x =
     ap (λ (n : ℕ). take n bytes) place ∙ ap (take (length (take at bytes ++ field x))) whole ∙ take-append_seam (take at bytes ++ field x) after in
     ((t.0 ++ x ∷ [], subst (λ (b : Text). IsTableOf IsGood field (n + 1) b (t.0 ++ x ∷ [])) (sym front) (table_more t.1 x good)), omega (arith, eq))
-
-pub fault_here : {X : Type 0} (IsGood : X → Type 0) (field : X → Text) (IsFault : Text → CodeError → Type 0)
-    (count n at : ℕ) (bytes rest : Text) (e : CodeError)
-    → IsTable IsGood field n (take at bytes) → n < count → at ≤ length bytes → rest ≡ drop at bytes
-    → IsFault rest e → IsTableFault IsGood field IsFault count bytes (after at e)
-fault_here IsGood field IsFault count n at bytes rest e t fewer within is faulty = record {
-  before = n;
-  fewer = fewer;
-  front = take at bytes;
-  rest = rest;
-  spells = sym (take-append-drop at bytes) ∙ ap (λ (b : Text). take at bytes ++ b) (sym is);
-  table = t;
-  here = e;
-  faulty = faulty;
-  place = ap (λ (n : ℕ). after n e) (sym (length-take-le at bytes within));
-}
 
 -- one entry more, and less of the bytes
 pub spells_more : {X : Type 0} (field : X → Text) (bytes rest after : Text) (built : List X) (x : X)

@@ -5,7 +5,7 @@ use Rattle.std.proofs.lemmas.List.{append-nil}
 use Rattle.std.proofs.lemmas.Bool.{eqb-true, ne_eqb}
 use Rattle.text_model.specs.Texts.{Text, begins_with_triplet, is_hexadecimal, is_triplet, is_unreserved, is_reserved}
 use Rattle.text_model.specs.Writing.{is_unreserved_or_reserved}
-use Rattle.code_file.specs.FromLeft.{is_uri_text}
+use Rattle.code_file.specs.Private.FromLeft.{is_uri_text}
 use Rattle.text_model.specs.UriText.{IsUriText, nothing, and_character, and_triplet}
 
 pub and_true : {a b : Bool} → a && b ≡ true → (a ≡ true) × (b ≡ true)

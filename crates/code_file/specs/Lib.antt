@@ -1,5 +1,4 @@
 pub mod Grammar
 pub mod Fault
-pub mod FromLeft
-pub mod Tables
 pub mod Listing
+pub mod Private

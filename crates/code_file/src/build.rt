@@ -4,7 +4,7 @@ ghost use Rattle.std.specs.Prelude.{◌≡◌, ◌≤◌, ◌<◌, ◌+◌, ◌*
 ghost use Rattle.code_model.specs.Code as code;
 ghost use Rattle.code_file.specs.Grammar.{name_field, literal_field, instr_field, IsName, IsLiteral, IsInstr};
 ghost use Rattle.code_file.specs.Fault.{AreNames, AreLiterals, IsTableOf};
-ghost use Rattle.code_file.specs.Tables.{BeginsWith};
+ghost use Rattle.code_file.specs.Private.Tables.{BeginsWith};
 
 use crate::entry::{Literal, Name};
 use crate::fields::{split_instr, split_number};

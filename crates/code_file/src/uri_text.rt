@@ -2,7 +2,7 @@
 
 ghost use Rattle.std.specs.Prelude.{◌≡◌, ◌↔◌, ◌<◌, length, true, false, IsTrue, IfNone, IfSome};
 ghost use Rattle.text_model.specs.Texts as texts;
-ghost use Rattle.code_file.specs.FromLeft as from_left;
+ghost use Rattle.code_file.specs.Private.FromLeft as from_left;
 ghost use Rattle.text_model.specs.Writing.{is_unreserved_or_reserved};
 ghost use Rattle.text_model.specs.UriText.{IsUriText};
 

@@ -1,7 +1,7 @@
 use Rattle.std.proofs.Common.{sym, ap, ◌∙◌, arith}
 use Rattle.std.proofs.lemmas.Grind.{common_steps}
 use Rattle.code_file.proofs.UriTextLemmas.{after_triplet, after_character, after_neither}
-use Rattle.code_file.specs.FromLeft.{is_uri_text}
+use Rattle.code_file.specs.Private.FromLeft.{is_uri_text}
 use Rattle.code_file.proofs.uri_text.after_item.Goals as goal
 
 pub returns-then-begins_with_triplet-clause-some : goal.returns-then-begins_with_triplet-clause-some

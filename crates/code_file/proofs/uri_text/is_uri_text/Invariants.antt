@@ -1,5 +1,5 @@
 use Rattle.std.proofs.Common.{◌≡◌, length}
-use Rattle.code_file.specs.FromLeft as from_left
+use Rattle.code_file.specs.Private.FromLeft as from_left
 use Rattle.code_file.proofs.uri_text.is_uri_text.Given as goal
 
 abbrev pub invariant-loop-rest : goal.invariant-loop-rest
