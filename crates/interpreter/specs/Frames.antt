@@ -18,7 +18,7 @@ abbrev pub registers_of : Registers → ℕ → value.Value
 registers_of held r = value_of (slice_index_or held.values r Nothing)
 
 abbrev pub loop_of : Loop → state.Loop
-loop_of l = record { start = l.start; end = l.end; element = l.element; left = members_left l.left; first = l.first }
+loop_of l = record { start = l.start; end = l.end; element = l.element.number; left = members_left l.left; first = l.first }
 
 abbrev pub frame_of : Frame → state.Frame
 frame_of s = record { place = s.place; registers = registers_of s.registers; loop = option_map loop_of s.running; output = string_bytes s.output }

@@ -4,10 +4,11 @@ use Rattle.std.specs.List.{AllByRecursion}
 use Rattle.code_model.specs.Code.{Code}
 use Rattle.text_model.specs.UriText.{IsUriText}
 use Rattle.code_model.specs.declared.code.Instruction.{Instruction}
-use Rattle.machine_model.specs.Operands.{Operand, Register, TextName, ListName, LinkText, Compared, Items, Mode, operands, literal_at}
+use Rattle.code_model.specs.Operands.{Operand, Register, TextName, ListName, LinkText, Compared, Items, Mode, operands}
+use Rattle.machine_model.specs.Operands.{literal_at}
 
 abbrev pub IsGiven : Code → Operand → Type 0
-IsGiven c (Register n) = n < 16
+IsGiven c (Register n) = n < 64
 IsGiven c (TextName n) = n < length c.names
 IsGiven c (ListName n) = n < length c.names
 IsGiven c (LinkText n) = (n < length c.literals) × IsUriText (literal_at c n)

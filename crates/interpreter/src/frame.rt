@@ -1,7 +1,6 @@
 //! A running machine.
 
-ghost use Rattle.std.specs.Prelude.{◌<◌};
-
+use crate::register::Register;
 use crate::registers::Registers;
 use crate::value::Value;
 use std::alloc::Global;
@@ -12,10 +11,9 @@ use target_vars::Members;
 pub(crate) struct Loop<'a> {
     pub(crate) start: usize,
     pub(crate) end: usize,
-    pub(crate) element: u8,
+    pub(crate) element: Register,
     pub(crate) left: Members<'a>,
     pub(crate) first: bool,
-    ghost register: { element < 16 },
 }
 
 /// Where a running machine is, what its registers hold, its loop, and what it has printed.
@@ -37,7 +35,7 @@ pub(crate) enum Move {
 }
 
 impl<'a> Frame<'a> {
-    ghost use Rattle.std.specs.Prelude.{◌≡◌, if◌then◌else◌};
+    ghost use Rattle.std.specs.Prelude.{◌≡◌, ◌<◌, if◌then◌else◌};
     ghost use Rattle.machine_model.specs.States.{start, at, on, holding};
     ghost use Rattle.machine_model.specs.Step.{Goes};
     ghost use Rattle.interpreter.specs.Values.{value_of};
@@ -54,16 +52,14 @@ impl<'a> Frame<'a> {
         }
     }
 
-    pub(crate) fn value(&self, register: u16) -> Value<'a>
-        requires { register < 16 }
-        ensures { value_of result ≡ (frame_of self.now).registers register }
+    pub(crate) fn value(&self, register: Register) -> Value<'a>
+        ensures { value_of result ≡ (frame_of self.now).registers register.number }
     {
         self.registers.get(register)
     }
 
-    pub(crate) fn hold(&mut self, register: u8, value: Value<'a>)
-        requires { register < 16 }
-        ensures { frame_of self.new ≡ holding register (value_of value.entry) (frame_of self.old) }
+    pub(crate) fn hold(&mut self, register: Register, value: Value<'a>)
+        ensures { frame_of self.new ≡ holding register.number (value_of value.entry) (frame_of self.old) }
     {
         self.registers.set(register, value);
     }

@@ -9,6 +9,7 @@ mod loads;
 mod loops;
 mod printing;
 mod reading;
+mod register;
 mod registers;
 mod run;
 mod step;

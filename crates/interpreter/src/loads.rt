@@ -1,6 +1,6 @@
 //! Instructions that load a value into a register.
 
-ghost use Rattle.std.specs.Prelude.{◌≡◌, ◌<◌, length};
+ghost use Rattle.std.specs.Prelude.{◌≡◌, ◌<◌, Some, length};
 ghost use Rattle.text_model.specs.Number.{leading_number};
 ghost use Rattle.environment_model.specs.Environment.{text_of, members_of};
 ghost use Rattle.machine_model.specs.Operands.{name_at, literal_at};
@@ -8,11 +8,12 @@ ghost use Rattle.machine_model.specs.Values as value;
 ghost use Rattle.machine_model.specs.Values.{text_or_undefined};
 ghost use Rattle.machine_model.specs.States.{on, holding};
 ghost use Rattle.machine_model.specs.Step.{Goes};
-ghost use Rattle.machine_model.specs.Next.{for_text, number_move};
+ghost use Rattle.machine_model.specs.Next.{for_text, for_list, number_move};
 ghost use Rattle.interpreter.specs.Values.{value_of};
 ghost use Rattle.interpreter.specs.Frames.{frame_of, move_in, moves};
 
 use crate::frame::{Frame, Move};
+use crate::register::Register;
 use crate::value::Value;
 use code_file::Code;
 use target_vars::Env;
@@ -54,21 +55,24 @@ pub(crate) fn members_of<'a>(code: &Code, env: &'a Env, index: u16) -> Value<'a>
 
 impl<'a> Frame<'a> {
     /// Puts a value into a register, and goes on.
-    pub(crate) fn load(&mut self, register: u8, value: Value<'a>) -> Move
-        requires register { register < 16 }
-        requires place { self.old.place < usize.MAX }
-        ensures { move_in (frame_of self.new) result ≡ Goes (on (holding register (value_of value.entry) (frame_of self.old))) }
+    pub(crate) fn load(&mut self, register: Register, value: Value<'a>) -> Move
+        requires { self.old.place < usize.MAX }
+        ensures { move_in (frame_of self.new) result ≡ Goes (on (holding register.number (value_of value.entry) (frame_of self.old))) }
     {
         self.hold(register, value);
         self.on()
     }
 
     /// Puts the leading number of a text into a register and goes on, or jumps.
-    pub(crate) fn load_number(&mut self, register: u8, text: u16, to: u16) -> Option<Move>
-        requires register { register < 16 }
-        requires text { text < 16 }
-        requires place { self.old.place < usize.MAX }
-        ensures { moves (frame_of self.new) result ≡ for_text ((frame_of self.old).registers text) (λ t. number_move (frame_of self.old) register to (leading_number t)) }
+    pub(crate) fn load_number(
+        &mut self,
+        register: Register,
+        text: Register,
+        to: u16,
+    ) -> Option<Move>
+        requires { self.old.place < usize.MAX }
+        ensures { moves (frame_of self.new) result ≡ for_text ((frame_of self.old).registers text.number)
+            (λ t. number_move (frame_of self.old) register.number to (leading_number t)) }
     {
         let Value::Text(text) = self.value(text) else {
             return None;
@@ -77,5 +81,18 @@ impl<'a> Frame<'a> {
             None => Some(Move::Goes(to as usize)),
             Some(number) => Some(self.load(register, Value::Number(number))),
         }
+    }
+
+    /// Puts the number of a list's members into a register, and goes on.
+    pub(crate) fn load_count(&mut self, register: Register, list: Register) -> Option<Move>
+        requires { self.old.place < usize.MAX }
+        ensures { moves (frame_of self.new) result ≡ for_list ((frame_of self.old).registers list.number)
+            (λ ts. Some (Goes (on (holding register.number (value.Number (length ts)) (frame_of self.old))))) }
+    {
+        let Value::List(members) = self.value(list) else {
+            return None;
+        };
+        // A list has at most 65,535 members.
+        Some(self.load(register, Value::Number(members.len() as u32)))
     }
 }

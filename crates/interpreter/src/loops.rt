@@ -5,17 +5,16 @@ ghost use Rattle.machine_model.specs.Next.{in_loop, in_no_loop, for_list, each_m
 ghost use Rattle.interpreter.specs.Frames.{frame_of, moves};
 
 use crate::frame::{Frame, Loop, Move};
+use crate::register::Register;
 use crate::value::Value;
 
 impl<'a> Frame<'a> {
     /// Begins a loop over a register's list, with the first member in the element register; jumps
     /// to the loop's end where there is no member. There is one loop at a time.
-    pub(crate) fn begin_loop(&mut self, element: u8, list: u16, end: u16) -> Option<Move>
-        requires element { element < 16 }
-        requires list { list < 16 }
-        requires place { self.old.place < usize.MAX }
+    pub(crate) fn begin_loop(&mut self, element: Register, list: Register, end: u16) -> Option<Move>
+        requires { self.old.place < usize.MAX }
         ensures { moves (frame_of self.new) result ≡ in_no_loop (frame_of self.old).loop
-            (if nat_lt (self.old.place + 1) end then for_list ((frame_of self.old).registers list) (each_move (frame_of self.old) element end) else None) }
+            (if nat_lt (self.old.place + 1) end then for_list ((frame_of self.old).registers list.number) (each_move (frame_of self.old) element.number end) else None) }
     {
         let start = self.place + 1;
         let end = end as usize;
@@ -41,7 +40,7 @@ impl<'a> Frame<'a> {
     /// Puts the loop's next member into the element register and returns to the loop's start; where
     /// none is left, ends the loop and goes on.
     pub(crate) fn next_member(&mut self) -> Option<Move>
-        requires place { self.old.place < usize.MAX }
+        requires { self.old.place < usize.MAX }
         ensures { moves (frame_of self.new) result ≡ in_loop (frame_of self.old).loop
             (λ l. if self.old.place + 1 == l.end then next_move (frame_of self.old) l l.left else None) }
     {

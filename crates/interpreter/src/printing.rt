@@ -10,6 +10,7 @@ ghost use Rattle.machine_model.specs.Next.{for_text, in_loop};
 ghost use Rattle.interpreter.specs.Frames.{frame_of, move_in, moves};
 
 use crate::frame::{Frame, Move};
+use crate::register::Register;
 use crate::value::Value;
 use std::alloc::AllocError;
 use text_model::Writing;
@@ -60,13 +61,16 @@ impl<'a> Frame<'a> {
     }
 
     /// Appends the register's text, written, and goes on.
-    pub(crate) fn put(&mut self, register: u8, writing: Writing) -> Result<Option<Move>, AllocError>
-        requires register { register < 16 }
-        requires place { self.old.place < usize.MAX }
-        ensures { IfOk result (λ to. moves (frame_of self.new) to ≡ for_text ((frame_of self.old).registers register)
+    pub(crate) fn put(
+        &mut self,
+        register: Register,
+        writing: Writing,
+    ) -> Result<Option<Move>, AllocError>
+        requires { self.old.place < usize.MAX }
+        ensures { IfOk result (λ to. moves (frame_of self.new) to ≡ for_text ((frame_of self.old).registers register.number)
             (λ t. Some (Goes (on (printing (written writing t) (frame_of self.old)))))) }
     {
-        let Value::Text(text) = self.value(register.into()) else {
+        let Value::Text(text) = self.value(register) else {
             return Ok(None);
         };
         append_written(&mut self.output, text, writing)?;
@@ -76,16 +80,15 @@ impl<'a> Frame<'a> {
     /// Appends the first items of the register's text, written, and goes on.
     pub(crate) fn put_first(
         &mut self,
-        register: u8,
+        register: Register,
         count: u16,
         writing: Writing,
     ) -> Result<Option<Move>, AllocError>
-        requires register { register < 16 }
-        requires place { self.old.place < usize.MAX }
-        ensures { IfOk result (λ to. moves (frame_of self.new) to ≡ for_text ((frame_of self.old).registers register)
+        requires { self.old.place < usize.MAX }
+        ensures { IfOk result (λ to. moves (frame_of self.new) to ≡ for_text ((frame_of self.old).registers register.number)
             (λ t. Some (Goes (on (printing (written writing (cut writing t count)) (frame_of self.old)))))) }
     {
-        let Value::Text(text) = self.value(register.into()) else {
+        let Value::Text(text) = self.value(register) else {
             return Ok(None);
         };
         let items = cut(text, count as usize, matches!(writing, Writing::UR));

@@ -1,7 +1,8 @@
 //! The instruction at a place, if it can be read.
 
 ghost use Rattle.std.specs.Prelude.{◌≡◌, ◌<◌, length, IfSome, OnSome};
-ghost use Rattle.machine_model.specs.Operands.{TextName, ListName, LinkText, Compared, is_right, has_right_operands};
+ghost use Rattle.code_model.specs.Operands.{Register, TextName, ListName, LinkText, Compared};
+ghost use Rattle.machine_model.specs.Operands.{is_right, has_right_operands};
 ghost use Rattle.machine_model.specs.Next.{instruction_at};
 ghost use Rattle.interpreter.specs.Given.{AreGiven};
 
@@ -36,6 +37,13 @@ fn is_compared(code: &Code, index: u16) -> bool
     index < code.literals().len() && code.literal(index).compared
 }
 
+/// A code of version 1 has 16 registers, and one of version 2 has 64.
+fn is_register(code: &Code, number: u16) -> bool
+    ensures { result ≡ is_right code.now (Register number) }
+{
+    number < if code.version() == 2 { 64 } else { 16 }
+}
+
 /// Each register, table entry, count and mode that the instruction names is one that there is, of
 /// the kind that it wants.
 #[tactic(auto, unfolding(machine_model::specs::Operands::has_right_operands))]
@@ -44,22 +52,27 @@ fn has_right_operands(code: &Code, instruction: Instruction) -> bool
 {
     match instruction {
         Instruction::Halt | Instruction::Fail | Instruction::Jump(_) | Instruction::Next => true,
-        Instruction::Text(a, b) => a < 16 && is_text_name(code, b),
-        Instruction::List(a, b) => a < 16 && is_list_name(code, b),
-        Instruction::Const(a, b) => a < 16 && is_compared(code, b),
-        Instruction::Undef(a, _) | Instruction::Empty(a, _) | Instruction::NoList(a, _) => a < 16,
+        Instruction::Text(a, b) => is_register(code, a.into()) && is_text_name(code, b),
+        Instruction::List(a, b) => is_register(code, a.into()) && is_list_name(code, b),
+        Instruction::Const(a, b) => is_register(code, a.into()) && is_compared(code, b),
+        Instruction::Undef(a, _) | Instruction::Empty(a, _) | Instruction::NoList(a, _) => {
+            is_register(code, a.into())
+        }
         Instruction::Number(a, b, _)
         | Instruction::Differ(a, b, _)
         | Instruction::Less(a, b, _)
-        | Instruction::Each(a, b, _) => a < 16 && b < 16,
+        | Instruction::Each(a, b, _)
+        | Instruction::Count(a, b) => is_register(code, a.into()) && is_register(code, b),
         Instruction::Emit(b) | Instruction::Sep(b) => is_link_text(code, b),
-        Instruction::Put(a, c) => a < 16 && c <= 1,
-        Instruction::Cut(a, b, c) => a < 16 && (1..=9999).contains(&b) && c <= 1,
+        Instruction::Put(a, c) => is_register(code, a.into()) && c <= 1,
+        Instruction::Cut(a, b, c) => {
+            is_register(code, a.into()) && (1..=9999).contains(&b) && c <= 1
+        }
     }
 }
 
-/// The instruction at a place; `None` past the last place, where no operation has the number, where
-/// a field that is not used is not 0, and where an operand is not right.
+/// The instruction at a place; `None` past the last place, where no operation of the code's version
+/// has the number, where a field that is not used is not 0, and where an operand is not right.
 pub(crate) fn instruction_at(code: &Code, place: usize) -> Option<Instruction>
     ensures value { result ≡ instruction_at code.now place }
     ensures given { IfSome result (AreGiven code.now) }
@@ -69,7 +82,7 @@ pub(crate) fn instruction_at(code: &Code, place: usize) -> Option<Instruction>
         return None;
     }
     let fields = code.instr(place);
-    let read = instruction(fields)?;
+    let read = instruction(code.version(), fields)?;
     if fields == spelling(read) && has_right_operands(code, read) {
         Some(read)
     } else {

@@ -5,7 +5,7 @@ use std::alloc::{AllocError, Global};
 use std::test::Fail;
 
 /// The name of each operation, its number, and the fields that its operands go to. A `?` has all five.
-const OPERATIONS: [(&str, u8, &[u8]); 19] = [
+const OPERATIONS: [(&str, u8, &[u8]); 20] = [
     ("?", 0, b"oabcd"),
     ("HALT", 1, b""),
     ("FAIL", 2, b""),
@@ -25,6 +25,7 @@ const OPERATIONS: [(&str, u8, &[u8]); 19] = [
     ("EACH", 16, b"abd"),
     ("SEP", 17, b"b"),
     ("NEXT", 18, b""),
+    ("COUNT", 19, b"ab"),
 ];
 
 /// The number of an operand, behind its `r`, `n` or `l`; of a mode, 0 or 1.
@@ -73,10 +74,11 @@ fn instrs(alloc: Global, text: &str) -> Result<Vec<Instr>, AllocError> {
     Ok(instrs)
 }
 
-/// The code of these names, each with whether it is a list's, of these literals, each with whether it
-/// is a comparison text, and of these instructions.
+/// The code of a version, of these names, each with whether it is a list's, of these literals, each
+/// with whether it is a comparison text, and of these instructions.
 pub(crate) fn code(
     alloc: Global,
+    version: u8,
     names: &[(bool, &str)],
     literals: &[(bool, &str)],
     text: &str,
@@ -91,6 +93,10 @@ pub(crate) fn code(
         let bytes = Vec::from_slice(alloc, text.as_bytes())?;
         literal_table.push(Literal { compared, bytes })?;
     }
-    let code = Code::from_parts(name_table, literal_table, instrs(alloc, text)?)?;
+    let instrs = instrs(alloc, text)?;
+    let code = match version {
+        1 => Code::from_parts(name_table, literal_table, instrs)?,
+        _ => Code::from_parts2(name_table, literal_table, instrs)?,
+    };
     Ok(code)
 }

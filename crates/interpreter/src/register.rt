@@ -1,0 +1,19 @@
+//! One register.
+
+ghost use Rattle.std.specs.Prelude.{◌≡◌, ◌<◌};
+
+/// A register that there is. Whether a code may name it is asked where its instructions are read.
+#[derive(Clone, Copy)]
+pub(crate) struct Register {
+    pub(crate) number: u16,
+    ghost below: { number < 64 },
+}
+
+impl Register {
+    pub(crate) fn new(number: u16) -> Register
+        requires { number < 64 }
+        ensures { result.number ≡ number }
+    {
+        Register { number }
+    }
+}
