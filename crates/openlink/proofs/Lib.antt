@@ -1,3 +1,4 @@
 pub mod WordLemmas
 pub mod CommandLemmas
 pub mod LinkLemmas
+pub mod FrontLemmas

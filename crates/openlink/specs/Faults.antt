@@ -1,5 +1,7 @@
 -- Faults: what a crate's error becomes, and the exit statuses.
 use Rattle.std.specs.Prelude.{◌≡◌, ℕ, Some}
+use Rattle.std.specs.declared.io.ErrorKind.{ErrorKind}
+use Rattle.std.specs.declared.io.ErrorKind.TheVariants.{OutOfMemory}
 use Rattle.text_model.specs.Texts.{Text}
 use Rattle.uri_grammar.specs.declared.error.TemplateError.{TemplateError}
 use Rattle.uri_grammar.specs.declared.error.TemplateErrorKind.{TemplateErrorKind}
@@ -42,6 +44,11 @@ rules_fault e = rules_fault_of_kind e e.kind
 abbrev pub query_fault : KevError → Fault
 query_fault query.NoMemory = Memory
 query_fault e = Query e
+
+-- what the system refused is want of memory where the system says so, and otherwise this fault
+abbrev pub system_fault : ErrorKind → Fault → Fault
+system_fault OutOfMemory other = Memory
+system_fault kind other = other
 
 -- the exit status of the program
 abbrev pub status_of : Fault → ℕ

@@ -1,5 +1,6 @@
 pub mod Words
 pub mod Faults
+pub mod Files
 pub mod Expand
 pub mod Show
 pub mod Link

@@ -8,7 +8,7 @@ ghost use Rattle.openlink.specs.Faults.{status_of, IsDevice};
 ghost use Rattle.openlink.specs.declared.fault.Fault.{Fault};
 
 use crate::expand::expand_line;
-use crate::fault::{Fault, NO_LINK};
+use crate::fault::Fault;
 use crate::link::link_line;
 use crate::show::show_lines;
 use crate::words::behind;
@@ -32,12 +32,19 @@ pub fn command<R: Files + AllocGlobal, O: Write, E: Write>(
 {
     match run(rt, words, output) {
         Ok(()) => 0,
-        Err(Fault::NoLink) => NO_LINK,
-        Err(fault) => {
-            let _ = writeln!(errors, "openlink: {fault}");
-            fault.status()
-        }
+        Err(fault) => report(fault, errors),
     }
+}
+
+/// Prints the line of the fault on `errors`, none where there is no link, and gives the exit status.
+pub fn report<E: Write>(fault: Fault, errors: &mut E) -> u8
+    ensures status { result ≡ status_of fault.entry }
+    ensures no_line { result ≡ 1 → errors.new ≡ errors.old }
+{
+    if fault != Fault::NoLink {
+        let _ = writeln!(errors, "openlink: {fault}");
+    }
+    fault.status()
 }
 
 /// Runs the command that the words name, and prints its result on `output`.

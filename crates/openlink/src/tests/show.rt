@@ -24,7 +24,7 @@ fn shows_code(rt: HostRuntime) -> Result<(), Fail> {
              4 NEXT\n\
              5 HALT\n",
         )],
-    );
+    )?;
     fs::remove_file(&rt, "list.olk")?;
     Ok(())
 }
@@ -49,7 +49,7 @@ fn refuses_code(rt: HostRuntime) -> Result<(), Fail> {
             ends(&["show"], 2, "openlink: usage\n"),
             ends(&["show", "a", "b"], 2, "openlink: usage\n"),
         ],
-    );
+    )?;
     fs::remove_file(&rt, "short.olk")?;
     Ok(())
 }
