@@ -8,6 +8,7 @@ use Rattle.text_model.specs.Texts.{Text}
 use Rattle.code_model.specs.Code.{Name, Literal}
 use Rattle.code_file.specs.declared.error.CodeError.{CodeError}
 use Rattle.code_file.specs.declared.error.CodeErrorKind.TheVariants.{BadKind, BadName, BadLiteral}
+use Rattle.code_file.specs.declared.limits.TheConstants.{MAX_NAME_BYTES}
 use Rattle.code_file.specs.Grammar.{kind_byte, name_field, literal_field, IsNameByte, IsName, IsTextOf, IsLiteral}
 use Rattle.code_file.specs.Fault.{fault, cut_short, IsFirstWrong, IsNameLength, IsKindFault, no_kind, bad_kind, IsNameFault, in_kind, no_length, bad_length, no_text, bad_text, IsLiteralFault}
 use Rattle.code_file.proofs.StageLemmas.{IsApart}
@@ -45,7 +46,7 @@ kind_no_fault b rest e (bad_kind kind t h k) =
 -- what bytes say of the name at their front, short of its text: that text, or a fault
 abbrev name_shape_from : ℕ → ℕ → Text → Result Text CodeError
 name_shape_from kind len rest =
-    if (nat_lt 0 len && nat_le len 255)
+    if (nat_lt 0 len && nat_le len MAX_NAME_BYTES)
     then (if nat_lt (length rest) len then Err (cut_short (kind ∷ len ∷ rest)) else Ok (take len rest))
     else Err (fault BadName 1)
 
@@ -66,12 +67,12 @@ good_kind_shape : (list : Bool) (len : ℕ) (rest : Text) → name_shape (kind_b
 good_kind_shape true len rest = refl
 good_kind_shape false len rest = refl
 
-good_length : (len : ℕ) → IsNameLength len → (nat_lt 0 len && nat_le len 255) ≡ true
-good_length len n = and_from (nat_lt 0 len) (nat_le len 255) (lt-ltb 0 len n.0) (le-leb len 255 n.1)
+good_length : (len : ℕ) → IsNameLength len → (nat_lt 0 len && nat_le len MAX_NAME_BYTES) ≡ true
+good_length len n = and_from (nat_lt 0 len) (nat_le len MAX_NAME_BYTES) (lt-ltb 0 len n.0) (le-leb len MAX_NAME_BYTES n.1)
 
-not_length : (len : ℕ) → (IsNameLength len → ⊥) → (nat_lt 0 len && nat_le len 255) ≡ false
-not_length len bad = elim (cases_Bool (nat_lt 0 len && nat_le len 255)) [
-  | inl is ↦ let p = and_parts (nat_lt 0 len) (nat_le len 255) is in absurd (bad (ltb-true 0 len p.0, leb-true len 255 p.1))
+not_length : (len : ℕ) → (IsNameLength len → ⊥) → (nat_lt 0 len && nat_le len MAX_NAME_BYTES) ≡ false
+not_length len bad = elim (cases_Bool (nat_lt 0 len && nat_le len MAX_NAME_BYTES)) [
+  | inl is ↦ let p = and_parts (nat_lt 0 len) (nat_le len MAX_NAME_BYTES) is in absurd (bad (ltb-true 0 len p.0, leb-true len MAX_NAME_BYTES p.1))
   | inr isnt ↦ isnt
 ]
 

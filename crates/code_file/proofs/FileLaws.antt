@@ -3,80 +3,96 @@ use Rattle.std.proofs.Common.{◌≡◌, ◌<◌, ◌≤◌, ◌+◌, ◌*◌, �
 use Rattle.std.specs.Prelude.{All, Result, Ok, Err, ◌==◌}
 use Rattle.std.specs.List.{flat_map}
 use Rattle.std.proofs.lemmas.Bool.{le-ltb, ne_eqb}
-use Rattle.std.proofs.lemmas.List.{append-nil, append_cancel_left}
+use Rattle.std.proofs.lemmas.List.{append-nil}
 use Rattle.text_model.specs.Texts.{Text}
 use Rattle.code_model.specs.Code.{Name, Literal, Code}
 use Rattle.code_model.specs.declared.code.Instr.{Instr}
-use Rattle.code_file.specs.declared.counts.Counts.{Counts}
+use Rattle.code_file.specs.declared.header.Header.{Header}
+use Rattle.code_file.specs.declared.limits.TheConstants.{MAX_BYTES, MAX_NAMES, MAX_LITERALS, MAX_INSTRS}
 use Rattle.code_file.specs.declared.error.CodeError.{CodeError}
 use Rattle.code_file.specs.declared.error.CodeErrorKind.TheVariants.{BadMagic, Truncated, Trailing, NoMemory}
-use Rattle.code_file.specs.Grammar.{magic, number, header, counts_of, code_of, most_bytes, name_field, literal_field, instr_field, IsName, IsLiteral, IsInstr, AreCounts, IsCodeFile}
-use Rattle.code_file.specs.Fault.{fault, cut_short, after, counts_fault, AreNumbers, IsNameFault, IsLiteralFault, IsTable, IsTableFault, IsFieldFault, bad_magic, no_counts, bad_counts, in_names, in_literals, in_instrs, trailing, IsFirstFault, too_long, in_field, IsRefusal}
+use Rattle.code_file.specs.Grammar.{digit_byte, magic, number, header_field, header_of, code_of, name_field, literal_field, instr_field, IsName, IsLiteral, IsInstr, IsHeader, IsCodeFile}
+use Rattle.code_file.specs.Fault.{fault, cut_short, after, header_fault, IsHeaderField, PastMagic, PastCounts, PastHeader, PastNames, PastLiterals, IsNameFault, IsLiteralFault, IsTable, IsTableFault, IsFieldFault, bad_magic, no_counts, bad_counts, in_names, in_literals, in_instrs, trailing, IsFirstFault, too_long, in_field, IsRefusal}
 use Rattle.code_file.proofs.StageLemmas.{IsApart, ReadsTable, found, faulty, one_table, same_entries, IsOne, Then, stops, goes, then_one}
 use Rattle.code_file.proofs.EntryLaws.{names_apart, literals_apart, number_back}
 use Rattle.code_file.proofs.PartsLemmas.{length-instrs}
 
 -- ---- the header
 
-outcome : Option CodeError → Counts → Text → Result (Counts × Text) CodeError
-outcome (Some e) c rest = Err e
-outcome None c rest = Ok (c, rest)
+outcome : Option CodeError → Header → Text → Result (Header × Text) CodeError
+outcome (Some e) h rest = Err e
+outcome None h rest = Ok (h, rest)
 
-data ReadsHeader (bytes : Text) : Result (Counts × Text) CodeError → Type 0 where
-  no_magic : ((rest : Text) → bytes ≡ magic ++ rest → ⊥) → ReadsHeader bytes (Err (fault BadMagic 0))
-  short_counts : (rest : Text) → bytes ≡ magic ++ rest → length rest < 6 → ReadsHeader bytes (Err (cut_short bytes))
-  counted : (c : Counts) (rest : Text) → AreNumbers c → bytes ≡ header c ++ rest → ReadsHeader bytes (outcome (counts_fault c) c rest)
+data ReadsHeader (bytes : Text) : Result (Header × Text) CodeError → Type 0 where
+  no_magic : (PastMagic bytes → ⊥) → ReadsHeader bytes (Err (fault BadMagic 0))
+  short_counts : (p : PastMagic bytes) → length p.rest < 6 → ReadsHeader bytes (Err (cut_short bytes))
+  counted : (p : PastCounts bytes) → ReadsHeader bytes (outcome (header_fault p.header) p.header p.rest)
 
 same_number : (m n : ℕ) → m < 65536 → n < 65536 → m / 256 % 256 ≡ n / 256 % 256 → m % 256 ≡ n % 256 → m ≡ n
 same_number m n p q high low =
     sym (number_back m p) ∙ ap (λ (k : ℕ). 256 * k + m % 256) high ∙ ap (λ (k : ℕ). 256 * (n / 256 % 256) + k) low ∙ number_back n q
 
-same_header : (c d : Counts) (s t : Text) → AreNumbers c → AreNumbers d → header c ++ s ≡ header d ++ t → (c ≡ d) × (s ≡ t)
-same_header c d s t p q h =
-    let names_high : c.names / 256 % 256 ≡ d.names / 256 % 256 = cc in
-    let names_low : c.names % 256 ≡ d.names % 256 = cc in
-    let names : c.names ≡ d.names = same_number c.names d.names p.0 q.0 names_high names_low in
-    let literals_high : c.literals / 256 % 256 ≡ d.literals / 256 % 256 = cc in
-    let literals_low : c.literals % 256 ≡ d.literals % 256 = cc in
-    let literals : c.literals ≡ d.literals = same_number c.literals d.literals p.1 q.1 literals_high literals_low in
-    let instrs_high : c.instrs / 256 % 256 ≡ d.instrs / 256 % 256 = cc in
-    let instrs_low : c.instrs % 256 ≡ d.instrs % 256 = cc in
-    let instrs : c.instrs ≡ d.instrs = same_number c.instrs d.instrs p.2 q.2 instrs_high instrs_low in
+same_magic : (v w : ℕ) (s t : Text) → magic v ++ s ≡ magic w ++ t → (v ≡ w) × (s ≡ t)
+same_magic v w s t h =
+    let digit : digit_byte v ≡ digit_byte w = cc in
+    let tail : s ≡ t = cc in
+    (omega (arith, digit), tail)
+
+same_header : (h k : Header) (s t : Text) → IsHeaderField h → IsHeaderField k → header_field h ++ s ≡ header_field k ++ t → (h ≡ k) × (s ≡ t)
+same_header h k s t p q same =
+    let behind = same_magic h.version k.version _ _ same in
+    let counts = behind.1 in
+    let names_high : h.names / 256 % 256 ≡ k.names / 256 % 256 = cc in
+    let names_low : h.names % 256 ≡ k.names % 256 = cc in
+    let names : h.names ≡ k.names = same_number h.names k.names p.names q.names names_high names_low in
+    let literals_high : h.literals / 256 % 256 ≡ k.literals / 256 % 256 = cc in
+    let literals_low : h.literals % 256 ≡ k.literals % 256 = cc in
+    let literals : h.literals ≡ k.literals = same_number h.literals k.literals p.literals q.literals literals_high literals_low in
+    let instrs_high : h.instrs / 256 % 256 ≡ k.instrs / 256 % 256 = cc in
+    let instrs_low : h.instrs % 256 ≡ k.instrs % 256 = cc in
+    let instrs : h.instrs ≡ k.instrs = same_number h.instrs k.instrs p.instrs q.instrs instrs_high instrs_low in
     let tail : s ≡ t = cc in (
-      ap (λ (n : ℕ). let k : Counts = record { names = n; literals = c.literals; instrs = c.instrs } in k) names
-          ∙ ap (λ (n : ℕ). let k : Counts = record { names = d.names; literals = n; instrs = c.instrs } in k) literals
-          ∙ ap (λ (n : ℕ). let k : Counts = record { names = d.names; literals = d.literals; instrs = n } in k) instrs,
+      ap (λ (n : ℕ). let x : Header = record { version = n; names = h.names; literals = h.literals; instrs = h.instrs } in x) behind.0
+          ∙ ap (λ (n : ℕ). let x : Header = record { version = k.version; names = n; literals = h.literals; instrs = h.instrs } in x) names
+          ∙ ap (λ (n : ℕ). let x : Header = record { version = k.version; names = k.names; literals = n; instrs = h.instrs } in x) literals
+          ∙ ap (λ (n : ℕ). let x : Header = record { version = k.version; names = k.names; literals = k.literals; instrs = n } in x) instrs,
       tail,
     )
 
-behind_magic : Counts → Text → Text
-behind_magic c rest = number c.names ++ (number c.literals ++ (number c.instrs ++ rest))
+-- what stands behind the magic
+abbrev past_magic : {bytes : Text} → PastCounts bytes → PastMagic bytes
+past_magic p = record {
+  version = p.header.version;
+  rest = number p.header.names ++ (number p.header.literals ++ (number p.header.instrs ++ p.rest));
+  known = p.numbers.version;
+  spells = p.spells ∙ append_assoc (magic p.header.version) (number p.header.names ++ (number p.header.literals ++ number p.header.instrs)) p.rest;
+}
+
+one_magic : {bytes : Text} (p q : PastMagic bytes) → p.rest ≡ q.rest
+one_magic p q = (same_magic p.version q.version p.rest q.rest (sym p.spells ∙ q.spells)).1
 
 one_header : IsOne ReadsHeader
-unfolding behind_magic
 one_header bytes r q (no_magic h) (no_magic g) = refl
-one_header bytes r q (no_magic h) (short_counts t g n) = absurd (h t g)
-one_header bytes r q (no_magic h) (counted d t m g) = absurd (h (behind_magic d t) g)
-one_header bytes r q (short_counts s h k) (no_magic g) = absurd (g s h)
-one_header bytes r q (short_counts s h k) (short_counts t g n) = refl
-one_header bytes r q (short_counts s h k) (counted d t m g) =
-    let same : s ≡ behind_magic d t = append_cancel_left magic s (behind_magic d t) (sym h ∙ g) in absurd (omega (arith, ap length same))
-one_header bytes r q (counted c s k h) (no_magic g) = absurd (g (behind_magic c s) h)
-one_header bytes r q (counted c s k h) (short_counts t g n) =
-    let same : t ≡ behind_magic c s = append_cancel_left magic t (behind_magic c s) (sym g ∙ h) in absurd (omega (arith, ap length same))
-one_header bytes r q (counted c s k h) (counted d t m g) =
-    let both = same_header c d s t k m (sym h ∙ g) in
-    ap (λ (x : Counts). outcome (counts_fault x) x s) both.0 ∙ ap (λ (x : Text). outcome (counts_fault d) d x) both.1
+one_header bytes r q (no_magic h) (short_counts p n) = absurd (h p)
+one_header bytes r q (no_magic h) (counted p) = absurd (h (past_magic p))
+one_header bytes r q (short_counts p n) (no_magic g) = absurd (g p)
+one_header bytes r q (short_counts p n) (short_counts o m) = refl
+one_header bytes r q (short_counts p n) (counted o) = absurd (omega (arith, ap length (one_magic p (past_magic o))))
+one_header bytes r q (counted p) (no_magic g) = absurd (g (past_magic p))
+one_header bytes r q (counted p) (short_counts o n) = absurd (omega (arith, ap length (one_magic o (past_magic p))))
+one_header bytes r q (counted p) (counted o) =
+    let both = same_header p.header o.header p.rest o.rest p.numbers o.numbers (sym p.spells ∙ o.spells) in
+    ap (λ (x : Header). outcome (header_fault x) x p.rest) both.0 ∙ ap (λ (x : Text). outcome (header_fault o.header) o.header x) both.1
 
 -- ---- the tables
 
 abbrev Names : Type 0
-Names = Counts × List Name × Text
+Names = Header × List Name × Text
 
 abbrev Literals : Type 0
-Literals = Counts × List Name × List Literal × Text
+Literals = Header × List Name × List Literal × Text
 
-data ReadsNames (s : Counts × Text) : Result Names CodeError → Type 0 where
+data ReadsNames (s : Header × Text) : Result Names CodeError → Type 0 where
   names_found : (ns : List Name) (rest : Text) → ReadsTable IsName name_field IsNameFault s.0.names s.1 (Ok (ns, rest))
       → ReadsNames s (Ok (s.0, ns, rest))
   names_faulty : (e : CodeError) → ReadsTable IsName name_field IsNameFault s.0.names s.1 (Err e) → ReadsNames s (Err (after 10 e))
@@ -157,7 +173,7 @@ data ReadsInstrs (s : Literals) : Result Code CodeError → Type 0 where
   too_few : length s.3 < 8 * s.0.instrs → ReadsInstrs s (Err (fault Truncated (front_len s + length s.3)))
   too_many : 8 * s.0.instrs < length s.3 → ReadsInstrs s (Err (fault Trailing (front_len s + 8 * s.0.instrs)))
   whole : (is : List Instr) → All IsInstr is → length is ≡ s.0.instrs → s.3 ≡ flat_map instr_field is
-      → ReadsInstrs s (Ok (code_of s.1 s.2 is))
+      → ReadsInstrs s (Ok (code_of s.0.version s.1 s.2 is))
 
 one_instrs : IsOne ReadsInstrs
 one_instrs s r q (too_few h) (too_few g) = refl
@@ -172,7 +188,7 @@ one_instrs s r q (whole is g n e) (whole js h m f) =
     let same =
     same_entries IsInstr instr_field no_instr_fault instrs_apart is js [] [] g h
     (append-nil (flat_map instr_field is) ∙ sym e ∙ f ∙ sym (append-nil (flat_map instr_field js))) (n ∙ sym m) in
-    ap (λ (l : List Instr). let a : Result Code CodeError = Ok (code_of s.1 s.2 l) in a) same.0
+    ap (λ (l : List Instr). let a : Result Code CodeError = Ok (code_of s.0.version s.1 s.2 l) in a) same.0
 
 -- ---- all stages
 
@@ -186,16 +202,27 @@ one_reading =
 
 -- ---- a code, or a fault, is what the stages give
 
-no_counts_fault : (c : Counts) → AreCounts c → counts_fault c ≡ None
-no_counts_fault c a =
-    let some : (c.instrs == 0) ≡ false = ne_eqb c.instrs 0 (λ h. omega (arith, a.some, h)) in
-    rw (le-ltb 256 c.names a.names, le-ltb 1024 c.literals a.literals, le-ltb 4096 c.instrs a.instrs, some) refl
+no_header_fault : (h : Header) → IsHeader h → header_fault h ≡ None
+no_header_fault h a =
+    let some : (h.instrs == 0) ≡ false = ne_eqb h.instrs 0 (λ e. omega (arith, a.some, e)) in
+    rw (le-ltb MAX_NAMES h.names a.names, le-ltb MAX_LITERALS h.literals a.literals, le-ltb MAX_INSTRS h.instrs a.instrs, some) refl
 
-header_read : (bytes : Text) (c : Counts) (rest : Text) → AreCounts c → bytes ≡ header c ++ rest → ReadsHeader bytes (Ok (c, rest))
+header_read : (bytes : Text) (p : PastHeader bytes) → ReadsHeader bytes (Ok (p.header, p.rest))
 unfolding outcome
-header_read bytes c rest a h =
-    subst (ReadsHeader bytes) (ap (λ (o : Option CodeError). outcome o c rest) (no_counts_fault c a))
-    (counted c rest (omega (arith, a.names), omega (arith, a.literals), omega (arith, a.instrs)) h)
+header_read bytes p =
+    let a = p.allowed in
+    subst (ReadsHeader bytes) (ap (λ (o : Option CodeError). outcome o p.header p.rest) (no_header_fault p.header a))
+    (counted (record {
+      header = p.header;
+      rest = p.rest;
+      numbers = record {
+        version = a.version;
+        names = omega (arith, a.names);
+        literals = omega (arith, a.literals);
+        instrs = omega (arith, a.instrs);
+      };
+      spells = p.spells;
+    }))
 
 table_found : {X : Type 0} (IsGood : X → Type 0) (field : X → Text) (IsFault : Text → CodeError → Type 0) (count : ℕ)
     (bytes rest : Text) (t : IsTable IsGood field count bytes) → ReadsTable IsGood field IsFault count (bytes ++ rest) (Ok (t.0, rest))
@@ -211,33 +238,53 @@ table_faulty {X = X} IsGood field IsFault count bytes e t =
     (faulty t.table.0 t.rest t.here t.table.1.good (omega (arith, t.table.1.counted, t.fewer))
     (t.spells ∙ ap (λ (b : Text). b ++ t.rest) t.table.1.spells) t.faulty)
 
-reads_parts : (bytes : Text) (c : Counts) (names literals rest : Text) (r : Result Code CodeError) → AreCounts c
-    → bytes ≡ header c ++ (names ++ (literals ++ rest)) → (n : IsTable IsName name_field c.names names)
-    → (l : IsTable IsLiteral literal_field c.literals literals) → ReadsInstrs (c, n.0, l.0, rest) r → Reads bytes r
-reads_parts bytes c names literals rest r a h n l last =
-    goes (c, names ++ (literals ++ rest)) r (header_read bytes c _ a h)
-    (goes (c, n.0, literals ++ rest) r
-    (names_found n.0 (literals ++ rest) (table_found IsName name_field IsNameFault c.names names (literals ++ rest) n))
-    (goes (c, n.0, l.0, rest) r
-    (literals_found l.0 rest (table_found IsLiteral literal_field IsLiteralFault c.literals literals rest l)) last))
+names_read : (bytes : Text) (p : PastNames bytes) (r : Result Code CodeError)
+    → Then ReadsLiterals ReadsInstrs (p.header, p.name_table.0, p.rest) r → Reads bytes r
+names_read bytes p r more =
+    goes (p.header, p.names ++ p.rest) r
+    (header_read bytes (record { header = p.header; rest = p.names ++ p.rest; allowed = p.allowed; spells = p.spells }))
+    (goes (p.header, p.name_table.0, p.rest) r
+    (names_found p.name_table.0 p.rest (table_found IsName name_field IsNameFault p.header.names p.names p.rest p.name_table)) more)
+
+literals_read : (bytes : Text) (p : PastLiterals bytes) (r : Result Code CodeError)
+    → ReadsInstrs (p.header, p.name_table.0, p.literal_table.0, p.rest) r → Reads bytes r
+literals_read bytes p r more =
+    names_read bytes
+    (record {
+      header = p.header;
+      names = p.names;
+      rest = p.literals ++ p.rest;
+      allowed = p.allowed;
+      name_table = p.name_table;
+      spells = p.spells;
+    })
+    r
+    (goes (p.header, p.name_table.0, p.literal_table.0, p.rest) r
+    (literals_found p.literal_table.0 p.rest
+    (table_found IsLiteral literal_field IsLiteralFault p.header.literals p.literals p.rest p.literal_table)) more)
 
 -- the tables of a code, with anything behind them
-reads_behind : (bytes front behind : Text) (c : Code) (r : Result Code CodeError) → IsCodeFile front c → bytes ≡ front ++ behind
-    → ReadsInstrs (counts_of c, c.names, c.literals, flat_map instr_field c.instrs ++ behind) r → Reads bytes r
-reads_behind bytes front behind c r f h last =
-    reads_parts bytes (counts_of c) (flat_map name_field c.names) (flat_map literal_field c.literals)
-    (flat_map instr_field c.instrs ++ behind) r f.is_code.counts
-    (h ∙ ap (λ (b : Text). b ++ behind) f.spells
-    ∙ ap (λ (b : Text). header (counts_of c) ++ b)
-    (append_assoc (flat_map name_field c.names) (flat_map literal_field c.literals ++ flat_map instr_field c.instrs) behind
-    ∙ ap (λ (b : Text). flat_map name_field c.names ++ b)
-    (append_assoc (flat_map literal_field c.literals) (flat_map instr_field c.instrs) behind)))
-    (c.names, record { good = f.is_code.names; counted = refl; spells = refl })
-    (c.literals, record { good = f.is_code.literals; counted = refl; spells = refl }) last
+abbrev past_literals : (bytes front behind : Text) (c : Code) → IsCodeFile front c → bytes ≡ front ++ behind → PastLiterals bytes
+past_literals bytes front behind c f h = record {
+  header = header_of c;
+  names = flat_map name_field c.names;
+  literals = flat_map literal_field c.literals;
+  rest = flat_map instr_field c.instrs ++ behind;
+  allowed = f.is_code.header;
+  name_table = (c.names, record { good = f.is_code.names; counted = refl; spells = refl });
+  literal_table = (c.literals, record { good = f.is_code.literals; counted = refl; spells = refl });
+  spells =
+      h ∙ ap (λ (b : Text). b ++ behind) f.spells
+      ∙ append_assoc (header_field (header_of c)) (flat_map name_field c.names ++ (flat_map literal_field c.literals ++ flat_map instr_field c.instrs)) behind
+      ∙ ap (λ (b : Text). header_field (header_of c) ++ b)
+      (append_assoc (flat_map name_field c.names) (flat_map literal_field c.literals ++ flat_map instr_field c.instrs) behind
+      ∙ ap (λ (b : Text). flat_map name_field c.names ++ b)
+      (append_assoc (flat_map literal_field c.literals) (flat_map instr_field c.instrs) behind));
+}
 
 reads_code : (bytes : Text) (c : Code) → IsCodeFile bytes c → Reads bytes (Ok c)
 reads_code bytes c f =
-    reads_behind bytes bytes [] c (Ok c) f (sym (append-nil bytes))
+    literals_read bytes (past_literals bytes bytes [] c f (sym (append-nil bytes))) (Ok c)
     (whole c.instrs f.fields refl (append-nil (flat_map instr_field c.instrs)))
 
 spelled_len : (front : Text) (c : Code) → IsCodeFile front c
@@ -254,29 +301,34 @@ spelled_len front c f =
 reads_fault : (bytes : Text) (e : CodeError) → IsFieldFault bytes e → Reads bytes (Err e)
 unfolding outcome
 reads_fault bytes e (bad_magic h) = stops _ (no_magic h)
-reads_fault bytes e (no_counts rest h n) = stops _ (short_counts rest h n)
-reads_fault bytes e (bad_counts c rest f m h g) =
-    stops f (subst (ReadsHeader bytes) (ap (λ (o : Option CodeError). outcome o c rest) g) (counted c rest m h))
-reads_fault bytes e (in_names c rest f a h t) =
-    goes (c, rest) _ (header_read bytes c rest a h)
-    (stops _ (names_faulty f (table_faulty IsName name_field IsNameFault c.names rest f t)))
-reads_fault bytes e (in_literals c names rest f a h n t) =
-    let place : after (10 + length (flat_map name_field n.0)) f ≡ after (10 + length names) f =
-    ap (λ (b : Text). after (10 + length b) f) (sym n.1.spells) in
+reads_fault bytes e (no_counts p n) = stops _ (short_counts p n)
+reads_fault bytes e (bad_counts p f g) =
+    stops f (subst (ReadsHeader bytes) (ap (λ (o : Option CodeError). outcome o p.header p.rest) g) (counted p))
+reads_fault bytes e (in_names p f t) =
+    goes (p.header, p.rest) _ (header_read bytes p)
+    (stops _ (names_faulty f (table_faulty IsName name_field IsNameFault p.header.names p.rest f t)))
+reads_fault bytes e (in_literals p f t) =
+    let place : after (10 + length (flat_map name_field p.name_table.0)) f ≡ after (10 + length p.names) f =
+    ap (λ (b : Text). after (10 + length b) f) (sym p.name_table.1.spells) in
     subst (λ (x : CodeError). Reads bytes (Err x)) place
-    (goes (c, names ++ rest) _ (header_read bytes c _ a h)
-    (goes (c, n.0, rest) _ (names_found n.0 rest (table_found IsName name_field IsNameFault c.names names rest n))
-    (stops _ (literals_faulty f (table_faulty IsLiteral literal_field IsLiteralFault c.literals rest f t)))))
-reads_fault bytes e (in_instrs c names literals rest a h n l few) =
-    let place : 10 + length (flat_map name_field n.0) + length (flat_map literal_field l.0) + length rest ≡ length bytes =
-    omega (arith, ap length h, length-append names (literals ++ rest), length-append literals rest, ap length n.1.spells, ap length l.1.spells) in
-    subst (λ (k : ℕ). Reads bytes (Err (fault Truncated k))) place
-    (reads_parts bytes c names literals rest _ a h n l (too_few few))
+    (names_read bytes p _
+    (stops _ (literals_faulty f (table_faulty IsLiteral literal_field IsLiteralFault p.header.literals p.rest f t))))
+reads_fault bytes e (in_instrs p few) =
+    let place : 10 + length (flat_map name_field p.name_table.0) + length (flat_map literal_field p.literal_table.0) + length p.rest ≡ length bytes =
+    omega (
+      arith,
+      ap length p.spells,
+      length-append p.names (p.literals ++ p.rest),
+      length-append p.literals p.rest,
+      ap length p.name_table.1.spells,
+      ap length p.literal_table.1.spells,
+    ) in
+    subst (λ (k : ℕ). Reads bytes (Err (fault Truncated k))) place (literals_read bytes p _ (too_few few))
 reads_fault bytes e (trailing front rest b c f h) =
     let place : 10 + length (flat_map name_field c.names) + length (flat_map literal_field c.literals) + 8 * length c.instrs ≡ length front =
     sym (spelled_len front c f) in
     subst (λ (k : ℕ). Reads bytes (Err (fault Trailing k))) place
-    (reads_behind bytes front (b ∷ rest) c _ f h
+    (literals_read bytes (past_literals bytes front (b ∷ rest) c f h) _
     (too_many (omega (arith, length-append (flat_map instr_field c.instrs) (b ∷ rest), length-instrs c.instrs))))
 
 -- ---- the laws
@@ -288,7 +340,7 @@ file_one_code bytes c d f g =
 pub file_one_spelling : (x y : Text) (c : Code) → IsCodeFile x c → IsCodeFile y c → x ≡ y
 file_one_spelling x y c f g = f.spells ∙ sym g.spells
 
-short_file : (bytes : Text) (c : Code) → IsCodeFile bytes c → length bytes ≤ most_bytes
+short_file : (bytes : Text) (c : Code) → IsCodeFile bytes c → length bytes ≤ MAX_BYTES
 short_file bytes c f = omega (arith, ap length f.spells, f.is_code.short)
 
 pub file_no_fault : (bytes : Text) (c : Code) (e : CodeError) → IsCodeFile bytes c → IsFirstFault bytes e → ⊥

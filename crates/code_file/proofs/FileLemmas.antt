@@ -6,9 +6,10 @@ use Rattle.std.proofs.lemmas.List.{nil_from_length, take-append-drop}
 use Rattle.text_model.specs.Texts.{Text}
 use Rattle.code_model.specs.Code.{Name, Literal, Code}
 use Rattle.code_model.specs.declared.code.Instr.{Instr}
-use Rattle.code_file.specs.declared.counts.Counts.{Counts}
+use Rattle.code_file.specs.declared.header.Header.{Header}
+use Rattle.code_file.specs.declared.limits.TheConstants.{MAX_BYTES}
 use Rattle.code_file.specs.declared.error.CodeErrorKind.TheVariants.{Trailing}
-use Rattle.code_file.specs.Grammar.{number, header, counts_of, spelled, most_bytes, name_field, literal_field, instr_field, IsName, IsLiteral, IsInstr, AreCounts, IsCodeFile}
+use Rattle.code_file.specs.Grammar.{number, header_field, header_of, spelled, name_field, literal_field, instr_field, IsName, IsLiteral, IsInstr, IsHeader, IsCodeFile}
 use Rattle.code_file.specs.Fault.{fault, IsTableOf, IsTable, IsFieldFault, trailing}
 use Rattle.code_file.specs.Tables.{AreTables}
 use Rattle.code_file.proofs.TableLemmas.{table_none, table_cons}
@@ -70,54 +71,55 @@ instrs_of (suc n) (op ∷ a ∷ b ∷ b' ∷ c ∷ c' ∷ d ∷ d' ∷ rest) h f
 
 -- ---- tables and code
 
--- counts are their three numbers
-same_counts : (c : Counts) (n l i : ℕ) → n ≡ c.names → l ≡ c.literals → i ≡ c.instrs → c ≡ record { names = n; literals = l; instrs = i }
-same_counts c n l i p q r = rw (p, q, r) refl
+-- a header is its version and its three counts
+same_header : (h : Header) (n l i : ℕ) → n ≡ h.names → l ≡ h.literals → i ≡ h.instrs
+    → h ≡ record { version = h.version; names = n; literals = l; instrs = i }
+same_header h n l i p q r = rw (p, q, r) refl
 
-pub code_file_of : (bytes : Text) (c : Counts) (names literals instrs : Text) → AreTables bytes c names literals instrs
-    → length bytes ≤ most_bytes → (ns : List Name) → IsTableOf IsName name_field c.names names ns
-    → (ls : List Literal) → IsTableOf IsLiteral literal_field c.literals literals ls
-    → (is : List Instr) → IsTableOf IsInstr instr_field c.instrs instrs is
-    → IsCodeFile bytes (record { names = ns; literals = ls; instrs = is })
-code_file_of bytes c names literals instrs t short ns n ls l is i =
-    let code : Code = record { names = ns; literals = ls; instrs = is } in
-    let same : c ≡ counts_of code = same_counts c _ _ _ n.counted l.counted i.counted in
+pub code_file_of : (bytes : Text) (h : Header) (names literals instrs : Text) → AreTables bytes h names literals instrs
+    → length bytes ≤ MAX_BYTES → (ns : List Name) → IsTableOf IsName name_field h.names names ns
+    → (ls : List Literal) → IsTableOf IsLiteral literal_field h.literals literals ls
+    → (is : List Instr) → IsTableOf IsInstr instr_field h.instrs instrs is
+    → IsCodeFile bytes (record { version = h.version; names = ns; literals = ls; instrs = is })
+code_file_of bytes h names literals instrs t short ns n ls l is i =
+    let code : Code = record { version = h.version; names = ns; literals = ls; instrs = is } in
+    let same : h ≡ header_of code = same_header h _ _ _ n.counted l.counted i.counted in
     let spells : bytes ≡ spelled code =
     t.spells
-    ∙ ap (λ (x : Text). header c ++ (x ++ (literals ++ instrs))) n.spells
-    ∙ ap (λ (x : Text). header c ++ (flat_map name_field ns ++ (x ++ instrs))) l.spells
-    ∙ ap (λ (x : Text). header c ++ (flat_map name_field ns ++ (flat_map literal_field ls ++ x))) i.spells
-    ∙ ap (λ (k : Counts). header k ++ (flat_map name_field ns ++ (flat_map literal_field ls ++ flat_map instr_field is))) same in
+    ∙ ap (λ (x : Text). header_field h ++ (x ++ (literals ++ instrs))) n.spells
+    ∙ ap (λ (x : Text). header_field h ++ (flat_map name_field ns ++ (x ++ instrs))) l.spells
+    ∙ ap (λ (x : Text). header_field h ++ (flat_map name_field ns ++ (flat_map literal_field ls ++ x))) i.spells
+    ∙ ap (λ (k : Header). header_field k ++ (flat_map name_field ns ++ (flat_map literal_field ls ++ flat_map instr_field is))) same in
     record {
       is_code = record {
-        counts = subst AreCounts same t.allowed;
+        header = subst IsHeader same t.allowed;
         names = n.good;
         literals = l.good;
-        short = subst (λ (x : Text). length x ≤ most_bytes) spells short;
+        short = subst (λ (x : Text). length x ≤ MAX_BYTES) spells short;
       };
       fields = i.good;
       spells = spells;
     }
 
 -- tables are those of a code
-pub code_of_tables : (bytes : Text) (c : Counts) (names literals instrs : Text) → AreTables bytes c names literals instrs
-    → length bytes ≤ most_bytes → AreBytes bytes → (code : Code) × IsCodeFile bytes code
-code_of_tables bytes c names literals instrs t short fits =
-    let behind = bytes_right (header c) (names ++ (literals ++ instrs)) (subst AreBytes t.spells fits) in
+pub code_of_tables : (bytes : Text) (h : Header) (names literals instrs : Text) → AreTables bytes h names literals instrs
+    → length bytes ≤ MAX_BYTES → AreBytes bytes → (code : Code) × IsCodeFile bytes code
+code_of_tables bytes h names literals instrs t short fits =
+    let behind = bytes_right (header_field h) (names ++ (literals ++ instrs)) (subst AreBytes t.spells fits) in
     let last = bytes_right literals instrs (bytes_right names (literals ++ instrs) behind) in
-    let is = instrs_of c.instrs instrs t.room last in (
-      record { names = t.name_table.0; literals = t.literal_table.0; instrs = is.0 },
-      code_file_of bytes c names literals instrs t short t.name_table.0 t.name_table.1 t.literal_table.0 t.literal_table.1 is.0 is.1,
+    let is = instrs_of h.instrs instrs t.room last in (
+      record { version = h.version; names = t.name_table.0; literals = t.literal_table.0; instrs = is.0 },
+      code_file_of bytes h names literals instrs t short t.name_table.0 t.name_table.1 t.literal_table.0 t.literal_table.1 is.0 is.1,
     )
 
 -- bytes after the last table
-pub trailing_here : (bytes front rest : Text) (c : Counts) (names literals instrs : Text) → AreTables front c names literals instrs
-    → bytes ≡ front ++ rest → 0 < length rest → length bytes ≤ most_bytes → AreBytes bytes
+pub trailing_here : (bytes front rest : Text) (k : Header) (names literals instrs : Text) → AreTables front k names literals instrs
+    → bytes ≡ front ++ rest → 0 < length rest → length bytes ≤ MAX_BYTES → AreBytes bytes
     → IsFieldFault bytes (fault Trailing (length bytes - length rest))
-trailing_here bytes front [] c names literals instrs t h some short fits = absurd (omega arith)
-trailing_here bytes front (b ∷ rest) c names literals instrs t h some short fits =
+trailing_here bytes front [] k names literals instrs t h some short fits = absurd (omega arith)
+trailing_here bytes front (b ∷ rest) k names literals instrs t h some short fits =
     let len : length bytes ≡ length front + length (b ∷ rest) = ap length h ∙ length-append front (b ∷ rest) in
-    let found = code_of_tables front c names literals instrs t (omega arith) (bytes_left front (b ∷ rest) (subst AreBytes h fits)) in
+    let found = code_of_tables front k names literals instrs t (omega arith) (bytes_left front (b ∷ rest) (subst AreBytes h fits)) in
     let place : length front ≡ length bytes - length (b ∷ rest) = omega (arith, len) in
     subst (λ (n : ℕ). IsFieldFault bytes (fault Trailing n)) place (trailing front rest b found.0 found.1 h)
 

@@ -7,3 +7,5 @@ pub mod LineLemmas
 pub mod StageLemmas
 pub mod EntryLaws
 pub mod FileLaws
+pub mod EntryDecisions
+pub mod FileDecisions

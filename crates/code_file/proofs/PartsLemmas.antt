@@ -9,11 +9,12 @@ use Rattle.std.proofs.lemmas.List.Elements.{All-nil, All-cons}
 use Rattle.text_model.specs.Texts.{Text}
 use Rattle.code_model.specs.Code.{Name, Literal, Code}
 use Rattle.code_model.specs.declared.code.Instr.{Instr}
-use Rattle.code_file.specs.declared.counts.Counts.{Counts}
+use Rattle.code_file.specs.declared.header.Header.{Header}
+use Rattle.code_file.specs.declared.limits.TheConstants.{MAX_BYTES, MAX_NAMES, MAX_LITERALS, MAX_INSTRS, MAX_NAME_BYTES}
 use Rattle.code_file.specs.declared.error.CodeError.{CodeError}
 use Rattle.code_file.specs.declared.error.CodeErrorKind.TheVariants.{BadName, BadLiteral}
-use Rattle.code_file.specs.Grammar.{spelled, counts_of, most_bytes, name_field, literal_field, instr_field, IsNameByte, IsName, IsLiteral, AreCounts}
-use Rattle.code_file.specs.Fault.{fault, after, IsFirstWrong, IsNameFault, IsLiteralFault, bad_length, bad_text, counts_fault, IsTableFault, AreNumbers, in_names, in_literals, IsFirstFault, in_field}
+use Rattle.code_file.specs.Grammar.{spelled, header_of, name_field, literal_field, instr_field, IsNameByte, IsVersion, IsName, IsLiteral, IsHeader}
+use Rattle.code_file.specs.Fault.{fault, after, IsFirstWrong, IsNameFault, IsLiteralFault, bad_length, bad_text, header_fault, IsTableFault, IsHeaderField, in_names, in_literals, IsFirstFault, in_field}
 use Rattle.code_file.specs.Tables.{IsFirstBad}
 
 pub length-instrs : (is : List Instr) → length (flat_map instr_field is) ≡ 8 * length is
@@ -26,14 +27,19 @@ entries_le field some [] = omega arith
 entries_le field some (x ∷ xs) =
     omega (arith, entries_le field some xs, some x, length-append (field x) (flat_map field xs))
 
-pub counts_small : (c : Code) → length (spelled c) ≤ most_bytes → AreNumbers (counts_of c)
-counts_small c short =
+pub header_small : (c : Code) → IsVersion c.version → length (spelled c) ≤ MAX_BYTES → IsHeaderField (header_of c)
+header_small c known short =
     let n = entries_le name_field (λ x. omega arith) c.names in
     let l = entries_le literal_field (λ x. omega arith) c.literals in
     let i = length-instrs c.instrs in
     let front = length-append (flat_map name_field c.names) (flat_map literal_field c.literals ++ flat_map instr_field c.instrs) in
     let back = length-append (flat_map literal_field c.literals) (flat_map instr_field c.instrs) in
-    (omega (arith, n, front), omega (arith, l, front, back), omega (arith, i, front, back))
+    record {
+      version = known;
+      names = omega (arith, n, front);
+      literals = omega (arith, l, front, back);
+      instrs = omega (arith, i, front, back);
+    }
 
 -- ---- the first fault of a name and of a literal
 
@@ -46,7 +52,7 @@ is_name_byte_or_not b = elim (cases_lt b 0x21) [
   ]
 ]
 
-first_wrong_of : (text : Text) → All IsNameByte text ⊎ ((place : ℕ) × IsFirstWrong text place)
+pub first_wrong_of : (text : Text) → All IsNameByte text ⊎ ((place : ℕ) × IsFirstWrong text place)
 first_wrong_of [] = inl (All-nil IsNameByte)
 first_wrong_of (b ∷ text) = elim (is_name_byte_or_not b) [
   | inr wrong ↦ inr (0, record { within = omega arith; before = All-nil IsNameByte; wrong = wrong })
@@ -66,7 +72,7 @@ first_wrong_of (b ∷ text) = elim (is_name_byte_or_not b) [
 name_fault_of : (n : Name) (rest : Text) → (IsName n → ⊥) → (at : ℕ) × IsNameFault (name_field n ++ rest) (fault BadName at)
 name_fault_of n rest bad = elim (cases_lt 0 (length n.text)) [
   | inr empty ↦ (1, bad_length n.list (length n.text) (n.text ++ rest) refl (λ p. omega (arith, p.0)))
-  | inl some ↦ elim (cases_lt 255 (length n.text)) [
+  | inl some ↦ elim (cases_lt MAX_NAME_BYTES (length n.text)) [
     | inl long ↦ (1, bad_length n.list (length n.text) (n.text ++ rest) refl (λ p. omega (arith, p.1)))
     | inr short ↦ elim (first_wrong_of n.text) [
       | inl all ↦ absurd (bad (record { some = some; short = short; visible = all }))
@@ -109,7 +115,7 @@ fault_of_table IsGood field IsFault xs d place more e first here = record {
   place = refl;
 }
 
-pub bad_name_in : (c : Code) (place : ℕ) → length (spelled c) ≤ most_bytes → AreCounts (counts_of c) → IsFirstBad IsName c.names place
+pub bad_name_in : (c : Code) (place : ℕ) → length (spelled c) ≤ MAX_BYTES → IsHeader (header_of c) → IsFirstBad IsName c.names place
     → (at : ℕ) × IsFirstFault (spelled c) (fault BadName at)
 bad_name_in c place short allowed first =
     let d : Name = record { list = false; text = [] } in
@@ -117,11 +123,11 @@ bad_name_in c place short allowed first =
     let here = name_fault_of (slice_index_or c.names place d) (flat_map name_field (drop (suc place) c.names) ++ more) (first.bad d) in (
       10 + (length (flat_map name_field (take place c.names)) + here.0),
       in_field _ short
-          (in_names (counts_of c) (flat_map name_field c.names ++ more) _ allowed refl
+          (in_names (record { header = header_of c; rest = flat_map name_field c.names ++ more; allowed = allowed; spells = refl }) _
           (fault_of_table IsName name_field IsNameFault c.names d place more _ first here.1)),
     )
 
-pub bad_literal_in : (c : Code) (place : ℕ) → length (spelled c) ≤ most_bytes → AreCounts (counts_of c) → All IsName c.names
+pub bad_literal_in : (c : Code) (place : ℕ) → length (spelled c) ≤ MAX_BYTES → IsHeader (header_of c) → All IsName c.names
     → IsFirstBad IsLiteral c.literals place → (at : ℕ) × IsFirstFault (spelled c) (fault BadLiteral at)
 bad_literal_in c place short allowed names first =
     let d : Literal = record { compared = false; bytes = [] } in
@@ -140,8 +146,16 @@ bad_literal_in c place short allowed names first =
     let here = literal_fault_of bad (flat_map literal_field (drop (suc place) c.literals) ++ more) long (first.bad d) in (
       10 + length (flat_map name_field c.names) + (length (flat_map literal_field (take place c.literals)) + 3),
       in_field _ short
-          (in_literals (counts_of c) (flat_map name_field c.names) (flat_map literal_field c.literals ++ more) _ allowed refl
-          (c.names, record { good = names; counted = refl; spells = refl })
+          (in_literals
+          (record {
+            header = header_of c;
+            names = flat_map name_field c.names;
+            rest = flat_map literal_field c.literals ++ more;
+            allowed = allowed;
+            name_table = (c.names, record { good = names; counted = refl; spells = refl });
+            spells = refl;
+          })
+          _
           (fault_of_table IsLiteral literal_field IsLiteralFault c.literals d place more _ first here)),
     )
 
@@ -155,17 +169,18 @@ none_if : {E : Type 0} (b : Bool) (x : E) (y : Option E) → cond b (Some x) y �
 none_if true x y h = cc
 none_if false x y h = (refl, h)
 
-pub allowed_counts : (c : Counts) → counts_fault c ≡ None → AreCounts c
-allowed_counts c h =
-    let names = none_if (nat_lt 256 c.names) _ _ h in
-    let literals = none_if (nat_lt 1024 c.literals) _ _ names.1 in
-    let instrs = none_if (nat_lt 4096 c.instrs) _ _ literals.1 in
-    let some = none_if (c.instrs == 0) _ _ instrs.1 in
+pub allowed_header : (h : Header) → IsVersion h.version → header_fault h ≡ None → IsHeader h
+allowed_header h known none =
+    let names = none_if (nat_lt MAX_NAMES h.names) _ _ none in
+    let literals = none_if (nat_lt MAX_LITERALS h.literals) _ _ names.1 in
+    let instrs = none_if (nat_lt MAX_INSTRS h.instrs) _ _ literals.1 in
+    let some = none_if (h.instrs == 0) _ _ instrs.1 in
     record {
-      names = ltb-false 256 c.names names.0;
-      literals = ltb-false 1024 c.literals literals.0;
-      some = let not_zero = eqb-false c.instrs 0 some.0 in omega arith;
-      instrs = ltb-false 4096 c.instrs instrs.0;
+      version = known;
+      names = ltb-false MAX_NAMES h.names names.0;
+      literals = ltb-false MAX_LITERALS h.literals literals.0;
+      some = let not_zero = eqb-false h.instrs 0 some.0 in omega arith;
+      instrs = ltb-false MAX_INSTRS h.instrs instrs.0;
     }
 
 pub some_there : {X : Type 0} (o : Option X) (P : X → Type 0) → is_some o ≡ true → IfSome o P → (x : X) × P x

@@ -4,11 +4,12 @@ use Rattle.std.specs.Prelude.{◌≡◌, ℕ, ◌+◌, ◌*◌, ◌^◌, ◌<◌
 use Rattle.std.specs.List.{flat_map}
 use Rattle.text_model.specs.Texts.{Text}
 use Rattle.code_model.specs.Code.{Name, Literal, Code}
-use Rattle.code_file.specs.declared.counts.Counts.{Counts}
 use Rattle.code_file.specs.declared.error.CodeError.{CodeError}
 use Rattle.code_file.specs.declared.error.CodeErrorKind.{CodeErrorKind}
 use Rattle.code_file.specs.declared.error.CodeErrorKind.TheVariants.{TooLong, BadMagic, Truncated, TooMany, NoCode, BadName, BadKind, BadLiteral, Trailing, NoMemory}
-use Rattle.code_file.specs.Grammar.{magic, number, kind_byte, name_field, literal_field, header, most_bytes, IsNameByte, IsName, IsTextOf, IsLiteral, AreCounts, IsCodeFile}
+use Rattle.code_file.specs.declared.header.Header.{Header}
+use Rattle.code_file.specs.declared.limits.TheConstants.{MAX_BYTES, MAX_NAMES, MAX_LITERALS, MAX_INSTRS, MAX_NAME_BYTES}
+use Rattle.code_file.specs.Grammar.{magic, number, kind_byte, name_field, literal_field, header_field, IsVersion, IsNameByte, IsName, IsTextOf, IsLiteral, IsHeader, IsCodeFile}
 
 abbrev pub fault : CodeErrorKind → ℕ → CodeError
 fault kind at = record { kind = kind; at = at }
@@ -35,7 +36,7 @@ pub data IsKindFault (bytes : Text) : CodeError → Type 0 where
   bad_kind : (kind : ℕ) (rest : Text) → bytes ≡ kind ∷ rest → 1 < kind → IsKindFault bytes (fault BadKind 0)
 
 abbrev pub IsNameLength : ℕ → Type 0
-IsNameLength len = (0 < len) × (len ≤ 255)
+IsNameLength len = (0 < len) × (len ≤ MAX_NAME_BYTES)
 
 pub data IsNameFault (bytes : Text) : CodeError → Type 0 where
   in_kind : (e : CodeError) → IsKindFault bytes e → IsNameFault bytes e
@@ -56,7 +57,7 @@ pub data IsLiteralFault (bytes : Text) : CodeError → Type 0 where
   bad_text : (literal : Literal) (rest : Text) → bytes ≡ literal_field literal ++ rest → length literal.bytes < 2 ^ 16
       → (IsTextOf literal.compared literal.bytes → ⊥) → IsLiteralFault bytes (fault BadLiteral 3)
 
--- ---- the fault of a table and of the counts
+-- ---- the fault of a table
 
 -- the bytes are these entries, one after another: so many, and good ones
 pub record IsTableOf {X : Type 0} (IsGood : X → Type 0) (field : X → Text) (count : ℕ) (bytes : Text) (entries : List X) : Type 0 where
@@ -92,39 +93,80 @@ IsFaultOfNames count bytes e = IsTableFault IsName name_field IsNameFault count 
 abbrev pub IsFaultOfLiterals : ℕ → Text → CodeError → Type 0
 IsFaultOfLiterals count bytes e = IsTableFault IsLiteral literal_field IsLiteralFault count bytes e
 
--- a count over its limit, or no instruction
-abbrev pub counts_fault : Counts → Option CodeError
-counts_fault c =
-    if nat_lt 256 c.names then Some (fault TooMany 4) else
-    if nat_lt 1024 c.literals then Some (fault TooMany 6) else
-    if nat_lt 4096 c.instrs then Some (fault TooMany 8) else
-    if c.instrs == 0 then Some (fault NoCode 8) else None
+-- ---- the fault of the header
 
-abbrev pub AreNumbers : Counts → Type 0
-AreNumbers c = (c.names < 2 ^ 16) × (c.literals < 2 ^ 16) × (c.instrs < 2 ^ 16)
+-- a count over its limit, or no instruction
+abbrev pub header_fault : Header → Option CodeError
+header_fault h =
+    if nat_lt MAX_NAMES h.names then Some (fault TooMany 4) else
+    if nat_lt MAX_LITERALS h.literals then Some (fault TooMany 6) else
+    if nat_lt MAX_INSTRS h.instrs then Some (fault TooMany 8) else
+    if h.instrs == 0 then Some (fault NoCode 8) else None
+
+-- a version, and numbers of two bytes
+pub record IsHeaderField (h : Header) : Type 0 where
+  pub version : IsVersion h.version
+  pub names : h.names < 2 ^ 16
+  pub literals : h.literals < 2 ^ 16
+  pub instrs : h.instrs < 2 ^ 16
+
+-- ---- bytes whose first fields are good
+
+pub record PastMagic (bytes : Text) : Type 0 where
+  pub version : ℕ
+  pub rest : Text
+  pub known : IsVersion version
+  pub spells : bytes ≡ magic version ++ rest
+
+-- the counts are there, over their limits or not
+pub record PastCounts (bytes : Text) : Type 0 where
+  pub header : Header
+  pub rest : Text
+  pub numbers : IsHeaderField header
+  pub spells : bytes ≡ header_field header ++ rest
+
+pub record PastHeader (bytes : Text) : Type 0 where
+  pub header : Header
+  pub rest : Text
+  pub allowed : IsHeader header
+  pub spells : bytes ≡ header_field header ++ rest
+
+pub record PastNames (bytes : Text) : Type 0 where
+  pub header : Header
+  pub names : Text
+  pub rest : Text
+  pub allowed : IsHeader header
+  pub name_table : AreNames header.names names
+  pub spells : bytes ≡ header_field header ++ (names ++ rest)
+
+pub record PastLiterals (bytes : Text) : Type 0 where
+  pub header : Header
+  pub names : Text
+  pub literals : Text
+  pub rest : Text
+  pub allowed : IsHeader header
+  pub name_table : AreNames header.names names
+  pub literal_table : AreLiterals header.literals literals
+  pub spells : bytes ≡ header_field header ++ (names ++ (literals ++ rest))
 
 -- ---- the fault of a file
 
 -- the fault of the field that comes after good ones
 pub data IsFieldFault (bytes : Text) : CodeError → Type 0 where
-  bad_magic : ((rest : Text) → bytes ≡ magic ++ rest → ⊥) → IsFieldFault bytes (fault BadMagic 0)
-  no_counts : (rest : Text) → bytes ≡ magic ++ rest → length rest < 6 → IsFieldFault bytes (cut_short bytes)
-  bad_counts : (c : Counts) (rest : Text) (e : CodeError) → AreNumbers c → bytes ≡ header c ++ rest
-      → counts_fault c ≡ Some e → IsFieldFault bytes e
-  in_names : (c : Counts) (rest : Text) (e : CodeError) → AreCounts c → bytes ≡ header c ++ rest
-      → IsFaultOfNames c.names rest e → IsFieldFault bytes (after 10 e)
-  in_literals : (c : Counts) (names rest : Text) (e : CodeError) → AreCounts c → bytes ≡ header c ++ (names ++ rest)
-      → AreNames c.names names → IsFaultOfLiterals c.literals rest e → IsFieldFault bytes (after (10 + length names) e)
-  in_instrs : (c : Counts) (names literals rest : Text) → AreCounts c → bytes ≡ header c ++ (names ++ (literals ++ rest))
-      → AreNames c.names names → AreLiterals c.literals literals → length rest < 8 * c.instrs
-      → IsFieldFault bytes (cut_short bytes)
+  bad_magic : (PastMagic bytes → ⊥) → IsFieldFault bytes (fault BadMagic 0)
+  no_counts : (p : PastMagic bytes) → length p.rest < 6 → IsFieldFault bytes (cut_short bytes)
+  bad_counts : (p : PastCounts bytes) (e : CodeError) → header_fault p.header ≡ Some e → IsFieldFault bytes e
+  in_names : (p : PastHeader bytes) (e : CodeError) → IsFaultOfNames p.header.names p.rest e → IsFieldFault bytes (after 10 e)
+  in_literals : (p : PastNames bytes) (e : CodeError) → IsFaultOfLiterals p.header.literals p.rest e
+      → IsFieldFault bytes (after (10 + length p.names) e)
+  in_instrs : (p : PastLiterals bytes) → length p.rest < 8 * p.header.instrs → IsFieldFault bytes (cut_short bytes)
   trailing : (front rest : Text) (b : ℕ) (c : Code) → IsCodeFile front c → bytes ≡ front ++ b ∷ rest
       → IsFieldFault bytes (fault Trailing (length front))
 
 -- the length comes before all fields
 pub data IsFirstFault (bytes : Text) : CodeError → Type 0 where
-  too_long : most_bytes < length bytes → IsFirstFault bytes (fault TooLong most_bytes)
-  in_field : (e : CodeError) → length bytes ≤ most_bytes → IsFieldFault bytes e → IsFirstFault bytes e
+  too_long : MAX_BYTES < length bytes → IsFirstFault bytes (fault TooLong MAX_BYTES)
+  in_field : (e : CodeError) → length bytes ≤ MAX_BYTES → IsFieldFault bytes e → IsFirstFault bytes e
 
 -- the answer to bytes that are not read: their first fault, or, only where they have none, want of memory
 abbrev pub IsRefusal : Text → CodeError → Type 0

@@ -1,12 +1,14 @@
 -- The listing of a code: its counts, its tables and its instructions, a line each.
-use Rattle.std.specs.Prelude.{ℕ, ◌+◌, ◌/◌, ◌%◌, Bool, true, false, ◌&&◌, ◌==◌, not, nat_le, List, [], ◌∷◌, ◌++◌, Option, Some, None, length, codes, if◌then◌else◌}
-use Rattle.std.specs.List.{flat_map}
+use Rattle.std.specs.Prelude.{ℕ, ◌+◌, ◌/◌, ◌%◌, Bool, false, ◌&&◌, ◌==◌, not, nat_le, List, [], ◌∷◌, ◌++◌, Option, Some, None, length, codes, if◌then◌else◌}
+use Rattle.std.specs.List.{flat_map, list_all}
 use Rattle.std.specs.Fmt.{decimal, digits}
 use Rattle.text_model.specs.Texts.{Text}
 use Rattle.code_model.specs.Code.{Name, Literal, Code, is_same_instr, reading, spelling}
+use Rattle.code_model.specs.Operands.{operands, is_in_range}
 use Rattle.code_model.specs.declared.code.Instr.{Instr}
 use Rattle.code_model.specs.declared.code.Instruction.{Instruction}
 use Rattle.code_model.specs.declared.code.Instruction.TheVariants as instruction
+use Rattle.code_file.specs.Grammar.{magic}
 
 -- ---- instructions
 
@@ -34,35 +36,36 @@ instruction_text (instruction.Cut a b c) = codes "CUT r" ++ (decimal a ++ (codes
 instruction_text (instruction.Each a b d) = codes "EACH r" ++ (decimal a ++ (codes " r" ++ (decimal b ++ (codes " " ++ decimal d))))
 instruction_text (instruction.Sep b) = codes "SEP l" ++ decimal b
 instruction_text instruction.Next = codes "NEXT"
-
--- a mode is 0 or 1, and a count 1 to 9,999
-abbrev pub has_range : Instruction → Bool
-has_range (instruction.Put a c) = nat_le c 1
-has_range (instruction.Cut a b c) = nat_le 1 b && (nat_le b 9999 && nat_le c 1)
-has_range i = true
+instruction_text (instruction.Count a b) = codes "COUNT r" ++ (decimal a ++ (codes " r" ++ decimal b))
 
 -- the fields as they are
 abbrev pub fields_text : Instr → Text
 fields_text i =
     codes "? " ++ (decimal i.op ++ (codes " " ++ (decimal i.a ++ (codes " " ++ (decimal i.b ++ (codes " " ++ (decimal i.c ++ (codes " " ++ decimal i.d))))))))
 
--- an instruction whose operation is known, whose unused fields are 0, and whose mode and count are in range;
+-- an instruction whose operation is known, whose unused fields are 0, and whose operands are in range;
 -- otherwise its fields
 abbrev pub text_of : Instr → Option Instruction → Text
 text_of i None = fields_text i
-text_of i (Some known) = if (is_same_instr (spelling known) i && has_range known) then instruction_text known else fields_text i
+text_of i (Some known) = if (is_same_instr (spelling known) i && list_all is_in_range (operands known)) then instruction_text known else fields_text i
 
-abbrev pub instr_text : Instr → Text
-instr_text i = text_of i (reading i)
+abbrev pub instr_text : ℕ → Instr → Text
+instr_text version i = text_of i (reading version i)
 
 -- ---- lines
 
 abbrev pub line_feed : Text
 line_feed = 10 ∷ []
 
--- a printable ASCII byte that is neither `"` nor `\`
+abbrev pub quotation_mark : ℕ
+quotation_mark = 0x22
+
+abbrev pub backslash : ℕ
+backslash = 0x5c
+
+-- a printable ASCII byte that is neither of these
 abbrev pub is_plain : ℕ → Bool
-is_plain b = nat_le 0x20 b && (nat_le b 0x7e && (not (b == 34) && not (b == 92)))
+is_plain b = nat_le 0x20 b && (nat_le b 0x7e && (not (b == quotation_mark) && not (b == backslash)))
 
 -- a byte as it is, or as `\x` and two hexadecimal digits
 abbrev pub byte_text : ℕ → Text
@@ -83,20 +86,20 @@ literal_line place l =
     codes "literal " ++ (decimal place ++ (codes " " ++ (literal_kind l.compared
     ++ (codes " \"" ++ (flat_map byte_text l.bytes ++ (codes "\"" ++ line_feed))))))
 
-abbrev pub instr_line : ℕ → Instr → Text
-instr_line place i = decimal place ++ (codes " " ++ (instr_text i ++ line_feed))
+abbrev pub instr_line : ℕ → ℕ → Instr → Text
+instr_line version place i = decimal place ++ (codes " " ++ (instr_text version i ++ line_feed))
 
 -- a line for each entry, from a place on
 abbrev pub lines_from : {X : Type 0} → (ℕ → X → Text) → ℕ → List X → Text
 lines_from line place [] = []
 lines_from line place (x ∷ xs) = line place x ++ lines_from line (place + 1) xs
 
-abbrev pub first_line : ℕ → ℕ → ℕ → Text
-first_line names literals instrs =
-    codes "OLK1 names " ++ (decimal names ++ (codes " literals " ++ (decimal literals
-    ++ (codes " instructions " ++ (decimal instrs ++ line_feed)))))
+abbrev pub first_line : ℕ → ℕ → ℕ → ℕ → Text
+first_line version names literals instrs =
+    magic version ++ (codes " names " ++ (decimal names ++ (codes " literals " ++ (decimal literals
+    ++ (codes " instructions " ++ (decimal instrs ++ line_feed))))))
 
 unfoldable pub listing : Code → Text
 listing c =
-    first_line (length c.names) (length c.literals) (length c.instrs)
-    ++ (lines_from name_line 0 c.names ++ (lines_from literal_line 0 c.literals ++ lines_from instr_line 0 c.instrs))
+    first_line c.version (length c.names) (length c.literals) (length c.instrs)
+    ++ (lines_from name_line 0 c.names ++ (lines_from literal_line 0 c.literals ++ lines_from (instr_line c.version) 0 c.instrs))

@@ -2,17 +2,17 @@
 use Rattle.std.specs.Prelude.{◌≡◌, ℕ, ◌*◌, ◌<◌, ◌++◌, List, length, take, All}
 use Rattle.std.specs.List.{HoldsAt}
 use Rattle.text_model.specs.Texts.{Text}
-use Rattle.code_file.specs.declared.counts.Counts.{Counts}
-use Rattle.code_file.specs.Grammar.{header, AreCounts}
+use Rattle.code_file.specs.declared.header.Header.{Header}
+use Rattle.code_file.specs.Grammar.{header_field, IsHeader}
 use Rattle.code_file.specs.Fault.{AreNames, AreLiterals}
 
 -- the bytes are a header, the tables of names and of literals, and eight bytes for each instruction
-pub record AreTables (bytes : Text) (c : Counts) (names literals instrs : Text) : Type 0 where
-  pub allowed : AreCounts c
-  pub name_table : AreNames c.names names
-  pub literal_table : AreLiterals c.literals literals
-  pub room : length instrs ≡ 8 * c.instrs
-  pub spells : bytes ≡ header c ++ (names ++ (literals ++ instrs))
+pub record AreTables (bytes : Text) (h : Header) (names literals instrs : Text) : Type 0 where
+  pub allowed : IsHeader h
+  pub name_table : AreNames h.names names
+  pub literal_table : AreLiterals h.literals literals
+  pub room : length instrs ≡ 8 * h.instrs
+  pub spells : bytes ≡ header_field h ++ (names ++ (literals ++ instrs))
 
 -- the bytes begin with a good entry
 abbrev pub BeginsWith : {X : Type 0} → (X → Type 0) → (X → Text) → Text → Type 0

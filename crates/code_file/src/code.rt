@@ -1,13 +1,17 @@
 //! Code as its tables and its instructions.
 
 ghost use Rattle.std.specs.Prelude.{◌≡◌, ◌<◌, ℕ, length, slice_get, IfOk, IfErr, map, filter, string_bytes};
-ghost use Rattle.code_file.specs.Grammar.{IsCode, IsCodeFile, spelled, code_of};
+ghost use Rattle.code_model.specs.Code.{upgraded};
+ghost use Rattle.code_file.specs.Grammar.{IsVersion, IsCode, IsCodeFile, spelled, code_of};
 ghost use Rattle.code_file.specs.Fault.{fault, IsFirstFault, IsRefusal};
 ghost use Rattle.code_file.specs.Listing.{listing};
 
 use crate::build::{read_instrs, read_literals, read_names};
+use crate::copy::{copy_literals, copy_names};
 use crate::entry::{Literal, Name};
 use crate::error::{CodeError, CodeErrorKind};
+use crate::header::magic;
+use crate::limits::{MAX_BYTES, MAX_INSTRS, MAX_LITERALS, MAX_NAME_BYTES, MAX_NAMES};
 use crate::listing::{push_first_line, push_instr_lines, push_literal_lines, push_name_lines};
 use crate::parts::parts_fault;
 use crate::tables::Tables;
@@ -16,10 +20,11 @@ use code_model::Instr;
 use std::alloc::{AllocError, Global};
 use std::marker::Model;
 
-/// A code: at most 256 names, at most 1,024 literals, and 1 to 4,096 instructions, whose file has at
+/// A code of version 1 or 2: at most 256 names, at most 1,024 literals, and 1 to 4,096 instructions, whose file has at
 /// most 65,536 bytes.
 #[derive(Debug, Drop)]
 pub struct Code {
+    version: u8,
     names: Vec<Name>,
     literals: Vec<Literal>,
     instrs: Vec<Instr>,
@@ -31,9 +36,9 @@ impl Model for Code {
 
     ghost Value = { code.Code };
 
-    ghost view = { λ c. record { names = c.names.items; literals = c.literals.items; instrs = c.instrs.items } };
+    ghost view = { λ c. record { version = c.version; names = c.names.items; literals = c.literals.items; instrs = c.instrs.items } };
 
-    ghost invariant = { λ c. grammar.IsCode (record { names = c.names.items; literals = c.literals.items; instrs = c.instrs.items }) };
+    ghost invariant = { λ c. grammar.IsCode (record { version = c.version; names = c.names.items; literals = c.literals.items; instrs = c.instrs.items }) };
 }
 
 impl Code {
@@ -44,35 +49,87 @@ impl Code {
         ensures refused { IfErr result (IsRefusal bytes.now) }
     {
         let tables = Tables::find(bytes)?;
-        let names = read_names(alloc, tables.names, tables.counts.names)?;
-        let literals = read_literals(alloc, tables.literals, tables.counts.literals)?;
-        let instrs = read_instrs(alloc, tables.instrs, tables.counts.instrs)?;
+        let names = read_names(alloc, tables.names, tables.header.names)?;
+        let literals = read_literals(alloc, tables.literals, tables.header.literals)?;
+        let instrs = read_instrs(alloc, tables.instrs, tables.header.instrs)?;
         Ok(Code {
+            version: tables.header.version,
             names,
             literals,
             instrs,
         })
     }
 
-    /// The code of these parts, or the kind of the first fault of the file that they spell, in which the
+    /// The code of version 1 of these parts, or the kind of the first fault of the file that they spell, in which the
     /// length of a name is any number. Refused parts are dropped.
     pub fn from_parts(
         names: Vec<Name>,
         literals: Vec<Literal>,
         instrs: Vec<Instr>,
     ) -> Result<Code, CodeErrorKind>
-        ensures code { IfOk result (λ c. (c ≡ code_of names.items literals.items instrs.items) × IsCode c) }
+        ensures code { IfOk result (λ c. (c ≡ code_of 1 names.items literals.items instrs.items) × IsCode c) }
         ensures refused { IfErr result (λ kind. (at : ℕ)
-            × IsFirstFault (spelled (code_of names.items literals.items instrs.items)) (fault kind at)) }
+            × IsFirstFault (spelled (code_of 1 names.items literals.items instrs.items)) (fault kind at)) }
     {
-        if let Some(kind) = parts_fault(&names, &literals, &instrs) {
+        Code::of_parts(1, names, literals, instrs)
+    }
+
+    /// The code of version 2 of these parts, or the kind of the first fault, as [`Code::from_parts`].
+    pub fn from_parts2(
+        names: Vec<Name>,
+        literals: Vec<Literal>,
+        instrs: Vec<Instr>,
+    ) -> Result<Code, CodeErrorKind>
+        ensures code { IfOk result (λ c. (c ≡ code_of 2 names.items literals.items instrs.items) × IsCode c) }
+        ensures refused { IfErr result (λ kind. (at : ℕ)
+            × IsFirstFault (spelled (code_of 2 names.items literals.items instrs.items)) (fault kind at)) }
+    {
+        Code::of_parts(2, names, literals, instrs)
+    }
+
+    fn of_parts(
+        version: u8,
+        names: Vec<Name>,
+        literals: Vec<Literal>,
+        instrs: Vec<Instr>,
+    ) -> Result<Code, CodeErrorKind>
+        requires { IsVersion version }
+        ensures code { IfOk result (λ c. (c ≡ code_of version names.items literals.items instrs.items) × IsCode c) }
+        ensures refused { IfErr result (λ kind. (at : ℕ)
+            × IsFirstFault (spelled (code_of version names.items literals.items instrs.items)) (fault kind at)) }
+    {
+        if let Some(kind) = parts_fault(version, &names, &literals, &instrs) {
             return Err(kind);
         }
         Ok(Code {
+            version,
             names,
             literals,
             instrs,
         })
+    }
+
+    /// The same tables and instructions as a code of version 2.
+    pub fn upgrade(&self, alloc: Global) -> Result<Code, AllocError>
+        ensures { IfOk result (λ c. c ≡ upgraded self.now) }
+    {
+        let names = copy_names(alloc, &self.names)?;
+        let literals = copy_literals(alloc, &self.literals)?;
+        let instrs = Vec::from_slice(alloc, &self.instrs)?;
+        Ok(Code {
+            version: 2,
+            names,
+            literals,
+            instrs,
+        })
+    }
+
+    /// The version of the code, which says what its instructions are.
+    pub fn version(&self) -> u8
+        ensures value { result ≡ self.now.version }
+        ensures known { IsVersion result }
+    {
+        self.version
     }
 
     /// The table of names; an instruction names an entry by its place.
@@ -105,11 +162,12 @@ impl Code {
         &self.literals[i]
     }
 
-    /// How many instructions there are. The clause `is_code` says what holds of each code: its limits,
-    /// and what its names, literals and fields may be.
+    /// How many instructions there are. The clause `is_code` says what holds of each code: its version,
+    /// its limits, and what its names, literals and fields may be; `limits` says what the limits are.
     pub fn len(&self) -> usize
         ensures count { result ≡ length self.now.instrs }
         ensures is_code { IsCode self.now }
+        ensures limits { (MAX_BYTES ≡ 65536) × (MAX_NAMES ≡ 256) × (MAX_LITERALS ≡ 1024) × (MAX_INSTRS ≡ 4096) × (MAX_NAME_BYTES ≡ 255) }
     {
         self.instrs.len()
     }
@@ -140,7 +198,7 @@ impl Code {
         ensures { IfOk result (λ v. IsCodeFile v.items self.now) }
     {
         let mut out = Vec::new(alloc);
-        out.extend_from_slice(b"OLK1")?;
+        out.extend_from_slice(magic(self.version).as_bytes())?;
         push_number(&mut out, self.names.len() as u16)?;
         push_number(&mut out, self.literals.len() as u16)?;
         push_number(&mut out, self.len() as u16)?;
@@ -156,10 +214,17 @@ impl Code {
         ensures { IfOk result (λ text. string_bytes text ≡ listing self.now) }
     {
         let mut out = String::new(alloc);
-        push_first_line(&mut out, self.names.len(), self.literals.len(), self.len())?;
+        let version = self.version;
+        push_first_line(
+            &mut out,
+            version,
+            self.names.len(),
+            self.literals.len(),
+            self.len(),
+        )?;
         push_name_lines(&mut out, &self.names)?;
         push_literal_lines(&mut out, &self.literals)?;
-        push_instr_lines(&mut out, &self.instrs)?;
+        push_instr_lines(&mut out, version, &self.instrs)?;
         Ok(out)
     }
 }

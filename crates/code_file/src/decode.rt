@@ -1,15 +1,17 @@
 //! The instructions that fields spell.
 
 ghost use Rattle.std.specs.Prelude.{◌≡◌};
+ghost use Rattle.std.specs.List.{list_all};
 ghost use Rattle.code_model.specs.Code as code;
-ghost use Rattle.code_file.specs.Listing as listing;
+ghost use Rattle.code_model.specs.Operands as operands;
 
 use code_model::{Instr, Instruction};
 
-/// The instruction that an operation's number names, whatever the fields hold that it does not use.
+/// The instruction that an operation's number names in a version of the code file, whatever the fields
+/// hold that it does not use. `Count` is an operation of version 2 alone.
 #[tactic(auto, unfolding(code_model::specs::Code::reading))]
-pub fn instruction(instr: Instr) -> Option<Instruction>
-    ensures { result ≡ code.reading instr }
+pub fn instruction(version: u8, instr: Instr) -> Option<Instruction>
+    ensures { result ≡ code.reading version instr }
 {
     let Instr { op, a, b, c, d } = instr;
     match op {
@@ -32,6 +34,7 @@ pub fn instruction(instr: Instr) -> Option<Instruction>
         16 => Some(Instruction::Each(a, b, d)),
         17 => Some(Instruction::Sep(b)),
         18 => Some(Instruction::Next),
+        19 if version == 2 => Some(Instruction::Count(a, b)),
         19..=255 => None,
     }
 }
@@ -65,12 +68,13 @@ pub fn spelling(instruction: Instruction) -> Instr
         Instruction::Each(a, b, d) => row(16, a, b, 0, d),
         Instruction::Sep(b) => row(17, 0, b, 0, 0),
         Instruction::Next => row(18, 0, 0, 0, 0),
+        Instruction::Count(a, b) => row(19, a, b, 0, 0),
     }
 }
 
 /// Whether a mode is 0 or 1, and the count of a cut 1 to 9,999.
-pub(crate) fn has_range(instruction: Instruction) -> bool
-    ensures { result ≡ listing.has_range instruction }
+pub(crate) fn is_in_range(instruction: Instruction) -> bool
+    ensures { result ≡ list_all operands.is_in_range (operands.operands instruction) }
 {
     match instruction {
         Instruction::Put(_, c) => c <= 1,

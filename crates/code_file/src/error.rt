@@ -12,7 +12,7 @@ pub enum CodeErrorKind {
     /// The file has more than 65,536 bytes.
     #[error("TooLong")]
     TooLong,
-    /// The file does not begin with `OLK1`.
+    /// The file begins with neither `OLK1` nor `OLK2`.
     #[error("BadMagic")]
     BadMagic,
     /// The file ends before a field does.

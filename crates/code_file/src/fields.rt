@@ -7,6 +7,7 @@ ghost use Rattle.code_file.specs.Fault as fault;
 ghost use Rattle.code_file.specs.Fault.{IsFirstWrong, IsKindFault, IsNameLength, IsNameFault, IsLiteralFault};
 
 use crate::error::{CodeError, CodeErrorKind};
+use crate::limits::MAX_NAME_BYTES;
 use crate::uri_text::is_uri_text;
 use byteorder::{BigEndian, ByteOrder};
 use code_model::Instr;
@@ -76,7 +77,7 @@ fn split_kind(bytes: &[u8]) -> Result<(bool, &[u8]), CodeError>
 pub(crate) fn is_name_length(len: usize) -> bool
     ensures { IsTrue result ↔ IsNameLength len }
 {
-    1 <= len && len <= 255
+    1 <= len && len <= MAX_NAME_BYTES
 }
 
 /// What follows the name with which the bytes begin, or its fault.

@@ -1,6 +1,6 @@
 //! What holds of every file and its code. These functions do nothing: their contracts are the laws.
 
-ghost use Rattle.std.specs.Prelude.{◌≡◌, ◌<◌, ◌^◌, ℕ, [], ◌∷◌};
+ghost use Rattle.std.specs.Prelude.{◌≡◌, ◌<◌, ◌^◌, ◌⊎◌, ℕ, [], ◌∷◌, All};
 ghost use Rattle.byteorder.specs.Endian.{big_number};
 ghost use Rattle.text_model.specs.Texts.{Text};
 ghost use Rattle.code_model.specs.Code.{Code};
@@ -13,6 +13,11 @@ ghost use Rattle.code_file.specs.Fault.{fault, IsFirstFault, IsRefusal};
 pub fn number_has_two_bytes()
     ensures number { (n : ℕ) → n < 2 ^ 16 → big_number 2 (number n) ≡ n }
     ensures bytes { (high low : ℕ) → high < 2 ^ 8 → low < 2 ^ 8 → number (big_number 2 (high ∷ low ∷ [])) ≡ high ∷ low ∷ [] }
+{}
+
+/// All bytes are the file of a code, or have a first fault.
+pub fn bytes_have_a_code_or_a_fault()
+    ensures { (bytes : Text) → All (λ b. b < 2 ^ 8) bytes → ((c : Code) × IsCodeFile bytes c) ⊎ ((e : CodeError) × IsFirstFault bytes e) }
 {}
 
 /// Bytes are the file of at most one code.

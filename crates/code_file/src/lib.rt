@@ -1,14 +1,16 @@
-//! The code file `OLK1`: read exactly, written in its one spelling, and listed as text.
+//! The code files `OLK1` and `OLK2`: read exactly, written in their one spelling, and listed as text.
 #![tactic(auto)]
 
 mod build;
 mod code;
-mod counts;
+mod copy;
 mod decode;
 mod entry;
 mod error;
 mod fields;
+mod header;
 pub mod laws;
+mod limits;
 mod listing;
 mod parts;
 mod tables;
@@ -20,7 +22,7 @@ pub use code_model::Instr;
 pub use decode::{instruction, spelling};
 pub use entry::{Literal, Name};
 pub use error::{CodeError, CodeErrorKind};
-pub use tables::MAX_BYTES;
+pub use limits::{MAX_BYTES, MAX_INSTRS, MAX_LITERALS, MAX_NAME_BYTES, MAX_NAMES};
 
 #[cfg(test)]
 mod tests;

@@ -3,10 +3,12 @@
 ghost use Rattle.std.specs.Prelude.{◌≡◌, ◌++◌, OnOk, string_bytes};
 ghost use Rattle.std.specs.List.{flat_map};
 ghost use Rattle.code_model.specs.declared.code.Instruction.TheVariants as variant;
+ghost use Rattle.code_file.specs.Grammar.{IsVersion};
 ghost use Rattle.code_file.specs.Listing.{mode_word, instruction_text, byte_text, is_plain, name_line, literal_line, instr_line, instr_text, fields_text, lines_from, first_line};
 
-use crate::decode::{has_range, instruction, spelling};
+use crate::decode::{instruction, is_in_range, spelling};
 use crate::entry::{Literal, Name};
+use crate::header::magic;
 use code_model::{Instr, Instruction};
 use std::alloc::AllocError;
 
@@ -38,6 +40,7 @@ fn push_known(out: &mut String, known: Instruction) -> Result<(), AllocError>
         Instruction::Each(a, b, d) => write!(out, "EACH r{a} r{b} {d}"),
         Instruction::Sep(b) => write!(out, "SEP l{b}"),
         Instruction::Next => write!(out, "NEXT"),
+        Instruction::Count(a, b) => write!(out, "COUNT r{a} r{b}"),
     }
 }
 
@@ -62,11 +65,11 @@ fn push_fields(out: &mut String, instr: Instr) -> Result<(), AllocError>
     write!(out, "? {op} {a} {b} {c} {d}")
 }
 
-fn push_instr(out: &mut String, instr: Instr) -> Result<(), AllocError>
-    ensures { OnOk result (string_bytes out.new ≡ string_bytes out.old ++ instr_text instr) }
+fn push_instr(out: &mut String, version: u8, instr: Instr) -> Result<(), AllocError>
+    ensures { OnOk result (string_bytes out.new ≡ string_bytes out.old ++ instr_text version instr) }
 {
-    match instruction(instr) {
-        Some(known) if spelling(known) == instr && has_range(known) => push_known(out, known),
+    match instruction(version, instr) {
+        Some(known) if spelling(known) == instr && is_in_range(known) => push_known(out, known),
         _ => push_fields(out, instr),
     }
 }
@@ -133,33 +136,45 @@ pub(crate) fn push_literal_lines(out: &mut String, literals: &[Literal]) -> Resu
     Ok(())
 }
 
-fn push_instr_line(out: &mut String, place: usize, instr: Instr) -> Result<(), AllocError>
-    ensures { OnOk result (string_bytes out.new ≡ string_bytes out.old ++ instr_line place instr) }
+fn push_instr_line(
+    out: &mut String,
+    version: u8,
+    place: usize,
+    instr: Instr,
+) -> Result<(), AllocError>
+    ensures { OnOk result (string_bytes out.new ≡ string_bytes out.old ++ instr_line version place instr) }
 {
     write!(out, "{place} ")?;
-    push_instr(out, instr)?;
+    push_instr(out, version, instr)?;
     out.push('\n')
 }
 
-pub(crate) fn push_instr_lines(out: &mut String, instrs: &[Instr]) -> Result<(), AllocError>
-    ensures { OnOk result (string_bytes out.new ≡ string_bytes out.old ++ lines_from instr_line 0 instrs.now) }
+pub(crate) fn push_instr_lines(
+    out: &mut String,
+    version: u8,
+    instrs: &[Instr],
+) -> Result<(), AllocError>
+    ensures { OnOk result (string_bytes out.new ≡ string_bytes out.old ++ lines_from (instr_line version) 0 instrs.now) }
 {
     for (place, instr) in instrs.iter().enumerate() {
-        push_instr_line(out, place, *instr)?;
+        push_instr_line(out, version, place, *instr)?;
     }
     Ok(())
 }
 
 pub(crate) fn push_first_line(
     out: &mut String,
+    version: u8,
     names: usize,
     literals: usize,
     instrs: usize,
 ) -> Result<(), AllocError>
-    ensures { OnOk result (string_bytes out.new ≡ string_bytes out.old ++ first_line names literals instrs) }
+    requires { IsVersion version }
+    ensures { OnOk result (string_bytes out.new ≡ string_bytes out.old ++ first_line version names literals instrs) }
 {
+    let magic = magic(version);
     write!(
         out,
-        "OLK1 names {names} literals {literals} instructions {instrs}\n"
+        "{magic} names {names} literals {literals} instructions {instrs}\n"
     )
 }

@@ -2,15 +2,15 @@
 
 ghost use Rattle.std.specs.Prelude.{◌≡◌, ◌≤◌, ◌<◌, ◌*◌, ◌++◌, ℕ, length, take, min, IfNone, IfSome, All, IsTrue, ◌↔◌, ◌^◌};
 ghost use Rattle.std.specs.List.{flat_map};
-ghost use Rattle.code_file.specs.Grammar.{IsCode, spelled, code_of, most_bytes, name_field, literal_field, instr_field, IsName, IsLiteral, IsTextOf};
+ghost use Rattle.code_file.specs.Grammar.{IsCode, spelled, code_of, name_field, literal_field, instr_field, IsVersion, IsName, IsLiteral, IsTextOf};
 ghost use Rattle.code_file.specs.Fault.{fault, IsFirstFault};
 ghost use Rattle.code_file.specs.Tables.{IsFirstBad};
 
-use crate::counts::Counts;
 use crate::entry::{Literal, Name};
 use crate::error::CodeErrorKind;
 use crate::fields::{first_wrong, is_name_length, is_text_of};
-use crate::tables::MAX_BYTES;
+use crate::header::Header;
+use crate::limits::MAX_BYTES;
 use code_model::Instr;
 
 /// How many bytes the names take, at most `usize::MAX`.
@@ -35,9 +35,9 @@ fn literals_len(literals: &[Literal]) -> usize
     total
 }
 
-/// How many bytes the file of the parts has, at most `usize::MAX`.
+/// How many bytes the file of the parts has in either version, at most `usize::MAX`.
 fn file_len(names: &[Name], literals: &[Literal], instrs: &[Instr]) -> usize
-    ensures { result ≡ min (length (spelled (code_of names.now literals.now instrs.now))) usize.MAX }
+    ensures { (version : ℕ) → result ≡ min (length (spelled (code_of version names.now literals.now instrs.now))) usize.MAX }
 {
     let instrs_len = instrs.len().saturating_mul(8);
     names_len(names)
@@ -76,23 +76,26 @@ fn first_bad_literal(literals: &[Literal]) -> Option<usize>
 
 /// The kind of the first fault of the file that the parts spell.
 pub(crate) fn parts_fault(
+    version: u8,
     names: &[Name],
     literals: &[Literal],
     instrs: &[Instr],
 ) -> Option<CodeErrorKind>
-    ensures none { IfNone result (IsCode (code_of names.now literals.now instrs.now)) }
+    requires { IsVersion version }
+    ensures none { IfNone result (IsCode (code_of version names.now literals.now instrs.now)) }
     ensures some { IfSome result (λ kind. (at : ℕ)
-        × IsFirstFault (spelled (code_of names.now literals.now instrs.now)) (fault kind at)) }
+        × IsFirstFault (spelled (code_of version names.now literals.now instrs.now)) (fault kind at)) }
 {
     if file_len(names, literals, instrs) > MAX_BYTES {
         return Some(CodeErrorKind::TooLong);
     }
-    let counts = Counts {
+    let header = Header {
+        version,
         names: names.len() as u16,
         literals: literals.len() as u16,
         instrs: instrs.len() as u16,
     };
-    if let Some(e) = counts.fault() {
+    if let Some(e) = header.fault() {
         return Some(e.kind);
     }
     if first_bad_name(names).is_some() {

@@ -1,21 +1,19 @@
 //! The tables of a code file, found in its bytes. Nothing here takes memory.
 
-ghost use Rattle.std.specs.Prelude.{◌≡◌, ◌≤◌, ◌<◌, ◌+◌, ◌*◌, ◌^◌, ◌++◌, ℕ, List, length, MatchOption, IfOk, IfErr};
-ghost use Rattle.code_file.specs.Grammar.{magic, header, AreCounts, most_bytes};
-ghost use Rattle.code_file.specs.Fault.{AreNames, AreLiterals, IsFaultOfNames, IsFaultOfLiterals, IsFieldFault, IsFirstFault};
+ghost use Rattle.std.specs.Prelude.{◌≡◌, ◌≤◌, ◌<◌, ◌+◌, ◌*◌, ◌^◌, ◌++◌, ℕ, List, length, IfNone, IfSome, IfOk, IfErr};
+ghost use Rattle.code_file.specs.Grammar.{magic, header_field, IsVersion, IsHeader};
+ghost use Rattle.code_file.specs.Fault.{AreNames, AreLiterals, IsFaultOfNames, IsFaultOfLiterals, PastMagic, IsFieldFault, IsFirstFault};
 ghost use Rattle.code_file.specs.Tables.{AreTables};
 
-use crate::counts::Counts;
 use crate::error::{CodeError, CodeErrorKind};
 use crate::fields::{after_literal, after_name, cut_short, split_number};
+use crate::header::Header;
+use crate::limits::MAX_BYTES;
 
-/// The most bytes that a code file has.
-pub const MAX_BYTES: usize = 65_536;
-
-/// The bytes of the tables.
+/// The header of a file, and the bytes of its tables.
 #[derive(Clone, Copy)]
 pub(crate) struct Tables<'a> {
-    pub(crate) counts: Counts,
+    pub(crate) header: Header,
     pub(crate) names: &'a [u8],
     pub(crate) literals: &'a [u8],
     pub(crate) instrs: &'a [u8],
@@ -24,8 +22,8 @@ pub(crate) struct Tables<'a> {
 impl<'a> Tables<'a> {
     /// The tables of a file, or its first fault.
     pub(crate) fn find(bytes: &'a [u8]) -> Result<Tables<'a>, CodeError>
-        ensures good { IfOk result (λ t. AreTables bytes.now t.counts t.names.now t.literals.now t.instrs.now) }
-        ensures short { IfOk result (λ t. length bytes.now ≤ most_bytes) }
+        ensures good { IfOk result (λ t. AreTables bytes.now t.header t.names.now t.literals.now t.instrs.now) }
+        ensures short { IfOk result (λ t. length bytes.now ≤ MAX_BYTES) }
         ensures fault { IfErr result (IsFirstFault bytes.now) }
     {
         if bytes.len() > MAX_BYTES {
@@ -35,20 +33,20 @@ impl<'a> Tables<'a> {
     }
 
     fn split(bytes: &'a [u8]) -> Result<Tables<'a>, CodeError>
-        requires { length bytes.now ≤ most_bytes }
-        ensures good { IfOk result (λ t. AreTables bytes.now t.counts t.names.now t.literals.now t.instrs.now) }
+        requires { length bytes.now ≤ MAX_BYTES }
+        ensures good { IfOk result (λ t. AreTables bytes.now t.header t.names.now t.literals.now t.instrs.now) }
         ensures fault { IfErr result (IsFieldFault bytes.now) }
     {
-        let (counts, rest) = split_header(bytes)?;
-        let (names, rest) = match split_names(rest, counts.names) {
+        let (header, rest) = split_header(bytes)?;
+        let (names, rest) = match split_names(rest, header.names) {
             Ok(parts) => parts,
             Err(e) => return Err(e.after(10)),
         };
-        let (literals, rest) = match split_literals(rest, counts.literals) {
+        let (literals, rest) = match split_literals(rest, header.literals) {
             Ok(parts) => parts,
             Err(e) => return Err(e.after(10 + names.len())),
         };
-        let len = 8 * counts.instrs as usize;
+        let len = 8 * header.instrs as usize;
         if rest.len() < len {
             return Err(cut_short(bytes));
         }
@@ -57,7 +55,7 @@ impl<'a> Tables<'a> {
             return Err(CodeErrorKind::Trailing.at(bytes.len() - rest.len()));
         }
         Ok(Tables {
-            counts,
+            header,
             names,
             literals,
             instrs,
@@ -65,19 +63,25 @@ impl<'a> Tables<'a> {
     }
 }
 
-fn after_magic(bytes: &[u8]) -> Option<&[u8]>
-    ensures { MatchOption result ((rest : List ℕ) → bytes.now ≡ magic ++ rest → ⊥) (λ rest. bytes.now ≡ magic ++ rest.now) }
+/// The version in the first four bytes, and what follows them.
+fn split_magic(bytes: &[u8]) -> Option<(u8, &[u8])>
+    ensures none { IfNone result (PastMagic bytes.now → ⊥) }
+    ensures some { IfSome result (λ r. IsVersion r.0 × (bytes.now ≡ magic r.0 ++ r.1.now)) }
 {
-    bytes.strip_prefix(b"OLK1")
+    if let Some(rest) = bytes.strip_prefix(b"OLK1") {
+        return Some((1, rest));
+    }
+    let rest = bytes.strip_prefix(b"OLK2")?;
+    Some((2, rest))
 }
 
-/// The counts of the header, which are allowed, and what follows it.
-fn split_header(bytes: &[u8]) -> Result<(Counts, &[u8]), CodeError>
-    ensures good { IfOk result (λ r. AreCounts r.0 × (bytes.now ≡ header r.0 ++ r.1.now)) }
+/// The header, whose counts are allowed, and what follows it.
+fn split_header(bytes: &[u8]) -> Result<(Header, &[u8]), CodeError>
+    ensures good { IfOk result (λ r. IsHeader r.0 × (bytes.now ≡ header_field r.0 ++ r.1.now)) }
     ensures length { IfOk result (λ r. length bytes.now ≡ 10 + length r.1.now) }
     ensures fault { IfErr result (IsFieldFault bytes.now) }
 {
-    let Some(rest) = after_magic(bytes) else {
+    let Some((version, rest)) = split_magic(bytes) else {
         return Err(CodeErrorKind::BadMagic.at(0));
     };
     if rest.len() < 6 {
@@ -86,14 +90,15 @@ fn split_header(bytes: &[u8]) -> Result<(Counts, &[u8]), CodeError>
     let (names, rest) = split_number(rest);
     let (literals, rest) = split_number(rest);
     let (instrs, rest) = split_number(rest);
-    let counts = Counts {
+    let header = Header {
+        version,
         names,
         literals,
         instrs,
     };
-    match counts.fault() {
+    match header.fault() {
         Some(e) => Err(e),
-        None => Ok((counts, rest)),
+        None => Ok((header, rest)),
     }
 }
 

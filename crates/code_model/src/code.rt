@@ -49,4 +49,6 @@ pub enum Instruction {
     Sep(u16),
     /// Goes on with the loop's next member, or leaves the loop.
     Next,
+    /// Loads the number of members of the second register's list into the first (version 2 alone).
+    Count(u8, u16),
 }

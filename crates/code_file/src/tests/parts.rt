@@ -46,6 +46,23 @@ fn takes_odd_parts(rt: HostRuntime) -> Result<(), Fail> {
 }
 
 #[test]
+fn counts_in_version_2_alone(rt: HostRuntime) -> Result<(), Fail> {
+    let alloc = rt.alloc();
+    let count = instr(19, 1, 0, 0, 0);
+    let new = Code::from_parts2(Vec::new(alloc), Vec::new(alloc), vec![in alloc; count]?)?;
+    assert_eq!(rt;
+        new.listing(alloc)?.as_str(),
+        "OLK2 names 0 literals 0 instructions 1\n0 COUNT r1 r0\n"
+    );
+    let old = Code::from_parts(Vec::new(alloc), Vec::new(alloc), vec![in alloc; count]?)?;
+    assert_eq!(rt;
+        old.listing(alloc)?.as_str(),
+        "OLK1 names 0 literals 0 instructions 1\n0 ? 19 1 0 0 0\n"
+    );
+    Ok(())
+}
+
+#[test]
 fn refuses_parts_that_spell_no_file(rt: HostRuntime) -> Result<(), Fail> {
     let cases = [
         ("nothing", 0, "", 0, NoCode),

@@ -34,76 +34,79 @@ fn reads_and_writes_list_code(rt: HostRuntime) -> Result<(), Fail> {
 }
 
 #[test]
-fn refuses_at_the_first_fault(rt: HostRuntime) -> Result<(), Fail> {
-    let mut longer = Vec::from_slice(rt.alloc(), &LIST_CODE)?;
-    longer.push(0)?;
+fn upgrades_list_code(rt: HostRuntime) -> Result<(), Fail> {
+    let mut want = LIST_CODE;
+    want[3] = b'2';
+    let old = Code::read(rt.alloc(), &LIST_CODE)?;
+    assert_eq!(rt; old.version(), 1);
+    let new = old.upgrade(rt.alloc())?;
+    assert_eq!(rt; new.version(), 2);
+    let bytes = new.write(rt.alloc())?;
+    assert_eq!(rt; bytes.as_slice(), want.as_slice());
+    let again = Code::read(rt.alloc(), &bytes)?.upgrade(rt.alloc())?;
+    assert_eq!(rt; again.version(), 2);
+    assert_eq!(rt; again.write(rt.alloc())?.as_slice(), want.as_slice());
+    Ok(())
+}
+
+#[test]
+fn refuses_headers(rt: HostRuntime) -> Result<(), Fail> {
     let zeros = vec![in rt.alloc(); 0; 65_537]?;
-    let cases: [(&str, &[u8], CodeErrorKind, usize); 17] = [
-        ("no bytes", b"", BadMagic, 0),
-        (
-            "another magic",
-            b"OLK2\0\0\0\0\0\x01\x01\0\0\0\0\0\0\0",
-            BadMagic,
-            0,
-        ),
-        ("cut short", &LIST_CODE[..67], Truncated, 67),
-        ("one byte more", &longer, Trailing, 68),
-        ("65,537 bytes", &zeros, TooLong, 65_536),
-        ("257 names", b"OLK1\x01\x01\0\0\0\x01", TooMany, 4),
-        ("1,025 literals", b"OLK1\0\0\x04\x01\0\x01", TooMany, 6),
-        ("4,097 instructions", b"OLK1\0\0\0\0\x10\x01", TooMany, 8),
-        ("no instruction", b"OLK1\0\0\0\0\0\0", NoCode, 8),
-        (
-            "257 names, no instruction",
-            b"OLK1\x01\x01\0\0\0\0",
-            TooMany,
-            4,
-        ),
-        (
-            "257 names, a count cut short",
-            b"OLK1\x01\x01\0\0\0",
-            Truncated,
-            9,
-        ),
-        ("no names", b"OLK1\0\x01\0\0\0\x01", Truncated, 10),
-        (
-            "a bad kind, and no length",
-            b"OLK1\0\x01\0\0\0\x01\x02",
-            BadKind,
-            10,
-        ),
-        (
-            "a zero length, and no text",
-            b"OLK1\0\x01\0\0\0\x01\0\0",
-            BadName,
-            11,
-        ),
-        (
-            "half a literal's length",
-            b"OLK1\0\0\0\x01\0\x01\0\0",
-            Truncated,
-            12,
-        ),
-        (
-            "a lone percent sign",
-            b"OLK1\0\0\0\x01\0\x01\0\0\x03a%4",
-            BadLiteral,
-            13,
-        ),
-        (
-            "half a character",
-            b"OLK1\0\0\0\x01\0\x01\x01\0\x02a\xc3",
-            BadLiteral,
-            13,
-        ),
+    let cases: [(&[u8], CodeErrorKind, usize); 11] = [
+        (b"", BadMagic, 0),
+        (b"OLK0\0\0\0\0\0\x01\x01\0\0\0\0\0\0\0", BadMagic, 0),
+        (b"OLK3\0\0\0\0\0\x01\x01\0\0\0\0\0\0\0", BadMagic, 0),
+        (&zeros, TooLong, 65_536),
+        (b"OLK1\x01\x01\0\0\0\x01", TooMany, 4), // 257 names
+        (b"OLK2\x01\x01\0\0\0\x01", TooMany, 4), // in the other version too
+        (b"OLK1\0\0\x04\x01\0\x01", TooMany, 6), // 1,025 literals
+        (b"OLK1\0\0\0\0\x10\x01", TooMany, 8), // 4,097 instructions
+        (b"OLK1\0\0\0\0\0\0", NoCode, 8),
+        (b"OLK1\x01\x01\0\0\0\0", TooMany, 4), // and no instruction
+        (b"OLK1\x01\x01\0\0\0", Truncated, 9), // a count cut short
     ];
-    for (case, bytes, kind, at) in cases {
+    for (bytes, kind, at) in cases {
+        assert_eq!(rt; refusal(rt.alloc(), bytes), Some(CodeError { kind, at }));
+    }
+    Ok(())
+}
+
+#[test]
+fn refuses_entries(rt: HostRuntime) {
+    let cases: [(&[u8], CodeErrorKind, usize); 6] = [
+        (b"OLK1\0\x01\0\0\0\x01", Truncated, 10), // no names
+        (b"OLK1\0\x01\0\0\0\x01\x02", BadKind, 10), // and no length
+        (b"OLK1\0\x01\0\0\0\x01\0\0", BadName, 11), // a zero length, and no text
+        (b"OLK1\0\0\0\x01\0\x01\0\0", Truncated, 12), // half a length
+        (b"OLK1\0\0\0\x01\0\x01\0\0\x03a%4", BadLiteral, 13), // a lone percent sign
+        (b"OLK1\0\0\0\x01\0\x01\x01\0\x02a\xc3", BadLiteral, 13), // half a character
+    ];
+    for (bytes, kind, at) in cases {
+        assert_eq!(rt; refusal(rt.alloc(), bytes), Some(CodeError { kind, at }));
+    }
+}
+
+#[test]
+fn refuses_list_code_cut_short_or_lengthened(rt: HostRuntime) -> Result<(), Fail> {
+    for len in 0..68 {
+        let fault = if len < 4 {
+            (BadMagic, 0)
+        } else {
+            (Truncated, len)
+        };
+        let (kind, at) = fault;
         assert_eq!(rt;
-            refusal(rt.alloc(), bytes),
-            Some(CodeError { kind, at }),
-            "{case}"
+            refusal(rt.alloc(), &LIST_CODE[..len]),
+            Some(CodeError { kind, at })
         );
     }
+    let mut longer = Vec::from_slice(rt.alloc(), &LIST_CODE)?;
+    longer.push(0)?;
+    let trailing = CodeError {
+        kind: Trailing,
+        at: 68,
+    };
+    assert_eq!(rt; refusal(rt.alloc(), &longer), Some(trailing));
     Ok(())
 }
 

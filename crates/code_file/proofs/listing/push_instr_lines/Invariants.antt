@@ -5,4 +5,4 @@ use Rattle.code_file.proofs.listing.push_instr_lines.Given as goal
 
 abbrev pub invariant-loop-place : goal.invariant-loop-place
 invariant-loop-place l =
-    string_bytes l.out ≡ string_bytes l.initial.out ++ lines_from instr_line 0 (take l.place l.instrs)
+    string_bytes l.out ≡ string_bytes l.initial.out ++ lines_from (instr_line l.version) 0 (take l.place l.instrs)

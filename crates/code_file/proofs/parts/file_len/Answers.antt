@@ -5,7 +5,7 @@ use Rattle.code_file.proofs.PartsLemmas.{length-instrs}
 use Rattle.code_file.proofs.parts.file_len.Goals as goal
 
 pub returns : goal.returns
-returns c =
+returns c version =
     omega (
       arith,
       length-append (flat_map name_field c.args.names.now) (flat_map literal_field c.args.literals.now ++ flat_map instr_field c.args.instrs.now),

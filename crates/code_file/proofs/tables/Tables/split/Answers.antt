@@ -1,5 +1,5 @@
 use Rattle.std.proofs.Common.{◌++◌, List, ℕ, refl, sym, ap, ◌∙◌, subst, arith}
-use Rattle.code_file.specs.Grammar.{header}
+use Rattle.code_file.specs.Grammar.{header_field}
 use Rattle.code_file.specs.Fault.{IsFieldFault, in_names, in_literals, in_instrs}
 use Rattle.code_file.proofs.FileLemmas.{trailing_here, five_parts, cut_in_two, not_empty}
 use Rattle.code_file.proofs.tables.Tables.split.Goals as goal
@@ -7,42 +7,64 @@ use Rattle.code_file.proofs.tables.Tables.split.Goals as goal
 pub returns-in-Err-clause-fault : goal.returns-in-Err-clause-fault
 returns-in-Err-clause-fault c =
     subst (IsFieldFault c.args.bytes.now) (sym c.after.ensures)
-    (in_names c.in_ok-counts.counts c.in_ok-counts.rest.now c.in-Err.e
-    c.in_ok-counts.ensures.good.0 c.in_ok-counts.ensures.good.1 c.in-Err.ensures.fault)
+    (in_names
+    (record {
+      header = c.in_ok-header.header;
+      rest = c.in_ok-header.rest.now;
+      allowed = c.in_ok-header.ensures.good.0;
+      spells = c.in_ok-header.ensures.good.1;
+    })
+    c.in-Err.e c.in-Err.ensures.fault)
 
 pub returns-in-Err-split_literals-clause-fault : goal.returns-in-Err-split_literals-clause-fault
 returns-in-Err-split_literals-clause-fault c =
     subst (IsFieldFault c.args.bytes.now) (sym c.after-in-Err-split_literals.ensures)
-    (in_literals c.in_ok-counts.counts c.in-Ok.parts.0.now c.in-Ok.parts.1.now c.in-Err-split_literals.e
-    c.in_ok-counts.ensures.good.0
-    (c.in_ok-counts.ensures.good.1 ∙ ap (λ (t : List ℕ). header c.in_ok-counts.counts ++ t) c.in-Ok.ensures.good.1)
-    c.in-Ok.ensures.good.0 c.in-Err-split_literals.ensures.fault)
+    (in_literals
+    (record {
+      header = c.in_ok-header.header;
+      names = c.in-Ok.parts.0.now;
+      rest = c.in-Ok.parts.1.now;
+      allowed = c.in_ok-header.ensures.good.0;
+      name_table = c.in-Ok.ensures.good.0;
+      spells =
+          c.in_ok-header.ensures.good.1 ∙ ap (λ (t : List ℕ). header_field c.in_ok-header.header ++ t) c.in-Ok.ensures.good.1;
+    })
+    c.in-Err-split_literals.e c.in-Err-split_literals.ensures.fault)
 
 pub returns-then-rest-len-clause-fault : goal.returns-then-rest-len-clause-fault
 returns-then-rest-len-clause-fault c =
     subst (IsFieldFault c.args.bytes.now) (sym c.cut_short.ensures)
-    (in_instrs c.in_ok-counts.counts c.in-Ok.parts.0.now c.in-Ok-split_literals.parts.0.now c.in-Ok-split_literals.parts.1.now
-    c.in_ok-counts.ensures.good.0
-    (c.in_ok-counts.ensures.good.1
-    ∙ ap (λ (t : List ℕ). header c.in_ok-counts.counts ++ t)
-    (c.in-Ok.ensures.good.1 ∙ ap (λ (t : List ℕ). c.in-Ok.parts.0.now ++ t) c.in-Ok-split_literals.ensures.good.1))
-    c.in-Ok.ensures.good.0 c.in-Ok-split_literals.ensures.good.0 c.if-rest-len.true)
+    (in_instrs
+    (record {
+      header = c.in_ok-header.header;
+      names = c.in-Ok.parts.0.now;
+      literals = c.in-Ok-split_literals.parts.0.now;
+      rest = c.in-Ok-split_literals.parts.1.now;
+      allowed = c.in_ok-header.ensures.good.0;
+      name_table = c.in-Ok.ensures.good.0;
+      literal_table = c.in-Ok-split_literals.ensures.good.0;
+      spells =
+          c.in_ok-header.ensures.good.1
+          ∙ ap (λ (t : List ℕ). header_field c.in_ok-header.header ++ t)
+          (c.in-Ok.ensures.good.1 ∙ ap (λ (t : List ℕ). c.in-Ok.parts.0.now ++ t) c.in-Ok-split_literals.ensures.good.1);
+    })
+    c.if-rest-len.true)
 
 pub returns-then-not-is_empty-clause-fault : goal.returns-then-not-is_empty-clause-fault
 returns-then-not-is_empty-clause-fault c =
     subst (IsFieldFault c.args.bytes.now) (sym c.at.ensures)
-    (trailing_here c.args.bytes.now _ c.split_at.result.1.now c.in_ok-counts.counts c.in-Ok.parts.0.now
+    (trailing_here c.args.bytes.now _ c.split_at.result.1.now c.in_ok-header.header c.in-Ok.parts.0.now
     c.in-Ok-split_literals.parts.0.now c.split_at.result.0.now
     (record {
-      allowed = c.in_ok-counts.ensures.good.0;
+      allowed = c.in_ok-header.ensures.good.0;
       name_table = c.in-Ok.ensures.good.0;
       literal_table = c.in-Ok-split_literals.ensures.good.0;
       room = c.split_at.ensures.front_len;
       spells = refl;
     })
-    (five_parts c.args.bytes.now (header c.in_ok-counts.counts) c.in_ok-counts.rest.now c.in-Ok.parts.0.now c.in-Ok.parts.1.now
+    (five_parts c.args.bytes.now (header_field c.in_ok-header.header) c.in_ok-header.rest.now c.in-Ok.parts.0.now c.in-Ok.parts.1.now
     c.in-Ok-split_literals.parts.0.now c.in-Ok-split_literals.parts.1.now c.split_at.result.0.now c.split_at.result.1.now
-    c.in_ok-counts.ensures.good.1 c.in-Ok.ensures.good.1 c.in-Ok-split_literals.ensures.good.1
+    c.in_ok-header.ensures.good.1 c.in-Ok.ensures.good.1 c.in-Ok-split_literals.ensures.good.1
     (cut_in_two _ c.in-Ok-split_literals.parts.1.now _ _ c.split_at.ensures.front c.split_at.ensures.back))
     (not_empty c.split_at.result.1.now (sym c.is_empty.ensures ∙ c.if-not-is_empty.true)) c.requires
     (λ i. omega (arith, c.type_inv.bytes i)))
