@@ -2,7 +2,9 @@
 use Rattle.std.proofs.Common.{◌≡◌, ℕ, ◌<◌, ◌≤◌, ◌+◌, List, length, take, Option, Some, None, IfSome, sym, subst, refl, arith, inl, inr}
 use Rattle.std.proofs.lemmas.List.{length-take, take_all}
 use Rattle.text_model.specs.Texts.{Text}
-use Rattle.code_file.specs.Fault.{IsFirstFault, too_long, in_field}
+use Rattle.code_model.specs.Code.{Code}
+use Rattle.code_file.specs.Grammar.{IsCodeFile}
+use Rattle.code_file.specs.Fault.{IsRefusal, too_long, in_field}
 use Rattle.code_file.specs.declared.error.CodeError.{CodeError}
 use Rattle.rule_parser.specs.Grammar.{IsRuleText}
 use Rattle.rule_parser.specs.Rules.{RuleSet}
@@ -12,7 +14,9 @@ use Rattle.openlink.specs.declared.fault.Fault.{Fault}
 use Rattle.openlink.specs.declared.fault.Fault.TheVariants as fault
 use Rattle.openlink.specs.Files.{IsFront, OfFile}
 use Rattle.openlink.specs.Link.{IsMeaning, IsLinkFault}
-use Rattle.openlink.specs.Show.{IsListing, IsShowFault}
+use Rattle.openlink.specs.Faults.{IsCodeFault}
+use Rattle.openlink.specs.Show.{IsListing}
+use Rattle.openlink.specs.Upgrade.{IsUpgrade}
 
 -- what holds of the front, and so of the whole, holds of the file
 pub of_file : (limit : ℕ) (P : Text → Type 0) (told : Option Text) (front bytes : Text)
@@ -30,24 +34,24 @@ too_long_too limit all long = omega (arith, length-take (limit + 1) all, long)
 
 -- ---- code
 
+spelled_too : (code : Code) (all : Text) → IsCodeFile (take 65537 all) code → IsCodeFile all code
+spelled_too code all h =
+    let short : length (take 65537 all) ≤ 65536 = subst (λ bytes. length bytes ≤ 65536) (sym h.spells) h.is_code.short in
+    subst (λ bytes. IsCodeFile bytes code) (whole 65536 all short) h
+
 pub listed : (text all : Text) → IsListing (take 65537 all) text → IsListing all text
-listed text all h =
-    let short : length (take 65537 all) ≤ 65536 = subst (λ bytes. length bytes ≤ 65536) (sym h.file.spells) h.file.is_code.short in
-    subst (λ bytes. IsListing bytes text) (whole 65536 all short) h
+listed text all h = record { code = h.code; file = spelled_too h.code all h.file; listed = h.listed }
 
-no_code : (e : CodeError) (all : Text) → IsFirstFault (take 65537 all) e → IsFirstFault all e
-no_code _ all (too_long long) = too_long (too_long_too 65536 all long)
-no_code _ all (in_field e short h) = subst (λ bytes. IsFirstFault bytes e) (whole 65536 all short) (in_field e short h)
+pub upgraded : (new all : Text) → IsUpgrade (take 65537 all) new → IsUpgrade all new
+upgraded new all h = record { code = h.code; old = spelled_too h.code all h.old; upgraded = h.upgraded }
 
-pub not_listed : (f : Fault) (all : Text) → IsShowFault (take 65537 all) f → IsShowFault all f
-not_listed (fault.Code e) all h = no_code e all h
-not_listed fault.Memory all h = h
-not_listed fault.Usage all h = h
-not_listed (fault.Template e) all h = h
-not_listed (fault.Query e) all h = h
-not_listed (fault.Rules e) all h = h
-not_listed fault.NoLink all h = h
-not_listed (fault.Device path) all h = h
+refused : (e : CodeError) (all : Text) → IsRefusal (take 65537 all) e → IsRefusal all e
+refused _ all (inl (too_long long)) = inl (too_long (too_long_too 65536 all long))
+refused _ all (inl (in_field e short h)) = subst (λ bytes. IsRefusal bytes e) (whole 65536 all short) (inl (in_field e short h))
+refused e all (inr (same, (code, h))) = inr (same, (code, spelled_too code all h))
+
+pub no_code : (f : Fault) (all : Text) → IsCodeFault (take 65537 all) f → IsCodeFault all f
+no_code f all (e, h, same) = (e, refused e all h, same)
 
 -- ---- rules
 

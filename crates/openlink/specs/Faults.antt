@@ -6,6 +6,7 @@ use Rattle.text_model.specs.Texts.{Text}
 use Rattle.uri_grammar.specs.declared.error.TemplateError.{TemplateError}
 use Rattle.uri_grammar.specs.declared.error.TemplateErrorKind.{TemplateErrorKind}
 use Rattle.uri_grammar.specs.declared.error.TemplateErrorKind.TheVariants as template
+use Rattle.code_file.specs.Fault.{IsRefusal}
 use Rattle.code_file.specs.declared.error.CodeError.{CodeError}
 use Rattle.code_file.specs.declared.error.CodeErrorKind.{CodeErrorKind}
 use Rattle.code_file.specs.declared.error.CodeErrorKind.TheVariants as code
@@ -60,6 +61,10 @@ status_of (fault.Rules e) = 3
 status_of (fault.Code e) = 3
 status_of Memory = 4
 status_of (Device path) = 4
+
+-- the bytes are no code file, and this is their first fault; want of memory can come only where they are one
+abbrev pub IsCodeFault : Text → Fault → Type 0
+IsCodeFault bytes fault = (e : CodeError) × IsRefusal bytes e × (fault ≡ code_fault e)
 
 -- the query is refused; want of memory can come at any growth
 abbrev pub IsQueryFault : Text → Fault → Type 0

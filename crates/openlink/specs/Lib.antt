@@ -4,4 +4,5 @@ pub mod Files
 pub mod Expand
 pub mod Show
 pub mod Link
+pub mod Upgrade
 pub mod Commands

@@ -8,10 +8,12 @@ mod fault;
 mod files;
 mod line;
 mod link;
+mod placing;
 mod request;
 mod show;
 #[cfg(test)]
 mod tests;
+mod upgrade;
 mod words;
 
 use crate::arguments::{arguments, words};

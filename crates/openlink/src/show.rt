@@ -2,9 +2,9 @@
 
 ghost use Rattle.std.specs.Prelude.{◌⊎◌, IfOk, IfErr, string_bytes};
 ghost use Rattle.text_model.specs.Texts.{texts_of};
-ghost use Rattle.openlink.specs.Faults.{IsFileFault};
+ghost use Rattle.openlink.specs.Faults.{IsFileFault, IsCodeFault};
 ghost use Rattle.openlink.specs.Files.{OfFile};
-ghost use Rattle.openlink.specs.Show.{IsListing, IsShowFault, IsShowLine, FailsToShow};
+ghost use Rattle.openlink.specs.Show.{IsListing, IsShowLine, FailsToShow};
 
 use crate::fault::Fault;
 use crate::files::{open_file, read_front};
@@ -16,7 +16,7 @@ use std::rt::Files;
 /// The listing of the code that the bytes spell.
 pub fn show_code<'a>(alloc: Global, bytes: &[u8]) -> Result<String, Fault<'a>>
     ensures ok { IfOk result (λ text. IsListing bytes.now (string_bytes text)) }
-    ensures err { IfErr result (IsShowFault bytes.now) }
+    ensures err { IfErr result (IsCodeFault bytes.now) }
 {
     Ok(Code::read(alloc, bytes)?.listing(alloc)?)
 }
@@ -28,7 +28,7 @@ pub fn show_file<'a, F: Read + Drop>(
     path: &'a str,
 ) -> Result<String, Fault<'a>>
     ensures ok { IfOk result (λ text. OfFile (F.remaining file) (λ bytes. IsListing bytes (string_bytes text))) }
-    ensures err { IfErr result (λ fault. IsFileFault path.now fault ⊎ OfFile (F.remaining file) (λ bytes. IsShowFault bytes fault)) }
+    ensures err { IfErr result (λ fault. IsFileFault path.now fault ⊎ OfFile (F.remaining file) (λ bytes. IsCodeFault bytes fault)) }
 {
     let bytes = read_front(alloc, file, path, MAX_BYTES)?;
     show_code(alloc, &bytes)

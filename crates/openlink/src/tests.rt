@@ -3,6 +3,7 @@ mod files;
 mod link;
 mod output;
 mod show;
+mod upgrade;
 
 use crate::commands::command;
 use std::alloc::AllocError;
@@ -82,6 +83,7 @@ fn answers_other_words_as_usage(rt: HostRuntime) -> Result<(), Fail> {
             ends(&["expand", "{x}", "x=1", "y"], 2, usage),
             ends(&["expand", "--list", "a", "b"], 2, usage),
             ends(&["expand", "--list", "x=1"], 2, usage),
+            ends(&["upgrade", "a.olk"], 2, usage),
             ends(&["unfold", "{x}", "x=1"], 2, usage),
         ],
     )

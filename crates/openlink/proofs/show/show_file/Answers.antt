@@ -1,7 +1,8 @@
 use Rattle.std.proofs.Common.{string_bytes, inr}
 use Rattle.std.proofs.lemmas.Result.{IfOk-weaker, IfErr-weaker}
-use Rattle.openlink.specs.Show.{IsListing, IsShowFault}
-use Rattle.openlink.proofs.FrontLemmas.{of_file, listed, not_listed}
+use Rattle.openlink.specs.Show.{IsListing}
+use Rattle.openlink.specs.Faults.{IsCodeFault}
+use Rattle.openlink.proofs.FrontLemmas.{of_file, listed, no_code}
 use Rattle.openlink.proofs.show.show_file.Goals as goal
 
 pub returns-clause-ok : goal.returns-clause-ok
@@ -11,5 +12,5 @@ returns-clause-ok g c =
 
 pub returns-clause-err : goal.returns-clause-err
 returns-clause-err g c =
-    IfErr-weaker c.show_code.result _ _ (λ fault h. inr (of_file 65536 (λ bytes. IsShowFault bytes fault) _ _ _ (not_listed fault)
+    IfErr-weaker c.show_code.result _ _ (λ fault h. inr (of_file 65536 (λ bytes. IsCodeFault bytes fault) _ _ _ (no_code fault)
     c.in_ok-bytes.ensures.ok c.deref.ensures.value h)) c.show_code.ensures.err
