@@ -27,9 +27,16 @@ not_named name (word ∷ words) e = by_test (bytes_eq word name) refl e
     by_test false is e = is
 
 pub no_name : (words : List Text) → None ≡ behind_name (codes "expand") words → None ≡ behind_name (codes "link") words
-    → None ≡ behind_name (codes "show") words → Fails words Usage
-no_name words e f g =
-    no_command words (rw (not_named (codes "expand") words e, not_named (codes "link") words f, not_named (codes "show") words g) refl)
+    → None ≡ behind_name (codes "show") words → None ≡ behind_name (codes "upgrade") words → Fails words Usage
+no_name words expand link show upgrade =
+    no_command words
+    (rw (
+      not_named (codes "expand") words expand,
+      not_named (codes "link") words link,
+      not_named (codes "show") words show,
+      not_named (codes "upgrade") words upgrade,
+    )
+    refl)
 
 -- what holds of a name and the words behind it holds of the words
 pub prints_behind : (name : Text) (words rest : List Text) (text : Text) → Some rest ≡ behind_name name words → Prints (name ∷ rest) text → Prints words text

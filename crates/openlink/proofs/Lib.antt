@@ -1,3 +1,5 @@
 pub mod WordLemmas
 pub mod CommandLemmas
 pub mod LinkLemmas
+pub mod FaultLemmas
+pub mod FrontLemmas

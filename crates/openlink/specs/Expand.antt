@@ -1,5 +1,5 @@
 -- What `expand` prints, from its words to the bytes, and why it prints nothing.
-use Rattle.std.specs.Prelude.{◌≡◌, List, [], ◌∷◌, ◌++◌, ◌⊎◌, Some, None}
+use Rattle.std.specs.Prelude.{◌≡◌, true, List, [], ◌∷◌, ◌++◌, ◌⊎◌, Some, None}
 use Rattle.text_model.specs.Texts.{Text}
 use Rattle.environment_model.specs.Environment.{look_up}
 use Rattle.uri_grammar.specs.declared.parts.Part.{Part}
@@ -8,7 +8,7 @@ use Rattle.uri_template.specs.Expansion.{expansion}
 use Rattle.kev_read.specs.Pairs.{pairs_of}
 use Rattle.kev_read.specs.Refusal.{refusal}
 use Rattle.kev_read.specs.Filling.{filled}
-use Rattle.openlink.specs.Words.{AreExpandWords, NoExpandWords}
+use Rattle.openlink.specs.Words.{AreExpandWords, NoExpandWords, begins_with_option}
 use Rattle.openlink.specs.declared.fault.Fault.{Fault}
 use Rattle.openlink.specs.declared.fault.Fault.TheVariants.{Usage, Template, Query, Memory}
 
@@ -44,7 +44,7 @@ pub record IsExpandRefusal (words : List Text) (fault : Fault) : Type 0 where
   pub told_apart : AreExpandWords words lists template query
   pub refused : IsExpandFault template query fault
 
--- why the words behind `expand` print nothing; want of memory can come at any growth
+-- why the words behind `expand` print nothing; the names of the options take memory before all words are told apart
 abbrev pub FailsToExpand : List Text → Fault → Type 0
 FailsToExpand words fault =
-    (fault ≡ Memory) ⊎ ((fault ≡ Usage) × NoExpandWords words) ⊎ IsExpandRefusal words fault
+    ((fault ≡ Memory) × (begins_with_option words ≡ true)) ⊎ ((fault ≡ Usage) × NoExpandWords words) ⊎ IsExpandRefusal words fault

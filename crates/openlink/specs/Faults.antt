@@ -1,9 +1,12 @@
 -- Faults: what a crate's error becomes, and the exit statuses.
 use Rattle.std.specs.Prelude.{◌≡◌, ℕ, Some}
+use Rattle.std.specs.declared.io.ErrorKind.{ErrorKind}
+use Rattle.std.specs.declared.io.ErrorKind.TheVariants.{OutOfMemory}
 use Rattle.text_model.specs.Texts.{Text}
 use Rattle.uri_grammar.specs.declared.error.TemplateError.{TemplateError}
 use Rattle.uri_grammar.specs.declared.error.TemplateErrorKind.{TemplateErrorKind}
 use Rattle.uri_grammar.specs.declared.error.TemplateErrorKind.TheVariants as template
+use Rattle.code_file.specs.Fault.{IsRefusal}
 use Rattle.code_file.specs.declared.error.CodeError.{CodeError}
 use Rattle.code_file.specs.declared.error.CodeErrorKind.{CodeErrorKind}
 use Rattle.code_file.specs.declared.error.CodeErrorKind.TheVariants as code
@@ -43,6 +46,11 @@ abbrev pub query_fault : KevError → Fault
 query_fault query.NoMemory = Memory
 query_fault e = Query e
 
+-- what the system refused is want of memory where the system says so, and otherwise this fault
+abbrev pub system_fault : ErrorKind → Fault → Fault
+system_fault OutOfMemory other = Memory
+system_fault kind other = other
+
 -- the exit status of the program
 abbrev pub status_of : Fault → ℕ
 status_of fault.NoLink = 1
@@ -53,6 +61,10 @@ status_of (fault.Rules e) = 3
 status_of (fault.Code e) = 3
 status_of Memory = 4
 status_of (Device path) = 4
+
+-- the bytes are no code file, and this is their first fault; want of memory can come only where they are one
+abbrev pub IsCodeFault : Text → Fault → Type 0
+IsCodeFault bytes fault = (e : CodeError) × IsRefusal bytes e × (fault ≡ code_fault e)
 
 -- the query is refused; want of memory can come at any growth
 abbrev pub IsQueryFault : Text → Fault → Type 0

@@ -1,6 +1,8 @@
 pub mod Words
 pub mod Faults
+pub mod Files
 pub mod Expand
 pub mod Show
 pub mod Link
+pub mod Upgrade
 pub mod Commands

@@ -3,12 +3,10 @@ use Rattle.std.specs.Prelude.{◌≡◌, ◌≢◌, ◌⊎◌, List, [], ◌∷�
 use Rattle.text_model.specs.Texts.{Text}
 use Rattle.code_model.specs.Code.{Code}
 use Rattle.code_file.specs.Grammar.{IsCodeFile}
-use Rattle.code_file.specs.Fault.{IsFirstFault}
 use Rattle.code_file.specs.Listing.{listing}
 use Rattle.openlink.specs.declared.fault.Fault.{Fault}
-use Rattle.openlink.specs.declared.fault.Fault.TheVariants as fault
 use Rattle.openlink.specs.declared.fault.Fault.TheVariants.{Usage}
-use Rattle.openlink.specs.Faults.{IsFileFault}
+use Rattle.openlink.specs.Faults.{IsFileFault, IsCodeFault}
 
 -- the listing of the code that the bytes spell
 pub record IsListing (bytes text : Text) : Type 0 where
@@ -23,17 +21,11 @@ pub record IsShowLine (words : List Text) (text : Text) : Type 0 where
   pub one_word : words ≡ path ∷ []
   pub listing : IsListing bytes text
 
--- the first fault of the bytes; want of memory can come at any growth
-abbrev pub IsShowFault : Text → Fault → Type 0
-IsShowFault bytes (fault.Code e) = IsFirstFault bytes e
-IsShowFault bytes fault.Memory = Unit {0}
-IsShowFault bytes other = ⊥
-
 -- the word behind `show` is a path, and the file there is not read, or is no code
 pub record IsShowRefusal (words : List Text) (fault : Fault) : Type 0 where
   pub path : Text
   pub one_word : words ≡ path ∷ []
-  pub refused : IsFileFault path fault ⊎ ((bytes : Text) × IsShowFault bytes fault)
+  pub refused : IsFileFault path fault ⊎ ((bytes : Text) × IsCodeFault bytes fault)
 
 -- why the words behind `show` print nothing
 abbrev pub FailsToShow : List Text → Fault → Type 0

@@ -1,16 +1,18 @@
 //! The commands: which words run what, and what is printed.
 
-ghost use Rattle.std.specs.Prelude.{◌≡◌, ◌≢◌, ◌⊎◌, codes, string_bytes, IfOk, IfErr, OnOk};
+ghost use Rattle.std.specs.Prelude.{◌≡◌, ◌≢◌, ◌⊎◌, string_bytes, IfOk, IfErr, OnOk};
 ghost use Rattle.std.specs.Io.KnownBytes.{Appends};
 ghost use Rattle.text_model.specs.Texts.{Text, texts_of};
 ghost use Rattle.openlink.specs.Commands.{Prints, Fails, OutputFails};
-ghost use Rattle.openlink.specs.Faults.{status_of, IsDevice};
+ghost use Rattle.openlink.specs.Faults.{status_of};
 ghost use Rattle.openlink.specs.declared.fault.Fault.{Fault};
 
 use crate::expand::expand_line;
-use crate::fault::{Fault, NO_LINK};
+use crate::fault::Fault;
 use crate::link::link_line;
+use crate::placing::write_whole;
 use crate::show::show_lines;
+use crate::upgrade::upgrade_line;
 use crate::words::behind;
 use std::io::Write;
 use std::rt::Files;
@@ -32,12 +34,19 @@ pub fn command<R: Files + AllocGlobal, O: Write, E: Write>(
 {
     match run(rt, words, output) {
         Ok(()) => 0,
-        Err(Fault::NoLink) => NO_LINK,
-        Err(fault) => {
-            let _ = writeln!(errors, "openlink: {fault}");
-            fault.status()
-        }
+        Err(fault) => report(fault, errors),
     }
+}
+
+/// Prints the line of the fault on `errors`, none where there is no link, and gives the exit status.
+pub fn report<E: Write>(fault: Fault, errors: &mut E) -> u8
+    ensures status { result ≡ status_of fault.entry }
+    ensures no_line { result ≡ 1 → errors.new ≡ errors.old }
+{
+    if fault != Fault::NoLink {
+        let _ = writeln!(errors, "openlink: {fault}");
+    }
+    fault.status()
 }
 
 /// Runs the command that the words name, and prints its result on `output`.
@@ -52,7 +61,7 @@ fn run<'a, R: Files + AllocGlobal, O: Write>(
         ⊎ OutputFails (texts_of words.now) fault) }
 {
     let text = answer(rt, words)?;
-    print(output, text.as_str())
+    write_whole(output, "-", text.as_bytes())
 }
 
 /// What the command that the words name prints.
@@ -69,15 +78,8 @@ fn answer<'a, R: Files + AllocGlobal>(rt: &R, words: &[&'a str]) -> Result<Strin
     if let Some(rest) = behind(words, "show") {
         return show_lines(rt, rest);
     }
-    Err(Fault::Usage)
-}
-
-fn print<'a, O: Write>(output: &mut O, text: &str) -> Result<(), Fault<'a>>
-    ensures printed { OnOk result (Appends (O.contents output.old) (O.contents output.new) text.now) }
-    ensures failed { IfErr result (λ fault. IsDevice fault (codes "-")) }
-{
-    match output.write_all(text.as_bytes()) {
-        Ok(()) => Ok(()),
-        Err(_) => Err(Fault::Device("-")),
+    if let Some(rest) = behind(words, "upgrade") {
+        return upgrade_line(rt, rest);
     }
+    Err(Fault::Usage)
 }

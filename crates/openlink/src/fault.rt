@@ -1,12 +1,15 @@
 //! Why a command ends without its result, how that is printed, and with which exit status.
 
 ghost use Rattle.std.specs.Prelude.{◌≡◌};
-ghost use Rattle.openlink.specs.Faults.{status_of};
+ghost use Rattle.std.specs.IoError.{error_kind};
+ghost use Rattle.openlink.specs.Faults.{status_of, system_fault};
 
 use code_file::{CodeError, CodeErrorKind};
 use kev_read::KevError;
 use rule_parser::{RuleError, RuleErrorKind};
 use std::alloc::{AllocError, AllocFailed};
+use std::io;
+use std::io::ErrorKind;
 use target_vars::VarsError;
 use thiserror::Error;
 use uri_template::{TemplateError, TemplateErrorKind};
@@ -52,7 +55,17 @@ pub enum Fault<'a> {
     Device(&'a str),
 }
 
-impl Fault<'_> {
+impl<'a> Fault<'a> {
+    /// Want of memory where that is why the system refused, and otherwise the fault that is given.
+    pub fn of(error: &io::Error, other: Fault<'a>) -> Fault<'a>
+        ensures { result ≡ system_fault (error_kind error.now) other.entry }
+    {
+        match error.kind() {
+            ErrorKind::OutOfMemory => Fault::Memory,
+            _ => other,
+        }
+    }
+
     /// The exit status of the program.
     pub fn status(self) -> u8
         ensures { result ≡ status_of self.entry }

@@ -3,49 +3,49 @@
 #[cfg(test)]
 mod tests;
 
-ghost use Rattle.std.specs.Prelude.{◌≡◌, ◌+◌, ◌<◌, ◌^◌, take, IfOk, IfErr, IfSome};
-ghost use Rattle.openlink.specs.Faults.{IsFileFault};
+ghost use Rattle.std.specs.Prelude.{◌≡◌, ◌+◌, ◌<◌, ◌^◌, IfOk, IfErr};
+ghost use Rattle.std.specs.IoError.{error_kind};
+ghost use Rattle.openlink.specs.Faults.{system_fault, IsFileFault};
+ghost use Rattle.openlink.specs.Files.{IsFront};
 
 use crate::fault::Fault;
 use std::alloc::Global;
-use std::io::{ErrorKind, Read};
+use std::io::Read;
 use std::rt::Files;
 use std::{fs, io};
 
-/// The bytes of the file at the path, or where it has more, as many as the limit and one more: enough
-/// to see that it is too long.
-pub fn read_file<'a, R: Files + AllocGlobal>(
-    rt: &R,
-    path: &'a str,
-    limit: usize,
-) -> Result<Vec<u8>, Fault<'a>>
-    requires { limit + 1 < 2 ^ 63 }
+/// The file at the path, to be read.
+pub fn open_file<'a, R: Files>(rt: &R, path: &'a str) -> Result<R::File, Fault<'a>>
     ensures failed { IfErr result (IsFileFault path.now) }
 {
     match fs::open(rt, path) {
-        Ok(file) => match read_front(rt.alloc(), file, limit) {
-            Ok(bytes) => Ok(bytes),
-            Err(e) => Err(file_fault(&e, path)),
-        },
+        Ok(file) => Ok(file),
         Err(e) => Err(file_fault(&e, path)),
     }
 }
 
-// The bytes up to the limit, and one more where there is one.
-fn read_front<F: Read + Drop>(alloc: Global, file: F, limit: usize) -> io::Result<Vec<u8>>
+/// The bytes of the file at the path, or where it has more, as many as the limit and one more: enough to
+/// see that it is too long.
+pub fn read_front<'a, F: Read + Drop>(
+    alloc: Global,
+    file: F,
+    path: &'a str,
+    limit: usize,
+) -> Result<Vec<u8>, Fault<'a>>
     requires { limit + 1 < 2 ^ 63 }
-    ensures { IfOk result (λ bytes. IfSome (F.remaining file) (λ all. bytes.items ≡ take (limit + 1) all)) }
+    ensures ok { IfOk result (λ bytes. IsFront limit (F.remaining file) bytes.items) }
+    ensures err { IfErr result (IsFileFault path.now) }
 {
     let mut bytes = Vec::new(alloc);
-    file.take(limit as u64 + 1).read_to_end(&mut bytes)?;
-    Ok(bytes)
+    match file.take(limit as u64 + 1).read_to_end(&mut bytes) {
+        Ok(_) => Ok(bytes),
+        Err(e) => Err(file_fault(&e, path)),
+    }
 }
 
-fn file_fault<'a>(error: &io::Error, path: &'a str) -> Fault<'a>
-    ensures { IsFileFault path.now result }
+/// The fault of the file at the path, which the system refused.
+pub fn file_fault<'a>(error: &io::Error, path: &'a str) -> Fault<'a>
+    ensures { result ≡ system_fault (error_kind error.now) (Fault.Device path.entry) }
 {
-    match error.kind() {
-        ErrorKind::OutOfMemory => Fault::Memory,
-        _ => Fault::Device(path),
-    }
+    Fault::of(error, Fault::Device(path))
 }

@@ -1,16 +1,19 @@
 //! `link RULES QUERY`: the link that a rule file gives for a request.
 
-ghost use Rattle.std.specs.Prelude.{Some, IfOk, IfErr, string_bytes};
+ghost use Rattle.std.specs.Prelude.{◌⊎◌, Some, IfOk, IfErr, string_bytes};
 ghost use Rattle.text_model.specs.Texts.{texts_of};
+ghost use Rattle.openlink.specs.Faults.{IsFileFault};
+ghost use Rattle.openlink.specs.Files.{OfFile};
 ghost use Rattle.openlink.specs.Link.{IsMeaning, IsLinkFault, IsLinkLine, FailsToLink};
 
 use crate::fault::Fault;
-use crate::files::read_file;
+use crate::files::{open_file, read_front};
 use crate::line::ended;
 use crate::request::environment;
 use crate::words::two_words;
 use rule_parser::{MAX_BYTES, Rules, meaning};
 use std::alloc::Global;
+use std::io::Read;
 use std::rt::Files;
 
 /// The link of the first rule whose guards all hold, for the request of the query.
@@ -27,6 +30,20 @@ pub fn link_query<'a>(alloc: Global, rules: &[u8], query: &str) -> Result<String
     }
 }
 
+/// The link that the rules of the file give for the request, whose path is given to name it.
+pub fn link_file<'a, F: Read + Drop>(
+    alloc: Global,
+    file: F,
+    path: &'a str,
+    query: &str,
+) -> Result<String, Fault<'a>>
+    ensures ok { IfOk result (λ link. OfFile (F.remaining file) (λ bytes. IsMeaning bytes query.now (Some (string_bytes link)))) }
+    ensures err { IfErr result (λ fault. IsFileFault path.now fault ⊎ OfFile (F.remaining file) (λ bytes. IsLinkFault bytes query.now fault)) }
+{
+    let bytes = read_front(alloc, file, path, MAX_BYTES)?;
+    link_query(alloc, &bytes, query)
+}
+
 /// The line that the words behind `link` print.
 pub fn link_line<'a, R: Files + AllocGlobal>(rt: &R, words: &[&'a str]) -> Result<String, Fault<'a>>
     ensures ok { IfOk result (λ line. IsLinkLine (texts_of words.now) (string_bytes line)) }
@@ -35,6 +52,6 @@ pub fn link_line<'a, R: Files + AllocGlobal>(rt: &R, words: &[&'a str]) -> Resul
     let Some((path, query)) = two_words(words) else {
         return Err(Fault::Usage);
     };
-    let bytes = read_file(rt, path, MAX_BYTES)?;
-    Ok(ended(link_query(rt.alloc(), &bytes, query)?)?)
+    let file = open_file(rt, path)?;
+    Ok(ended(link_file(rt.alloc(), file, path, query)?)?)
 }

@@ -1,42 +1,38 @@
 //! `openlink`: link resolving for OpenURL requests, from the command line.
 #![tactic(auto)]
 
+mod arguments;
 mod commands;
 mod expand;
 mod fault;
 mod files;
 mod line;
 mod link;
+mod placing;
 mod request;
 mod show;
 #[cfg(test)]
 mod tests;
+mod upgrade;
 mod words;
 
-use crate::commands::command;
-use crate::fault::FAILED;
-use std::alloc::AllocError;
-use std::env;
+use crate::arguments::{arguments, words};
+use crate::commands::{command, report};
+use crate::fault::Fault;
+use std::io::Write;
 use std::process::ExitCode;
 
-/// Runs the words after the program's name. Arguments that are no text, or that the system does not
-/// give, are wrong arguments.
-fn run(rt: &HostRuntime) -> Result<u8, AllocError> {
-    let (mut output, mut errors) = (rt.stdout(), rt.stderr());
-    let Ok(arguments) = env::args(rt) else {
-        return Ok(command(rt, &[], &mut output, &mut errors));
-    };
-    let arguments: Vec<String> = arguments.skip(1).collect(rt.alloc())?;
-    let words: Vec<&str> = arguments
-        .iter()
-        .map(|word| word.as_str())
-        .collect(rt.alloc())?;
-    Ok(command(rt, &words, &mut output, &mut errors))
+/// Runs the words after the program's name.
+fn run<E: Write>(rt: &HostRuntime, errors: &mut E) -> Result<u8, Fault<'static>> {
+    let arguments = arguments(rt)?;
+    let words = words(rt.alloc(), &arguments)?;
+    Ok(command(rt, &words, &mut rt.stdout(), errors))
 }
 
 fn main(rt: HostRuntime) -> ExitCode {
-    match run(&rt) {
+    let mut errors = rt.stderr();
+    match run(&rt, &mut errors) {
         Ok(status) => ExitCode::from(status),
-        Err(_) => ExitCode::from(FAILED),
+        Err(fault) => ExitCode::from(report(fault, &mut errors)),
     }
 }

@@ -1,21 +1,37 @@
 //! `show CODE`: the listing of a code file.
 
-ghost use Rattle.std.specs.Prelude.{IfOk, IfErr, string_bytes};
+ghost use Rattle.std.specs.Prelude.{◌⊎◌, IfOk, IfErr, string_bytes};
 ghost use Rattle.text_model.specs.Texts.{texts_of};
-ghost use Rattle.openlink.specs.Show.{IsListing, IsShowFault, IsShowLine, FailsToShow};
+ghost use Rattle.openlink.specs.Faults.{IsFileFault, IsCodeFault};
+ghost use Rattle.openlink.specs.Files.{OfFile};
+ghost use Rattle.openlink.specs.Show.{IsListing, IsShowLine, FailsToShow};
 
 use crate::fault::Fault;
-use crate::files::read_file;
+use crate::files::{open_file, read_front};
 use code_file::{Code, MAX_BYTES};
 use std::alloc::Global;
+use std::io::Read;
 use std::rt::Files;
 
-/// The listing of the code that the file's bytes spell.
+/// The listing of the code that the bytes spell.
 pub fn show_code<'a>(alloc: Global, bytes: &[u8]) -> Result<String, Fault<'a>>
     ensures ok { IfOk result (λ text. IsListing bytes.now (string_bytes text)) }
-    ensures err { IfErr result (IsShowFault bytes.now) }
+    ensures err { IfErr result (IsCodeFault bytes.now) }
 {
     Ok(Code::read(alloc, bytes)?.listing(alloc)?)
+}
+
+/// The listing of the code that the file spells, whose path is given to name it.
+pub fn show_file<'a, F: Read + Drop>(
+    alloc: Global,
+    file: F,
+    path: &'a str,
+) -> Result<String, Fault<'a>>
+    ensures ok { IfOk result (λ text. OfFile (F.remaining file) (λ bytes. IsListing bytes (string_bytes text))) }
+    ensures err { IfErr result (λ fault. IsFileFault path.now fault ⊎ OfFile (F.remaining file) (λ bytes. IsCodeFault bytes fault)) }
+{
+    let bytes = read_front(alloc, file, path, MAX_BYTES)?;
+    show_code(alloc, &bytes)
 }
 
 /// The lines that the words behind `show` print.
@@ -29,6 +45,6 @@ pub fn show_lines<'a, R: Files + AllocGlobal>(
     if words.len() != 1 {
         return Err(Fault::Usage);
     }
-    let bytes = read_file(rt, words[0], MAX_BYTES)?;
-    show_code(rt.alloc(), &bytes)
+    let file = open_file(rt, words[0])?;
+    show_file(rt.alloc(), file, words[0])
 }

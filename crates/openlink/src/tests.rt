@@ -1,11 +1,15 @@
 mod expand;
+mod files;
 mod link;
 mod output;
 mod show;
+mod upgrade;
 
 use crate::commands::command;
+use std::alloc::AllocError;
 use std::process::Abort;
 use std::rt::Files;
+use std::test::Fail;
 
 /// The words of a command, and what it gives: status, standard output and standard error.
 #[derive(Clone, Copy)]
@@ -34,29 +38,41 @@ pub fn ends<'a>(words: &'a [&'a str], status: u8, fault: &'a str) -> Case<'a> {
     }
 }
 
-pub fn run_cases<R: Abort + Files + AllocGlobal>(rt: &R, cases: &[Case]) {
-    for case in cases {
-        let mut output = Vec::new(rt.alloc());
-        let mut errors = Vec::new(rt.alloc());
-        let status = command(rt, case.words, &mut output, &mut errors);
-        assert_eq!(rt; status, case.status, "{:?}", case.words);
-        assert_eq!(rt;
-            output.as_slice(),
-            case.printed.as_bytes(),
-            "{:?}",
-            case.words
-        );
-        assert_eq!(rt;
-            errors.as_slice(),
-            case.fault.as_bytes(),
-            "{:?}",
-            case.words
-        );
+fn is_out_of_memory(errors: &[u8]) -> bool {
+    errors == b"openlink: out of memory\n".as_slice()
+}
+
+/// Runs the words, and compares what they give: status, standard output and standard error. Where a growth
+/// was refused, they give that, whatever they would have given.
+pub fn run_words<R: Abort + Files + AllocGlobal>(
+    rt: &R,
+    words: &[&str],
+    status: u8,
+    printed: &str,
+    fault: &str,
+) -> Result<(), Fail> {
+    let mut output = Vec::with_capacity(rt.alloc(), printed.len())?;
+    let mut errors = Vec::with_capacity(rt.alloc(), 64 + fault.len())?;
+    let answer = command(rt, words, &mut output, &mut errors);
+    if is_out_of_memory(&errors) {
+        assert_eq!(rt; (answer, output.len()), (4, 0), "{words:?}");
+        return Err(AllocError.into());
     }
+    assert_eq!(rt; answer, status, "{words:?}");
+    assert_eq!(rt; output.as_slice(), printed.as_bytes(), "{words:?}");
+    assert_eq!(rt; errors.as_slice(), fault.as_bytes(), "{words:?}");
+    Ok(())
+}
+
+pub fn run_cases<R: Abort + Files + AllocGlobal>(rt: &R, cases: &[Case]) -> Result<(), Fail> {
+    for case in cases {
+        run_words(rt, case.words, case.status, case.printed, case.fault)?;
+    }
+    Ok(())
 }
 
 #[test]
-fn answers_other_words_as_usage(rt: HostRuntime) {
+fn answers_other_words_as_usage(rt: HostRuntime) -> Result<(), Fail> {
     let usage = "openlink: usage\n";
     run_cases(
         &rt,
@@ -67,7 +83,8 @@ fn answers_other_words_as_usage(rt: HostRuntime) {
             ends(&["expand", "{x}", "x=1", "y"], 2, usage),
             ends(&["expand", "--list", "a", "b"], 2, usage),
             ends(&["expand", "--list", "x=1"], 2, usage),
+            ends(&["upgrade", "a.olk"], 2, usage),
             ends(&["unfold", "{x}", "x=1"], 2, usage),
         ],
-    );
+    )
 }

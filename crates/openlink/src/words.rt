@@ -41,7 +41,8 @@ pub struct ExpandWords<'a> {
 /// template is always the option.
 pub fn expand_words<'a>(alloc: Global, words: &[&'a str]) -> Result<ExpandWords<'a>, Fault<'a>>
     ensures ok { IfOk result (λ told. AreExpandWords (texts_of words.now) (texts_of told.lists.items) told.template.now told.query.now) }
-    ensures err { IfErr result (λ fault. (fault ≡ Fault.Memory) ⊎ ((fault ≡ Fault.Usage) × NoExpandWords (texts_of words.now))) }
+    ensures err { IfErr result (λ fault. ((fault ≡ Fault.Memory) × (begins_with_option (texts_of words.now) ≡ true))
+        ⊎ ((fault ≡ Fault.Usage) × NoExpandWords (texts_of words.now))) }
 {
     let mut lists = Vec::new(alloc);
     let mut rest = words;

@@ -1,4 +1,6 @@
 use super::read_front;
+use crate::fault::Fault;
+use std::alloc::AllocError;
 use std::io::{self, Error, ErrorKind, Read};
 use std::test::Fail;
 
@@ -21,14 +23,24 @@ impl Read for Failing {
 }
 
 #[test]
-fn fails_in_mid_stream(rt: HostRuntime) {
+fn fails_in_mid_stream(rt: HostRuntime) -> Result<(), AllocError> {
+    let device = Err(Fault::Device("failing"));
     // The bytes of the file before it fails, the limit, and how many bytes are read.
-    let cases = [(0, 9, None), (3, 9, None), (9, 9, None), (10, 9, Some(10))];
+    let cases = [
+        (0, 9, device),
+        (3, 9, device),
+        (9, 9, device),
+        (10, 9, Ok(10)),
+    ];
     for (bytes, limit, wanted) in cases {
-        let read = read_front(rt.alloc(), Failing { bytes }, limit);
-        let count = read.map(|front| front.len()).ok();
-        assert_eq!(rt; count, wanted, "{bytes}");
+        let read = read_front(rt.alloc(), Failing { bytes }, "failing", limit);
+        let count = read.map(|front| front.len());
+        if count == Err(Fault::Memory) {
+            return Err(AllocError);
+        }
+        assert!(rt; count == wanted, "{bytes}");
     }
+    Ok(())
 }
 
 #[test]
@@ -36,7 +48,7 @@ fn reads_one_byte_past_the_limit(rt: HostRuntime) -> Result<(), Fail> {
     let cases: [(usize, &[u8]); 4] = [(0, b"a"), (1, b"ab"), (2, b"abc"), (9, b"abc")];
     for (limit, wanted) in cases {
         let file: &[u8] = b"abc";
-        let front = read_front(rt.alloc(), file, limit)?;
+        let front = read_front(rt.alloc(), file, "abc", limit)?;
         assert_eq!(rt; front.as_slice(), wanted);
     }
     Ok(())

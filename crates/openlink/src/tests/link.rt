@@ -12,7 +12,7 @@ fn run_with<R: Abort + Files + AllocGlobal>(
     cases: &[Case],
 ) -> Result<(), Fail> {
     fs::write(rt, path, rules)?;
-    run_cases(rt, cases);
+    run_cases(rt, cases)?;
     fs::remove_file(rt, path)?;
     Ok(())
 }
@@ -140,89 +140,5 @@ fn refuses_other_words(rt: HostRuntime) -> Result<(), Fail> {
                 "openlink: query: WrongVersion\n",
             ),
         ],
-    )
-}
-
-// The rule files of the README.
-
-#[test]
-fn links_to_the_title_of_a_table(rt: HostRuntime) -> Result<(), Fail> {
-    run_with(
-        &rt,
-        "title.rules",
-        b"# The title's own page, within the years that the table has.\nrule\nwhen given title_url\nwhen rft.date from date_first_issue_online to date_last_issue_online\nlink {+title_url}\n",
-        &[
-            done(
-                &[
-                    "link",
-                    "title.rules",
-                    "rft.date=2003&title_url=https://www.example.com/journal/cells&date_first_issue_online=1995",
-                ],
-                "https://www.example.com/journal/cells\n",
-            ),
-            no_link(&[
-                "link",
-                "title.rules",
-                "rft.date=1990&title_url=https://www.example.com/journal/cells&date_first_issue_online=1995",
-            ]),
-        ],
-    )
-}
-
-#[test]
-fn links_to_an_article_or_its_journal(rt: HostRuntime) -> Result<(), Fail> {
-    run_with(
-        &rt,
-        "article.rules",
-        b"rule\nwhen given rft.issn\nwhen given rft.volume\nwhen given rft.issue\nwhen given rft.spage\nlink https://journals.example.org/{rft.issn}/{rft.volume}/{rft.issue}/{rft.spage}\n\nrule\nwhen given rft.issn\nlink https://journals.example.org/{rft.issn}\n",
-        &[
-            done(
-                &[
-                    "link",
-                    "article.rules",
-                    "rft.issn=1234-5678&rft.volume=6&rft.issue=2&rft.spage=101",
-                ],
-                "https://journals.example.org/1234-5678/6/2/101\n",
-            ),
-            done(
-                &["link", "article.rules", "rft.issn=1234-5678&rft.volume=6"],
-                "https://journals.example.org/1234-5678\n",
-            ),
-            no_link(&["link", "article.rules", "rft.volume=6"]),
-        ],
-    )
-}
-
-#[test]
-fn passes_the_citation_on(rt: HostRuntime) -> Result<(), Fail> {
-    run_with(
-        &rt,
-        "openurl.rules",
-        b"rule\nlink https://provider.example.com/openurl?ctx_ver=Z39.88-2004&rft_val_fmt=info:ofi/fmt:kev:mtx:journal{&rft.issn,rft.atitle,rft.date,rft.volume,rft.spage,rft.au*,rft_id*}\n",
-        &[done(
-            &[
-                "link",
-                "openurl.rules",
-                "rft.issn=1234-5678&rft.atitle=On+cells&rft.au=Smith%2C+J&rft.au=Li&rft_id=info%3Adoi%2F10.1000%2F182",
-            ],
-            "https://provider.example.com/openurl?ctx_ver=Z39.88-2004&rft_val_fmt=info:ofi/fmt:kev:mtx:journal&rft.issn=1234-5678&rft.atitle=On%20cells&rft.au=Smith%2C%20J&rft.au=Li&rft_id=info%3Adoi%2F10.1000%2F182\n",
-        )],
-    )
-}
-
-#[test]
-fn links_through_a_proxy(rt: HostRuntime) -> Result<(), Fail> {
-    run_with(
-        &rt,
-        "proxy.rules",
-        b"rule\nwhen given title_url\nlink https://login.proxy.example.edu/login?qurl={title_url}\n",
-        &[done(
-            &[
-                "link",
-                "proxy.rules",
-                "title_url=https://www.example.com/journal/cells",
-            ],
-            "https://login.proxy.example.edu/login?qurl=https%3A%2F%2Fwww.example.com%2Fjournal%2Fcells\n",
-        )],
     )
 }

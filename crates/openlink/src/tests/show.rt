@@ -3,7 +3,7 @@ use std::fs;
 use std::test::Fail;
 
 // A loop that prints the members of a list with commas between them.
-const LIST_CODE: &[u8] = b"OLK1\x00\x01\x00\x01\x00\x06\x01\x04list\x00\x00\x01,\
+pub const LIST_CODE: &[u8] = b"OLK1\x00\x01\x00\x01\x00\x06\x01\x04list\x00\x00\x01,\
 \x05\x00\x00\x00\x00\x00\x00\x00\x10\x01\x00\x00\x00\x00\x00\x05\x11\x00\x00\x00\x00\x00\x00\x00\
 \x0e\x01\x00\x00\x00\x00\x00\x00\x12\x00\x00\x00\x00\x00\x00\x00\x01\x00\x00\x00\x00\x00\x00\x00";
 
@@ -24,7 +24,7 @@ fn shows_code(rt: HostRuntime) -> Result<(), Fail> {
              4 NEXT\n\
              5 HALT\n",
         )],
-    );
+    )?;
     fs::remove_file(&rt, "list.olk")?;
     Ok(())
 }
@@ -49,7 +49,7 @@ fn refuses_code(rt: HostRuntime) -> Result<(), Fail> {
             ends(&["show"], 2, "openlink: usage\n"),
             ends(&["show", "a", "b"], 2, "openlink: usage\n"),
         ],
-    );
+    )?;
     fs::remove_file(&rt, "short.olk")?;
     Ok(())
 }

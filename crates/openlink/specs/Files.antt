@@ -1,0 +1,16 @@
+-- What a command learns of a file from its reader, which may tell its bytes or not, and what it prints of a file that it wrote.
+use Rattle.std.specs.Prelude.{◌≡◌, ℕ, ◌+◌, [], ◌∷◌, ◌++◌, Option, IfSome, take, codes}
+use Rattle.std.specs.Fmt.{decimal}
+use Rattle.text_model.specs.Texts.{Text}
+
+-- what is read of a file: all of its bytes, or where it has more, as many as the limit and one more
+abbrev pub IsFront : ℕ → Option Text → Text → Type 0
+IsFront limit told front = IfSome told (λ all. front ≡ take (limit + 1) all)
+
+-- it holds of the file's bytes: of those that its reader tells, all of them, or where it tells none, of some
+abbrev pub OfFile : Option Text → (Text → Type 0) → Type 0
+OfFile told P = (bytes : Text) × IfSome told (λ all. bytes ≡ all) × P bytes
+
+-- the line of a file with so many bytes
+abbrev pub count_line : ℕ → Text
+count_line n = decimal n ++ (codes " bytes" ++ 10 ∷ [])

@@ -1,0 +1,31 @@
+//! The program's arguments.
+
+ghost use Rattle.std.specs.Prelude.{◌≡◌, ◌⊎◌, map, string_bytes, IfOk, IfErr};
+ghost use Rattle.text_model.specs.Texts.{texts_of};
+ghost use Rattle.openlink.specs.declared.fault.Fault.TheVariants.{Usage, Memory};
+
+use crate::fault::Fault;
+use std::alloc::{AllocError, Global};
+use std::env::{self, Env};
+
+/// The arguments behind the program's name. Those that are no text, or that the system does not give, are
+/// wrong arguments.
+pub fn arguments<R: Env + AllocGlobal>(rt: &R) -> Result<Vec<String>, Fault<'static>>
+    ensures { IfErr result (λ fault. (fault ≡ Usage) ⊎ (fault ≡ Memory)) }
+{
+    match env::args(rt) {
+        Ok(arguments) => Ok(arguments.skip(1).collect(rt.alloc())?),
+        Err(e) => Err(Fault::of(&e, Fault::Usage)),
+    }
+}
+
+/// The arguments as words.
+pub fn words(alloc: Global, arguments: &[String]) -> Result<Vec<&str>, AllocError>
+    ensures { IfOk result (λ words. texts_of words.items ≡ map string_bytes arguments.now) }
+{
+    let mut words = Vec::new(alloc);
+    for argument in arguments {
+        words.push(argument.as_str())?;
+    }
+    Ok(words)
+}

@@ -1,0 +1,73 @@
+use super::show::LIST_CODE;
+use super::{done, ends, run_cases};
+use std::fs;
+use std::test::Fail;
+
+#[test]
+fn upgrades_code(rt: HostRuntime) -> Result<(), Fail> {
+    fs::write(&rt, "old.olk", LIST_CODE)?;
+    fs::write(&rt, "new.olk", "what stood there")?;
+    let upgrade = ["upgrade", "old.olk", "new.olk"];
+    // The second time a file is upgraded into its own place.
+    for words in [upgrade, ["upgrade", "new.olk", "new.olk"]] {
+        run_cases(&rt, &[done(&words, "68 bytes\n")])?;
+        let new = fs::read(&rt, "new.olk")?;
+        assert!(rt; new.starts_with(b"OLK2"));
+        assert!(rt; LIST_CODE.len() == new.len() && new.len() > 4);
+        assert_eq!(rt; &new[4..], &LIST_CODE[4..]);
+        assert!(rt; !fs::exists(&rt, "new.olk.new")?);
+    }
+    assert_eq!(rt; fs::read(&rt, "old.olk")?.as_slice(), LIST_CODE);
+    fs::remove_file(&rt, "old.olk")?;
+    fs::remove_file(&rt, "new.olk")?;
+    Ok(())
+}
+
+#[test]
+fn keeps_what_stands_there(rt: HostRuntime) -> Result<(), Fail> {
+    fs::write(&rt, "kept.olk", LIST_CODE)?;
+    fs::write(&rt, "no.olk", "no code")?;
+    fs::write(&rt, "taken.olk.new", "another's")?;
+    fs::create_dir(&rt, "folder")?;
+    run_cases(
+        &rt,
+        &[
+            ends(
+                &["upgrade", "no.olk", "kept.olk"],
+                3,
+                "openlink: code: BadMagic at 0\n",
+            ),
+            ends(
+                &["upgrade", "none.olk", "kept.olk"],
+                4,
+                "openlink: device: none.olk\n",
+            ),
+            ends(
+                &["upgrade", "kept.olk", "no/such.olk"],
+                4,
+                "openlink: device: no/such.olk\n",
+            ),
+            ends(
+                &["upgrade", "kept.olk", "folder"],
+                4,
+                "openlink: device: folder\n",
+            ),
+            ends(
+                &["upgrade", "kept.olk", "taken.olk"],
+                4,
+                "openlink: device: taken.olk\n",
+            ),
+        ],
+    )?;
+    assert_eq!(rt; fs::read(&rt, "kept.olk")?.as_slice(), LIST_CODE);
+    assert_eq!(rt;
+        fs::read(&rt, "taken.olk.new")?.as_slice(),
+        b"another's".as_slice()
+    );
+    assert!(rt; !fs::exists(&rt, "folder.new")? && !fs::exists(&rt, "taken.olk")?);
+    for path in ["kept.olk", "no.olk", "taken.olk.new"] {
+        fs::remove_file(&rt, path)?;
+    }
+    fs::remove_dir(&rt, "folder")?;
+    Ok(())
+}
