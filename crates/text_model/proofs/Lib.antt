@@ -3,3 +3,4 @@ pub mod Written
 pub mod Cuts
 pub mod UriAscii
 pub mod CodePoints
+pub mod Unchanged
