@@ -4,3 +4,4 @@ pub mod Cuts
 pub mod UriAscii
 pub mod CodePoints
 pub mod Unchanged
+pub mod Examples
