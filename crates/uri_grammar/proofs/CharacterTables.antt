@@ -3,10 +3,11 @@
 -- of both ends of each range past ASCII. The apostrophe is a literal, as the erratum of section 2.1 has it.
 use Rattle.std.proofs.Common.{◌≡◌, ℕ, List, [], ◌∷◌, ◌++◌, Bool, true, false, not, ◌&&◌, ◌==◌, refl, codes}
 use Rattle.std.specs.List.{filter, range_with_len, list_all, list_any}
-use Rattle.uri_grammar.specs.Literals.{is_literal_character, literal_item_len}
-use Rattle.uri_grammar.specs.Names.{is_name_character, varchar_len, next_len}
+use Rattle.uri_grammar.specs.Literals.{is_literal_character}
+use Rattle.uri_grammar.specs.Lengths.{literal_item_len, varchar_len, next_len}
+use Rattle.uri_grammar.specs.Names.{is_name_character}
 use Rattle.uri_grammar.specs.Expressions.{begins_with_operator, begins_with_reserved}
-use Rattle.uri_grammar.specs.Faults.{begins_with_modifier, begins_with_brace}
+use Rattle.uri_grammar.specs.Faults.{begins_with_modifier}
 
 abbrev ascii : List ℕ
 ascii = range_with_len 0 128
@@ -111,6 +112,3 @@ reserved_operators = refl
 -- a prefix and an explode (section 2.4)
 modifiers : filter (λ c. begins_with_modifier (c ∷ codes "1")) ascii ≡ codes "*:"
 modifiers = refl
-
-braces : filter (λ c. begins_with_brace (c ∷ codes "a")) ascii ≡ codes "{"
-braces = refl
