@@ -3,7 +3,7 @@ use Rattle.std.proofs.Common.{◌≡◌, ℕ, zero, suc, ◌+◌, ◌≤◌, Lis
 use Rattle.std.specs.Prelude.{if◌then◌else◌}
 use Rattle.std.specs.List.{prefix_len}
 use Rattle.std.proofs.lemmas.Bool.{cond-true, cond-false}
-use Rattle.std.proofs.lemmas.Grind.{flat_map-append}
+use Rattle.std.proofs.lemmas.List.{take_all}
 use Rattle.text_model.specs.Texts.{Text}
 use Rattle.text_model.specs.Cut.{is_continuation, with_byte, code_points, are_triplet, with_triplets, items, joined, cut}
 use Rattle.text_model.specs.declared.writing.Writing.{Writing}
@@ -40,9 +40,6 @@ pub joined-items : (w : Writing) (t : Text) → joined (items w t) ≡ t
 joined-items U t = joined-code_points t
 joined-items UR t = joined-with_triplets (code_points t) ∙ joined-code_points t
 
-pub joined-append : (xs ys : List Text) → joined (xs ++ ys) ≡ joined xs ++ joined ys
-joined-append xs ys = flat_map-append (λ t. t) xs ys
-
 -- ---- a cut
 
 length-joined-take : (texts : List Text) (n : ℕ) → length (joined (take n texts)) ≤ length (joined texts)
@@ -55,18 +52,9 @@ length-joined-take (t ∷ texts) (suc n) =
 pub length-cut : (w : Writing) (t : Text) (n : ℕ) → length (cut w t n) ≤ length t
 length-cut w t n = subst (λ x. length (cut w t n) ≤ length x) (joined-items w t) (length-joined-take (items w t) n)
 
-take-long : (texts : List Text) (n : ℕ) → length texts ≤ n → take n texts ≡ texts
-take-long [] zero h = refl
-take-long [] (suc n) h = refl
-take-long (t ∷ texts) zero h = absurd (omega arith)
-take-long (t ∷ texts) (suc n) h = let shorter : length texts ≤ n = omega arith in ap (λ x. t ∷ x) (take-long texts n shorter)
-
 -- and a cut that is longer than the items keeps all
 pub cut-long : (w : Writing) (t : Text) (n : ℕ) → length (items w t) ≤ n → cut w t n ≡ t
-cut-long w t n h = ap joined (take-long (items w t) n h) ∙ joined-items w t
-
-pub cut-zero : (w : Writing) (t : Text) → cut w t 0 ≡ []
-cut-zero w t = refl
+cut-long w t n h = ap joined (take_all n (items w t) h) ∙ joined-items w t
 
 pub cut-nothing : (w : Writing) (t : Text) (n : ℕ) → length t ≡ 0 → cut w t n ≡ []
 unfolding code_points with_triplets

@@ -3,3 +3,5 @@ pub mod Written
 pub mod Cuts
 pub mod UriAscii
 pub mod CodePoints
+pub mod Unchanged
+pub mod Examples

@@ -37,7 +37,7 @@ pub written_byte-uri : (stays : Bool) (b : ℕ) → (stays ≡ true → is_unres
 written_byte-uri true b p = IsUriText-character b (p refl)
 written_byte-uri false b p = triplet_of-uri b
 
-unreserved_first : (b : ℕ) → is_unreserved b ≡ true → is_unreserved_or_reserved b ≡ true
+pub unreserved_first : (b : ℕ) → is_unreserved b ≡ true → is_unreserved_or_reserved b ≡ true
 unreserved_first b e = rw e refl
 
 pub written_u-uri : (t : Text) → IsUriText (written_u t)

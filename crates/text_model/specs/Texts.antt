@@ -12,6 +12,10 @@ Text = List ℕ
 abbrev pub texts_of : List (Bor Text) → List Text
 texts_of references = map (λ reference. reference.now) references
 
+-- `%`, which begins a triplet
+abbrev pub percent : ℕ
+percent = 0x25
+
 -- a letter, a digit, or one of `-._~`
 unfoldable pub is_unreserved : ℕ → Bool
 is_unreserved b = is_ascii_alphanumeric b || list_any (nat_eq b) (codes "-._~")
@@ -25,7 +29,7 @@ is_hexadecimal b = is_digit b 16
 
 -- the three bytes are `%` and two hexadecimal digits
 abbrev pub is_triplet : ℕ → ℕ → ℕ → Bool
-is_triplet b high low = b == 37 && (is_hexadecimal high && is_hexadecimal low)
+is_triplet b high low = b == percent && (is_hexadecimal high && is_hexadecimal low)
 
 -- a whole triplet stands at the front
 abbrev pub begins_with_triplet : Text → Bool

@@ -1,16 +1,16 @@
 -- How a text is written into a link (RFC 6570, sections 1.5 and 3.2.1).
-use Rattle.std.specs.Prelude.{ℕ, ◌+◌, ◌/◌, ◌%◌, [], ◌∷◌, ◌++◌, Bool, ◌||◌, nat_lt, if◌then◌else◌}
-use Rattle.text_model.specs.Texts.{Text, is_unreserved, is_reserved, is_triplet}
+use Rattle.std.specs.Prelude.{ℕ, ◌+◌, ◌-◌, ◌/◌, ◌%◌, [], ◌∷◌, ◌++◌, Bool, ◌||◌, nat_lt, if◌then◌else◌}
+use Rattle.text_model.specs.Texts.{Text, percent, is_unreserved, is_reserved, is_triplet}
 use Rattle.text_model.specs.declared.writing.Writing.{Writing}
 use Rattle.text_model.specs.declared.writing.Writing.TheVariants.{U, UR}
 
--- a hexadecimal digit, in upper case
+-- a hexadecimal digit, in upper case: `0` and those behind it, then `A` and those behind it
 abbrev pub hexadecimal_digit : ℕ → ℕ
-hexadecimal_digit n = if nat_lt (n % 16) 10 then 48 + n % 16 else 55 + n % 16
+hexadecimal_digit n = if nat_lt (n % 16) 10 then 0x30 + n % 16 else 0x41 - 10 + n % 16
 
 -- `%` and the two hexadecimal digits of a byte
 abbrev pub triplet_of : ℕ → Text
-triplet_of b = 37 ∷ hexadecimal_digit (b / 16) ∷ hexadecimal_digit b ∷ []
+triplet_of b = percent ∷ hexadecimal_digit (b / 16) ∷ hexadecimal_digit b ∷ []
 
 -- a byte that is copied where it may stay, and made a triplet where not
 abbrev pub written_byte : Bool → ℕ → Text

@@ -1,16 +1,21 @@
 //! What follows from the definitions, each law as the contract of a function that does nothing.
 
-ghost use Rattle.std.specs.Prelude.{◌≡◌, ℕ, ◌*◌, ◌≤◌, ◌++◌, List, length, map, take, encode_utf8, encode_utf8_all};
+ghost use Rattle.std.specs.Prelude.{◌≡◌, ◌↔◌, ℕ, ◌*◌, ◌≤◌, ◌++◌, List, length, map, take, encode_utf8, encode_utf8_all};
 ghost use Rattle.text_model.specs.Texts.{Text};
 ghost use Rattle.text_model.specs.Writing.{written};
 ghost use Rattle.text_model.specs.UriText.{IsUriText};
 ghost use Rattle.text_model.specs.Cut.{code_points, items, joined, cut};
 ghost use Rattle.text_model.specs.declared.writing.Writing.{Writing};
-ghost use Rattle.text_model.specs.declared.writing.Writing.TheVariants.{U};
+ghost use Rattle.text_model.specs.declared.writing.Writing.TheVariants.{U, UR};
 
 /// Whatever is written is URI text.
 pub fn writing_gives_uri_text()
     ensures { (w : Writing) (t : Text) → IsUriText (written w t) }
+{}
+
+/// A text is URI text exactly where writing it by UR changes nothing.
+pub fn uri_text_is_what_ur_keeps()
+    ensures { (t : Text) → IsUriText t ↔ (written UR t ≡ t) }
 {}
 
 /// A byte is written as three bytes at most.

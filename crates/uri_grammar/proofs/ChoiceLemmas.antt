@@ -12,19 +12,22 @@ use Rattle.uri_grammar.specs.declared.parts.Op.{Op}
 use Rattle.uri_grammar.specs.declared.parts.Part.{Part}
 use Rattle.uri_grammar.specs.declared.parts.Part.TheVariants.{Literal, Expression}
 use Rattle.uri_grammar.specs.declared.parts.Spec.{Spec}
-use Rattle.uri_grammar.specs.Literals.{literal_item_len, AreLiterals, no_literals}
-use Rattle.uri_grammar.specs.Names.{varchar_len, next_len, IsVarname, BeginsWithVarname}
+use Rattle.uri_grammar.specs.declared.names.TheConstants.{MAX_NAME_BYTES}
+use Rattle.uri_grammar.specs.declared.template.TheConstants.{MAX_BYTES}
+use Rattle.uri_grammar.specs.Lengths.{literal_item_len, varchar_len, next_len}
+use Rattle.uri_grammar.specs.Literals.{AreLiterals, no_literals}
+use Rattle.uri_grammar.specs.Names.{IsVarname, BeginsWithVarname}
 use Rattle.uri_grammar.specs.Specs.{IsModifier, IsSpec, Lacks, SpellsSpecs}
 use Rattle.uri_grammar.specs.Expressions.{operator_text, begins_with_reserved, IsBody}
 use Rattle.uri_grammar.specs.Templates.{Spells}
-use Rattle.uri_grammar.specs.Faults.{begins_with_modifier, IsNamed, IsSpecFault, bad_name, bad_modifier, IsListFault, IsBodyFault, reserved_operator, bad_list, begins_with_brace, IsPartFault, bad_literal, unclosed, empty_expression, bad_expression, IsFirstFault}
+use Rattle.uri_grammar.specs.Faults.{begins_with_modifier, IsNamed, IsSpecFault, bad_name, bad_modifier, IsListFault, IsBodyFault, reserved_operator, bad_list, IsPartFault, unclosed, empty_expression, bad_expression, IsFirstFault}
 use Rattle.uri_grammar.specs.Texts.{IsTemplate, IsRefused}
-use Rattle.uri_grammar.specs.Reading.{modifier_of, operator_of, IsExpression, EndsWithNoLiteral}
+use Rattle.uri_grammar.specs.Reading.{begins_with_brace, modifier_of, operator_of, IsExpression, EndsWithNoLiteral}
 use Rattle.uri_grammar.proofs.LiteralLemmas.{AreLiterals-append, AreLiterals-item}
-use Rattle.uri_grammar.proofs.NameLemmas.{IsVarname-front, IsVarname-next}
+use Rattle.uri_grammar.proofs.NameLemmas.{ended_varname, IsVarname-front, IsVarname-next}
 use Rattle.uri_grammar.proofs.SpecLemmas.{modifier_of-some, modifier_of-none, no_name, long_name, bad_follower}
 use Rattle.uri_grammar.proofs.ExpressionLemmas.{operator_of-HasOperator}
-use Rattle.uri_grammar.proofs.TemplateLemmas.{Spells-literal, Spells-expression, EndsWithNoLiteral-expression, brace_behind}
+use Rattle.uri_grammar.proofs.TemplateLemmas.{IsPartFault-literal, Spells-literal, Spells-expression, EndsWithNoLiteral-expression, brace_behind}
 
 -- ---- numbers and characters
 
@@ -71,7 +74,7 @@ longest_varname : (cs : List ℕ) → 0 < varchar_len cs → (name : List ℕ) �
 longest_varname cs some =
     let len = varchar_len cs in
     let run = longest next_len IsVarname refl (λ front rest h more. IsVarname-next front rest h more) (suc (length (drop len cs))) (take len cs) (drop len cs) (omega arith) (IsVarname-front cs some) in
-    (run.0, run.1, record { whole = sym (take-append-drop len cs) ∙ run.2; is_varname = run.3; longest = run.4 })
+    (run.0, run.1, ended_varname cs run.0 run.1 (sym (take-append-drop len cs) ∙ run.2) run.3 run.4)
 
 -- ---- specs
 
@@ -92,7 +95,7 @@ named_or_fault cs name after is =
     (λ never. inr (kind.BadModifier, length name, bad_modifier cs name after is never))
     (modifier_or_not after)
 
-short_or_fault : (cs name after : List ℕ) → BeginsWithVarname cs name after → length name ≤ 255 → SpecOrFault cs
+short_or_fault : (cs name after : List ℕ) → BeginsWithVarname cs name after → length name ≤ MAX_NAME_BYTES → SpecOrFault cs
 short_or_fault cs name [] h l = named_or_fault cs name [] (record { begins = h; short = l; follows = inl refl })
 short_or_fault cs name (c ∷ after) h l =
     ⊎_elim
@@ -109,7 +112,7 @@ spec_or_fault cs =
     ⊎_elim
     (λ z. short_or_fault cs v.0 v.1 v.2 (omega (arith, z)))
     (λ long. inr (kind.BadName, 0, bad_name cs (long_name cs v.0 v.1 v.2 (omega (arith, long)))))
-    (none_or_some (length v.0 - 255)))
+    (none_or_some (length v.0 - MAX_NAME_BYTES)))
     (none_or_some (varchar_len cs))
 
 -- ---- lists of specs
@@ -117,11 +120,26 @@ spec_or_fault cs =
 abbrev SpecsOrFault : List ℕ → Type 0
 SpecsOrFault list = ((ss : List Spec) × SpellsSpecs (list ++ 44 ∷ []) ss) ⊎ ((k : TemplateErrorKind) × (d : ℕ) × IsListFault list k d)
 
+-- the first piece of a list is no spec
+first_fault : (list piece after : List ℕ) (k : TemplateErrorKind) (d : ℕ) → list ++ 44 ∷ [] ≡ piece ++ 44 ∷ after → Lacks 44 piece → IsSpecFault piece k d → IsListFault list k d
+first_fault list piece after k d e lacks f = record {
+  front = [];
+  specs = [];
+  piece = piece;
+  after = after;
+  distance = d;
+  whole = e;
+  spelled = refl;
+  lacks = lacks;
+  fault = f;
+  place = omega arith;
+}
+
 last_or_fault : (list : List ℕ) → Lacks 44 list → SpecsOrFault list
 last_or_fault list lacks =
     ⊎_elim
-    (λ s. inl (s.0 ∷ [], (list, [], refl, lacks, s.1, refl)))
-    (λ f. inr (f.0, f.1, ([], list, [], [], f.1, refl, refl, lacks, f.2, omega arith)))
+    (λ s. inl (s.0 ∷ [], ([], record { piece = list; whole = refl; lacks = lacks; is_spec = s.1 }, refl)))
+    (λ f. inr (f.0, f.1, first_fault list list [] f.0 f.1 refl lacks f.2))
     (spec_or_fault list)
 
 -- a comma behind a list, seen from its first piece
@@ -132,13 +150,27 @@ first_or_fault : (list piece rest : List ℕ) → list ≡ piece ++ 44 ∷ rest 
 first_or_fault list piece rest e lacks more =
     ⊎_elim
     (λ s. ⊎_elim
-    (λ ss. inl (s.0 ∷ ss.0, (piece, rest ++ 44 ∷ [], comma_behind list piece rest e, lacks, s.1, ss.1)))
+    (λ ss. inl (s.0 ∷ ss.0, (rest ++ 44 ∷ [], record { piece = piece; whole = comma_behind list piece rest e; lacks = lacks; is_spec = s.1 }, ss.1)))
     (λ f.
     let l = f.2 in
-    let whole = comma_behind list piece rest e ∙ (ap (λ (t : List ℕ). piece ++ 44 ∷ t) l.5 ∙ sym (append_assoc piece (44 ∷ l.0) (l.1 ++ 44 ∷ l.2))) in
-    inr (f.0, length (piece ++ 44 ∷ l.0) + l.4, (piece ++ 44 ∷ l.0, l.1, l.2, s.0 ∷ l.3, l.4, whole, (piece, l.0, refl, lacks, s.1, l.6), l.7, l.8, refl)))
+    inr (
+      f.0,
+      length (piece ++ 44 ∷ l.front) + l.distance,
+      record {
+        front = piece ++ 44 ∷ l.front;
+        specs = s.0 ∷ l.specs;
+        piece = l.piece;
+        after = l.after;
+        distance = l.distance;
+        whole = comma_behind list piece rest e ∙ (ap (λ (t : List ℕ). piece ++ 44 ∷ t) l.whole ∙ sym (append_assoc piece (44 ∷ l.front) (l.piece ++ 44 ∷ l.after)));
+        spelled = (l.front, record { piece = piece; whole = refl; lacks = lacks; is_spec = s.1 }, l.spelled);
+        lacks = l.lacks;
+        fault = l.fault;
+        place = refl;
+      },
+    ))
     more)
-    (λ f. inr (f.0, f.1, ([], piece, rest ++ 44 ∷ [], [], f.1, comma_behind list piece rest e, refl, lacks, f.2, omega arith)))
+    (λ f. inr (f.0, f.1, first_fault list piece (rest ++ 44 ∷ []) f.0 f.1 (comma_behind list piece rest e) lacks f.2))
     (spec_or_fault piece)
 
 specs_or_fault : (n : ℕ) (list : List ℕ) → length list < n → SpecsOrFault list
@@ -179,7 +211,7 @@ closed_or_fault cs (c ∷ body) rest e lacks =
     ⊎_elim
     (λ b.
     let whole = e ∙ sym (ap (λ (t : List ℕ). 123 ∷ t) (append_assoc (c ∷ body) (125 ∷ []) rest)) in
-    inl (123 ∷ (c ∷ body) ++ 125 ∷ [], rest, Expression b.0 b.1, whole, omega arith, (c ∷ body, refl, lacks, b.2)))
+    inl (123 ∷ (c ∷ body) ++ 125 ∷ [], rest, Expression b.0 b.1, whole, omega arith, record { body = c ∷ body; whole = refl; lacks = lacks; is_body = b.2 }))
     (λ f. inr (f.0, 1 + f.1, subst (λ (t : List ℕ). IsPartFault t f.0 (1 + f.1)) (sym e) (bad_expression (c ∷ body) rest f.0 f.1 (omega arith) lacks f.2)))
     (body_or_fault (c ∷ body))
 
@@ -193,7 +225,7 @@ expression_or_fault cs some z =
     (λ lacks. inr (kind.Unclosed, 0, subst (λ (x : List ℕ). IsPartFault x kind.Unclosed 0) (sym open_brace) (unclosed inner lacks)))
     (λ cut. closed_or_fault cs cut.0 cut.1 (open_brace ∙ ap (λ (x : List ℕ). 123 ∷ x) cut.2) cut.3)
     (lacks_or_cut 125 inner))
-    (λ f. inr (kind.BadLiteral, 0, bad_literal cs some z f))
+    (λ f. inr (kind.BadLiteral, 0, IsPartFault-literal cs some z f))
     (cases_Bool (begins_with_brace cs))
 
 -- ---- templates
@@ -212,7 +244,7 @@ parts_or_fault (suc n) front (c ∷ cs) parts l s ends =
     let shorter : length p.1 < n = omega (arith, ap length p.3, length-append p.0 p.1, p.4, l) in
     let more = parts_or_fault n (front ++ p.0) p.1 (parts ++ p.2 ∷ []) shorter (Spells-expression front p.0 parts p.2 s p.5) (λ _. EndsWithNoLiteral-expression parts p.2 p.0 p.5) in
     subst PartsOrFault (append_assoc front p.0 p.1 ∙ ap (λ (t : List ℕ). front ++ t) (sym p.3)) more)
-    (λ f. inr (f.0, length (encode_utf8_all front) + f.1, (front, c ∷ cs, parts, f.1, refl, s, f.2, refl)))
+    (λ f. inr (f.0, length (encode_utf8_all front) + f.1, record { front = front; parts = parts; rest = c ∷ cs; distance = f.1; whole = refl; spelled = s; fault = f.2; place = refl }))
     (expression_or_fault (c ∷ cs) (omega arith) z))
     (λ some.
     let run = longest_literals (c ∷ cs) in
@@ -226,7 +258,7 @@ parts_or_fault (suc n) front (c ∷ cs) parts l s ends =
     begun [] after cs e z some = absurd (omega (arith, ap literal_item_len e, z, some))
     begun (x ∷ raw) after cs e z some = omega arith
 
-short_text_or_fault : (text : Text) → IsUtf8 text → length text ≤ 8192 → ((parts : List Part) × IsTemplate text parts) ⊎ ((k : TemplateErrorKind) × (at : ℕ) × IsRefused text k at)
+short_text_or_fault : (text : Text) → IsUtf8 text → length text ≤ MAX_BYTES → ((parts : List Part) × IsTemplate text parts) ⊎ ((k : TemplateErrorKind) × (at : ℕ) × IsRefused text k at)
 short_text_or_fault text utf8 l =
     let is : text ≡ encode_utf8_all (chars text) = sym (encodes-chars text utf8) in
     ⊎_elim
@@ -238,5 +270,5 @@ pub tree_or_fault : (text : Text) → IsUtf8 text → ((parts : List Part) × Is
 tree_or_fault text utf8 =
     ⊎_elim
     (λ z. short_text_or_fault text utf8 (omega (arith, z)))
-    (λ long. inr (kind.TooLong, 8192, inl (omega (arith, long), refl, refl)))
-    (none_or_some (length text - 8192))
+    (λ long. inr (kind.TooLong, MAX_BYTES, inl (omega (arith, long), refl, refl)))
+    (none_or_some (length text - MAX_BYTES))

@@ -100,13 +100,13 @@ operator_same body o p l m h k =
 
 pub body_moves : (body : List ℕ) (k : TemplateErrorKind) (d at n : ℕ) → IsBodyFault body k d → moved_place k at n ≡ at + n
 body_moves body k d at n (reserved_operator b h) = refl
-body_moves body k d at n (bad_list b o list l e h f) = spec_moves f.1 k f.4 at n f.8
+body_moves body k d at n (bad_list b o list l e h f) = spec_moves f.piece k f.distance at n f.fault
 
 pub body_fault : (body : List ℕ) (o : Op) (list : List ℕ) (e : TemplateError) → HasOperator body o list → IsFault e (IsListFault list) → IsFault (moved e (length (operator_text o))) (IsBodyFault body)
 body_fault body o list e is f =
     ⊎_elim
     (λ m. inl (ap (λ (x : TemplateError). moved x (length (operator_text o))) m))
     (λ g.
-    let place : length (operator_text o) + e.at ≡ moved_place e.kind e.at (length (operator_text o)) = omega (arith, spec_moves g.1 e.kind g.4 e.at (length (operator_text o)) g.8) in
+    let place : length (operator_text o) + e.at ≡ moved_place e.kind e.at (length (operator_text o)) = omega (arith, spec_moves g.piece e.kind g.distance e.at (length (operator_text o)) g.fault) in
     inr (subst (λ (n : ℕ). IsBodyFault body e.kind n) place (bad_list body o list e.kind e.at is g)))
     f

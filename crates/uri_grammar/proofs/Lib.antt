@@ -10,3 +10,4 @@ pub mod PromiseLemmas
 pub mod LawLemmas
 pub mod ChoiceLemmas
 pub mod Examples
+pub mod CharacterTables

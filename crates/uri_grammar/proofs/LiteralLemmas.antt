@@ -1,10 +1,11 @@
 -- Literals as a run of items, and how a literal grows by one item.
-use Rattle.std.proofs.Common.{◌≡◌, ℕ, ◌+◌, true, false, List, [], ◌∷◌, ◌++◌, drop, take, refl, ◌∙◌, sym, subst, arith, ◌==◌, ◌&&◌}
+use Rattle.std.proofs.Common.{◌≡◌, ℕ, ◌+◌, Bool, true, false, ◌||◌, List, [], ◌∷◌, ◌++◌, drop, take, refl, ◌∙◌, sym, subst, arith, ◌==◌, ◌&&◌}
 use Rattle.std.specs.Prelude.{if◌then◌else◌}
 use Rattle.std.proofs.Math.Seq.{take-add}
-use Rattle.std.proofs.lemmas.Bool.{cond_both, cond-true, cond-false, eqb-true, and_parts}
+use Rattle.std.proofs.lemmas.Bool.{cond_both, cond-true, cond-false, eqb-true, and_parts, or_parts}
 use Rattle.text_model.specs.Texts.{begins_with_triplet, is_triplet, is_hexadecimal}
-use Rattle.uri_grammar.specs.Literals.{is_literal_character, literal_item_len, AreLiterals, no_literals, literal_character, literal_triplet}
+use Rattle.uri_grammar.specs.Literals.{is_literal_character, begins_with_literal, AreLiterals, no_literals, literal_character, literal_triplet}
+use Rattle.uri_grammar.specs.Lengths.{literal_item_len}
 use Rattle.uri_grammar.proofs.RunLemmas.{Run, no_item, next_item}
 
 pub percent_first : (c high low : ℕ) → is_triplet c high low ≡ true → c ≡ 37
@@ -22,6 +23,22 @@ AreLiterals-run cs (literal_character c rest l more) =
     next_item (c ∷ []) rest (omega arith) (λ x. cond-true (is_literal_character c) _ _ l) (AreLiterals-run rest more)
 AreLiterals-run cs (literal_triplet c d e rest t more) =
     next_item (c ∷ d ∷ e ∷ []) rest (omega arith) (λ x. literal_item_len-triplet c d e x t) (AreLiterals-run rest more)
+
+-- no literal stands at the front exactly where none has a length
+pub no_literal-length : (cs : List ℕ) → begins_with_literal cs ≡ false → literal_item_len cs ≡ 0
+no_literal-length [] h = refl
+no_literal-length (c ∷ cs) h =
+    let none = or_parts (is_literal_character c) (begins_with_triplet (c ∷ cs)) h in
+    cond-false (is_literal_character c) _ _ none.0 ∙ cond-false (begins_with_triplet (c ∷ cs)) _ _ none.1
+
+pub no_length-literal : (cs : List ℕ) → literal_item_len cs ≡ 0 → begins_with_literal cs ≡ false
+no_length-literal [] h = refl
+no_length-literal (c ∷ cs) h = by_tests (is_literal_character c) (begins_with_triplet (c ∷ cs)) h
+  where
+    by_tests : (x y : Bool) → ◌≡◌ {A = ℕ} (if x then 1 else (if y then 3 else 0)) 0 → (x || y) ≡ false
+    by_tests true y e = absurd (omega (arith, e))
+    by_tests false true e = absurd (omega (arith, e))
+    by_tests false false e = refl
 
 -- no literal begins with a brace
 pub literal_item_len-brace : (cs : List ℕ) → literal_item_len (123 ∷ cs) ≡ 0

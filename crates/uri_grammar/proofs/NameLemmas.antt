@@ -10,8 +10,9 @@ use Rattle.text_model.specs.Texts.{begins_with_triplet, is_hexadecimal, is_unres
 use Rattle.text_model.specs.Writing.{is_unreserved_or_reserved}
 use Rattle.text_model.specs.UriText.{IsUriText}
 use Rattle.text_model.proofs.UriTexts.{IsUriText-append, IsUriText-character, IsUriText-triplet}
-use Rattle.uri_grammar.specs.Names.{is_name_character, varchar_len, next_len, IsVarchar, character_varchar, triplet_varchar, IsVarname, first_varchar, next_varchar, dotted_varchar, BeginsWithVarname}
-use Rattle.uri_grammar.proofs.RunLemmas.{Run, run-append, run_one, run_same}
+use Rattle.uri_grammar.specs.Lengths.{varchar_len, next_len}
+use Rattle.uri_grammar.specs.Names.{is_name_character, IsVarchar, character_varchar, triplet_varchar, IsVarname, first_varchar, next_varchar, dotted_varchar, BeginsWithVarname}
+use Rattle.uri_grammar.proofs.RunLemmas.{Run, run-append, run_one, run_longest, append_same}
 use Rattle.uri_grammar.proofs.LiteralLemmas.{percent_first}
 
 -- ---- varchars
@@ -83,7 +84,16 @@ length-varname name (dotted_varchar n v h k) = omega (arith, length-append n (46
 -- a text begins with one longest name at most
 pub longest_same : (cs name after other behind : List ℕ) → BeginsWithVarname cs name after → BeginsWithVarname cs other behind → (name ≡ other) × (after ≡ behind)
 longest_same cs name after other behind h k =
-    run_same next_len name other after behind (IsVarname-run name h.is_varname) (IsVarname-run other k.is_varname) (sym h.whole ∙ k.whole) h.longest k.longest
+    let size : length name ≡ length other = omega (arith, h.longest other behind k.whole k.is_varname, k.longest name after h.whole h.is_varname) in
+    append_same name other after behind size (sym h.whole ∙ k.whole)
+
+-- a name that nothing goes on with is the longest
+pub ended_varname : (cs name after : List ℕ) → cs ≡ name ++ after → IsVarname name → next_len after ≡ 0 → BeginsWithVarname cs name after
+ended_varname cs name after e h ends = record {
+  whole = e;
+  is_varname = h;
+  longest = λ other behind f k. run_longest next_len name other after behind (IsVarname-run name h) (IsVarname-run other k) (sym e ∙ f) ends;
+}
 
 -- ---- how a name grows
 
@@ -167,7 +177,7 @@ pub whole_varname : (cs : List ℕ) (len : ℕ) → len ≤ length cs → Begins
 whole_varname cs len within begins = (
   λ all. subst IsVarname (ap (λ (n : ℕ). take n cs) all ∙ take-length cs) begins.is_varname,
   λ h.
-      let same : take len cs ≡ cs = (longest_same cs (take len cs) (drop len cs) cs [] begins (record { whole = sym (append-nil cs); is_varname = h; longest = refl })).0 in
+      let same : take len cs ≡ cs = (longest_same cs (take len cs) (drop len cs) cs [] begins (ended_varname cs cs [] (sym (append-nil cs)) h refl)).0 in
       omega (arith, ap length same, length-take-le len cs within),
 )
 

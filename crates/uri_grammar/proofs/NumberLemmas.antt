@@ -1,99 +1,100 @@
--- The numbers of prefixes: what the reader's four cases compute, and from where to where they go.
-use Rattle.std.proofs.Common.{◌≡◌, ℕ, ◌<◌, ◌≤◌, Bool, true, false, List, [], ◌∷◌, length, refl, ap, ◌∙◌, sym, arith, ◌&&◌, ⊎_elim}
-use Rattle.std.specs.Prelude.{if◌then◌else◌, nat_le}
+-- The numbers of prefixes, digit by digit, and from where to where they go.
+use Rattle.std.proofs.Common.{◌≡◌, ℕ, ◌+◌, ◌-◌, ◌*◌, ◌<◌, ◌≤◌, Bool, true, false, Some, None, List, [], ◌∷◌, length, get_or, drop, refl, ap, ◌∙◌, sym, arith, ◌&&◌, not, ◌==◌}
+use Rattle.std.specs.Prelude.{nat_le}
 use Rattle.std.specs.List.{list_all}
 use Rattle.std.specs.Char.{is_ascii_digit}
-use Rattle.std.proofs.lemmas.Bool.{and_parts, leb-true, false_from_ne_true, both_ways, cases_Bool, cond-true, cond-false}
+use Rattle.std.proofs.Math.ListN.{drop_of_length-le}
+use Rattle.std.proofs.lemmas.Bool.{and_parts, and_from, leb-true, le-leb, lt-leb, cond-true, cond-false, eqb-false, not-true}
+use Rattle.std.proofs.lemmas.List.{drop_more}
 use Rattle.text_model.specs.Number.{value_from}
-use Rattle.uri_grammar.specs.Literals.{is_between}
+use Rattle.uri_grammar.specs.declared.variables.TheConstants.{MAX_PREFIX}
 use Rattle.uri_grammar.specs.Specs.{is_max_length}
-use Rattle.uri_grammar.specs.Reading.{number_of}
+use Rattle.uri_grammar.specs.Reading.{begins_above_zero, number_of}
 
-tests_1 : (x : Bool) → (x && (true && true)) ≡ x
-tests_1 true = refl
-tests_1 false = refl
-
-tests_2 : (x y : Bool) → (x && ((y && true) && true)) ≡ (x && y)
-tests_2 true true = refl
-tests_2 true false = refl
-tests_2 false y = refl
-
-tests_3 : (x y z : Bool) → (x && ((y && (z && true)) && true)) ≡ ((x && y) && z)
-tests_3 true true true = refl
-tests_3 true true false = refl
-tests_3 true false z = refl
-tests_3 false y z = refl
-
-tests_4 : (x y z w : Bool) → (x && ((y && (z && (w && true))) && true)) ≡ (((x && y) && z) && w)
-tests_4 true true true true = refl
-tests_4 true true true false = refl
-tests_4 true true false w = refl
-tests_4 true false z w = refl
-tests_4 false y z w = refl
-
-too_many : (a b c d e : ℕ) (ds : List ℕ) → is_max_length (a ∷ b ∷ c ∷ d ∷ e ∷ ds) ≡ false
-too_many a b c d e ds =
-    false_from_ne_true (is_max_length (a ∷ b ∷ c ∷ d ∷ e ∷ ds)) (λ t.
-    let digits = and_parts (is_between 0x31 0x39 a) _ t in
-    let few = and_parts (list_all is_ascii_digit (b ∷ c ∷ d ∷ e ∷ ds)) (nat_le (length (b ∷ c ∷ d ∷ e ∷ ds)) 3) digits.1 in
-    omega (arith, leb-true (length (b ∷ c ∷ d ∷ e ∷ ds)) 3 few.1))
-
--- one value under two tests that agree
-same_choice : (s t : Bool) (n m : ℕ) → t ≡ s → n ≡ m → (if s then n else 0) ≡ (if t then m else 0)
-same_choice s t n m e f = ap (λ (x : ℕ). if s then x else 0) f ∙ ap (λ (x : Bool). if x then m else 0) (sym e)
-
-pub number_of-is : (ds : List ℕ) → number_of ds ≡ (if is_max_length ds then value_from 0 ds else 0)
+-- more digits make no smaller number
+value_from-least : (ds : List ℕ) (n : ℕ) → n ≤ value_from n ds
 unfolding value_from
-number_of-is [] = refl
-number_of-is (a ∷ []) = same_choice _ _ _ _ (tests_1 (is_between 0x31 0x39 a)) (omega arith)
-number_of-is (a ∷ b ∷ []) = same_choice _ _ _ _ (tests_2 (is_between 0x31 0x39 a) (is_ascii_digit b)) (omega arith)
-number_of-is (a ∷ b ∷ c ∷ []) = same_choice _ _ _ _ (tests_3 (is_between 0x31 0x39 a) (is_ascii_digit b) (is_ascii_digit c)) (omega arith)
-number_of-is (a ∷ b ∷ c ∷ d ∷ []) =
-    same_choice _ _ _ _ (tests_4 (is_between 0x31 0x39 a) (is_ascii_digit b) (is_ascii_digit c) (is_ascii_digit d)) (omega arith)
-number_of-is (a ∷ b ∷ c ∷ d ∷ e ∷ ds) = sym (cond-false _ _ _ (too_many a b c d e ds))
+value_from-least [] n = omega arith
+value_from-least (d ∷ ds) n = omega (arith, value_from-least ds (10 * n + (d - 48)))
 
-between : (low high c : ℕ) → is_between low high c ≡ true → (low ≤ c) × (c ≤ high)
-between low high c t = let parts = and_parts (nat_le low c) (nat_le c high) t in (leb-true low c parts.0, leb-true c high parts.1)
-
--- a max-length stands for a number from 1 to 9999
-pub max_length_range : (ds : List ℕ) → is_max_length ds ≡ true → (0 < value_from 0 ds) × (value_from 0 ds ≤ 9999)
+-- a max-length stands for a number from 1 to the largest prefix
+pub max_length_range : (ds : List ℕ) → is_max_length ds ≡ true → (0 < value_from 0 ds) × (value_from 0 ds ≤ MAX_PREFIX)
 unfolding value_from
 max_length_range [] t = cc
-max_length_range (a ∷ []) t =
-    let first = between 0x31 0x39 a (and_parts (is_between 0x31 0x39 a) _ t).0 in
-    (omega (arith, first.0), omega (arith, first.1))
-max_length_range (a ∷ b ∷ []) t =
-    let tests = and_parts (is_between 0x31 0x39 a) (is_ascii_digit b) (sym (tests_2 (is_between 0x31 0x39 a) (is_ascii_digit b)) ∙ t) in
-    let first = between 0x31 0x39 a tests.0 in
-    let second = between 48 57 b tests.1 in
-    (omega (arith, first.0), omega (arith, first.1, second.1))
-max_length_range (a ∷ b ∷ c ∷ []) t =
-    let tests = and_parts (is_between 0x31 0x39 a && is_ascii_digit b) (is_ascii_digit c) (sym (tests_3 (is_between 0x31 0x39 a) (is_ascii_digit b) (is_ascii_digit c)) ∙ t) in
-    let tests' = and_parts (is_between 0x31 0x39 a) (is_ascii_digit b) tests.0 in
-    let first = between 0x31 0x39 a tests'.0 in
-    let second = between 48 57 b tests'.1 in
-    let third = between 48 57 c tests.1 in
-    (omega (arith, first.0), omega (arith, first.1, second.1, third.1))
-max_length_range (a ∷ b ∷ c ∷ d ∷ []) t =
-    let tests = and_parts ((is_between 0x31 0x39 a && is_ascii_digit b) && is_ascii_digit c) (is_ascii_digit d) (sym (tests_4 (is_between 0x31 0x39 a) (is_ascii_digit b) (is_ascii_digit c) (is_ascii_digit d)) ∙ t) in
-    let tests' = and_parts (is_between 0x31 0x39 a && is_ascii_digit b) (is_ascii_digit c) tests.0 in
-    let tests'' = and_parts (is_between 0x31 0x39 a) (is_ascii_digit b) tests'.0 in
-    let first = between 0x31 0x39 a tests''.0 in
-    let second = between 48 57 b tests''.1 in
-    let third = between 48 57 c tests'.1 in
-    let fourth = between 48 57 d tests.1 in
-    (omega (arith, first.0), omega (arith, first.1, second.1, third.1, fourth.1))
-max_length_range (a ∷ b ∷ c ∷ d ∷ e ∷ ds) t = absurd (both_ways (is_max_length (a ∷ b ∷ c ∷ d ∷ e ∷ ds)) (too_many a b c d e ds) t)
+max_length_range (d ∷ ds) t =
+    let tests = and_parts (not (d == 48)) _ t in
+    let bounds = and_parts (list_all is_ascii_digit (d ∷ ds)) (nat_le (value_from 0 (d ∷ ds)) MAX_PREFIX) tests.1 in
+    let digit = and_parts (is_ascii_digit d) (list_all is_ascii_digit ds) bounds.0 in
+    let low : 48 ≤ d = leb-true 48 d (and_parts (nat_le 48 d) (nat_le d 57) digit.0).0 in
+    (omega (arith, low, eqb-false d 48 (not-true (d == 48) tests.0), value_from-least ds (10 * 0 + (d - 48))), leb-true _ _ bounds.1)
 
--- what the reader's cases tell
-pub number_of-some : (ds : List ℕ) → 0 < number_of ds → (is_max_length ds ≡ true) × (number_of ds ≡ value_from 0 ds)
-number_of-some ds l =
-    ⊎_elim
-    (λ t. (t, number_of-is ds ∙ cond-true (is_max_length ds) _ _ t))
-    (λ f. absurd (omega (arith, l, number_of-is ds ∙ cond-false (is_max_length ds) _ _ f)))
-    (cases_Bool (is_max_length ds))
+-- ---- what the reader's loop keeps
 
-pub number_of-max_length : (ds : List ℕ) → is_max_length ds ≡ true → (0 < number_of ds) × (number_of ds ≡ value_from 0 ds)
-number_of-max_length ds t =
-    let value : number_of ds ≡ value_from 0 ds = number_of-is ds ∙ cond-true (is_max_length ds) _ _ t in
-    (omega (arith, value, (max_length_range ds t).0), value)
+-- the digits behind so many decide, and this is the value of those
+pub record HasRead (ds : List ℕ) (count value : ℕ) : Type 0 where
+  pub digits : list_all is_ascii_digit ds ≡ list_all is_ascii_digit (drop count ds)
+  pub value_is : value_from 0 ds ≡ value_from value (drop count ds)
+  pub small : value ≤ MAX_PREFIX
+
+-- the digits from a place on, where one stands there
+from_place : (ds : List ℕ) (i d : ℕ) → i < length ds → d ≡ get_or ds i d → drop i ds ≡ d ∷ drop (i + 1) ds
+from_place ds i d inside is = drop_more ds i d inside ∙ ap (λ (x : ℕ). x ∷ drop (i + 1) ds) (sym is)
+
+value_of_next : (ds : List ℕ) (i n d : ℕ) → HasRead ds i n → i < length ds → d ≡ get_or ds i d → value_from 0 ds ≡ value_from (10 * n + (d - 48)) (drop (i + 1) ds)
+unfolding value_from
+value_of_next ds i n d h inside is = h.value_is ∙ ap (value_from n) (from_place ds i d inside is)
+
+digits_of_next : (ds : List ℕ) (i n d : ℕ) (t : Bool) → HasRead ds i n → i < length ds → d ≡ get_or ds i d → is_ascii_digit d ≡ t → list_all is_ascii_digit ds ≡ (t && list_all is_ascii_digit (drop (i + 1) ds))
+digits_of_next ds i n d t h inside is e =
+    h.digits ∙ (ap (list_all is_ascii_digit) (from_place ds i d inside is) ∙ ap (λ (x : Bool). x && list_all is_ascii_digit (drop (i + 1) ds)) e)
+
+pub next_read : (ds : List ℕ) (i n d : ℕ) → HasRead ds i n → i < length ds → d ≡ get_or ds i d → is_ascii_digit d ≡ true → 10 * n + (d - 48) ≤ MAX_PREFIX → HasRead ds (i + 1) (10 * n + (d - 48))
+next_read ds i n d h inside is digit l =
+    record { digits = digits_of_next ds i n d true h inside is digit; value_is = value_of_next ds i n d h inside is; small = l }
+
+-- ---- what the reader answers
+
+-- the three tests of a max-length
+tests : List ℕ → Bool → Bool → Bool
+tests ds digits small = begins_above_zero ds && (digits && small)
+
+max_length-tests : (ds : List ℕ) → is_max_length ds ≡ tests ds (list_all is_ascii_digit ds) (nat_le (value_from 0 ds) MAX_PREFIX)
+unfolding tests
+max_length-tests [] = refl
+max_length-tests (d ∷ ds) = refl
+
+none_by : (ds : List ℕ) (digits small : Bool) → list_all is_ascii_digit ds ≡ digits → nat_le (value_from 0 ds) MAX_PREFIX ≡ small → tests ds digits small ≡ false → number_of ds ≡ None
+none_by ds digits small d s e =
+    cond-false (is_max_length ds) _ _ (max_length-tests ds ∙ (ap (λ (t : Bool). tests ds t (nat_le (value_from 0 ds) MAX_PREFIX)) d ∙ (ap (tests ds digits) s ∙ e)))
+
+pub not_begun : (ds : List ℕ) → begins_above_zero ds ≡ false → number_of ds ≡ None
+unfolding tests
+not_begun ds h = none_by ds _ _ refl refl (ap (λ (t : Bool). t && (list_all is_ascii_digit ds && nat_le (value_from 0 ds) MAX_PREFIX)) h)
+
+never : (x y z : Bool) → (y && z) ≡ false → (x && (y && z)) ≡ false
+never true y z e = e
+never false y z e = refl
+
+second_false : (y : Bool) → (y && false) ≡ false
+second_false true = refl
+second_false false = refl
+
+pub no_digit : (ds : List ℕ) (i n d : ℕ) → HasRead ds i n → i < length ds → d ≡ get_or ds i d → is_ascii_digit d ≡ false → number_of ds ≡ None
+unfolding tests
+no_digit ds i n d h inside is other =
+    none_by ds false _ (digits_of_next ds i n d false h inside is other) refl (never (begins_above_zero ds) false (nat_le (value_from 0 ds) MAX_PREFIX) refl)
+
+pub too_large : (ds : List ℕ) (i n d : ℕ) → HasRead ds i n → i < length ds → d ≡ get_or ds i d → MAX_PREFIX < 10 * n + (d - 48) → number_of ds ≡ None
+unfolding tests
+too_large ds i n d h inside is l =
+    let large : MAX_PREFIX < value_from 0 ds = omega (arith, value_of_next ds i n d h inside is, value_from-least (drop (i + 1) ds) (10 * n + (d - 48)), l) in
+    none_by ds _ false refl (lt-leb (value_from 0 ds) MAX_PREFIX large) (never (begins_above_zero ds) (list_all is_ascii_digit ds) false (second_false (list_all is_ascii_digit ds)))
+
+pub all_read : (ds : List ℕ) (i n : ℕ) → HasRead ds i n → length ds ≤ i → begins_above_zero ds ≡ true → number_of ds ≡ Some n
+unfolding tests value_from
+all_read ds i n h ended begun =
+    let none = drop_of_length-le ds ended in
+    let digits : list_all is_ascii_digit ds ≡ true = h.digits ∙ ap (list_all is_ascii_digit) none in
+    let value : value_from 0 ds ≡ n = h.value_is ∙ ap (value_from n) none in
+    let small : nat_le (value_from 0 ds) MAX_PREFIX ≡ true = le-leb (value_from 0 ds) MAX_PREFIX (omega (arith, value, h.small)) in
+    cond-true (is_max_length ds) _ _ (max_length-tests ds ∙ and_from _ _ begun (and_from _ _ digits small)) ∙ ap (λ (x : ℕ). Some x) value

@@ -21,7 +21,7 @@ sound_spec cs spec h =
 
 sound_specs : (specs : List Spec) (cs : List ℕ) → SpellsSpecs cs specs → All IsSoundSpec specs
 sound_specs [] cs h = All-nil IsSoundSpec
-sound_specs (s ∷ ss) cs h = All-cons IsSoundSpec s ss (sound_spec h.0 s h.4) (sound_specs ss h.1 h.5)
+sound_specs (s ∷ ss) cs h = All-cons IsSoundSpec s ss (sound_spec h.1.piece s h.1.is_spec) (sound_specs ss h.0 h.2)
 
 some_spec : (specs : List Spec) (list : List ℕ) → SpellsSpecs (list ++ 44 ∷ []) specs → 0 < length specs
 some_spec [] list h = absurd (omega (arith, ap length h, length-append list (44 ∷ [])))
@@ -30,9 +30,9 @@ some_spec (s ∷ ss) list h = omega arith
 sound_parts : (parts : List Part) (cs : List ℕ) → Spells cs parts → All IsSoundPart parts
 sound_parts [] cs h = All-nil IsSoundPart
 sound_parts (Literal text ∷ parts) cs h =
-    All-cons IsSoundPart (Literal text) parts (subst IsUriText (sym h.5) (written_ur-uri (encode_utf8_all h.0))) (sound_parts parts h.1 h.7)
+    All-cons IsSoundPart (Literal text) parts (subst IsUriText (sym h.1.is_written) (written_ur-uri (encode_utf8_all h.1.raw))) (sound_parts parts h.0 h.3)
 sound_parts (Expression op specs ∷ parts) cs h =
-    All-cons IsSoundPart (Expression op specs) parts (some_spec specs h.4.0 h.4.2, sound_specs specs (h.4.0 ++ 44 ∷ []) h.4.2) (sound_parts parts h.1 h.5)
+    All-cons IsSoundPart (Expression op specs) parts (some_spec specs h.1.is_body.0 h.1.is_body.2, sound_specs specs (h.1.is_body.0 ++ 44 ∷ []) h.1.is_body.2) (sound_parts parts h.0 h.2)
 
 pub template_sound : (text : Text) (parts : List Part) → IsTemplate text parts → All IsSoundPart parts
 template_sound text parts h = sound_parts parts h.1 h.3

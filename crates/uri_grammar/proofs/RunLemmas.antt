@@ -1,5 +1,5 @@
 -- Texts that are cut from the left in one way: at the first place of a character, and after a run of items.
-use Rattle.std.proofs.Common.{◌≡◌, ◌≢◌, ℕ, ◌<◌, List, [], ◌∷◌, ◌++◌, length, refl, ap, ◌∙◌, sym, subst, arith, append_assoc, append-nil}
+use Rattle.std.proofs.Common.{◌≡◌, ◌≢◌, ℕ, ◌<◌, ◌≤◌, List, [], ◌∷◌, ◌++◌, length, refl, ap, ◌∙◌, sym, subst, arith, append_assoc, append-nil, length-append}
 use Rattle.std.proofs.lemmas.List.Elements.{All-head, All-tail}
 use Rattle.uri_grammar.specs.Specs.{Lacks}
 
@@ -57,6 +57,17 @@ run_same item xs ys a b (next_item f r l i more) (next_item g s k j rest) e p q 
     let fronts = append_same f g (r ++ a) (s ++ b) size whole in
     let rests = run_same item r s a b more rest fronts.1 p q in
     (let here : f ≡ g = fronts.0 in let there : r ≡ s = rests.0 in cc, rests.1)
+
+-- and no other run is longer
+pub run_longest : (item : List ℕ → ℕ) (xs ys a b : List ℕ) → Run item xs → Run item ys → xs ++ a ≡ ys ++ b → item a ≡ 0 → length ys ≤ length xs
+run_longest item xs ys a b h no_item e p = omega arith
+run_longest item xs ys a b no_item (next_item g s k j rest) e p =
+    let size : item a ≡ length g = ap item (e ∙ append_assoc g s b) ∙ j (s ++ b) in absurd (omega (arith, size, p, k))
+run_longest item xs ys a b (next_item f r l i more) (next_item g s k j rest) e p =
+    let whole : f ++ (r ++ a) ≡ g ++ (s ++ b) = sym (append_assoc f r a) ∙ (e ∙ append_assoc g s b) in
+    let size : length f ≡ length g = sym (i (r ++ a)) ∙ (ap item whole ∙ j (s ++ b)) in
+    let rests = run_longest item r s a b more rest (append_same f g (r ++ a) (s ++ b) size whole).1 p in
+    omega (arith, size, rests, length-append f r, length-append g s)
 
 pub run-append : (item : List ℕ → ℕ) (xs ys : List ℕ) → Run item xs → Run item ys → Run item (xs ++ ys)
 run-append item xs ys no_item h = h

@@ -1,19 +1,22 @@
 -- Modifiers and specs: what the reader needs of them, and that a text is one spec at most.
-use Rattle.std.proofs.Common.{◌≡◌, ℕ, ◌+◌, ◌<◌, ◌≤◌, Bool, true, false, ◌⊎◌, ⊎_elim, inl, inr, List, [], ◌∷◌, ◌++◌, length, get_or, drop, take, refl, ap, ◌∙◌, sym, subst, arith, append_assoc, take-append-drop, length-append, ◌==◌, ◌&&◌, nat_eq, nat_lt, Some, None}
+use Rattle.std.proofs.Common.{◌≡◌, ℕ, ◌+◌, ◌<◌, ◌≤◌, Bool, true, false, ◌⊎◌, ⊎_elim, inl, inr, List, [], ◌∷◌, ◌++◌, length, get_or, drop, take, refl, ap, ◌∙◌, sym, subst, arith, append_assoc, take-append-drop, length-append, ◌==◌, ◌&&◌, nat_eq, Some, None}
 use Rattle.std.proofs.Math.Seq.{take-add, take-append-add}
-use Rattle.std.proofs.lemmas.Bool.{cases_Bool, cond-true, cond-false, eqb-true, and_parts, ltb-true, lt-ltb, false≢true}
+use Rattle.std.proofs.lemmas.Bool.{cases_Bool, cond-true, cond-false, eqb-true, and_parts, false≢true}
 use Rattle.std.proofs.lemmas.List.{drop_more, length-take-le, drop-append-le}
 use Rattle.text_model.specs.Number.{value_from}
 use Rattle.uri_grammar.specs.declared.error.TemplateError.{TemplateError}
 use Rattle.uri_grammar.specs.declared.error.TemplateErrorKind.{TemplateErrorKind}
 use Rattle.uri_grammar.specs.declared.parts.Spec.{Spec}
-use Rattle.uri_grammar.specs.Names.{varchar_len, next_len, BeginsWithVarname}
-use Rattle.uri_grammar.specs.Specs.{IsModifier, no_modifier, explode_modifier, prefix_modifier, IsSpec, Lacks, SpellsSpecs}
+use Rattle.uri_grammar.specs.declared.names.TheConstants.{MAX_NAME_BYTES}
+use Rattle.uri_grammar.specs.declared.variables.TheConstants.{MAX_PREFIX}
+use Rattle.uri_grammar.specs.Lengths.{varchar_len, next_len}
+use Rattle.uri_grammar.specs.Names.{BeginsWithVarname}
+use Rattle.uri_grammar.specs.Specs.{is_max_length, IsModifier, no_modifier, explode_modifier, prefix_modifier, IsSpec, Lacks, BeginsWithSpec, SpellsSpecs}
 use Rattle.uri_grammar.specs.Faults.{begins_with_modifier, IsNamed, IsSpecFault, bad_name, bad_modifier, IsListFault}
-use Rattle.uri_grammar.specs.Reading.{number_of, modifier_of, IsFault}
+use Rattle.uri_grammar.specs.Reading.{modifier_of, IsFault}
 use Rattle.uri_grammar.specs.Moved.{moved, moved_place}
-use Rattle.uri_grammar.proofs.NameLemmas.{longest_same, varchar_len-varname}
-use Rattle.uri_grammar.proofs.NumberLemmas.{max_length_range, number_of-some, number_of-max_length}
+use Rattle.uri_grammar.proofs.NameLemmas.{longest_same, ended_varname, varchar_len-varname}
+use Rattle.uri_grammar.proofs.NumberLemmas.{max_length_range}
 
 -- ---- modifiers
 
@@ -58,7 +61,7 @@ modifier_ends a m x (prefix_modifier digits p) = (colon digits, inr refl)
     colon (c ∷ d ∷ cs) = refl
 
 -- a cut has four digits at most, and what explodes is not cut
-pub modifier_range : (a : List ℕ) (m : ℕ) (x : Bool) → IsModifier a m x → (m ≤ 9999) × (x ≡ true → m ≡ 0)
+pub modifier_range : (a : List ℕ) (m : ℕ) (x : Bool) → IsModifier a m x → (m ≤ MAX_PREFIX) × (x ≡ true → m ≡ 0)
 modifier_range a m x no_modifier = (omega arith, λ _. refl)
 modifier_range a m x explode_modifier = (omega arith, λ _. refl)
 modifier_range a m x (prefix_modifier digits p) = ((max_length_range digits p).1, λ e. absurd (false≢true e))
@@ -66,19 +69,16 @@ modifier_range a m x (prefix_modifier digits p) = ((max_length_range digits p).1
 modifier_is : (cs : List ℕ) (m : ℕ) (x : Bool) → IsModifier cs m x → modifier_of cs ≡ Some (m, x)
 modifier_is cs m x no_modifier = refl
 modifier_is cs m x explode_modifier = refl
-modifier_is cs m x (prefix_modifier digits p) =
-    let is = number_of-max_length digits p in
-    cond-true (nat_lt 0 (number_of digits)) _ _ (lt-ltb 0 (number_of digits) is.0) ∙ ap (λ (n : ℕ). Some (n, false)) is.1
+modifier_is cs m x (prefix_modifier digits p) = cond-true (is_max_length digits) _ _ p
 
 explode_here : (c : ℕ) (cs : List ℕ) (p : ℕ × Bool) → c ≡ 42 → length cs ≡ 0 → p ≡ (0, true) → IsModifier (c ∷ cs) p.0 p.1
 explode_here c [] p e l q =
     subst (λ (t : ℕ × Bool). IsModifier (c ∷ []) t.0 t.1) (sym q) (subst (λ (x : ℕ). IsModifier (x ∷ []) 0 true) (sym e) explode_modifier)
 explode_here c (d ∷ cs) p e l q = absurd (omega arith)
 
-prefix_here : (c : ℕ) (cs : List ℕ) (p : ℕ × Bool) → c ≡ 58 → 0 < number_of cs → p ≡ (number_of cs, false) → IsModifier (c ∷ cs) p.0 p.1
-prefix_here c cs p e l q =
-    let is = number_of-some cs l in
-    subst (λ (t : ℕ × Bool). IsModifier (c ∷ cs) t.0 t.1) (sym (q ∙ ap (λ (n : ℕ). (n, false)) is.1)) (subst (λ (x : ℕ). IsModifier (x ∷ cs) (value_from 0 cs) false) (sym e) (prefix_modifier cs is.0))
+prefix_here : (c : ℕ) (cs : List ℕ) (p : ℕ × Bool) → c ≡ 58 → is_max_length cs ≡ true → p ≡ (value_from 0 cs, false) → IsModifier (c ∷ cs) p.0 p.1
+prefix_here c cs p e t q =
+    subst (λ (m : ℕ × Bool). IsModifier (c ∷ cs) m.0 m.1) (sym q) (subst (λ (x : ℕ). IsModifier (x ∷ cs) (value_from 0 cs) false) (sym e) (prefix_modifier cs t))
 
 some_same : (p q : ℕ × Bool) → Some p ≡ Some q → p ≡ q
 some_same p q e = cc
@@ -95,10 +95,10 @@ modifier_of-some (c ∷ cs) p e =
     explode_here c cs p (eqb-true c 42 parts.0) (eqb-true (length cs) 0 parts.1) (some_same p (0, true) (e ∙ cond-true (c == 42 && nat_eq (length cs) 0) _ _ t)))
     (λ f. ⊎_elim
     (λ t.
-    let parts = and_parts (c == 58) (nat_lt 0 (number_of cs)) t in
-    prefix_here c cs p (eqb-true c 58 parts.0) (ltb-true 0 (number_of cs) parts.1) (some_same p (number_of cs, false) (e ∙ (cond-false (c == 42 && nat_eq (length cs) 0) _ _ f ∙ cond-true (c == 58 && nat_lt 0 (number_of cs)) _ _ t))))
-    (λ g. absurd (some_none p (e ∙ (cond-false (c == 42 && nat_eq (length cs) 0) _ _ f ∙ cond-false (c == 58 && nat_lt 0 (number_of cs)) _ _ g))))
-    (cases_Bool (c == 58 && nat_lt 0 (number_of cs))))
+    let parts = and_parts (c == 58) (is_max_length cs) t in
+    prefix_here c cs p (eqb-true c 58 parts.0) parts.1 (some_same p (value_from 0 cs, false) (e ∙ (cond-false (c == 42 && nat_eq (length cs) 0) _ _ f ∙ cond-true (c == 58 && is_max_length cs) _ _ t))))
+    (λ g. absurd (some_none p (e ∙ (cond-false (c == 42 && nat_eq (length cs) 0) _ _ f ∙ cond-false (c == 58 && is_max_length cs) _ _ g))))
+    (cases_Bool (c == 58 && is_max_length cs)))
     (cases_Bool (c == 42 && nat_eq (length cs) 0))
 
 pub modifier_of-none : (cs : List ℕ) → None ≡ modifier_of cs → (n : ℕ) (explode : Bool) → IsModifier cs n explode → ⊥
@@ -109,9 +109,9 @@ modifier_of-none cs e n explode h = some_none (n, explode) (sym (e ∙ modifier_
 pub no_name : (cs : List ℕ) → varchar_len cs ≡ 0 → (name after : List ℕ) → IsNamed cs name after → ⊥
 no_name cs z name after h = omega (arith, z, ap varchar_len h.begins.whole, varchar_len-varname name after h.begins.is_varname)
 
-pub long_name : (cs name after : List ℕ) → BeginsWithVarname cs name after → 255 < length name → (other behind : List ℕ) → IsNamed cs other behind → ⊥
+pub long_name : (cs name after : List ℕ) → BeginsWithVarname cs name after → MAX_NAME_BYTES < length name → (other behind : List ℕ) → IsNamed cs other behind → ⊥
 long_name cs name after h l other behind k =
-    let short : length other ≤ 255 = k.short in
+    let short : length other ≤ MAX_NAME_BYTES = k.short in
     omega (arith, short, l, ap length (longest_same cs name after other behind h k.begins).0)
 
 pub bad_follower : (cs name after : List ℕ) → BeginsWithVarname cs name after → 0 < length after → begins_with_modifier after ≡ false → (other behind : List ℕ) → IsNamed cs other behind → ⊥
@@ -130,7 +130,7 @@ named_same cs name after other behind h k = longest_same cs name after other beh
 spec_named : (cs : List ℕ) (spec : Spec) (h : IsSpec cs spec) → IsNamed cs spec.name h.after
 spec_named cs spec h =
     let ends = modifier_ends h.after spec.cut spec.explode h.modified in
-    record { begins = record { whole = h.whole; is_varname = h.is_name.0; longest = ends.0 }; short = h.is_name.1; follows = ends.1 }
+    record { begins = ended_varname cs spec.name h.after h.whole h.is_name.0 ends.0; short = h.is_name.1; follows = ends.1 }
 
 spec_by_fields : (s t : Spec) → s.name ≡ t.name → s.cut ≡ t.cut → s.explode ≡ t.explode → s ≡ t
 spec_by_fields s t p q r =
@@ -159,10 +159,19 @@ spec_one_fault cs k l d e (bad_modifier xs name after is other) (bad_modifier ys
 
 -- ---- lists of specs
 
+-- what follows the rest leaves the first spec as it is
+abbrev pub spec_before : (front rest more : List ℕ) (s : Spec) → BeginsWithSpec front s rest → BeginsWithSpec (front ++ more) s (rest ++ more)
+spec_before front rest more s h = record {
+  piece = h.piece;
+  whole = ap (λ (x : List ℕ). x ++ more) h.whole ∙ append_assoc h.piece (44 ∷ rest) more;
+  lacks = h.lacks;
+  is_spec = h.is_spec;
+}
+
 pub SpellsSpecs-more : (ss : List Spec) (front piece : List ℕ) (s : Spec) → SpellsSpecs front ss → Lacks 44 piece → IsSpec piece s → SpellsSpecs (front ++ (piece ++ 44 ∷ [])) (ss ++ s ∷ [])
-SpellsSpecs-more [] front piece s h l is = (piece, [], ap (λ (t : List ℕ). t ++ (piece ++ 44 ∷ [])) h, l, is, refl)
+SpellsSpecs-more [] front piece s h l is = ([], record { piece = piece; whole = ap (λ (t : List ℕ). t ++ (piece ++ 44 ∷ [])) h; lacks = l; is_spec = is }, refl)
 SpellsSpecs-more (t ∷ ts) front piece s h l is =
-    (h.0, h.1 ++ (piece ++ 44 ∷ []), ap (λ (x : List ℕ). x ++ (piece ++ 44 ∷ [])) h.2 ∙ append_assoc h.0 (44 ∷ h.1) (piece ++ 44 ∷ []), h.3, h.4, SpellsSpecs-more ts h.1 piece s h.5 l is)
+    (h.0 ++ (piece ++ 44 ∷ []), spec_before (front) (h.0) (piece ++ 44 ∷ []) t h.1, SpellsSpecs-more ts h.0 piece s h.2 l is)
 
 pub spec_moves : (cs : List ℕ) (k : TemplateErrorKind) (d at n : ℕ) → IsSpecFault cs k d → moved_place k at n ≡ at + n
 spec_moves cs k d at n (bad_name xs h) = refl
@@ -198,5 +207,16 @@ specs_fault list rest piece done len ss e w r p lacks cut h f =
     (λ m. inl (ap (λ (x : TemplateError). moved x done) m))
     (λ g.
     let place : moved_place e.kind e.at done ≡ length (take done (list ++ 44 ∷ [])) + e.at = spec_moves piece e.kind e.at e.at done g ∙ omega (arith, size) in
-    inr (take done (list ++ 44 ∷ []), take len rest, cut.0, ss, e.at, whole, h, lacks, subst (λ (t : List ℕ). IsSpecFault t e.kind e.at) p g, place))
+    inr (record {
+      front = take done (list ++ 44 ∷ []);
+      specs = ss;
+      piece = take len rest;
+      after = cut.0;
+      distance = e.at;
+      whole = whole;
+      spelled = h;
+      lacks = lacks;
+      fault = subst (λ (t : List ℕ). IsSpecFault t e.kind e.at) p g;
+      place = place;
+    }))
     f

@@ -1,8 +1,9 @@
 -- Parts one after another: what the reader needs of expressions, parts and their faults.
-use Rattle.std.proofs.Common.{◌≡◌, ℕ, ◌+◌, ◌<◌, ◌≤◌, ⊎_elim, inl, inr, suc, List, [], ◌∷◌, ◌++◌, length, get_or, drop, take, refl, ap, ◌∙◌, sym, subst, arith, append_assoc, append-nil, take-append-drop, true, encode_utf8_all}
+use Rattle.std.proofs.Common.{◌≡◌, ℕ, ◌+◌, ◌<◌, ◌≤◌, ⊎_elim, inl, inr, suc, List, [], ◌∷◌, ◌++◌, length, get_or, drop, take, refl, ap, ◌∙◌, sym, subst, arith, append_assoc, append-nil, take-append-drop, true, false, ◌==◌, encode_utf8_all}
 use Rattle.std.proofs.Math.Seq.{take-add, take-append-add}
-use Rattle.std.proofs.lemmas.Bool.{eqb-true}
+use Rattle.std.proofs.lemmas.Bool.{eqb-true, eq-eqb, both_ways}
 use Rattle.std.proofs.lemmas.List.{drop_more, length-take-le}
+use Rattle.text_model.specs.Texts.{Text}
 use Rattle.text_model.specs.Writing.{written_ur}
 use Rattle.uri_grammar.specs.declared.error.TemplateError.{TemplateError}
 use Rattle.uri_grammar.specs.declared.error.TemplateErrorKind.{TemplateErrorKind}
@@ -12,38 +13,59 @@ use Rattle.uri_grammar.specs.declared.parts.Part.{Part}
 use Rattle.uri_grammar.specs.declared.parts.Part.TheVariants.{Literal, Expression}
 use Rattle.uri_grammar.specs.declared.parts.Spec.{Spec}
 use Rattle.uri_grammar.specs.Literals.{AreLiterals}
+use Rattle.uri_grammar.specs.Lengths.{literal_item_len}
 use Rattle.uri_grammar.specs.Specs.{Lacks}
 use Rattle.uri_grammar.specs.Expressions.{IsBody}
-use Rattle.uri_grammar.specs.Templates.{Spells}
-use Rattle.uri_grammar.specs.Faults.{IsBodyFault, begins_with_brace, IsPartFault, bad_literal, unclosed, empty_expression, bad_expression, IsFirstFault}
-use Rattle.uri_grammar.specs.Reading.{IsFault, IsExpression, EndsWithNoLiteral}
+use Rattle.uri_grammar.specs.Templates.{BeginsWithLiterals, BeginsWithExpression, Spells}
+use Rattle.uri_grammar.specs.Faults.{IsBodyFault, IsPartFault, bad_literal, unclosed, empty_expression, bad_expression, IsFirstFault}
+use Rattle.uri_grammar.specs.Reading.{IsFault, begins_with_brace, IsExpression, EndsWithNoLiteral}
 use Rattle.uri_grammar.specs.Moved.{moved, moved_place}
+use Rattle.uri_grammar.proofs.LiteralLemmas.{no_length-literal}
 use Rattle.uri_grammar.proofs.ExpressionLemmas.{body_moves}
 
 -- ---- parts
 
+-- what follows the rest leaves the first part as it is
+abbrev pub literals_before : (front : List ℕ) (text : Text) (rest more : List ℕ) → BeginsWithLiterals front text rest → BeginsWithLiterals (front ++ more) text (rest ++ more)
+literals_before front text rest more h = record {
+  raw = h.raw;
+  whole = ap (λ (x : List ℕ). x ++ more) h.whole ∙ append_assoc h.raw rest more;
+  some = h.some;
+  are_literals = h.are_literals;
+  is_written = h.is_written;
+}
+
+abbrev pub expression_before : (front : List ℕ) (op : Op) (specs : List Spec) (rest more : List ℕ) → BeginsWithExpression front op specs rest → BeginsWithExpression (front ++ more) op specs (rest ++ more)
+expression_before front op specs rest more h = record {
+  body = h.body;
+  whole = ap (λ (x : List ℕ). x ++ more) h.whole ∙ ap (λ (x : List ℕ). 123 ∷ x) (append_assoc h.body (125 ∷ rest) more);
+  lacks = h.lacks;
+  is_body = h.is_body;
+}
+
 pub Spells-literal : (front raw : List ℕ) (parts : List Part) → Spells front parts → EndsWithNoLiteral parts → 0 < length raw → AreLiterals raw → Spells (front ++ raw) (parts ++ Literal (written_ur (encode_utf8_all raw)) ∷ [])
-Spells-literal front raw [] s e l h = (raw, [], ap (λ x. x ++ raw) s ∙ sym (append-nil raw), l, h, refl, tt, refl)
+Spells-literal front raw [] s e l h =
+    ([], record { raw = raw; whole = ap (λ x. x ++ raw) s ∙ sym (append-nil raw); some = l; are_literals = h; is_written = refl }, tt, refl)
 Spells-literal front raw (Literal w ∷ []) s e l h = absurd e
-Spells-literal front raw (Literal w ∷ (Literal v ∷ parts)) s e l h = absurd s.6
+Spells-literal front raw (Literal w ∷ (Literal v ∷ parts)) s e l h = absurd s.2
 Spells-literal front raw (Literal w ∷ (Expression op specs ∷ parts)) s e l h =
-    (s.0, s.1 ++ raw, ap (λ x. x ++ raw) s.2 ∙ append_assoc s.0 s.1 raw, s.3, s.4, s.5, tt, Spells-literal s.1 raw (Expression op specs ∷ parts) s.7 e l h)
+    (s.0 ++ raw, literals_before front w s.0 raw s.1, tt, Spells-literal s.0 raw (Expression op specs ∷ parts) s.3 e l h)
 Spells-literal front raw (Expression op specs ∷ []) s e l h =
-    (s.0, s.1 ++ raw, ap (λ x. x ++ raw) s.2 ∙ ap (λ x. 123 ∷ x) (append_assoc s.0 (125 ∷ s.1) raw), s.3, s.4, Spells-literal s.1 raw [] s.5 tt l h)
+    (s.0 ++ raw, expression_before front op specs s.0 raw s.1, Spells-literal s.0 raw [] s.2 tt l h)
 Spells-literal front raw (Expression op specs ∷ (p ∷ parts)) s e l h =
-    (s.0, s.1 ++ raw, ap (λ x. x ++ raw) s.2 ∙ ap (λ x. 123 ∷ x) (append_assoc s.0 (125 ∷ s.1) raw), s.3, s.4, Spells-literal s.1 raw (p ∷ parts) s.5 e l h)
+    (s.0 ++ raw, expression_before front op specs s.0 raw s.1, Spells-literal s.0 raw (p ∷ parts) s.2 e l h)
 
 pub Spells-expression : (front cs : List ℕ) (parts : List Part) (part : Part) → Spells front parts → IsExpression cs part → Spells (front ++ cs) (parts ++ part ∷ [])
 Spells-expression front cs [] (Literal w) s h = absurd h
-Spells-expression front cs [] (Expression op specs) s h = (h.0, [], ap (λ x. x ++ cs) s ∙ h.1, h.2, h.3, refl)
+Spells-expression front cs [] (Expression op specs) s h = ([], subst (λ (x : List ℕ). BeginsWithExpression (x ++ cs) op specs []) (sym s) h, refl)
 Spells-expression front cs (Literal w ∷ []) (Literal v) s h = absurd h
 Spells-expression front cs (Literal w ∷ []) (Expression op specs) s h =
-    (s.0, s.1 ++ cs, ap (λ x. x ++ cs) s.2 ∙ append_assoc s.0 s.1 cs, s.3, s.4, s.5, tt, Spells-expression s.1 cs [] (Expression op specs) s.7 h)
-Spells-expression front cs (Literal w ∷ (Literal v ∷ parts)) part s h = absurd s.6
+    (s.0 ++ cs, literals_before front w s.0 cs s.1, tt, Spells-expression s.0 cs [] (Expression op specs) s.3 h)
+Spells-expression front cs (Literal w ∷ (Literal v ∷ parts)) part s h = absurd s.2
 Spells-expression front cs (Literal w ∷ (Expression op specs ∷ parts)) part s h =
-    (s.0, s.1 ++ cs, ap (λ x. x ++ cs) s.2 ∙ append_assoc s.0 s.1 cs, s.3, s.4, s.5, tt, Spells-expression s.1 cs (Expression op specs ∷ parts) part s.7 h)
+    (s.0 ++ cs, literals_before front w s.0 cs s.1, tt, Spells-expression s.0 cs (Expression op specs ∷ parts) part s.3 h)
 Spells-expression front cs (Expression op specs ∷ parts) part s h =
-    (s.0, s.1 ++ cs, ap (λ x. x ++ cs) s.2 ∙ ap (λ x. 123 ∷ x) (append_assoc s.0 (125 ∷ s.1) cs), s.3, s.4, Spells-expression s.1 cs parts part s.5 h)
+    (s.0 ++ cs, expression_before front op specs s.0 cs s.1, Spells-expression s.0 cs parts part s.2 h)
 
 EndsWithNoLiteral-second : (p part : Part) → EndsWithNoLiteral (part ∷ []) → EndsWithNoLiteral (p ∷ part ∷ [])
 EndsWithNoLiteral-second (Literal w) part h = h
@@ -77,7 +99,7 @@ pub IsExpression-braced : (cs inner : List ℕ) (end : ℕ) (op : Op) (specs : L
 IsExpression-braced cs inner end op specs b e l h lacks ok =
     let whole = braced cs inner end b e l h in
     let size : length (take end inner) ≡ end = length-take_within end inner l in
-    (take end inner, front cs (take end inner) (drop (end + 1) inner) end size whole, lacks, ok)
+    record { body = take end inner; whole = front cs (take end inner) (drop (end + 1) inner) end size whole; lacks = lacks; is_body = ok }
   where
     front : (cs body rest : List ℕ) (end : ℕ) → length body ≡ end → cs ≡ 123 ∷ body ++ 125 ∷ rest → take (end + 2) cs ≡ 123 ∷ body ++ 125 ∷ []
     front cs body rest end size whole =
@@ -98,7 +120,7 @@ Spells-more_expression cs done len part parts parts' h e s =
 -- ---- faults
 
 part_moves : (cs : List ℕ) (k : TemplateErrorKind) (d at n : ℕ) → IsPartFault cs k d → moved_place k at n ≡ at + n
-part_moves cs k d at n (bad_literal xs l i b) = refl
+part_moves cs k d at n (bad_literal c xs l b) = refl
 part_moves cs k d at n (unclosed xs l) = refl
 part_moves cs k d at n (empty_expression xs) = refl
 part_moves cs k d at n (bad_expression body rest k' d' l lack f) = body_moves body k d' at n f
@@ -118,6 +140,10 @@ pub brace_behind : (cs : List ℕ) → begins_with_brace cs ≡ true → cs ≡ 
 brace_behind [] b = cc
 brace_behind (c ∷ cs) b = ap (λ (x : ℕ). x ∷ cs) (eqb-true c 123 b)
 
+pub IsPartFault-literal : (cs : List ℕ) → 0 < length cs → literal_item_len cs ≡ 0 → begins_with_brace cs ≡ false → IsPartFault cs kind.BadLiteral 0
+IsPartFault-literal [] l z b = absurd (omega arith)
+IsPartFault-literal (c ∷ cs) l z b = bad_literal c cs (no_length-literal (c ∷ cs) z) (λ e. both_ways (c == 123) b (eq-eqb c 123 e))
+
 pub IsPartFault-unclosed : (cs inner : List ℕ) → begins_with_brace cs ≡ true → inner ≡ drop 1 cs → Lacks 125 inner → IsPartFault cs kind.Unclosed 0
 IsPartFault-unclosed cs inner b is l =
     subst (λ (t : List ℕ). IsPartFault t kind.Unclosed 0) (sym (brace_behind cs b ∙ ap (λ (t : List ℕ). 123 ∷ t) (sym is))) (unclosed inner l)
@@ -136,5 +162,5 @@ IsFirstFault-after cs done parts e s f =
     (λ g.
     let place : moved_place e.kind e.at (length (encode_utf8_all (take done cs))) ≡ length (encode_utf8_all (take done cs)) + e.at =
     part_moves (drop done cs) e.kind e.at e.at (length (encode_utf8_all (take done cs))) g ∙ omega arith in
-    inr (take done cs, drop done cs, parts, e.at, sym (take-append-drop done cs), s, g, place))
+    inr (record { front = take done cs; parts = parts; rest = drop done cs; distance = e.at; whole = sym (take-append-drop done cs); spelled = s; fault = g; place = place }))
     f

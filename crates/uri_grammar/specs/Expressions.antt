@@ -4,6 +4,7 @@ use Rattle.std.specs.List.{list_any}
 use Rattle.uri_grammar.specs.declared.parts.Op.{Op}
 use Rattle.uri_grammar.specs.declared.parts.Op.TheVariants as operator
 use Rattle.uri_grammar.specs.declared.parts.Spec.{Spec}
+use Rattle.uri_grammar.specs.Characters.{comma}
 use Rattle.uri_grammar.specs.Specs.{SpellsSpecs}
 
 -- operator = op-level2 / op-level3, or none
@@ -34,4 +35,4 @@ pub record HasOperator (body : List ℕ) (op : Op) (list : List ℕ) : Type 0 wh
 
 -- [ operator ] variable-list, with variable-list = varspec *( "," varspec )
 abbrev pub IsBody : List ℕ → Op → List Spec → Type 0
-IsBody body op specs = (list : List ℕ) × HasOperator body op list × SpellsSpecs (list ++ 44 ∷ []) specs
+IsBody body op specs = (list : List ℕ) × HasOperator body op list × SpellsSpecs (list ++ comma ∷ []) specs

@@ -1,13 +1,15 @@
 -- The first fault of a text that is no template: what can be read, and then what nothing can begin with.
 -- All characters of an expression before its fault are ASCII, so places within it count bytes.
-use Rattle.std.specs.Prelude.{◌≡◌, ℕ, ◌+◌, ◌<◌, Bool, true, false, ◌||◌, ◌==◌, List, [], ◌∷◌, ◌++◌, length, encode_utf8_all, ◌⊎◌, ◌≤◌}
+use Rattle.std.specs.Prelude.{◌≡◌, ◌≢◌, ℕ, ◌+◌, ◌<◌, Bool, true, false, ◌||◌, ◌==◌, List, [], ◌∷◌, ◌++◌, length, encode_utf8_all, ◌⊎◌, ◌≤◌}
 use Rattle.uri_grammar.specs.declared.error.TemplateErrorKind.{TemplateErrorKind}
 use Rattle.uri_grammar.specs.declared.error.TemplateErrorKind.TheVariants as kind
 use Rattle.uri_grammar.specs.declared.parts.Op.{Op}
 use Rattle.uri_grammar.specs.declared.parts.Part.{Part}
 use Rattle.uri_grammar.specs.declared.parts.Spec.{Spec}
-use Rattle.uri_grammar.specs.Literals.{literal_item_len}
-use Rattle.uri_grammar.specs.Names.{BeginsWithVarname, max_name_bytes}
+use Rattle.uri_grammar.specs.declared.names.TheConstants.{MAX_NAME_BYTES}
+use Rattle.uri_grammar.specs.Characters.{open_brace, close_brace, comma, colon, asterisk}
+use Rattle.uri_grammar.specs.Literals.{begins_with_literal}
+use Rattle.uri_grammar.specs.Names.{BeginsWithVarname}
 use Rattle.uri_grammar.specs.Specs.{IsModifier, Lacks, SpellsSpecs}
 use Rattle.uri_grammar.specs.Expressions.{operator_text, begins_with_reserved, HasOperator}
 use Rattle.uri_grammar.specs.Templates.{Spells}
@@ -17,12 +19,12 @@ use Rattle.uri_grammar.specs.Templates.{Spells}
 -- a prefix or an explode begins here, well formed or not
 abbrev pub begins_with_modifier : List ℕ → Bool
 begins_with_modifier [] = false
-begins_with_modifier (c ∷ cs) = c == 58 || c == 42
+begins_with_modifier (c ∷ cs) = c == colon || c == asterisk
 
 -- the longest varname at the front is a name, and behind it is nothing or the begin of a modifier
 pub record IsNamed (cs name after : List ℕ) : Type 0 where
   pub begins : BeginsWithVarname cs name after
-  pub short : length name ≤ max_name_bytes
+  pub short : length name ≤ MAX_NAME_BYTES
   pub follows : (after ≡ []) ⊎ (begins_with_modifier after ≡ true)
 
 -- what is wrong with a text that is no spec, and where in it
@@ -31,12 +33,18 @@ pub data IsSpecFault : List ℕ → TemplateErrorKind → ℕ → Type 0 where
   bad_modifier : (cs name after : List ℕ) → IsNamed cs name after → ((n : ℕ) (explode : Bool) → IsModifier after n explode → ⊥)
       → IsSpecFault cs kind.BadModifier (length name)
 
--- specs, and then a text up to a comma that is no spec
-abbrev pub IsListFault : List ℕ → TemplateErrorKind → ℕ → Type 0
-IsListFault list k at =
-    (front : List ℕ) × (piece : List ℕ) × (after : List ℕ) × (specs : List Spec) × (d : ℕ)
-    × (list ++ 44 ∷ [] ≡ front ++ (piece ++ 44 ∷ after)) × SpellsSpecs front specs × Lacks 44 piece × IsSpecFault piece k d
-    × (at ≡ length front + d)
+-- specs, and then a text up to a comma that is no spec: what is wrong with it, and where in the list
+pub record IsListFault (list : List ℕ) (k : TemplateErrorKind) (at : ℕ) : Type 0 where
+  pub front : List ℕ
+  pub specs : List Spec
+  pub piece : List ℕ
+  pub after : List ℕ
+  pub distance : ℕ
+  pub whole : list ++ comma ∷ [] ≡ front ++ (piece ++ comma ∷ after)
+  pub spelled : SpellsSpecs front specs
+  pub lacks : Lacks comma piece
+  pub fault : IsSpecFault piece k distance
+  pub place : at ≡ length front + distance
 
 -- ---- expressions
 
@@ -48,20 +56,21 @@ pub data IsBodyFault : List ℕ → TemplateErrorKind → ℕ → Type 0 where
 
 -- ---- templates
 
-abbrev pub begins_with_brace : List ℕ → Bool
-begins_with_brace [] = false
-begins_with_brace (c ∷ cs) = c == 123
-
 -- a text that no part can begin with: what is wrong, and how far from the front
 pub data IsPartFault : List ℕ → TemplateErrorKind → ℕ → Type 0 where
-  bad_literal : (cs : List ℕ) → 0 < length cs → literal_item_len cs ≡ 0 → begins_with_brace cs ≡ false → IsPartFault cs kind.BadLiteral 0
-  unclosed : (cs : List ℕ) → Lacks 125 cs → IsPartFault (123 ∷ cs) kind.Unclosed 0
-  empty_expression : (rest : List ℕ) → IsPartFault (123 ∷ 125 ∷ rest) kind.EmptyExpression 0
-  bad_expression : (body rest : List ℕ) (k : TemplateErrorKind) (d : ℕ) → 0 < length body → Lacks 125 body → IsBodyFault body k d
-      → IsPartFault (123 ∷ body ++ 125 ∷ rest) k (1 + d)
+  bad_literal : (c : ℕ) (rest : List ℕ) → begins_with_literal (c ∷ rest) ≡ false → c ≢ open_brace → IsPartFault (c ∷ rest) kind.BadLiteral 0
+  unclosed : (rest : List ℕ) → Lacks close_brace rest → IsPartFault (open_brace ∷ rest) kind.Unclosed 0
+  empty_expression : (rest : List ℕ) → IsPartFault (open_brace ∷ close_brace ∷ rest) kind.EmptyExpression 0
+  bad_expression : (body rest : List ℕ) (k : TemplateErrorKind) (d : ℕ) → 0 < length body → Lacks close_brace body → IsBodyFault body k d
+      → IsPartFault (open_brace ∷ body ++ close_brace ∷ rest) k (1 + d)
 
--- parts, and then a text that no part can begin with: what is wrong, and at which byte
-abbrev pub IsFirstFault : List ℕ → TemplateErrorKind → ℕ → Type 0
-IsFirstFault cs k at =
-    (front : List ℕ) × (rest : List ℕ) × (parts : List Part) × (d : ℕ) × (cs ≡ front ++ rest) × Spells front parts
-    × IsPartFault rest k d × (at ≡ length (encode_utf8_all front) + d)
+-- parts, and then a text that no part can begin with: what is wrong with it, and at which byte of the whole
+pub record IsFirstFault (cs : List ℕ) (k : TemplateErrorKind) (at : ℕ) : Type 0 where
+  pub front : List ℕ
+  pub parts : List Part
+  pub rest : List ℕ
+  pub distance : ℕ
+  pub whole : cs ≡ front ++ rest
+  pub spelled : Spells front parts
+  pub fault : IsPartFault rest k distance
+  pub place : at ≡ length (encode_utf8_all front) + distance

@@ -1,5 +1,5 @@
 -- Literals (RFC 6570, section 2.1), over characters.
-use Rattle.std.specs.Prelude.{◌≡◌, ℕ, ◌%◌, ◌==◌, Bool, true, ◌||◌, ◌&&◌, nat_le, List, [], ◌∷◌, if◌then◌else◌}
+use Rattle.std.specs.Prelude.{◌≡◌, ℕ, ◌%◌, ◌==◌, Bool, true, false, ◌||◌, ◌&&◌, nat_le, List, [], ◌∷◌}
 use Rattle.text_model.specs.Texts.{is_triplet, begins_with_triplet}
 
 abbrev pub is_between : ℕ → ℕ → ℕ → Bool
@@ -27,7 +27,7 @@ pub data AreLiterals : List ℕ → Type 0 where
   literal_character : (c : ℕ) (cs : List ℕ) → is_literal_character c ≡ true → AreLiterals cs → AreLiterals (c ∷ cs)
   literal_triplet : (c high low : ℕ) (cs : List ℕ) → is_triplet c high low ≡ true → AreLiterals cs → AreLiterals (c ∷ high ∷ low ∷ cs)
 
--- how many characters the literal at the front has that is one character or one triplet; 0 where there is none
-abbrev pub literal_item_len : List ℕ → ℕ
-literal_item_len [] = 0
-literal_item_len (c ∷ cs) = if is_literal_character c then 1 else (if begins_with_triplet (c ∷ cs) then 3 else 0)
+-- a literal stands at the front: one character, or one triplet
+abbrev pub begins_with_literal : List ℕ → Bool
+begins_with_literal [] = false
+begins_with_literal (c ∷ cs) = is_literal_character c || begins_with_triplet (c ∷ cs)

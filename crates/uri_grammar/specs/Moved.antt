@@ -1,4 +1,4 @@
--- A fault seen from further left.
+-- A fault seen from further left. Private contracts cite it.
 use Rattle.std.specs.Prelude.{ℕ, ◌+◌}
 use Rattle.uri_grammar.specs.declared.error.TemplateError.{TemplateError}
 use Rattle.uri_grammar.specs.declared.error.TemplateErrorKind.{TemplateErrorKind}

@@ -2,6 +2,7 @@ ghost use Rattle.std.specs.Prelude.{◌≡◌, ◌<◌, ◌≤◌, IfOk, IfSome,
 ghost use Rattle.text_model.specs.Texts.{is_hexadecimal};
 ghost use Rattle.uri_grammar.specs.Specs.{Lacks};
 
+use crate::template::MAX_BYTES;
 use std::alloc::{AllocError, Global};
 
 pub(crate) fn is_hexadecimal(c: char) -> bool
@@ -36,7 +37,7 @@ pub(crate) fn text_of(alloc: Global, chars: &[char]) -> Result<String, AllocErro
 
 // How many bytes the characters have as text.
 pub(crate) fn byte_len(chars: &[char]) -> usize
-    requires { length (encode_utf8_all chars.now) ≤ 8192 }
+    requires { length (encode_utf8_all chars.now) ≤ MAX_BYTES }
     ensures { result ≡ length (encode_utf8_all chars.now) }
 {
     let mut len = 0;

@@ -1,21 +1,23 @@
 ghost use Rattle.std.specs.Prelude.{◌≡◌, ◌+◌, ◌<◌, ◌≤◌, ℕ, List, [], ◌∷◌, ◌++◌, IfOk, IfErr, length, take};
-ghost use Rattle.uri_grammar.specs.Literals.{literal_item_len};
+ghost use Rattle.uri_grammar.specs.Characters.{comma};
+ghost use Rattle.uri_grammar.specs.Lengths.{literal_item_len};
 ghost use Rattle.uri_grammar.specs.Specs.{Lacks, SpellsSpecs};
 ghost use Rattle.uri_grammar.specs.Expressions.{operator_text, begins_with_reserved, IsBody};
-ghost use Rattle.uri_grammar.specs.Faults.{begins_with_brace, IsListFault, IsBodyFault, IsPartFault};
-ghost use Rattle.uri_grammar.specs.Reading.{operator_of, IsExpression, IsFault};
+ghost use Rattle.uri_grammar.specs.Faults.{IsListFault, IsBodyFault, IsPartFault};
+ghost use Rattle.uri_grammar.specs.Reading.{begins_with_brace, operator_of, IsExpression, IsFault};
 
 use crate::characters::place_of;
 use crate::error::{TemplateError, TemplateErrorKind};
 use crate::parts::{Op, Part, Spec, Specs};
+use crate::template::MAX_BYTES;
 use crate::variables::spec;
 use std::alloc::Global;
 
 // How many characters stand before the first comma, or the end.
 fn piece_len(rest: &[char]) -> usize
     ensures within { result ≤ length rest.now }
-    ensures lacks { Lacks 44 (take result rest.now) }
-    ensures cut { (after : List ℕ) × (rest.now ++ 44 ∷ [] ≡ take result rest.now ++ 44 ∷ after) }
+    ensures lacks { Lacks comma (take result rest.now) }
+    ensures cut { (after : List ℕ) × (rest.now ++ comma ∷ [] ≡ take result rest.now ++ comma ∷ after) }
 {
     match place_of(rest, ',') {
         Some(at) => at,
@@ -25,8 +27,8 @@ fn piece_len(rest: &[char]) -> usize
 
 // Specs with commas between them.
 fn variable_list(alloc: Global, list: &[char]) -> Result<Vec<Spec>, TemplateError>
-    requires { length list.now ≤ 8192 }
-    ensures ok { IfOk result (λ specs. SpellsSpecs (list.now ++ 44 ∷ []) specs.items) }
+    requires { length list.now ≤ MAX_BYTES }
+    ensures ok { IfOk result (λ specs. SpellsSpecs (list.now ++ comma ∷ []) specs.items) }
     ensures err { IfErr result (λ e. IsFault e (IsListFault list.now)) }
     ensures near { IfErr result (λ e. e.at ≤ 16384) }
 {
@@ -76,7 +78,7 @@ fn begins_with_reserved(body: &[char]) -> bool
 
 // What stands between the braces.
 fn body(alloc: Global, text: &[char]) -> Result<(Op, Vec<Spec>), TemplateError>
-    requires { length text.now ≤ 8192 }
+    requires { length text.now ≤ MAX_BYTES }
     ensures ok { IfOk result (λ body. IsBody text.now body.0 body.1.items) }
     ensures err { IfErr result (λ e. IsFault e (IsBodyFault text.now)) }
     ensures near { IfErr result (λ e. e.at ≤ 16385) }
@@ -100,7 +102,7 @@ fn begins_with_brace(text: &[char]) -> bool
 
 // The expression at the front, and how many characters it has.
 pub(crate) fn expression(alloc: Global, text: &[char]) -> Result<(Part, usize), TemplateError>
-    requires short { length text.now ≤ 8192 }
+    requires short { length text.now ≤ MAX_BYTES }
     requires some { 0 < length text.now }
     requires no_literal { literal_item_len text.now ≡ 0 }
     ensures within { IfOk result (λ found. (0 < found.1) × (found.1 ≤ length text.now)) }

@@ -9,6 +9,7 @@ pub use crate::error::{TemplateError, TemplateErrorKind};
 pub use crate::names::{MAX_NAME_BYTES, is_name};
 pub use crate::parts::{Op, Part, Spec, Specs, Text};
 pub use crate::template::{MAX_BYTES, Template};
+pub use crate::variables::MAX_PREFIX;
 
 mod characters;
 mod error;

@@ -1,10 +1,12 @@
-ghost use Rattle.std.specs.Prelude.{◌≡◌, ◌<◌, ◌≤◌, ◌^◌, IfOk, length, take, drop, encode_utf8_all};
+ghost use Rattle.std.specs.Prelude.{◌≡◌, ◌<◌, ◌≤◌, IfOk, length, take, drop, encode_utf8_all};
 ghost use Rattle.text_model.specs.Writing.{written_ur};
-ghost use Rattle.uri_grammar.specs.Literals.{is_literal_character, literal_item_len, AreLiterals};
+ghost use Rattle.uri_grammar.specs.Literals.{is_literal_character, AreLiterals};
+ghost use Rattle.uri_grammar.specs.Lengths.{literal_item_len};
 ghost use Rattle.uri_grammar.specs.declared.parts.Part.{Part};
 
 use crate::characters::{is_hexadecimal, text_of};
 use crate::parts::{Part, Text};
+use crate::template::MAX_BYTES;
 use std::alloc::{AllocError, Global};
 use uri_text::encode_ur;
 
@@ -37,7 +39,7 @@ fn literal_item_len(text: &[char]) -> usize
 
 // How many characters the literals at the front have.
 pub(crate) fn literals_len(text: &[char]) -> usize
-    requires { length text.now ≤ 8192 }
+    requires { length text.now ≤ MAX_BYTES }
     ensures within { result ≤ length text.now }
     ensures literals { AreLiterals (take result text.now) }
     ensures longest { literal_item_len (drop result text.now) ≡ 0 }
@@ -54,7 +56,7 @@ pub(crate) fn literals_len(text: &[char]) -> usize
 
 // A text in its written form.
 fn written(alloc: Global, text: &str) -> Result<Text, AllocError>
-    requires { length text.now ≤ 2 ^ 20 }
+    requires { length text.now ≤ MAX_BYTES }
     ensures { IfOk result (λ written. written ≡ written_ur text.now) }
 {
     let mut written = String::with_capacity(alloc, 3 * text.len())?;
@@ -64,7 +66,7 @@ fn written(alloc: Global, text: &str) -> Result<Text, AllocError>
 
 // Literals as a part.
 pub(crate) fn literal(alloc: Global, literals: &[char]) -> Result<Part, AllocError>
-    requires { length (encode_utf8_all literals.now) ≤ 2 ^ 20 }
+    requires { length (encode_utf8_all literals.now) ≤ MAX_BYTES }
     ensures { IfOk result (λ part. part ≡ Part.Literal (written_ur (encode_utf8_all literals.now))) }
 {
     let text = text_of(alloc, literals)?;

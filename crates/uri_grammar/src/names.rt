@@ -1,7 +1,9 @@
 ghost use Rattle.std.specs.Prelude.{◌≡◌, ◌<◌, ◌≤◌, ◌↔◌, IsTrue, length, take, drop};
-ghost use Rattle.uri_grammar.specs.Names.{is_name_character, varchar_len, next_len, IsVarname, BeginsWithVarname, IsName};
+ghost use Rattle.uri_grammar.specs.Names.{is_name_character, IsVarname, BeginsWithVarname, IsName};
+ghost use Rattle.uri_grammar.specs.Lengths.{varchar_len, next_len};
 
 use crate::characters::is_hexadecimal;
+use crate::template::MAX_BYTES;
 
 /// The most bytes that a variable's name has.
 pub const MAX_NAME_BYTES: usize = 255;
@@ -40,7 +42,7 @@ fn next_len(text: &[char]) -> usize
 
 // How many characters the longest varname at the front has; 0 where there is none.
 pub(crate) fn varname_len(text: &[char]) -> usize
-    requires { length text.now ≤ 8192 }
+    requires { length text.now ≤ MAX_BYTES }
     ensures within { result ≤ length text.now }
     ensures none { result ≡ 0 → varchar_len text.now ≡ 0 }
     ensures varname { 0 < result → BeginsWithVarname text.now (take result text.now) (drop result text.now) }
@@ -58,7 +60,7 @@ pub(crate) fn varname_len(text: &[char]) -> usize
 }
 
 fn is_varname(text: &[char]) -> bool
-    requires { length text.now ≤ 8192 }
+    requires { length text.now ≤ MAX_BYTES }
     ensures { IsTrue result ↔ IsVarname text.now }
 {
     let len = varname_len(text);

@@ -2,7 +2,7 @@ ghost use Rattle.std.specs.Prelude.{◌≡◌, ◌<◌, ◌≤◌, ◌⊎◌, Al
 ghost use Rattle.uri_grammar.specs.Templates.{Spells};
 ghost use Rattle.uri_grammar.specs.Faults.{IsFirstFault};
 ghost use Rattle.uri_grammar.specs.Reading.{IsFault};
-ghost use Rattle.uri_grammar.specs.Texts.{max_template_bytes, IsTemplate, IsRefused};
+ghost use Rattle.uri_grammar.specs.Texts.{IsTemplate, IsRefused};
 ghost use Rattle.uri_grammar.specs.Promises.{IsSoundPart};
 ghost use Rattle.uri_grammar.specs.declared.error.TemplateErrorKind.TheVariants.{NoMemory, TooLong};
 
@@ -10,7 +10,9 @@ use crate::characters::byte_len;
 use crate::error::{TemplateError, TemplateErrorKind};
 use crate::expressions::expression;
 use crate::literals::{literal, literals_len};
+use crate::names::MAX_NAME_BYTES;
 use crate::parts::{Part, Text};
+use crate::variables::MAX_PREFIX;
 use std::alloc::Global;
 use std::marker::Model;
 
@@ -37,11 +39,13 @@ impl Model for Template {
 impl Template {
     /// Reads a template of at most 8,192 bytes. Any other text is refused whole, by the kind and the
     /// place of its first fault. A text that is too long is never answered by want of memory.
+    /// The clause `limits` says what the limits of every template are.
     pub fn parse(alloc: Global, text: &str) -> Result<Template, TemplateError>
+        ensures limits { (MAX_BYTES ≡ 8192) × (MAX_NAME_BYTES ≡ 255) × (MAX_PREFIX ≡ 9999) }
         ensures text { IfOk result (λ template. template.text ≡ text.now) }
         ensures ok { IfOk result (λ template. IsTemplate text.now template.parts) }
         ensures err { IfErr result (λ e. (e ≡ record { kind = NoMemory; at = 0 }) ⊎ IsRefused text.now e.kind e.at) }
-        ensures too_long { max_template_bytes < length text.now → IfErr result (λ e. e.kind ≡ TooLong) }
+        ensures too_long { MAX_BYTES < length text.now → IfErr result (λ e. e.kind ≡ TooLong) }
     {
         if text.len() > MAX_BYTES {
             return Err(TemplateError::new(TemplateErrorKind::TooLong, MAX_BYTES));
@@ -75,7 +79,7 @@ impl Template {
 
 // The parts that the characters spell, read from the left.
 fn read(alloc: Global, chars: &[char]) -> Result<Vec<Part>, TemplateError>
-    requires { length (encode_utf8_all chars.now) ≤ 8192 }
+    requires { length (encode_utf8_all chars.now) ≤ MAX_BYTES }
     ensures ok { IfOk result (λ parts. Spells chars.now parts.items) }
     ensures err { IfErr result (λ e. IsFault e (IsFirstFault chars.now)) }
 {

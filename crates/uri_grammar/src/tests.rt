@@ -1,4 +1,4 @@
-use crate::{Part, Spec, Specs, Template, TemplateErrorKind, Text, is_name};
+use crate::{Part, Spec, Specs, Template, TemplateError, TemplateErrorKind, Text, is_name};
 use std::alloc::{AllocError, Global};
 use std::test::Fail;
 
@@ -16,65 +16,93 @@ fn with_name(alloc: Global, n: usize, after: &str) -> Result<String, AllocError>
     format!(in alloc; "{{{name}{after}")
 }
 
+// Texts with the kinds and the places of their first faults.
+const FAULTS: [(&str, TemplateErrorKind, usize); 29] = [
+    ("{a b}", TemplateErrorKind::BadName, 1),
+    ("x{+}", TemplateErrorKind::BadName, 3),
+    ("{a", TemplateErrorKind::Unclosed, 0),
+    ("{}", TemplateErrorKind::EmptyExpression, 0),
+    ("{=a}", TemplateErrorKind::ReservedOperator, 1),
+    ("{a:0}", TemplateErrorKind::BadModifier, 2),
+    ("{a:10000}", TemplateErrorKind::BadModifier, 2),
+    ("a}", TemplateErrorKind::BadLiteral, 1),
+    ("{,a}", TemplateErrorKind::ReservedOperator, 1),
+    ("{a,}", TemplateErrorKind::BadName, 3),
+    ("{.}", TemplateErrorKind::BadName, 2),
+    ("{a:3*}", TemplateErrorKind::BadModifier, 2),
+    ("{a}}", TemplateErrorKind::BadLiteral, 3),
+    ("{!a}", TemplateErrorKind::ReservedOperator, 1),
+    ("{@a}", TemplateErrorKind::ReservedOperator, 1),
+    ("{|a}", TemplateErrorKind::ReservedOperator, 1),
+    ("{a,b:01}", TemplateErrorKind::BadModifier, 4),
+    ("{a**}", TemplateErrorKind::BadModifier, 2),
+    ("{a.}", TemplateErrorKind::BadName, 1),
+    ("{a%4}", TemplateErrorKind::BadName, 1),
+    ("{é}", TemplateErrorKind::BadName, 1),
+    ("é{?a,bé}", TemplateErrorKind::BadName, 6),
+    ("é%4", TemplateErrorKind::BadLiteral, 2),
+    ("a b", TemplateErrorKind::BadLiteral, 1),
+    ("\u{E000}\u{FDD0}", TemplateErrorKind::BadLiteral, 3),
+    ("\u{1FFFE}", TemplateErrorKind::BadLiteral, 0),
+    ("\u{7F}", TemplateErrorKind::BadLiteral, 0),
+    ("\u{E0001}", TemplateErrorKind::BadLiteral, 0),
+    ("{a}{b", TemplateErrorKind::Unclosed, 3),
+];
+
+// The kind and the place of a text's first fault.
+fn fault_of(alloc: Global, text: &str) -> Option<(TemplateErrorKind, usize)> {
+    match Template::parse(alloc, text) {
+        Ok(_) => None,
+        Err(e) => Some((e.kind, e.at)),
+    }
+}
+
 #[test]
-fn faults(rt: HostRuntime) -> Result<(), Fail> {
+fn faults(rt: HostRuntime) {
+    for (text, kind, at) in FAULTS {
+        assert_eq!(rt; fault_of(rt.alloc(), text), Some((kind, at)), "{text}");
+    }
+}
+
+#[test]
+fn long_texts_and_names_are_faults(rt: HostRuntime) -> Result<(), Fail> {
     let too_long = repeated(rt.alloc(), "a", 8193)?;
     let long_name = with_name(rt.alloc(), 256, "}")?;
     let long_name_before_cut = with_name(rt.alloc(), 256, ":0}")?;
     let cases = [
-        ("{a b}", TemplateErrorKind::BadName, 1),
-        ("x{+}", TemplateErrorKind::BadName, 3),
-        ("{a", TemplateErrorKind::Unclosed, 0),
-        ("{}", TemplateErrorKind::EmptyExpression, 0),
-        ("{=a}", TemplateErrorKind::ReservedOperator, 1),
-        ("{a:0}", TemplateErrorKind::BadModifier, 2),
-        ("{a:10000}", TemplateErrorKind::BadModifier, 2),
-        ("a}", TemplateErrorKind::BadLiteral, 1),
         (too_long.as_str(), TemplateErrorKind::TooLong, 8192),
-        ("{,a}", TemplateErrorKind::ReservedOperator, 1),
-        ("{a,}", TemplateErrorKind::BadName, 3),
-        ("{.}", TemplateErrorKind::BadName, 2),
-        ("{a:3*}", TemplateErrorKind::BadModifier, 2),
-        ("{a}}", TemplateErrorKind::BadLiteral, 3),
         (long_name.as_str(), TemplateErrorKind::BadName, 1),
         (long_name_before_cut.as_str(), TemplateErrorKind::BadName, 1),
-        ("{!a}", TemplateErrorKind::ReservedOperator, 1),
-        ("{@a}", TemplateErrorKind::ReservedOperator, 1),
-        ("{|a}", TemplateErrorKind::ReservedOperator, 1),
-        ("{a,b:01}", TemplateErrorKind::BadModifier, 4),
-        ("{a**}", TemplateErrorKind::BadModifier, 2),
-        ("{a.}", TemplateErrorKind::BadName, 1),
-        ("{a%4}", TemplateErrorKind::BadName, 1),
-        ("{é}", TemplateErrorKind::BadName, 1),
-        ("é{?a,bé}", TemplateErrorKind::BadName, 6),
-        ("é%4", TemplateErrorKind::BadLiteral, 2),
-        ("a b", TemplateErrorKind::BadLiteral, 1),
-        ("\u{E000}\u{FDD0}", TemplateErrorKind::BadLiteral, 3),
-        ("\u{1FFFE}", TemplateErrorKind::BadLiteral, 0),
-        ("\u{7F}", TemplateErrorKind::BadLiteral, 0),
-        ("\u{E0001}", TemplateErrorKind::BadLiteral, 0),
-        ("{a}{b", TemplateErrorKind::Unclosed, 3),
     ];
     for (text, kind, at) in cases {
-        match Template::parse(rt.alloc(), text) {
-            Ok(_) => assert!(rt; false, "{text} is accepted"),
-            Err(e) => {
-                assert_eq!(rt; e.kind, kind, "{text}");
-                assert_eq!(rt; e.at, at, "{text}");
-            }
-        }
+        assert_eq!(rt; fault_of(rt.alloc(), text), Some((kind, at)));
     }
     Ok(())
 }
 
 #[test]
 fn errors_print_kind_and_place(rt: HostRuntime) -> Result<(), Fail> {
-    match Template::parse(rt.alloc(), "x{+}") {
-        Ok(_) => assert!(rt; false),
-        Err(e) => {
-            let printed = format!(in rt.alloc(); "{e}")?;
-            assert_eq!(rt; printed.as_str(), "BadName at 3");
-        }
+    let cases = [
+        (TemplateErrorKind::TooLong, 8192, "TooLong at 8192"),
+        (TemplateErrorKind::Unclosed, 0, "Unclosed at 0"),
+        (
+            TemplateErrorKind::EmptyExpression,
+            7,
+            "EmptyExpression at 7",
+        ),
+        (
+            TemplateErrorKind::ReservedOperator,
+            1,
+            "ReservedOperator at 1",
+        ),
+        (TemplateErrorKind::BadName, 3, "BadName at 3"),
+        (TemplateErrorKind::BadModifier, 10, "BadModifier at 10"),
+        (TemplateErrorKind::BadLiteral, 2, "BadLiteral at 2"),
+        (TemplateErrorKind::NoMemory, 0, "NoMemory at 0"),
+    ];
+    for (kind, at, wanted) in cases {
+        let printed = format!(in rt.alloc(); "{}", TemplateError { kind, at })?;
+        assert_eq!(rt; printed.as_str(), wanted);
     }
     Ok(())
 }

@@ -1,51 +1,51 @@
 ghost use Rattle.std.specs.Prelude.{◌≡◌, true, ◌+◌, ◌-◌, ◌<◌, ◌≤◌, ℕ, Bool, List, IfOk, IfErr, IfSome, IfNone, length, take, drop};
 ghost use Rattle.std.specs.Char.{is_ascii_digit};
-ghost use Rattle.uri_grammar.specs.Literals.{is_between};
 ghost use Rattle.uri_grammar.specs.Specs.{IsModifier, IsSpec};
 ghost use Rattle.uri_grammar.specs.Faults.{begins_with_modifier, IsNamed, IsSpecFault};
-ghost use Rattle.uri_grammar.specs.Reading.{number_of, modifier_of, IsFault};
+ghost use Rattle.uri_grammar.specs.Reading.{begins_above_zero, number_of, modifier_of, IsFault};
 
 use crate::characters::text_of;
 use crate::error::{TemplateError, TemplateErrorKind};
 use crate::names::{MAX_NAME_BYTES, varname_len};
 use crate::parts::{Spec, Text};
+use crate::template::MAX_BYTES;
 use std::alloc::Global;
 
-fn is_first_digit(c: char) -> bool
-    ensures { result ≡ is_between 0x31 0x39 c }
+/// The most items that a prefix takes of a value.
+pub const MAX_PREFIX: u16 = 9_999;
+
+fn begins_above_zero(digits: &[char]) -> bool
+    ensures { result ≡ begins_above_zero digits.now }
 {
-    matches!(c, '1'..='9')
+    !matches!(digits, [] | ['0', ..])
 }
 
-fn is_digit(c: char) -> bool
-    ensures { result ≡ is_ascii_digit c }
-{
-    c.is_ascii_digit()
-}
-
-fn digit(c: char) -> u16
+fn digit(c: char) -> u32
     requires { is_ascii_digit c ≡ true }
     ensures value { result ≡ c - 48 }
     ensures small { result ≤ 9 }
 {
-    (u32::from(c) - 48) as u16
+    u32::from(c) - u32::from('0')
 }
 
-// The number of one to four digits, the first not 0; 0 where there is none.
-fn number(digits: &[char]) -> u16
+// The number of a prefix.
+fn number(digits: &[char]) -> Option<u16>
     ensures { result ≡ number_of digits.now }
 {
-    match digits {
-        [a] if is_first_digit(*a) => digit(*a),
-        [a, b] if is_first_digit(*a) && is_digit(*b) => digit(*a) * 10 + digit(*b),
-        [a, b, c] if is_first_digit(*a) && is_digit(*b) && is_digit(*c) => {
-            digit(*a) * 100 + digit(*b) * 10 + digit(*c)
-        }
-        [a, b, c, d] if is_first_digit(*a) && is_digit(*b) && is_digit(*c) && is_digit(*d) => {
-            digit(*a) * 1000 + digit(*b) * 100 + digit(*c) * 10 + digit(*d)
-        }
-        _ => 0,
+    if !begins_above_zero(digits) {
+        return None;
     }
+    let mut number = 0;
+    for c in digits {
+        if !c.is_ascii_digit() {
+            return None;
+        }
+        number = 10 * number + digit(*c);
+        if number > u32::from(MAX_PREFIX) {
+            return None;
+        }
+    }
+    Some(number as u16)
 }
 
 // The cut and whether it explodes.
@@ -55,10 +55,7 @@ fn modifier(after: &[char]) -> Option<(u16, bool)>
     match after {
         [] => Some((0, false)),
         ['*'] => Some((0, true)),
-        [':', digits @ ..] => match number(digits) {
-            0 => None,
-            cut => Some((cut, false)),
-        },
+        [':', digits @ ..] => Some((number(digits)?, false)),
         _ => None,
     }
 }
@@ -71,7 +68,7 @@ fn begins_with_modifier(after: &[char]) -> bool
 
 // How long the name at the front is, where a spec can go on or end behind it.
 fn named_len(text: &[char]) -> Option<usize>
-    requires { length text.now ≤ 8192 }
+    requires { length text.now ≤ MAX_BYTES }
     ensures some { IfSome result (λ len. (len ≤ length text.now) × IsNamed text.now (take len text.now) (drop len text.now)) }
     ensures none { IfNone result ((name after : List ℕ) → IsNamed text.now name after → ⊥) }
 {
@@ -93,10 +90,10 @@ fn named_len(text: &[char]) -> Option<usize>
 }
 
 pub(crate) fn spec(alloc: Global, text: &[char]) -> Result<Spec, TemplateError>
-    requires { length text.now ≤ 8192 }
+    requires { length text.now ≤ MAX_BYTES }
     ensures ok { IfOk result (IsSpec text.now) }
     ensures err { IfErr result (λ e. IsFault e (IsSpecFault text.now)) }
-    ensures near { IfErr result (λ e. e.at ≤ 8192) }
+    ensures near { IfErr result (λ e. e.at ≤ MAX_BYTES) }
 {
     let Some(len) = named_len(text) else {
         return Err(TemplateError::new(TemplateErrorKind::BadName, 0));

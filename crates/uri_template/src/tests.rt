@@ -27,48 +27,52 @@ fn environment(
     Ok(env)
 }
 
+// Variables that stand for texts.
+const TEXTS: [(&str, &str); 11] = [
+    ("hello", "Hello World!"),
+    ("path", "/foo/bar"),
+    ("empty", ""),
+    ("v", "6"),
+    ("who", "fred"),
+    ("x", "1024"),
+    ("lone", "%41%4"),
+    ("triplets", "%41%42%43"),
+    ("accent", "éa"),
+    ("a.b", "dotted"),
+    ("%41", "named by a triplet"),
+];
+
+// A template over them and its expansion.
+const EXPANSIONS: [(&str, &str); 23] = [
+    ("", ""),
+    ("{hello}", "Hello%20World%21"),
+    ("a{y}b", "ab"),
+    ("é/{v}", "%C3%A9/6"),
+    ("?{x,empty}", "?1024,"),
+    ("?{x,y}", "?1024"),
+    ("?{y,z}", "?"),
+    ("{;v,empty,who}", ";v=6;empty;who=fred"),
+    ("{?v,empty}", "?v=6&empty="),
+    ("{?y,v}{&z,who}", "?v=6&who=fred"),
+    ("{+lone}", "%41%254"),
+    ("{+triplets:2}", "%41%42"),
+    ("{triplets:2}", "%254"),
+    ("{#triplets:1}", "#%41"),
+    ("{accent:1}", "%C3%A9"),
+    ("{+hello}", "Hello%20World!"),
+    ("{+path:6}here", "/foo/bhere"),
+    ("X{.empty}", "X."),
+    ("foo{#empty}", "foo#"),
+    ("{?who*}", "?who=fred"),
+    ("{;empty:3}", ";empty"),
+    ("{a.b}", "dotted"),
+    ("{A}{%41:5}", "named"),
+];
+
 #[test]
 fn texts_expand(rt: HostRuntime) -> Result<(), Fail> {
-    let texts = [
-        ("hello", "Hello World!"),
-        ("path", "/foo/bar"),
-        ("empty", ""),
-        ("v", "6"),
-        ("who", "fred"),
-        ("x", "1024"),
-        ("lone", "%41%4"),
-        ("triplets", "%41%42%43"),
-        ("accent", "éa"),
-        ("a.b", "dotted"),
-        ("%41", "named by a triplet"),
-    ];
-    let env = environment(rt.alloc(), &texts, &[])?;
-    let cases = [
-        ("", ""),
-        ("{hello}", "Hello%20World%21"),
-        ("a{y}b", "ab"),
-        ("é/{v}", "%C3%A9/6"),
-        ("?{x,empty}", "?1024,"),
-        ("?{x,y}", "?1024"),
-        ("?{y,z}", "?"),
-        ("{;v,empty,who}", ";v=6;empty;who=fred"),
-        ("{?v,empty}", "?v=6&empty="),
-        ("{?y,v}{&z,who}", "?v=6&who=fred"),
-        ("{+lone}", "%41%254"),
-        ("{+triplets:2}", "%41%42"),
-        ("{triplets:2}", "%254"),
-        ("{#triplets:1}", "#%41"),
-        ("{accent:1}", "%C3%A9"),
-        ("{+hello}", "Hello%20World!"),
-        ("{+path:6}here", "/foo/bhere"),
-        ("X{.empty}", "X."),
-        ("foo{#empty}", "foo#"),
-        ("{?who*}", "?who=fred"),
-        ("{;empty:3}", ";empty"),
-        ("{a.b}", "dotted"),
-        ("{A}{%41:5}", "named"),
-    ];
-    for (template, wanted) in cases {
+    let env = environment(rt.alloc(), &TEXTS, &[])?;
+    for (template, wanted) in EXPANSIONS {
         let text = expanded(rt.alloc(), template, &env)?;
         assert_eq!(rt; text.as_str(), wanted);
     }

@@ -1,23 +1,26 @@
 -- Percent-decoding what was written.
-use Rattle.std.proofs.Common.{◌≡◌, ◌≢◌, ℕ, suc, ◌+◌, ◌*◌, ◌<◌, [], ◌∷◌, ◌++◌, Bool, true, false, ◌&&◌, ◌==◌, refl, sym, ap, ◌∙◌, subst, arith, append-nil}
+use Rattle.std.proofs.Common.{◌≡◌, ◌≢◌, ℕ, ◌+◌, ◌*◌, ◌<◌, [], ◌∷◌, ◌++◌, Bool, true, false, ◌&&◌, ◌==◌, refl, sym, ap, ◌∙◌, arith, append-nil}
 use Rattle.std.specs.Prelude.{All, if◌then◌else◌}
 use Rattle.std.specs.Char.{digit_value}
 use Rattle.std.proofs.lemmas.Bool.{and_parts, eqb-true, cond-false}
+use Rattle.std.proofs.lemmas.List.Elements.{All-head, All-tail}
 use Rattle.std.proofs.lemmas.Bool.Decides.{nat_tests}
 use Rattle.percent_encoding.specs.Percent.{percent_decode, is_escape}
 use Rattle.percent_encoding.proofs.PercentLemmas.{percent_decode-nil, percent_decode_escape, percent_decode_not_percent, percent_decode-percent_encode_byte}
-use Rattle.text_model.specs.Texts.{Text, is_unreserved, is_reserved, is_triplet, is_hexadecimal}
+use Rattle.text_model.specs.Texts.{Text, is_unreserved, is_triplet, is_hexadecimal}
 use Rattle.text_model.specs.Writing.{written_byte, is_unreserved_or_reserved, written_u, written_ur}
+use Rattle.text_model.proofs.UriTexts.{unreserved_first}
+use Rattle.text_model.proofs.Unchanged.{not_percent}
 use Rattle.uri_text.proofs.PercentBytes.{percent_encode_byte_triplet}
 
 abbrev AreBytes : Text → Type 0
 AreBytes t = All (λ b. b < 256) t
 
 first_byte : (b : ℕ) (t : Text) → AreBytes (b ∷ t) → b < 256
-first_byte b t h = h 0 b (omega arith)
+first_byte b t h = All-head (λ x. x < 256) b t h
 
 later_bytes : (b : ℕ) (t : Text) → AreBytes (b ∷ t) → AreBytes t
-later_bytes b t h = λ k d l. h (suc k) d (omega arith)
+later_bytes b t h = All-tail (λ x. x < 256) b t h
 
 -- the byte that was written comes first, unless `%` was copied
 decoded_byte : (stays : Bool) (b : ℕ) (rest : Text) → b < 256 → (stays ≡ true → b ≢ 37) → percent_decode (written_byte stays b ++ rest) ≡ b ∷ percent_decode rest
@@ -25,23 +28,15 @@ decoded_byte true b rest small other = percent_decode_not_percent b rest (other 
 decoded_byte false b rest small other =
     ap (λ x. percent_decode (x ++ rest)) (sym (percent_encode_byte_triplet b)) ∙ percent_decode-percent_encode_byte b rest small
 
-percent_is_written : (b : ℕ) → is_unreserved_or_reserved b ≡ true → b ≢ 37
-unfolding is_unreserved is_reserved
-percent_is_written b e p = let percent : is_unreserved_or_reserved 37 ≡ true = subst (λ x. is_unreserved_or_reserved x ≡ true) p e in absurd (cc)
-
-percent_is_no_unreserved : (b : ℕ) → is_unreserved b ≡ true → b ≢ 37
-unfolding is_unreserved
-percent_is_no_unreserved b e p = let percent : is_unreserved 37 ≡ true = subst (λ x. is_unreserved x ≡ true) p e in absurd (cc)
-
 pub decoded_u : (t : Text) → AreBytes t → percent_decode (written_u t) ≡ t
 unfolding written_u
 decoded_u [] h = percent_decode-nil
 decoded_u (b ∷ t) h =
-    decoded_byte (is_unreserved b) b (written_u t) (first_byte b t h) (percent_is_no_unreserved b)
+    decoded_byte (is_unreserved b) b (written_u t) (first_byte b t h) (λ e. not_percent b (unreserved_first b e))
     ∙ ap (λ x. b ∷ x) (decoded_u t (later_bytes b t h))
 
 decoded_ur_byte : (b : ℕ) (rest : Text) → b < 256 → percent_decode (written_byte (is_unreserved_or_reserved b) b ++ rest) ≡ b ∷ percent_decode rest
-decoded_ur_byte b rest small = decoded_byte (is_unreserved_or_reserved b) b rest small (percent_is_written b)
+decoded_ur_byte b rest small = decoded_byte (is_unreserved_or_reserved b) b rest small (not_percent b)
 
 hexadecimal_value : (b : ℕ) → is_hexadecimal b ≡ true → digit_value b < 16
 hexadecimal_value b h = grind (arith, nat_tests)

@@ -2,7 +2,7 @@
 use Rattle.std.proofs.Common.{◌≡◌, ℕ, suc, ◌+◌, ◌<◌, ◌-◌, ◌≤◌, ◌⊎◌, inl, inr, append_assoc, append-nil, List, [], ◌∷◌, ◌++◌, length, take, drop, Bool, true, false, cond, ◌&&◌, ◌==◌, not, add-one, refl, sym, ap, ◌∙◌, arith}
 use Rattle.std.specs.Prelude.{if◌then◌else◌}
 use Rattle.std.specs.List.{prefix_len}
-use Rattle.std.proofs.lemmas.Bool.{and_parts}
+use Rattle.std.proofs.lemmas.Bool.{and_parts, not-true}
 use Rattle.std.proofs.lemmas.Bool.Decides.{nat_tests}
 use Rattle.std.proofs.Math.Seq.{take-add}
 use Rattle.std.proofs.lemmas.List.{drop-drop, length-drop}
@@ -10,7 +10,8 @@ use Rattle.std.proofs.lemmas.List.Sums.{prefix_len-le-length}
 use Rattle.text_model.specs.Texts.{Text, is_hexadecimal, is_triplet}
 use Rattle.text_model.specs.Cut.{is_continuation, code_points, with_triplets, items, cut}
 use Rattle.text_model.proofs.Cuts.{code_points-next, begins_with_triplet_points, with_triplets-first, with_triplets-triplet, cut-item, cut-nothing}
-use Rattle.uri_text.specs.Items.{writing_of, continues, code_point_length, begins_with_triplet_item, item_length}
+use Rattle.uri_text.specs.Prefix.{writing_of}
+use Rattle.uri_text.specs.Items.{continues, code_point_length, begins_with_triplet_item, item_length}
 
 hexadecimal_alone : (b : ℕ) → is_hexadecimal b ≡ true → is_continuation b ≡ false
 hexadecimal_alone b h = grind (arith, nat_tests)
@@ -76,17 +77,13 @@ other_item : (b : ℕ) (t : Text) → begins_with_triplet_item (b ∷ t) ≡ fal
     → with_triplets (code_points (b ∷ t)) ≡ (b ∷ take (prefix_len is_continuation t) t) ∷ with_triplets (code_points (drop (prefix_len is_continuation t) t))
 other_item b t h = ap with_triplets (code_points-next b t) ∙ with_triplets-first _ _ (by_first b t (continues t) refl h)
 
-not_false : (x : Bool) → not x ≡ true → x ≡ false
-not_false true e = sym e
-not_false false e = refl
-
 -- a triplet at the front is the first item
 triplet_item : (b high low : ℕ) (t : Text) → begins_with_triplet_item (b ∷ high ∷ low ∷ t) ≡ true
     → with_triplets (code_points (b ∷ high ∷ low ∷ t)) ≡ (b ∷ high ∷ low ∷ []) ∷ with_triplets (code_points t)
 triplet_item b high low t h =
     let parts = and_parts (is_triplet b high low) (not (continues t)) h in
     let digits = and_parts (is_hexadecimal high) (is_hexadecimal low) ((and_parts (b == 37) (is_hexadecimal high && is_hexadecimal low) parts.0).1) in
-    let third = code_points-alone low t (not_false (continues t) parts.1) in
+    let third = code_points-alone low t (not-true (continues t) parts.1) in
     let second = code_points-alone high (low ∷ t) (hexadecimal_alone low digits.1) ∙ ap (λ x. (high ∷ []) ∷ x) third in
     let first = code_points-alone b (high ∷ low ∷ t) (hexadecimal_alone high digits.0) ∙ ap (λ x. (b ∷ []) ∷ x) second in
     ap with_triplets first ∙ with_triplets-triplet (b ∷ []) (high ∷ []) (low ∷ []) (code_points t) parts.0

@@ -1,5 +1,5 @@
 -- The number that a text begins with, byte by byte.
-use Rattle.std.proofs.Common.{◌≡◌, ℕ, ◌+◌, ◌*◌, ◌-◌, ◌^◌, ◌<◌, ◌≤◌, [], ◌∷◌, length, get_or, drop, Bool, true, false, ◌&&◌, Some, None, refl, sym, ap, ◌∙◌, arith, add-one, lit<, lit≤}
+use Rattle.std.proofs.Common.{◌≡◌, ℕ, ◌+◌, ◌*◌, ◌-◌, ◌^◌, ◌<◌, ◌≤◌, [], ◌∷◌, length, get_or, drop, Bool, true, false, ◌&&◌, Some, None, refl, sym, ap, ◌∙◌, arith, add-one, lit<}
 use Rattle.std.specs.Prelude.{nat_le, nat_lt, not, ◌==◌, if◌then◌else◌}
 use Rattle.std.specs.Bool.{then_some}
 use Rattle.std.specs.Char.{is_ascii_digit}
@@ -27,9 +27,6 @@ digits-other b t e = take_while-cons is_ascii_digit b t ∙ cond-false (is_ascii
 
 pub digit_low : (b : ℕ) → is_ascii_digit b ≡ true → b - 48 < 10
 digit_low b e = let h : b ≤ 57 = grind (arith, nat_tests) in omega arith
-
-pub nothing_read : (t : Text) → HasRead t 0 0
-nothing_read t = record { digits = omega arith; value_is = refl; few = lit≤ tt; small = lit< tt }
 
 next_small : (value count b : ℕ) → value < 10 ^ count → b - 48 < 10 → 10 * value + (b - 48) < 10 ^ (count + 1)
 next_small value count b h d =
@@ -80,10 +77,6 @@ pub room_for_digit : (t : Text) (count value : ℕ) → HasRead t count value �
 room_for_digit t count value h few =
     let le : count ≤ 8 = omega arith in
     let e : 10 ^ count ≤ 10 ^ 8 = pow-le-pow_right (lit< tt) le in omega (arith, h.small)
-
-pub number_below : (t : Text) (count value : ℕ) → HasRead t count value → value < 10 ^ 9
-number_below t count value h =
-    let e : 10 ^ count ≤ 10 ^ 9 = pow-le-pow_right (lit< tt) h.few in omega (arith, h.small)
 
 -- ten digits are too many
 pub number_too_long : (t : Text) (value : ℕ) → HasRead t 9 value → 9 < length t → is_ascii_digit (get_or t 9 0) ≡ true → leading_number t ≡ None

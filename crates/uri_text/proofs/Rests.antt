@@ -1,5 +1,5 @@
 -- A loop that writes a text piece by piece: the bytes so far, and the room for the rest.
-use Rattle.std.proofs.Common.{◌≡◌, ℕ, ◌+◌, ◌≤◌, List, [], ◌∷◌, get_or, take, refl, ◌++◌, length, sym, ap, ◌∙◌, arith, append_assoc, length-append}
+use Rattle.std.proofs.Common.{◌≡◌, ℕ, ◌+◌, ◌≤◌, List, ◌++◌, length, sym, ap, ◌∙◌, arith, append_assoc, length-append}
 
 -- a piece that is written leaves the rest to write
 pub bytes_left : (before piece whole rest all after : List ℕ) → after ≡ before ++ piece → whole ≡ piece ++ rest → before ++ whole ≡ all → after ++ rest ≡ all
@@ -15,7 +15,3 @@ room_left used used_after piece whole rest room room_after e f g h = omega (arit
 -- there is room for the piece
 pub room_for : (used room : ℕ) (piece whole rest : List ℕ) → whole ≡ piece ++ rest → used + length whole ≤ room → used + length piece ≤ room
 room_for used room piece whole rest f g = omega (arith, ap length f, length-append piece rest)
-
-pub first_of_take : (t : List ℕ) → get_or (take 1 t) 0 0 ≡ get_or t 0 0
-first_of_take [] = refl
-first_of_take (b ∷ t) = refl

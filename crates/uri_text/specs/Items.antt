@@ -1,15 +1,8 @@
--- How long the item at the front of a text is (RFC 6570, section 2.4.1).
-use Rattle.std.specs.Prelude.{ℕ, ◌+◌, [], ◌∷◌, Bool, true, false, not, ◌&&◌, if◌then◌else◌}
+-- How long the item at the front of a text is (RFC 6570, section 2.4.1): what private contracts cite.
+use Rattle.std.specs.Prelude.{ℕ, ◌+◌, [], ◌∷◌, Bool, false, not, ◌&&◌, if◌then◌else◌}
 use Rattle.std.specs.List.{prefix_len}
 use Rattle.text_model.specs.Texts.{Text, is_triplet}
 use Rattle.text_model.specs.Cut.{is_continuation}
-use Rattle.text_model.specs.declared.writing.Writing.{Writing}
-use Rattle.text_model.specs.declared.writing.Writing.TheVariants.{U, UR}
-
--- the writing under which whole triplets are items, or the one under which they are not
-abbrev pub writing_of : Bool → Writing
-writing_of false = U
-writing_of true = UR
 
 -- the text goes on with the code point before it
 abbrev pub continues : Text → Bool

@@ -1,8 +1,8 @@
 use Rattle.std.proofs.Common.{arith, ◌≡◌, ◌∙◌, sym, take, subst, List, ℕ, inr, false}
 use Rattle.uri_grammar.specs.Expressions.{IsBody}
-use Rattle.uri_grammar.specs.Faults.{IsBodyFault, bad_literal, begins_with_brace}
-use Rattle.uri_grammar.specs.Reading.{IsFault}
-use Rattle.uri_grammar.proofs.TemplateLemmas.{IsExpression-braced, IsPartFault-body, IsPartFault-unclosed, IsPartFault-empty}
+use Rattle.uri_grammar.specs.Faults.{IsBodyFault}
+use Rattle.uri_grammar.specs.Reading.{IsFault, begins_with_brace}
+use Rattle.uri_grammar.proofs.TemplateLemmas.{IsExpression-braced, IsPartFault-literal, IsPartFault-body, IsPartFault-unclosed, IsPartFault-empty}
 use Rattle.uri_grammar.proofs.expressions.expression.Goals as goal
 
 pub returns-in-Ok-clause-ok : goal.returns-in-Ok-clause-ok
@@ -20,7 +20,7 @@ returns-in-Err-clause-err c =
 pub returns-then-not-begins_with_brace-clause-err : goal.returns-then-not-begins_with_brace-clause-err
 returns-then-not-begins_with_brace-clause-err c =
     let other : begins_with_brace c.args.text.now ≡ false = sym c.begins_with_brace.ensures ∙ c.if-not-begins_with_brace.true in
-    rw c.new.ensures (inr (bad_literal c.args.text.now c.requires.some c.requires.no_literal other))
+    rw c.new.ensures (inr (IsPartFault-literal c.args.text.now c.requires.some c.requires.no_literal other))
 
 pub returns-in_default-clause-err : goal.returns-in_default-clause-err
 returns-in_default-clause-err c =

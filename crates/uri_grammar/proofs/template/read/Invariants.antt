@@ -1,5 +1,5 @@
 use Rattle.std.proofs.Common.{length, ◌≤◌, ◌<◌, ◌-◌, take, drop}
-use Rattle.uri_grammar.specs.Literals.{literal_item_len}
+use Rattle.uri_grammar.specs.Lengths.{literal_item_len}
 use Rattle.uri_grammar.specs.Templates.{Spells}
 use Rattle.uri_grammar.specs.Reading.{EndsWithNoLiteral}
 use Rattle.uri_grammar.proofs.template.read.Given as goal

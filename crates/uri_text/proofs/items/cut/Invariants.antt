@@ -1,6 +1,6 @@
 use Rattle.std.proofs.Common.{◌≡◌, ◌≤◌, ◌++◌, length, take, drop}
 use Rattle.text_model.specs.Cut.{cut}
-use Rattle.uri_text.specs.Items.{writing_of}
+use Rattle.uri_text.specs.Prefix.{writing_of}
 use Rattle.uri_text.proofs.items.cut.Given as goal
 
 -- what is taken with what is still to take is the cut

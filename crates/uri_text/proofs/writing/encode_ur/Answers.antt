@@ -1,9 +1,10 @@
-use Rattle.std.proofs.Common.{◌≡◌, ◌+◌, ◌++◌, ◌<◌, ◌≤◌, ◌∙◌, sym, length, string_bytes, string_len, string_capacity, append-nil, add-zero, get_or, arith}
+use Rattle.std.proofs.Common.{◌≡◌, ◌+◌, ◌++◌, ◌<◌, ◌≤◌, ◌∙◌, sym, length, string_bytes, string_len, string_capacity, append-nil, add-zero, get_or, arith, lit<}
 use Rattle.std.proofs.lemmas.Bool.{eqb-true, eqb-false}
+use Rattle.std.proofs.lemmas.List.{get_or-take}
 use Rattle.text_model.specs.Writing.{written_ur, written_byte}
 use Rattle.text_model.proofs.UriTexts.{written_ur-uri}
 use Rattle.text_model.proofs.Written.{written_ur-nothing, written_ur-triplet, written_ur-byte, length-written_ur}
-use Rattle.uri_text.proofs.Rests.{bytes_left, len_left, room_left, room_for, first_of_take}
+use Rattle.uri_text.proofs.Rests.{bytes_left, len_left, room_left, room_for}
 use Rattle.uri_text.proofs.writing.encode_ur.Goals as goal
 
 pub push_triplet-requires-clause-room : goal.push_triplet-requires-clause-room
@@ -29,7 +30,7 @@ pub push_byte-requires-clause-room : goal.push_byte-requires-clause-room
 push_byte-requires-clause-room c =
     let some : 0 < length c.loop-rest.rest.now = omega (arith, eqb-false (length c.loop-rest.rest.now) 0 (sym c.is_empty.ensures ∙ c.loop-rest-test.true)) in
     let alone = written_ur-byte c.loop-rest.rest.now (sym c.begins_with_triplet.ensures ∙ c.if-begins_with_triplet.false) some in
-    let byte : get_or c.split_at-else-begins_with_triplet.result.0.now 0 0 ≡ get_or c.loop-rest.rest.now 0 0 = rw c.split_at-else-begins_with_triplet.ensures.front (first_of_take c.loop-rest.rest.now) in
+    let byte : get_or c.split_at-else-begins_with_triplet.result.0.now 0 0 ≡ get_or c.loop-rest.rest.now 0 0 = rw c.split_at-else-begins_with_triplet.ensures.front (get_or-take 1 c.loop-rest.rest.now 0 0 (lit< tt)) in
     let split : written_ur c.loop-rest.rest.now ≡ written_byte c.is_unreserved_or_reserved.result (get_or c.split_at-else-begins_with_triplet.result.0.now 0 0) ++ written_ur c.split_at-else-begins_with_triplet.result.1.now =
     rw (c.is_unreserved_or_reserved.ensures.value, byte, c.split_at-else-begins_with_triplet.ensures.back) alone in
     room_for _ _ _ _ _ split c.loop-rest.invariant.room
@@ -38,7 +39,7 @@ pub loop-rest-preserved : goal.loop-rest-preserved
 loop-rest-preserved c =
     let some : 0 < length c.loop-rest.rest.now = omega (arith, eqb-false (length c.loop-rest.rest.now) 0 (sym c.is_empty.ensures ∙ c.loop-rest-test.true)) in
     let alone = written_ur-byte c.loop-rest.rest.now (sym c.begins_with_triplet.ensures ∙ c.if-begins_with_triplet.false) some in
-    let byte : get_or c.split_at-else-begins_with_triplet.result.0.now 0 0 ≡ get_or c.loop-rest.rest.now 0 0 = rw c.split_at-else-begins_with_triplet.ensures.front (first_of_take c.loop-rest.rest.now) in
+    let byte : get_or c.split_at-else-begins_with_triplet.result.0.now 0 0 ≡ get_or c.loop-rest.rest.now 0 0 = rw c.split_at-else-begins_with_triplet.ensures.front (get_or-take 1 c.loop-rest.rest.now 0 0 (lit< tt)) in
     let split : written_ur c.loop-rest.rest.now ≡ written_byte c.is_unreserved_or_reserved.result (get_or c.split_at-else-begins_with_triplet.result.0.now 0 0) ++ written_ur c.split_at-else-begins_with_triplet.result.1.now =
     rw (c.is_unreserved_or_reserved.ensures.value, byte, c.split_at-else-begins_with_triplet.ensures.back) alone in
     record {
