@@ -51,6 +51,7 @@ guard_text (guard.Given name) = codes "given " ++ name
 guard_text (guard.Same name text) = name ++ (codes " is " ++ quoted text)
 guard_text (guard.Holds name text) = name ++ (codes " holds " ++ quoted text)
 guard_text (guard.Between name low high) = name ++ (codes " from " ++ bounds_text low high)
+guard_text (guard.Counts name low high) = name ++ (codes " counts " ++ bounds_text low high)
 
 abbrev pub line_of : Statement → Text
 line_of (Declare name) = codes "list " ++ name

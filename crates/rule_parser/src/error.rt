@@ -22,7 +22,7 @@ pub enum RuleErrorKind {
     /// A link that is no template.
     #[error("Template {0:?}")]
     Template(TemplateErrorKind),
-    /// A list where a text is wanted, or a text before `holds`.
+    /// A list where a text is wanted, or a text before `holds` or `counts`.
     #[error("KindMismatch")]
     KindMismatch,
     /// A growth was refused.

@@ -53,6 +53,7 @@ fn compared(alloc: Global, name: &str, verb: &str, value: &str) -> Result<Option
         "is" => same(alloc, name, value),
         "holds" => holds(alloc, name, value),
         "from" => between(alloc, name, value),
+        "counts" => counts(alloc, name, value),
         _ => Ok(None),
     }
 }
@@ -85,6 +86,16 @@ fn between(alloc: Global, name: &str, range: &str) -> Result<Option<Guard>, Allo
         return Ok(None);
     };
     Ok(Some(Guard::Between(copy(alloc, name)?, low, high)))
+}
+
+fn counts(alloc: Global, name: &str, range: &str) -> Result<Option<Guard>, AllocError>
+    requires { IsName name.now }
+    ensures { IfOk result (λ read. ReadsGuard (name.now ++ (codes " counts " ++ range.now)) read) }
+{
+    let Some((low, high)) = bounds(alloc, range)? else {
+        return Ok(None);
+    };
+    Ok(Some(Guard::Counts(copy(alloc, name)?, low, high)))
 }
 
 /// The text between two quotes.
