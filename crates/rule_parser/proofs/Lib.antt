@@ -7,3 +7,6 @@ pub mod NameLemmas
 pub mod LawLemmas
 pub mod LineLaws
 pub mod FaultLaws
+pub mod NameChoice
+pub mod GuardChoice
+pub mod LineChoice

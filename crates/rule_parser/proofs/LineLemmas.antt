@@ -64,7 +64,7 @@ no_rule_line : (line : Option ℕ) (guards : List Guard) (P : ℕ → Type 0) �
 no_rule_line None guards P e = tt
 no_rule_line (Some l) guards P e = absurd (cc)
 
-no_rules_are_sound : IsSoundBegun no_rules
+pub no_rules_are_sound : IsSoundBegun no_rules
 no_rules_are_sound = record { whole = record { names = All-nil IsName; rules = All-nil (IsSoundRule []) }; guards = tt }
 
 pub none_read : (ls : List Text) (reader : Reader) → begun_of reader ≡ no_rules → AreRead ls 0 reader

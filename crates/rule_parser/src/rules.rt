@@ -1,4 +1,4 @@
-ghost use Rattle.std.specs.Prelude.{◌≡◌, ◌⊎◌, map, IfOk, IfErr};
+ghost use Rattle.std.specs.Prelude.{◌≡◌, ◌<◌, ◌≤◌, ◌↔◌, ◌⊎◌, map, length, IsUtf8, Err, IfOk, IfErr};
 ghost use Rattle.rule_parser.specs.Grammar.{IsRuleText};
 ghost use Rattle.rule_parser.specs.Faults.{IsRefused};
 ghost use Rattle.rule_parser.specs.Names.{is_list as stands_for_list, each_once, list_names};
@@ -49,6 +49,8 @@ impl Rules {
     pub fn parse(alloc: Global, bytes: &[u8]) -> Result<Rules, RuleError>
         ensures ok { IfOk result (λ rules. IsRuleText bytes.now rules) }
         ensures err { IfErr result (λ e. (e ≡ record { kind = RuleErrorKind.NoMemory; line = 0 }) ⊎ IsRefused bytes.now e.kind e.line) }
+        ensures too_long { (result ≡ Err (record { kind = RuleErrorKind.TooLong; line = 0 })) ↔ (MAX_BYTES < length bytes.now) }
+        ensures not_utf8 { (result ≡ Err (record { kind = RuleErrorKind.NotUtf8; line = 0 })) ↔ ((length bytes.now ≤ MAX_BYTES) × (IsUtf8 bytes.now → ⊥)) }
     {
         if bytes.len() > MAX_BYTES {
             return Err(RuleError::new(RuleErrorKind::TooLong, 0));
