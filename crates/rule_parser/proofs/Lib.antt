@@ -2,6 +2,7 @@ pub mod WordLemmas
 pub mod EscapeLemmas
 pub mod GuardLemmas
 pub mod ReaderLemmas
+pub mod LineNumbers
 pub mod LineLemmas
 pub mod NameLemmas
 pub mod LawLemmas

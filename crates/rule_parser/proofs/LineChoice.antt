@@ -19,10 +19,12 @@ use Rattle.rule_parser.specs.declared.rule.Rule.{Rule}
 use Rattle.uri_grammar.specs.Names.{IsName}
 use Rattle.rule_parser.specs.Rules.{RuleSet, IsGuard, IsSound, guard_fits, parts_fit}
 use Rattle.rule_parser.specs.Statements.{Statement, Declare, Begin, When, Link, IsStatement, line_of, statements}
-use Rattle.rule_parser.specs.Grammar.{is_significant, significant, max_rule_bytes, IsRuleText}
-use Rattle.rule_parser.specs.Faults.{Begun, IsSoundBegun, begun_statements, takes_lists, is_in_order, IsLineFault, no_statement, out_of_order, bad_template, mismatched_guard, mismatched_link, IsFirstFault, line_fault, no_link, line_number, IsRefused}
+use Rattle.rule_parser.specs.declared.rules.TheConstants.{MAX_BYTES}
+use Rattle.rule_parser.specs.Grammar.{is_significant, significant, IsRuleText}
+use Rattle.rule_parser.specs.Faults.{Begun, IsSoundBegun, begun_statements, takes_lists, is_in_order, IsLineFault, no_statement, out_of_order, bad_template, mismatched_guard, mismatched_link, IsFirstFault, IsRefused}
 use Rattle.rule_parser.specs.Progress.{GoesOn, no_rules}
 use Rattle.rule_parser.specs.Reading.{ReadsGuard}
+use Rattle.rule_parser.proofs.LineNumbers.{line_number, line_fault, open_rule, first_fault}
 use Rattle.rule_parser.proofs.ReaderLemmas.{stage, begins, declares, guards_more, links, no_list, no_when, no_other}
 use Rattle.rule_parser.proofs.NameChoice.{name_choice}
 use Rattle.rule_parser.proofs.GuardChoice.{text_choice, front_choice, guard_choice}
@@ -183,13 +185,13 @@ HasRulesOrFault ls =
 at_end : (ls : List Text) (whole : RuleSet) (o : Option (List Guard)) → IsSoundBegun (record { whole = whole; guards = o })
     → significant ls ≡ map line_of (begun_statements (record { whole = whole; guards = o })) ++ [] → HasRulesOrFault ls
 at_end ls whole None s e = inl (whole, s.whole, e ∙ append-nil _ ∙ ap (map line_of) (append-nil (statements whole)))
-at_end ls whole (Some gs) s e = inr (kind.NoLink, line_number ls (length (statements whole)), no_link ls whole gs [] s.whole s.guards e tt)
+at_end ls whole (Some gs) s e = inr (kind.NoLink, line_number ls (length (statements whole)), first_fault ls _ _ (open_rule ls whole gs [] s e tt))
 
 rule_in_rule : (ls : List Text) (whole : RuleSet) (o : Option (List Guard)) (line : Text) (rest : List Text) → is_some o ≡ true → line ≡ line_of Begin
     → IsSoundBegun (record { whole = whole; guards = o }) → significant ls ≡ map line_of (begun_statements (record { whole = whole; guards = o })) ++ line ∷ rest
     → HasRulesOrFault ls
 rule_in_rule ls whole None line rest o b s e = absurd (cc)
-rule_in_rule ls whole (Some gs) line rest o b s e = inr (kind.NoLink, line_number ls (length (statements whole)), no_link ls whole gs (line ∷ rest) s.whole s.guards e b)
+rule_in_rule ls whole (Some gs) line rest o b s e = inr (kind.NoLink, line_number ls (length (statements whole)), first_fault ls _ _ (open_rule ls whole gs (line ∷ rest) s e b))
 
 one_more : (ls : List Text) (b new : Begun) (line : Text) (rest : List Text) → GoesOn b new line → significant ls ≡ map line_of (begun_statements b) ++ line ∷ rest
     → significant ls ≡ map line_of (begun_statements new) ++ rest
@@ -204,14 +206,14 @@ lines_choice tree ls (line ∷ rest) b u s e = by_case (line_choice tree b line 
   where
     by_case : Goes b line → ((new : Begun) → IsSoundBegun new → significant ls ≡ map line_of (begun_statements new) ++ rest → HasRulesOrFault ls) → HasRulesOrFault ls
     by_case (inl g) next = next g.0 g.1.sound (one_more ls b g.0 line rest g.1 e)
-    by_case (inr (inl f)) next = inr (f.0, line_number ls (length (begun_statements b)), line_fault ls b line rest f.0 s e f.1)
+    by_case (inr (inl f)) next = inr (f.0, line_number ls (length (begun_statements b)), first_fault ls _ _ (line_fault ls b line rest f.0 s e f.1))
     by_case (inr (inr r)) next = rule_in_rule ls b.whole b.guards line rest r.1 r.0 s e
 
 -- ---- bytes
 
 pub bytes_choice : TreeOrFault → (bytes : Text) → ((rules : RuleSet) × IsRuleText bytes rules) ⊎ ((k : RuleErrorKind) × (line : ℕ) × IsRefused bytes k line)
 bytes_choice tree bytes =
-    elim (cases_lt max_rule_bytes (length bytes)) [
+    elim (cases_lt MAX_BYTES (length bytes)) [
       | inl long ↦ inr (kind.TooLong, 0, inl (long, refl, refl))
       | inr short ↦ elim (cases_Bool (is_utf8 bytes)) [
         | inr n ↦ inr (kind.NotUtf8, 0, inr (inl (short, (λ u. both_ways (is_utf8 bytes) n (is_utf8-from_IsUtf8 bytes u)), refl, refl)))
@@ -220,7 +222,7 @@ bytes_choice tree bytes =
       ]
     ]
   where
-    of_lines : length bytes ≤ max_rule_bytes → IsUtf8 bytes → HasRulesOrFault (lines bytes)
+    of_lines : length bytes ≤ MAX_BYTES → IsUtf8 bytes → HasRulesOrFault (lines bytes)
         → ((rules : RuleSet) × IsRuleText bytes rules) ⊎ ((k : RuleErrorKind) × (line : ℕ) × IsRefused bytes k line)
     of_lines short u (inl r) = inl (r.0, record { short = short; utf8 = u; spelled = r.2; sound = r.1 })
     of_lines short u (inr f) = inr (f.0, f.1, inr (inr (short, u, f.2)))

@@ -12,7 +12,7 @@ use Rattle.rule_parser.specs.declared.rule.Bound.TheVariants as bound
 use Rattle.rule_parser.specs.declared.rule.Guard.{Guard}
 use Rattle.rule_parser.specs.declared.rule.Guard.TheVariants as guard
 use Rattle.rule_parser.specs.declared.rule.Rule.{Rule}
-use Rattle.rule_parser.specs.Names.{list_names}
+use Rattle.environment_model.specs.Lists.{list_names}
 use Rattle.rule_parser.specs.Rules.{RuleSet}
 
 -- ---- guards

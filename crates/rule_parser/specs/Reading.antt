@@ -1,9 +1,10 @@
--- What the readers of a line answer: the value that a text spells, or that it spells none.
+-- For private contracts. What the readers of a line answer: the value that a text spells, or that it spells none.
 use Rattle.std.specs.Prelude.{◌≡◌, ◌≢◌, Option, Some, None}
 use Rattle.std.specs.List.{AllByRecursion}
 use Rattle.text_model.specs.Texts.{Text}
 use Rattle.rule_parser.specs.declared.rule.Bound.{Bound}
 use Rattle.rule_parser.specs.declared.rule.Guard.{Guard}
+use Rattle.rule_parser.specs.Characters.{space}
 use Rattle.rule_parser.specs.Rules.{IsBound, AreBounds, IsGuard}
 use Rattle.rule_parser.specs.Statements.{quoted, escaped, bound_text, bounds_text, guard_text}
 
@@ -29,4 +30,4 @@ ReadsGuard text (Some g) = IsGuard g × (text ≡ guard_text g)
 
 -- the text has no space
 abbrev pub IsWord : Text → Type 0
-IsWord text = AllByRecursion (λ b. b ≢ 32) text
+IsWord text = AllByRecursion (λ b. b ≢ space) text

@@ -13,7 +13,8 @@ use Rattle.rule_parser.specs.declared.rule.Bound.TheVariants as bound
 use Rattle.rule_parser.specs.declared.rule.Guard.{Guard}
 use Rattle.rule_parser.specs.declared.rule.Guard.TheVariants as guard
 use Rattle.rule_parser.specs.declared.rule.Rule.{Rule}
-use Rattle.rule_parser.specs.Names.{is_list}
+use Rattle.environment_model.specs.Lists.{is_list}
+use Rattle.rule_parser.specs.declared.guard.TheConstants.{MAX_DIGITS}
 
 -- the declared lists, in the order of their lines, and the rules
 pub record RuleSet : Type 0 where
@@ -25,7 +26,7 @@ pub record RuleSet : Type 0 where
 -- digits alone are no name of a bound
 abbrev pub IsBound : Bound → Type 0
 IsBound bound.Open = Unit {0}
-IsBound (bound.Digits digits) = (list_all is_ascii_digit digits ≡ true) × (1 ≤ length digits) × (length digits ≤ 9)
+IsBound (bound.Digits digits) = (list_all is_ascii_digit digits ≡ true) × (1 ≤ length digits) × (length digits ≤ MAX_DIGITS)
 IsBound (bound.Name name) = IsName name × (list_all is_ascii_digit name ≡ false)
 
 abbrev pub AreBounds : Bound → Bound → Type 0

@@ -12,6 +12,9 @@ use crate::rule::{Bound, Guard};
 use std::alloc::{AllocError, Global};
 use uri_grammar::{Text, is_name};
 
+/// The most digits that a bound has.
+pub const MAX_DIGITS: usize = 9;
+
 /// The guard that the words after `when ` spell, if they spell one.
 pub(crate) fn guard(alloc: Global, words: &str) -> Result<Option<Guard>, AllocError>
     ensures { IfOk result (λ read. ReadsGuard words.now read) }
@@ -165,7 +168,7 @@ fn bound(alloc: Global, word: &str) -> Result<Option<Bound>, AllocError>
         return Ok(Some(Bound::Open));
     }
     if are_digits(word) {
-        if !(1..=9).contains(&word.len()) {
+        if !(1..=MAX_DIGITS).contains(&word.len()) {
             return Ok(None);
         }
         return Ok(Some(Bound::Digits(copy(alloc, word)?)));

@@ -8,7 +8,7 @@ use uri_grammar::{Template, Text};
 pub enum Bound {
     /// `*`
     Open,
-    /// 1 to 9 decimal digits, as they are written.
+    /// 1 to [`MAX_DIGITS`](crate::MAX_DIGITS) decimal digits, as they are written.
     Digits(Text),
     /// The name of a text, whose leading number is the bound.
     Name(Text),
