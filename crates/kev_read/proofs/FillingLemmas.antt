@@ -4,22 +4,28 @@ use Rattle.std.proofs.Math.Logic.{⊎_elim}
 use Rattle.std.proofs.Math.Seq.{drop-cons}
 use Rattle.std.proofs.lemmas.List.{take-append-drop}
 use Rattle.std.proofs.lemmas.List.Sums.{sum_by-cons, sum_by-append}
+use Rattle.std.proofs.lemmas.List.Folds.{list_any-append}
 use Rattle.std.specs.Borrow.{Bor}
 use Rattle.std.specs.List.{list_any}
 use Rattle.std.specs.Str.{bytes_eq}
 use Rattle.text_model.specs.Texts.{Text, texts_of}
 use Rattle.environment_model.specs.Environment.{Environment, is_among, byte_count, member_count, with_text, with_member}
+use Rattle.environment_model.specs.Lists.{standard_lists, is_list}
 use Rattle.environment_model.proofs.Environments.{member_count-with_text}
 use Rattle.environment_model.proofs.EnvironmentGrowth.{byte_count-with_text-le, byte_count-with_member-le, member_count-with_member-le}
 use Rattle.target_vars.specs.declared.env.TheConstants.{MAX_BYTES, MAX_MEMBERS}
 use Rattle.target_vars.specs.declared.error.VarsError.{VarsError}
 use Rattle.target_vars.specs.declared.error.VarsError.TheVariants.{TooLarge, NoMemory}
 use Rattle.kev_read.specs.Pairs.{KeyValue, value_bytes}
-use Rattle.kev_read.specs.Filling.{is_list, fill_one, filled, MemberIsTooLarge, TextIsTooLarge, IsTooLarge, StopsAtPair}
+use Rattle.kev_read.specs.Filling.{fill_one, filled, is_added, MemberIsTooLarge, TextIsTooLarge, IsTooLarge, StopsAtPair}
 
 pub is_among_texts_of : (key : Text) (names : List (Bor Text)) → is_among key (texts_of names) ≡ list_any (λ name. bytes_eq name.now key) names
 is_among_texts_of key [] = refl
 is_among_texts_of key (name ∷ names) = ap (λ later. bytes_eq name.now key || later) (is_among_texts_of key names)
+
+-- a standard list, or a declared one
+pub is_list_parts : (lists : List Text) (key : Text) → is_list lists key ≡ (is_among key standard_lists || is_among key lists)
+is_list_parts lists key = list_any-append (λ name. bytes_eq name key) standard_lists lists
 
 -- ---- growth
 
@@ -54,14 +60,15 @@ filled_members lists env (pair ∷ pairs) =
 
 -- a pair is refused after those before it were added
 pub stops_at : (lists : List Text) (old now new : Environment) (pairs : List KeyValue) (i : ℕ) (pair : KeyValue) (e : VarsError)
-    → i < length pairs → pair ≡ get_or pairs i pair → now ≡ filled lists old (take i pairs) → new ≡ now
+    → i < length pairs → pair ≡ get_or pairs i pair → now ≡ filled lists old (take i pairs) → new ≡ now → is_added lists now pair ≡ true
     → ((◌≡◌ {A = Result (Unit {0}) VarsError} (Err e) (Err TooLarge)) ↔ IsTooLarge lists now pair) → StopsAtPair lists old pairs new e
-stops_at lists old now new pairs i pair e inside is so_far unchanged too_large = record {
+stops_at lists old now new pairs i pair e inside is so_far unchanged added too_large = record {
   before = take i pairs;
   refused = pair;
   after = drop (suc i) pairs;
   in_order = sym (take-append-drop i pairs) ∙ ap (λ rest. take i pairs ++ rest) (drop-cons pairs i pair inside ∙ ap (λ p. p ∷ drop (suc i) pairs) (sym is));
   reached = unchanged ∙ so_far;
+  added = rw unchanged added;
   too_large = rw unchanged ((λ same. too_large.0 (ap Err same)), (λ over. let same = too_large.1 over in cc));
 }
 

@@ -1,11 +1,15 @@
-ghost use Rattle.std.specs.Prelude.{◌≡◌, ◌↔◌, IfErr, OnOk, OnErr};
+ghost use Rattle.std.specs.Prelude.{◌≡◌, true, ◌↔◌, IfErr, OnOk, OnErr};
 ghost use Rattle.std.specs.List.{list_any};
 ghost use Rattle.std.specs.Str.{bytes_eq};
+ghost use Rattle.environment_model.specs.Lists.{is_list};
 ghost use Rattle.text_model.specs.Texts.{texts_of};
 ghost use Rattle.kev_read.specs.Filling as spec;
 
 use crate::pair::Pair;
 use target_vars::{Env, VarsError};
+
+/// The keys that stand for lists in every request: authors, and identifiers of the referent.
+const STANDARD_LISTS: [&str; 2] = ["rft.au", "rft_id"];
 
 /// Adds each pair to the environment, up to the first that is refused.
 pub(crate) fn fill(pairs: &[Pair], lists: &[&str], env: &mut Env) -> Result<(), VarsError>
@@ -22,6 +26,7 @@ pub(crate) fn fill(pairs: &[Pair], lists: &[&str], env: &mut Env) -> Result<(), 
 fn fill_one(pair: &Pair, lists: &[&str], env: &mut Env) -> Result<(), VarsError>
     ensures ok { OnOk result (env.new.entries ≡ spec.fill_one (texts_of lists.now) env.old.entries pair.now) }
     ensures too_large { (result ≡ Err VarsError.TooLarge) ↔ spec.IsTooLarge (texts_of lists.now) env.old.entries pair.now }
+    ensures added { OnErr result (spec.is_added (texts_of lists.now) env.old.entries pair.now ≡ true) }
     ensures err { OnErr result (env.new.entries ≡ env.old.entries) }
 {
     if is_list(lists, pair.key()) {
@@ -32,11 +37,11 @@ fn fill_one(pair: &Pair, lists: &[&str], env: &mut Env) -> Result<(), VarsError>
     Ok(())
 }
 
-#[tactic(auto, using(crate::proofs::FillingLemmas::is_among_texts_of))]
+#[tactic(auto, using(crate::proofs::FillingLemmas::is_list_parts, crate::proofs::FillingLemmas::is_among_texts_of))]
 fn is_list(lists: &[&str], key: &str) -> bool
-    ensures { result ≡ spec.is_list (texts_of lists.now) key.now }
+    ensures { result ≡ is_list (texts_of lists.now) key.now }
 {
-    key == "rft.au" || key == "rft_id" || is_among(key, lists)
+    is_among(key, &STANDARD_LISTS) || is_among(key, lists)
 }
 
 fn is_among(name: &str, names: &[&str]) -> bool

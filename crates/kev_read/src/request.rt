@@ -4,6 +4,7 @@ ghost use Rattle.environment_model.specs.Environment.{byte_count, member_count};
 ghost use Rattle.target_vars.specs.declared.env.TheConstants.{MAX_BYTES, MAX_MEMBERS};
 ghost use Rattle.kev_read.specs.Pairs as spec;
 ghost use Rattle.kev_read.specs.Filling.{filled, StopsAtPair};
+ghost use Rattle.kev_read.specs.declared.read.TheConstants.{MAX_PAIRS};
 ghost use Rattle.text_model.specs.Texts.{texts_of};
 ghost use Rattle.kev_read.specs.Refusal.{is_other_version, states_other_version};
 
@@ -60,7 +61,7 @@ impl Request {
     #[tactic(auto, using(crate::proofs::ValuesOfKey::all_of_few))]
     pub fn all<'a, 'k>(&'a self, key: &'k str) -> Values<'a, 'k>
         ensures values { result ≡ spec.all_of self.now.pairs key.now }
-        ensures few { length result ≤ 4096 }
+        ensures few { length result ≤ MAX_PAIRS }
     {
         Values::new(&self.pairs, key)
     }

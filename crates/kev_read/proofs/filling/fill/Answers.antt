@@ -9,5 +9,5 @@ returns-in_err-fill_one-clause-err c =
     let old = c.args.env.now.entries in
     let new = c.fill_one.new.env.entries in
     let e = c.in_err-fill_one.field-0.0 in
-    let stops = stops_at lists old c.loop-pair.env.entries new c.args.pairs.now c.loop-pair.pair-index c.pair-item.result e c.loop-pair-test.true c.pair-item.is c.loop-pair.invariant c.in_err-fill_one.ensures.err c.in_err-fill_one.ensures.too_large in
+    let stops = stops_at lists old c.loop-pair.env.entries new c.args.pairs.now c.loop-pair.pair-index c.pair-item.result e c.loop-pair-test.true c.pair-item.is c.loop-pair.invariant c.in_err-fill_one.ensures.err c.in_err-fill_one.ensures.added c.in_err-fill_one.ensures.too_large in
     IfErr_passed_on (StopsAtPair lists old c.args.pairs.now new) c.from_residual.result e c.from_residual.ensures.1 stops
