@@ -4,8 +4,10 @@ ghost use Rattle.kev_read.specs.ReadQuery.{IsBounded};
 ghost use Rattle.kev_read.specs.Refusal.{refusal};
 
 use crate::error::KevError;
-use crate::pair::Pair;
+use crate::key_order::key_order;
+use crate::pairs::Pairs;
 use crate::request::Request;
+use crate::version::states_other_version;
 use form_urlencoded::{parse, raw_pairs};
 use std::alloc::{AllocError, Global};
 
@@ -35,14 +37,16 @@ pub fn read_kev(alloc: Global, query: &[u8]) -> Result<Request, KevError>
     if query.len() > MAX_QUERY_BYTES {
         return Err(KevError::TooLong);
     }
-    if pair_count(query) > MAX_PAIRS {
+    let count = pair_count(query);
+    if count > MAX_PAIRS {
         return Err(KevError::TooManyPairs);
     }
-    let request = Request::new(read_pairs(alloc, query)?, query.len());
-    if request.states_other_version() {
+    let pairs = read_pairs(alloc, query, count)?;
+    if states_other_version(&pairs) {
         return Err(KevError::WrongVersion);
     }
-    Ok(request)
+    let order = key_order(alloc, &pairs)?;
+    Ok(Request::new(pairs, order, query.len()))
 }
 
 /// How many pairs a query has, without decoding them.
@@ -56,13 +60,15 @@ fn pair_count(query: &[u8]) -> usize
     count
 }
 
-fn read_pairs(alloc: Global, query: &[u8]) -> Result<Vec<Pair>, AllocError>
-    ensures { IfOk result (λ pairs. pairs.items ≡ pairs_of query.now) }
+/// The pairs of a query. Their text is as long as the query as a rule, and longer only where U+FFFD
+/// stands for bytes that are not UTF-8.
+fn read_pairs(alloc: Global, query: &[u8], count: usize) -> Result<Pairs, AllocError>
+    ensures { IfOk result (λ pairs. pairs ≡ pairs_of query.now) }
 {
-    let mut pairs = Vec::new(alloc);
+    let mut pairs = Pairs::with_capacity(alloc, query.len(), count)?;
     for pair in parse(alloc, query) {
         let (key, value) = pair?;
-        pairs.push(Pair::new(key.into_owned(alloc)?, value.into_owned(alloc)?))?;
+        pairs.push(key.as_str(), value.as_str())?;
     }
     Ok(pairs)
 }

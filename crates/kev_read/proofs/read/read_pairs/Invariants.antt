@@ -5,4 +5,4 @@ use Rattle.kev_read.proofs.read.read_pairs.Given as goal
 
 -- what was read, with what is left, is the whole
 abbrev pub invariant-loop-pair : goal.invariant-loop-pair
-invariant-loop-pair l = l.pairs.items ++ map decoded_pair (pairs_left l.pair-iterator) ≡ pairs_of l.query
+invariant-loop-pair l = l.pairs ++ map decoded_pair (pairs_left l.pair-iterator) ≡ pairs_of l.query
