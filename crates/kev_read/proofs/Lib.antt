@@ -2,3 +2,6 @@ pub mod DecodedLength
 pub mod ValueBytes
 pub mod ValuesOfKey
 pub mod FillingLemmas
+pub mod PairsInText
+pub mod KeyOrders
+pub mod ListMarks
