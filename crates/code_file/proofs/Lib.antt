@@ -11,3 +11,4 @@ pub mod ReadingStages
 pub mod FileLaws
 pub mod EntryDecisions
 pub mod FileDecisions
+mod Examples
