@@ -5,8 +5,10 @@ pub mod FileLemmas
 pub mod PartsLemmas
 pub mod LineLemmas
 pub mod StageLemmas
-pub mod EntryLaws
+pub mod NameLaws
+pub mod LiteralLaws
 pub mod ReadingStages
 pub mod FileLaws
 pub mod EntryDecisions
 pub mod FileDecisions
+mod Examples

@@ -12,7 +12,8 @@ use Rattle.code_file.specs.declared.error.CodeErrorKind.TheVariants.{BadMagic, T
 use Rattle.code_file.specs.Grammar.{digit_byte, magic, number, header_field, code_of, name_field, literal_field, instr_field, IsName, IsLiteral, IsInstr}
 use Rattle.code_file.specs.Fault.{fault, cut_short, after, header_fault, IsHeaderField, PastMagic, PastCounts, IsNameFault, IsLiteralFault}
 use Rattle.code_file.proofs.StageLemmas.{IsApart, ReadsTable, one_table, same_entries, IsOne, Then, then_one}
-use Rattle.code_file.proofs.EntryLaws.{names_apart, literals_apart, number_back}
+use Rattle.code_file.proofs.NameLaws.{names_apart}
+use Rattle.code_file.proofs.LiteralLaws.{literals_apart, number_back}
 use Rattle.code_file.proofs.PartsLemmas.{length-instrs}
 
 -- ---- the header

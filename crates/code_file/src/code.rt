@@ -20,8 +20,8 @@ use code_model::Instr;
 use std::alloc::{AllocError, Global};
 use std::marker::Model;
 
-/// A code of version 1 or 2: at most 256 names, at most 1,024 literals, and 1 to 4,096 instructions, whose file has at
-/// most 65,536 bytes.
+/// A code of version 1 or 2: at most 256 names, at most 1,024 literals, and 1 to 4,096 instructions,
+/// whose file has at most 65,536 bytes.
 #[derive(Debug, Drop)]
 pub struct Code {
     version: u8,
@@ -60,8 +60,8 @@ impl Code {
         })
     }
 
-    /// The code of version 1 of these parts, or the kind of the first fault of the file that they spell, in which the
-    /// length of a name is any number. Refused parts are dropped.
+    /// The code of version 1 of these parts, or the kind of the first fault of the file that they spell,
+    /// in which the length of a name is any number. Refused parts are dropped.
     pub fn from_parts(
         names: Vec<Name>,
         literals: Vec<Literal>,
@@ -74,7 +74,7 @@ impl Code {
         Code::of_parts(1, names, literals, instrs)
     }
 
-    /// The code of version 2 of these parts, or the kind of the first fault, as [`Code::from_parts`].
+    /// The code of version 2 of these parts, or the kind of the first fault, as in [`Code::from_parts`].
     pub fn from_parts2(
         names: Vec<Name>,
         literals: Vec<Literal>,
@@ -109,9 +109,10 @@ impl Code {
         })
     }
 
-    /// The same tables and instructions as a code of version 2.
+    /// The same tables and instructions as a code of version 2; of a code of version 2 that code again.
     pub fn upgrade(&self, alloc: Global) -> Result<Code, AllocError>
-        ensures { IfOk result (λ c. c ≡ upgraded self.now) }
+        ensures upgraded { IfOk result (λ c. c ≡ upgraded self.now) }
+        ensures again { IfOk result (λ c. self.now.version ≡ 2 → c ≡ self.now) }
     {
         let names = copy_names(alloc, &self.names)?;
         let literals = copy_literals(alloc, &self.literals)?;
@@ -124,7 +125,7 @@ impl Code {
         })
     }
 
-    /// The version of the code, which says what its instructions are.
+    /// The version of the code, 1 or 2, which says what its instructions are.
     pub fn version(&self) -> u8
         ensures value { result ≡ self.now.version }
         ensures known { IsVersion result }

@@ -1,6 +1,6 @@
 use Rattle.std.proofs.Common.{◌≡◌, ◌+◌, ◌*◌, arith, ap, ◌∙◌}
 use Rattle.code_file.specs.Grammar.{number}
-use Rattle.code_file.proofs.EntryLaws.{number_back}
+use Rattle.code_file.proofs.LiteralLaws.{number_back}
 use Rattle.code_file.proofs.FileLemmas.{number_of_bytes}
 use Rattle.code_file.proofs.laws.number_has_two_bytes.Goals as goal
 

@@ -1,16 +1,16 @@
--- The entries of each table can be told apart, and each has one fault at most.
-use Rattle.std.proofs.Common.{◌≡◌, ◌<◌, ◌≤◌, ◌+◌, ◌*◌, ◌/◌, ◌%◌, ◌^◌, ◌⊎◌, ℕ, Bool, true, false, [], ◌∷◌, ◌++◌, length, take, get_or, refl, sym, ◌∙◌, ap, subst, inl, inr, arith, length-append}
-use Rattle.std.specs.Prelude.{Result, Ok, Err, nat_lt, nat_le, ◌&&◌, ◌==◌, slice_index, if◌then◌else◌}
+-- Names can be told apart, and bytes have one fault of a name at most.
+use Rattle.std.proofs.Common.{◌≡◌, ◌<◌, ◌≤◌, ◌+◌, ◌⊎◌, ℕ, Bool, true, false, [], ◌∷◌, ◌++◌, length, take, get_or, refl, sym, ◌∙◌, ap, subst, inl, inr, arith, length-append}
+use Rattle.std.specs.Prelude.{Result, Ok, Err, nat_lt, nat_le, ◌&&◌, slice_index, if◌then◌else◌}
 use Rattle.std.proofs.lemmas.Bool.{cases_order, cases_Bool, lt-ltb, le-ltb, le-leb, ltb-true, leb-true, and_from, and_parts}
 use Rattle.std.proofs.lemmas.List.{length-take-le, get_or-take}
 use Rattle.std.proofs.Math.Seq.{take-append_seam}
 use Rattle.text_model.specs.Texts.{Text}
-use Rattle.code_model.specs.Code.{Name, Literal}
+use Rattle.code_model.specs.Code.{Name}
 use Rattle.code_file.specs.declared.error.CodeError.{CodeError}
-use Rattle.code_file.specs.declared.error.CodeErrorKind.TheVariants.{BadKind, BadName, BadLiteral}
+use Rattle.code_file.specs.declared.error.CodeErrorKind.TheVariants.{BadKind, BadName}
 use Rattle.code_file.specs.declared.limits.TheConstants.{MAX_NAME_BYTES}
-use Rattle.code_file.specs.Grammar.{kind_byte, name_field, literal_field, IsNameByte, IsName, IsTextOf, IsLiteral}
-use Rattle.code_file.specs.Fault.{fault, cut_short, IsFirstWrong, IsNameLength, IsKindFault, no_kind, bad_kind, IsNameFault, in_kind, no_length, bad_length, no_text, bad_text, IsLiteralFault}
+use Rattle.code_file.specs.Grammar.{kind_byte, name_field, IsNameByte, IsName}
+use Rattle.code_file.specs.Fault.{fault, cut_short, IsFirstWrong, IsNameLength, IsKindFault, no_kind, bad_kind, IsNameFault, in_kind, no_length, bad_length, no_text, bad_text}
 use Rattle.code_file.proofs.StageLemmas.{IsApart}
 
 -- ---- lists and kinds
@@ -158,104 +158,4 @@ names_apart = record {
   one_entry = λ x y s t g h e. one_name x y s t e;
   no_fault = λ n rest e good p. name_no_fault n rest e good p;
   one_fault = one_name_fault;
-}
-
--- ---- literals
-
-abbrev literal_shape_from : ℕ → ℕ → ℕ → Text → Result Literal CodeError
-literal_shape_from kind high low rest =
-    if nat_lt (length rest) (256 * high + low) then Err (cut_short (kind ∷ high ∷ low ∷ rest))
-    else Ok (record { compared = kind == 1; bytes = take (256 * high + low) rest })
-
-abbrev literal_shape : Text → Result Literal CodeError
-literal_shape [] = Err (cut_short [])
-literal_shape (kind ∷ []) = if nat_lt 1 kind then Err (fault BadKind 0) else Err (cut_short (kind ∷ []))
-literal_shape (kind ∷ high ∷ []) = if nat_lt 1 kind then Err (fault BadKind 0) else Err (cut_short (kind ∷ high ∷ []))
-literal_shape (kind ∷ high ∷ low ∷ rest) = if nat_lt 1 kind then Err (fault BadKind 0) else literal_shape_from kind high low rest
-
-bad_kind_literal : (kind : ℕ) (rest : Text) → 1 < kind → literal_shape (kind ∷ rest) ≡ Err (fault BadKind 0)
-bad_kind_literal kind [] k = rw (lt-ltb 1 kind k) refl
-bad_kind_literal kind (high ∷ []) k = rw (lt-ltb 1 kind k) refl
-bad_kind_literal kind (high ∷ low ∷ rest) k = rw (lt-ltb 1 kind k) refl
-
-no_length_literal : (compared : Bool) (rest : Text) → length rest < 2
-    → literal_shape (kind_byte compared ∷ rest) ≡ Err (cut_short (kind_byte compared ∷ rest))
-no_length_literal true [] n = refl
-no_length_literal false [] n = refl
-no_length_literal true (high ∷ []) n = refl
-no_length_literal false (high ∷ []) n = refl
-no_length_literal true (high ∷ low ∷ rest) n = absurd (omega arith)
-no_length_literal false (high ∷ low ∷ rest) n = absurd (omega arith)
-
-good_kind_literal : (compared : Bool) (high low : ℕ) (rest : Text)
-    → literal_shape (kind_byte compared ∷ high ∷ low ∷ rest) ≡ literal_shape_from (kind_byte compared) high low rest
-good_kind_literal true high low rest = refl
-good_kind_literal false high low rest = refl
-
-kind_back : (b : Bool) → (kind_byte b == 1) ≡ b
-kind_back true = refl
-kind_back false = refl
-
--- a number is what its two bytes say
-pub number_back : (n : ℕ) → n < 65536 → 256 * (n / 256 % 256) + n % 256 ≡ n
-number_back n small = omega arith
-
-literal_text_shape : (l : Literal) (rest : Text) → length l.bytes < 2 ^ 16 → literal_shape (literal_field l ++ rest) ≡ Ok l
-literal_text_shape l rest small =
-    let enough : nat_lt (length (l.bytes ++ rest)) (length l.bytes) ≡ false =
-    le-ltb (length (l.bytes ++ rest)) (length l.bytes) (omega (arith, length-append l.bytes rest)) in
-    good_kind_literal l.compared (length l.bytes / 256 % 256) (length l.bytes % 256) (l.bytes ++ rest)
-    ∙ rw (number_back (length l.bytes) small, enough, take-append_seam l.bytes rest, kind_back l.compared) refl
-
-abbrev IsShapedLiteral : Text → CodeError → Type 0
-IsShapedLiteral bytes e =
-    (literal_shape bytes ≡ Err e)
-    ⊎ ((l : Literal) × (literal_shape bytes ≡ Ok l) × (IsTextOf l.compared l.bytes → ⊥) × (e ≡ fault BadLiteral 3))
-
-shaped_literal : {bytes : Text} {e : CodeError} → IsLiteralFault bytes e → IsShapedLiteral bytes e
-shaped_literal {bytes = bytes} (in_kind e (no_kind h)) = inl (subst (λ (b : Text). literal_shape b ≡ Err (cut_short b)) (sym h) refl)
-shaped_literal {bytes = bytes} (in_kind e (bad_kind kind rest h k)) = inl (ap literal_shape h ∙ bad_kind_literal kind rest k)
-shaped_literal {bytes = bytes} (no_length compared rest h n) =
-    inl (subst (λ (b : Text). literal_shape b ≡ Err (cut_short b)) (sym h) (no_length_literal compared rest n))
-shaped_literal {bytes = bytes} (no_text compared len rest h n short) =
-    inl (subst (λ (b : Text). literal_shape b ≡ Err (cut_short b)) (sym h)
-    (good_kind_literal compared (len / 256 % 256) (len % 256) rest ∙ rw (number_back len n, lt-ltb (length rest) len short) refl))
-shaped_literal {bytes = bytes} (bad_text literal rest h n bad) =
-    inr (literal, ap literal_shape h ∙ literal_text_shape literal rest n, bad, refl)
-
-one_literal_fault : (bytes : Text) (e f : CodeError) → IsLiteralFault bytes e → IsLiteralFault bytes f → e ≡ f
-one_literal_fault bytes e f p q = go (shaped_literal p) (shaped_literal q)
-  where
-    go : IsShapedLiteral bytes e → IsShapedLiteral bytes f → e ≡ f
-    go (inl g) (inl h) = cc
-    go (inl g) (inr h) = let other = h.1 in cc
-    go (inr g) (inl h) = let other = g.1 in cc
-    go (inr g) (inr h) = g.3 ∙ sym h.3
-
-literal_no_fault : (l : Literal) (rest : Text) (e : CodeError) → IsLiteral l → IsLiteralFault (literal_field l ++ rest) e → ⊥
-literal_no_fault l rest e good p = go (shaped_literal p)
-  where
-    shape : literal_shape (literal_field l ++ rest) ≡ Ok l
-    shape = literal_text_shape l rest good.short
-
-    go : IsShapedLiteral (literal_field l ++ rest) e → ⊥
-    go (inl g) = let s = shape in cc
-    go (inr g) =
-        let same : g.0 ≡ l = let s = shape in let a = g.1 in cc in
-        subst (λ (k : Literal). IsTextOf k.compared k.bytes → ⊥) same g.2 good.text
-
-one_literal : (x y : Literal) (s t : Text) → IsLiteral x → IsLiteral y → literal_field x ++ s ≡ literal_field y ++ t → (x ≡ y) × (s ≡ t)
-one_literal x y s t g h e =
-    let p = literal_text_shape x s g.short in
-    let q = literal_text_shape y t h.short in
-    let both : literal_shape (literal_field x ++ s) ≡ literal_shape (literal_field y ++ t) = ap literal_shape e in
-    let same : x ≡ y = cc in
-    let behind : x.bytes ++ s ≡ y.bytes ++ t = cc in
-    (same, (same_front x.bytes y.bytes s t (ap (λ (l : Literal). length l.bytes) same) behind).1)
-
-pub literals_apart : IsApart IsLiteral literal_field IsLiteralFault
-literals_apart = record {
-  one_entry = one_literal;
-  no_fault = literal_no_fault;
-  one_fault = one_literal_fault;
 }
