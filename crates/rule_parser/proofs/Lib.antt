@@ -11,3 +11,5 @@ pub mod FaultLaws
 pub mod NameChoice
 pub mod GuardChoice
 pub mod LineChoice
+pub mod Examples
+pub mod LineExamples

@@ -1,30 +1,31 @@
 -- A text is a name or it is none: its bytes are gone through once, by what may come next.
 use Rattle.std.proofs.Common.{◌≡◌, ◌≢◌, ℕ, [], ◌∷◌, ◌++◌, Bool, true, false, ◌&&◌, ◌==◌, ◌⊎◌, inl, inr, length, fold, if◌then◌else◌, refl, ap, subst, sym, ◌∙◌, arith}
-use Rattle.std.proofs.lemmas.Bool.{and_parts, and_from, cases_lt, eqb-true, both_ways, cases_Bool}
+use Rattle.std.specs.Prelude.{nat_le}
+use Rattle.std.proofs.lemmas.Bool.{and_parts, and_from, cases_lt, leb-true, eqb-true, both_ways, cases_Bool}
 use Rattle.std.proofs.lemmas.List.{append-nil, append_assoc}
 use Rattle.std.proofs.lemmas.List.Sums.{fold-append}
 use Rattle.text_model.specs.Texts.{Text, is_hexadecimal}
 use Rattle.uri_grammar.specs.Names.{IsVarchar, IsVarname, IsName, is_name_character, character_varchar, triplet_varchar, first_varchar, next_varchar, dotted_varchar}
 
 -- what may come behind the bytes so far: more or nothing, where they are a name; a varchar; two digits of a triplet, or one; nothing
-data Stage : Type 0 where
+pub data Stage : Type 0 where
   Named : Stage
   Wanting : Stage
   TwoDigits : Stage
   OneDigit : Stage
   Lost : Stage
 
-abbrev begun_by : ℕ → Stage
+abbrev pub begun_by : ℕ → Stage
 begun_by b = if is_name_character b then Named else (if b == 37 then TwoDigits else Lost)
 
-abbrev step : Stage → ℕ → Stage
+abbrev pub step : Stage → ℕ → Stage
 step Named b = if b == 46 then Wanting else begun_by b
 step Wanting b = begun_by b
 step TwoDigits b = if is_hexadecimal b then OneDigit else Lost
 step OneDigit b = if is_hexadecimal b then Named else Lost
 step Lost b = Lost
 
-abbrev after : Stage → Text → Stage
+abbrev pub after : Stage → Text → Stage
 after stage text = fold step stage text
 
 -- ---- what was gone through is the front of a name
@@ -69,6 +70,18 @@ text_stands : (text front : Text) (stage : Stage) → Stands stage front → Sta
 text_stands [] front stage h = subst (Stands stage) (sym (append-nil front)) h
 text_stands (b ∷ text) front stage h =
     subst (Stands (after (step stage b) text)) (append_assoc front (b ∷ []) text) (text_stands text (front ++ b ∷ []) (step stage b) (step_stands stage front h b))
+
+abbrev pub is_named : Stage → Bool
+is_named Named = true
+is_named stage = false
+
+-- a name by computation
+pub name_from : (text : Text) → is_named (after Wanting text) ≡ true → nat_le (length text) 255 ≡ true → IsName text
+name_from text e l = (by_stage (after Wanting text) (text_stands text [] Wanting (λ v h. first_varchar v h)) e, leb-true (length text) 255 l)
+  where
+    by_stage : (stage : Stage) → Stands stage text → is_named stage ≡ true → IsVarname text
+    by_stage Named h f = h
+    by_stage stage h f = absurd (let never : false ≡ true = f in cc)
 
 -- ---- a name is gone through
 
