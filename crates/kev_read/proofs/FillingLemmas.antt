@@ -1,5 +1,5 @@
 -- What filling an environment adds to it, and where it stops.
-use Rattle.std.proofs.Common.{◌≡◌, ◌↔◌, ◌⊎◌, ℕ, suc, ◌+◌, ◌≤◌, ◌<◌, Bool, true, false, cond, MatchBool, List, [], ◌∷◌, ◌++◌, length, take, drop, slice_get, Some, Result, Ok, Err, OnOk, IfErr, IsErrAnd, subst, refl, sym, ap, ◌∙◌, arith, length-append, append-nil, inl, ◌||◌}
+use Rattle.std.proofs.Common.{◌≡◌, ◌↔◌, ◌⊎◌, ℕ, ◌+◌, ◌≤◌, ◌<◌, Bool, true, false, cond, MatchBool, List, [], ◌∷◌, ◌++◌, length, take, drop, slice_get, Some, Result, Ok, Err, OnOk, IfErr, IsErrAnd, subst, refl, sym, ap, ◌∙◌, arith, length-append, append-nil, inl}
 use Rattle.std.proofs.Math.Logic.{⊎_elim}
 use Rattle.std.proofs.lemmas.List.{take-append-drop, drop_more}
 use Rattle.std.proofs.lemmas.Option.{slice_get-map, slice_get_within, get_or_from_slice_get}
@@ -69,7 +69,7 @@ stops_at lists old now new pairs index pair list e is marked so_far unchanged ad
   refused = pair;
   after = drop (index + 1) pairs;
   in_order = sym (take-append-drop index pairs)
-    ∙ ap (λ rest. take index pairs ++ rest) (drop_more pairs index pair (slice_get_within pairs index pair is) ∙ ap (λ p. p ∷ drop (index + 1) pairs) (get_or_from_slice_get pairs index pair pair is));
+      ∙ ap (λ rest. take index pairs ++ rest) (drop_more pairs index pair (slice_get_within pairs index pair is) ∙ ap (λ p. p ∷ drop (index + 1) pairs) (get_or_from_slice_get pairs index pair pair is));
   reached = unchanged ∙ so_far;
   is_added = rw (unchanged, ← marked) added;
   too_large = rw (unchanged, ← marked) ((λ same. too_large.0 (ap Err same)), (λ over. let same = too_large.1 over in cc));

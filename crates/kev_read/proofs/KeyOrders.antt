@@ -1,5 +1,5 @@
 -- The order of pairs by their keys, and which of them have a key.
-use Rattle.std.proofs.Common.{◌≡◌, ℕ, ◌+◌, ◌-◌, ◌≤◌, ◌<◌, ◌==◌, Bool, true, false, List, ◌∷◌, length, take, drop, get_or, Option, Some, None, refl, sym, ap, ◌∙◌, subst, arith, length-drop}
+use Rattle.std.proofs.Common.{◌≡◌, ℕ, ◌+◌, ◌-◌, ◌≤◌, ◌<◌, ◌==◌, Bool, true, false, List, length, take, drop, get_or, Option, Some, None, refl, sym, ap, ◌∙◌, subst, arith, length-drop}
 use Rattle.std.proofs.Math.Logic.{⊎_elim}
 use Rattle.std.proofs.lemmas.Bool.{cases_lt, eqb-true, eq-eqb}
 use Rattle.std.proofs.lemmas.Cmp.{nat_list_cmp_total, nat_list_eq_equiv}
@@ -33,8 +33,8 @@ key_order_from_sort pairs from to all moved sorted =
     record {
       sorted = sorted;
       every = λ index within.
-        sym (list_any-IsPermutation (λ other. other == index) from to moved)
-        ∙ list_any_at (λ other. other == index) from index index (omega arith) (eq-eqb (get_or from index index) index (at index index within));
+          sym (list_any-IsPermutation (λ other. other == index) from to moved)
+          ∙ list_any_at (λ other. other == index) from index index (omega arith) (eq-eqb (get_or from index index) index (at index index within));
       within = All-permutation (λ index. index < length pairs) from to moved (λ k d below. let within : k < length pairs = omega arith in rw (at k d within) within);
     }
 

@@ -1,4 +1,5 @@
 pub mod DecodedLength
+pub mod PairCount
 pub mod ValueBytes
 pub mod ValuesOfKey
 pub mod FillingLemmas

@@ -1,10 +1,9 @@
 -- Pairs keep their places when text comes behind, and a pair whose text came last lies where it was put.
-use Rattle.std.proofs.Common.{◌≡◌, ℕ, ◌+◌, ◌-◌, ◌≤◌, ◌<◌, List, [], ◌∷◌, ◌++◌, map, length, take, drop, slice_range, All, IsUtf8, IsCharBoundary, refl, sym, ap, ◌∙◌, subst, arith, length-append, length-drop, take_all, drop_at}
+use Rattle.std.proofs.Common.{◌≡◌, ℕ, ◌-◌, ◌≤◌, List, [], ◌∷◌, ◌++◌, map, length, take, drop, slice_range, All, IsUtf8, IsCharBoundary, refl, sym, ap, ◌∙◌, arith, length-append, length-drop, take_all, drop_at}
 use Rattle.std.proofs.lemmas.List.{take-append-le, drop-append-le, map-append}
 use Rattle.std.proofs.lemmas.List.Elements.{All-head, All-tail, All-push, All-weaker}
 use Rattle.std.proofs.lemmas.Str.{IsUtf8-append, IsUtf8-take, IsCharBoundary-from_take, IsCharBoundary-at_seam, IsCharBoundary-end}
 use Rattle.text_model.specs.Texts.{Text}
-use Rattle.kev_read.specs.Pairs.{KeyValue}
 use Rattle.kev_read.specs.Layout.{pair_in, IsPlaced}
 use Rattle.kev_read.specs.declared.pairs.Place.{Place}
 

@@ -43,17 +43,13 @@ impl Model for Pairs {
 }
 
 impl Pairs {
-    /// No pairs, with room for so many bytes and for so many pairs.
-    pub(crate) fn with_capacity(
-        alloc: Global,
-        bytes: usize,
-        count: usize,
-    ) -> Result<Pairs, AllocError>
+    /// No pairs, with room for so many bytes of keys and values.
+    pub(crate) fn with_capacity(alloc: Global, bytes: usize) -> Result<Pairs, AllocError>
         ensures { IfOk result (λ pairs. pairs ≡ []) }
     {
         Ok(Pairs {
             text: String::with_capacity(alloc, bytes)?,
-            places: Vec::with_capacity(alloc, count)?,
+            places: Vec::new(alloc),
         })
     }
 

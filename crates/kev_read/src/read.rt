@@ -1,4 +1,4 @@
-ghost use Rattle.std.specs.Prelude.{◌≡◌, ◌≤◌, ◌<◌, ◌↔◌, ◌⊎◌, length, IfOk, IfErr, Some, None};
+ghost use Rattle.std.specs.Prelude.{◌≡◌, ◌≤◌, ◌<◌, ◌↔◌, ◌⊎◌, length, IfOk, IfErr, IsTrue, Some, None};
 ghost use Rattle.kev_read.specs.Pairs.{pairs_of};
 ghost use Rattle.kev_read.specs.ReadQuery.{IsBounded};
 ghost use Rattle.kev_read.specs.Refusal.{refusal};
@@ -37,16 +37,23 @@ pub fn read_kev(alloc: Global, query: &[u8]) -> Result<Request, KevError>
     if query.len() > MAX_QUERY_BYTES {
         return Err(KevError::TooLong);
     }
-    let count = pair_count(query);
-    if count > MAX_PAIRS {
+    if has_too_many_pairs(query) {
         return Err(KevError::TooManyPairs);
     }
-    let pairs = read_pairs(alloc, query, count)?;
+    let pairs = read_pairs(alloc, query)?;
     if states_other_version(&pairs) {
         return Err(KevError::WrongVersion);
     }
     let order = key_order(alloc, &pairs)?;
     Ok(Request::new(pairs, order, query.len()))
+}
+
+#[tactic(auto, using(crate::proofs::PairCount::two_bytes_a_pair))]
+fn has_too_many_pairs(query: &[u8]) -> bool
+    ensures { IsTrue result ↔ (MAX_PAIRS < length (pairs_of query.now)) }
+{
+    // A pair has a byte at least, and so has what parts it from the next.
+    query.len() > 2 * MAX_PAIRS && pair_count(query) > MAX_PAIRS
 }
 
 /// How many pairs a query has, without decoding them.
@@ -62,10 +69,10 @@ fn pair_count(query: &[u8]) -> usize
 
 /// The pairs of a query. Their text is as long as the query as a rule, and longer only where U+FFFD
 /// stands for bytes that are not UTF-8.
-fn read_pairs(alloc: Global, query: &[u8], count: usize) -> Result<Pairs, AllocError>
+fn read_pairs(alloc: Global, query: &[u8]) -> Result<Pairs, AllocError>
     ensures { IfOk result (λ pairs. pairs ≡ pairs_of query.now) }
 {
-    let mut pairs = Pairs::with_capacity(alloc, query.len(), count)?;
+    let mut pairs = Pairs::with_capacity(alloc, query.len())?;
     for pair in parse(alloc, query) {
         let (key, value) = pair?;
         pairs.push(key.as_str(), value.as_str())?;

@@ -1,4 +1,4 @@
-use Rattle.std.proofs.Common.{rules, drop}
+use Rattle.std.proofs.Common.{rules}
 use Rattle.std.proofs.lemmas.List.Sorted.{IsPartitionPoint-from_clause, IsNonDecreasingBy-drop}
 use Rattle.std.specs.Ordering.{is_lt, is_le, ordering_index}
 use Rattle.kev_read.proofs.KeyOrders.{compared_at, rises, parted, is_lt-Falls, is_le-Falls, found}

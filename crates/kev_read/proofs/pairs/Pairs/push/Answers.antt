@@ -1,6 +1,5 @@
-use Rattle.std.proofs.Common.{All, rules, ◌≡◌, ◌++◌, string_bytes, length, ap, ◌∙◌, sym}
+use Rattle.std.proofs.Common.{rules, ◌++◌, string_bytes}
 use Rattle.std.proofs.lemmas.Str.{IsUtf8-append, IsUtf8-string_bytes}
-use Rattle.kev_read.specs.Layout.{IsPlaced, pair_in}
 use Rattle.kev_read.proofs.PairsInText.{IsBehind, places_stay, pushed, pushed_placed}
 use Rattle.kev_read.proofs.pairs.Pairs.push.Goals as goal
 

@@ -1,6 +1,5 @@
 use Rattle.std.proofs.Common.{length, ap, arith}
 use Rattle.environment_model.specs.Environment.{byte_count, member_count}
-use Rattle.kev_read.specs.Pairs.{value_bytes}
 use Rattle.kev_read.specs.ReadQuery.{ReadQuery}
 use Rattle.kev_read.proofs.FillingLemmas.{reaches, reached_bytes, reached_members, only_memory}
 use Rattle.kev_read.proofs.request.Request.fill.Goals as goal
