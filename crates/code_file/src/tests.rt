@@ -1,4 +1,5 @@
 mod instructions;
+mod limits;
 mod listing;
 mod parts;
 mod read;

@@ -144,7 +144,8 @@ fn each_change_of_a_byte_is_refused_or_written_back(rt: HostRuntime) -> Result<(
                     let again = code.write(rt.alloc())?;
                     assert_eq!(rt; again.as_slice(), bytes.as_slice());
                 }
-                Err(e) => assert_ne!(rt; e.kind, NoMemory),
+                Err(e) if e.kind == NoMemory => return Err(e.into()),
+                Err(_) => {}
             }
         }
     }
