@@ -17,7 +17,7 @@ waiting false rest = rest
 
 -- ---- special bytes
 
-special_is : (b : ℕ) → is_special b ≡ true → (b ≡ 34) ⊎ (b ≡ 92)
+pub special_is : (b : ℕ) → is_special b ≡ true → (b ≡ 34) ⊎ (b ≡ 92)
 special_is b h = elim (or_cases (b == 34) (b == 92) h) [ inl e ↦ inl (eqb-true b 34 e) | inr e ↦ inr (eqb-true b 92 e) ]
 
 special_is_ascii : (b : ℕ) → is_special b ≡ true → b < 128
@@ -49,10 +49,10 @@ plain_bytes c h =
 escaped_step : (x : Bool) (b : ℕ) (t : Text) → is_special b ≡ x → escaped (b ∷ t) ≡ (if x then (92 ∷ b ∷ escaped t) else (b ∷ escaped t))
 escaped_step x b t e = ap (λ (y : Bool). if y then (92 ∷ b ∷ escaped t) else (b ∷ escaped t)) e
 
-escaped_special : (b : ℕ) (t : Text) → is_special b ≡ true → escaped (b ∷ t) ≡ 92 ∷ b ∷ escaped t
+pub escaped_special : (b : ℕ) (t : Text) → is_special b ≡ true → escaped (b ∷ t) ≡ 92 ∷ b ∷ escaped t
 escaped_special b t e = escaped_step true b t e
 
-escaped_plain : (b : ℕ) (t : Text) → is_special b ≡ false → escaped (b ∷ t) ≡ b ∷ escaped t
+pub escaped_plain : (b : ℕ) (t : Text) → is_special b ≡ false → escaped (b ∷ t) ≡ b ∷ escaped t
 escaped_plain b t e = escaped_step false b t e
 
 escaped-append : (xs ys : Text) → escaped (xs ++ ys) ≡ escaped xs ++ escaped ys
@@ -93,7 +93,7 @@ not_empty : (x : ℕ) (t : Text) → [] ≡ x ∷ t → ⊥
 not_empty x t e = cc
 
 -- what is escaped and begins with another escaped text goes on with an escaped text
-escaped_rest : (t s more : Text) → escaped t ≡ escaped s ++ more → (u : Text) × (escaped u ≡ more)
+pub escaped_rest : (t s more : Text) → escaped t ≡ escaped s ++ more → (u : Text) × (escaped u ≡ more)
 escaped_rest t [] more e = (t, e)
 escaped_rest [] (b ∷ s) more e =
     elim (cases_Bool (is_special b)) [
@@ -137,7 +137,7 @@ escaped_same (d ∷ t) [] e =
 escaped_same (d ∷ t) (b ∷ u) e = bytes_same d b t u (escaped_same t u) e
 
 -- a bare quote
-not_quote : (u more : Text) → escaped u ≡ 34 ∷ more → ⊥
+pub not_quote : (u more : Text) → escaped u ≡ 34 ∷ more → ⊥
 not_quote [] more e = not_empty _ _ e
 not_quote (b ∷ u) more e =
     elim (cases_Bool (is_special b)) [
@@ -150,7 +150,7 @@ abbrev BeginsSpecial : Text → Type 0
 BeginsSpecial text = (b : ℕ) × (rest : Text) × (text ≡ b ∷ rest) × (is_special b ≡ true)
 
 -- a backslash has a special byte behind it
-after_backslash : (u more : Text) → escaped u ≡ 92 ∷ more → BeginsSpecial more
+pub after_backslash : (u more : Text) → escaped u ≡ 92 ∷ more → BeginsSpecial more
 after_backslash [] more e = absurd (not_empty _ _ e)
 after_backslash (b ∷ u) more e =
     elim (cases_Bool (is_special b)) [

@@ -13,8 +13,9 @@ use Rattle.rule_parser.specs.declared.rule.Guard.{Guard}
 use Rattle.rule_parser.specs.Rules.{RuleSet, IsSound, IsSoundGuard, guard_fits, parts_fit}
 use Rattle.rule_parser.specs.Statements.{Statement, Declare, Begin, When, Link, IsStatement, line_of, statements}
 use Rattle.rule_parser.specs.Grammar.{significant, IsRuleText}
-use Rattle.rule_parser.specs.Faults.{Begun, IsSoundBegun, begun_statements, is_in_order, IsLineFault, no_statement, out_of_order, bad_template, mismatched_guard, mismatched_link, IsFirstFault, line_fault, no_link, line_number, EndsRule, IsRefused}
+use Rattle.rule_parser.specs.Faults.{Begun, IsSoundBegun, begun_statements, is_in_order, IsLineFault, no_statement, out_of_order, bad_template, mismatched_guard, mismatched_link, IsFirstFault, EndsRule, IsRefused}
 use Rattle.rule_parser.specs.Progress.{no_rules}
+use Rattle.rule_parser.proofs.LineNumbers.{line_number, IsNumberedFault, line_fault, open_rule as open_fault, numbered_fault}
 use Rattle.rule_parser.proofs.LawLemmas.{OneTree, Follows, Runs, begun_runs, begun_same, goes_on}
 use Rattle.rule_parser.proofs.LineLaws.{statement_same, AreStatements, HasNext, compare}
 
@@ -193,9 +194,6 @@ rules_same tree ls rules others s t e f =
 abbrev open_rule : RuleSet → List Guard → Begun
 open_rule whole guards = record { whole = whole; guards = Some guards }
 
-open_is_sound : (whole : RuleSet) (guards : List Guard) → IsSound whole → All (IsSoundGuard whole.lists) guards → IsSoundBegun (open_rule whole guards)
-open_is_sound whole guards s g = record { whole = s; guards = g }
-
 not_complete : (whole : RuleSet) (guards : List Guard) (rules : RuleSet) → open_rule whole guards ≡ complete rules → ⊥
 not_complete whole guards rules e = not_none (ap (λ (b : Begun). b.guards) e)
   where
@@ -203,8 +201,8 @@ not_complete whole guards rules e = not_none (ap (λ (b : Begun). b.guards) e)
     not_none x = cc
 
 -- lines that spell rules have no first fault
-pub rules_have_no_fault : OneTree → NoFault → (ls : List Text) (rules : RuleSet) (k : RuleErrorKind) (at : ℕ) → IsSound rules
-    → significant ls ≡ map line_of (statements rules) → IsFirstFault ls k at → ⊥
+rules_have_no_fault : OneTree → NoFault → (ls : List Text) (rules : RuleSet) (k : RuleErrorKind) (at : ℕ) → IsSound rules
+    → significant ls ≡ map line_of (statements rules) → IsNumberedFault ls k at → ⊥
 rules_have_no_fault tree none ls rules k at s e (line_fault l b line rest k' t f fault) =
     by_comparison
     (compare (begun_statements b) (begun_statements (complete rules)) (line ∷ rest) [] (begun_are_statements b t)
@@ -218,9 +216,9 @@ rules_have_no_fault tree none ls rules k at s e (line_fault l b line rest k' t f
     by_comparison (inl p) = not_nothing p.1
     by_comparison (inr (inl n)) = extends_not tree none b (complete rules) line k' rest t (complete_is_sound rules s) fault n
     by_comparison (inr (inr n)) = nothing_next _ _ n
-rules_have_no_fault tree none ls rules k at s e (no_link l whole guards rest t g f r) =
+rules_have_no_fault tree none ls rules k at s e (open_fault l whole guards rest t f r) =
     by_comparison
-    (compare (begun_statements (open_rule whole guards)) (begun_statements (complete rules)) rest [] (begun_are_statements (open_rule whole guards) (open_is_sound whole guards t g))
+    (compare (begun_statements (open_rule whole guards)) (begun_statements (complete rules)) rest [] (begun_are_statements (open_rule whole guards) t)
     (begun_are_statements (complete rules) (complete_is_sound rules s)) (sym f ∙ spelled_by l rules e))
   where
     by_comparison : ((begun_statements (open_rule whole guards) ≡ begun_statements (complete rules)) × (rest ≡ no_lines))
@@ -228,29 +226,29 @@ rules_have_no_fault tree none ls rules k at s e (no_link l whole guards rest t g
         ⊎ HasNext (begun_statements (complete rules)) (begun_statements (open_rule whole guards)) no_lines) → ⊥
     by_comparison (inl p) =
         not_complete whole guards rules
-        (begun_same tree (open_rule whole guards) (complete rules) (open_is_sound whole guards t g) (complete_is_sound rules s) p.0)
-    by_comparison (inr (inl n)) = open_not_extended tree whole guards (complete rules) rest (open_is_sound whole guards t g) (complete_is_sound rules s) r n
+        (begun_same tree (open_rule whole guards) (complete rules) t (complete_is_sound rules s) p.0)
+    by_comparison (inr (inl n)) = open_not_extended tree whole guards (complete rules) rest t (complete_is_sound rules s) r n
     by_comparison (inr (inr n)) = nothing_next _ _ n
 
 -- a line at fault where a rule lacks its link
 line_and_open : OneTree → NoFault → (ls : List Text) (b : Begun) (line : Text) (rest : List Text) (k : RuleErrorKind) (whole : RuleSet) (guards : List Guard)
-    (behind : List Text) → IsSoundBegun b → significant ls ≡ map line_of (begun_statements b) ++ line ∷ rest → IsLineFault b line k → IsSound whole
-    → All (IsSoundGuard whole.lists) guards → significant ls ≡ map line_of (begun_statements (open_rule whole guards)) ++ behind → EndsRule behind → ⊥
-line_and_open tree none ls b line rest k whole guards behind s e fault t g f r =
+    (behind : List Text) → IsSoundBegun b → significant ls ≡ map line_of (begun_statements b) ++ line ∷ rest → IsLineFault b line k → IsSoundBegun (open_rule whole guards)
+    → significant ls ≡ map line_of (begun_statements (open_rule whole guards)) ++ behind → EndsRule behind → ⊥
+line_and_open tree none ls b line rest k whole guards behind s e fault t f r =
     by_comparison
     (compare (begun_statements b) (begun_statements (open_rule whole guards)) (line ∷ rest) behind (begun_are_statements b s)
-    (begun_are_statements (open_rule whole guards) (open_is_sound whole guards t g)) (sym e ∙ f))
+    (begun_are_statements (open_rule whole guards) t) (sym e ∙ f))
   where
     by_comparison : ((begun_statements b ≡ begun_statements (open_rule whole guards)) × (line ∷ rest ≡ behind))
         ⊎ (HasNext (begun_statements b) (begun_statements (open_rule whole guards)) (line ∷ rest)
         ⊎ HasNext (begun_statements (open_rule whole guards)) (begun_statements b) behind) → ⊥
     by_comparison (inl p) = begin_is_not_faulty b line k fault (subst EndsRule (sym p.1) r)
-    by_comparison (inr (inl n)) = extends_not tree none b (open_rule whole guards) line k rest s (open_is_sound whole guards t g) fault n
-    by_comparison (inr (inr n)) = open_not_extended tree whole guards b behind (open_is_sound whole guards t g) s r n
+    by_comparison (inr (inl n)) = extends_not tree none b (open_rule whole guards) line k rest s t fault n
+    by_comparison (inr (inr n)) = open_not_extended tree whole guards b behind t s r n
 
 -- a line at fault, and another fault of the same lines
 line_fault_same : OneTree → NoFault → OneFault → (ls : List Text) (b : Begun) (line : Text) (rest : List Text) (k : RuleErrorKind) (other : RuleErrorKind) (place : ℕ)
-    → IsSoundBegun b → significant ls ≡ map line_of (begun_statements b) ++ line ∷ rest → IsLineFault b line k → IsFirstFault ls other place
+    → IsSoundBegun b → significant ls ≡ map line_of (begun_statements b) ++ line ∷ rest → IsLineFault b line k → IsNumberedFault ls other place
     → (k ≡ other) × (line_number ls (length (begun_statements b)) ≡ place)
 line_fault_same tree none one ls b line rest k other place s e fault (line_fault l c line' rest' k' t f fault') =
     by_comparison
@@ -270,19 +268,19 @@ line_fault_same tree none one ls b line rest k other place s e fault (line_fault
     )
     by_comparison (inr (inl n)) = absurd (extends_not tree none b c line k rest s t fault n)
     by_comparison (inr (inr n)) = absurd (extends_not tree none c b line' k' rest' t s fault' n)
-line_fault_same tree none one ls b line rest k other place s e fault (no_link l whole guards rest' t g f r) =
-    absurd (line_and_open tree none l b line rest k whole guards rest' s e fault t g f r)
+line_fault_same tree none one ls b line rest k other place s e fault (open_fault l whole guards rest' t f r) =
+    absurd (line_and_open tree none l b line rest k whole guards rest' s e fault t f r)
 
 -- a rule without a link, and another fault of the same lines
 open_fault_same : OneTree → NoFault → OneFault → (ls : List Text) (whole : RuleSet) (guards : List Guard) (rest : List Text) (other : RuleErrorKind) (place : ℕ)
-    → IsSound whole → All (IsSoundGuard whole.lists) guards → significant ls ≡ map line_of (begun_statements (open_rule whole guards)) ++ rest → EndsRule rest
-    → IsFirstFault ls other place → (kind.NoLink ≡ other) × (line_number ls (length (statements whole)) ≡ place)
-open_fault_same tree none one ls whole guards rest other place s g e r (line_fault l b line rest' k' t f fault) =
-    absurd (line_and_open tree none l b line rest' k' whole guards rest t f fault s g e r)
-open_fault_same tree none one ls whole guards rest other place s g e r (no_link l whole' guards' rest' t h f q) =
+    → IsSoundBegun (open_rule whole guards) → significant ls ≡ map line_of (begun_statements (open_rule whole guards)) ++ rest → EndsRule rest
+    → IsNumberedFault ls other place → (kind.NoLink ≡ other) × (line_number ls (length (statements whole)) ≡ place)
+open_fault_same tree none one ls whole guards rest other place s e r (line_fault l b line rest' k' t f fault) =
+    absurd (line_and_open tree none l b line rest' k' whole guards rest t f fault s e r)
+open_fault_same tree none one ls whole guards rest other place s e r (open_fault l whole' guards' rest' t f q) =
     by_comparison
     (compare (begun_statements (open_rule whole guards)) (begun_statements (open_rule whole' guards')) rest rest'
-    (begun_are_statements (open_rule whole guards) (open_is_sound whole guards s g)) (begun_are_statements (open_rule whole' guards') (open_is_sound whole' guards' t h))
+    (begun_are_statements (open_rule whole guards) s) (begun_are_statements (open_rule whole' guards') t)
     (sym e ∙ f))
   where
     by_comparison : ((begun_statements (open_rule whole guards) ≡ begun_statements (open_rule whole' guards')) × (rest ≡ rest'))
@@ -292,25 +290,25 @@ open_fault_same tree none one ls whole guards rest other place s g e r (no_link 
     by_comparison (inl p) = (
       refl,
       ap (λ (b : Begun). line_number l (length (statements b.whole)))
-          (begun_same tree (open_rule whole guards) (open_rule whole' guards') (open_is_sound whole guards s g) (open_is_sound whole' guards' t h) p.0),
+          (begun_same tree (open_rule whole guards) (open_rule whole' guards') s t p.0),
     )
-    by_comparison (inr (inl n)) = absurd (open_not_extended tree whole guards (open_rule whole' guards') rest (open_is_sound whole guards s g) (open_is_sound whole' guards' t h) r n)
-    by_comparison (inr (inr n)) = absurd (open_not_extended tree whole' guards' (open_rule whole guards) rest' (open_is_sound whole' guards' t h) (open_is_sound whole guards s g) q n)
+    by_comparison (inr (inl n)) = absurd (open_not_extended tree whole guards (open_rule whole' guards') rest s t r n)
+    by_comparison (inr (inr n)) = absurd (open_not_extended tree whole' guards' (open_rule whole guards) rest' t s q n)
 
 -- two first faults are one
-pub first_faults_same : OneTree → NoFault → OneFault → (ls : List Text) (k other : RuleErrorKind) (at place : ℕ) → IsFirstFault ls k at → IsFirstFault ls other place
+first_faults_same : OneTree → NoFault → OneFault → (ls : List Text) (k other : RuleErrorKind) (at place : ℕ) → IsNumberedFault ls k at → IsNumberedFault ls other place
     → (k ≡ other) × (at ≡ place)
 first_faults_same tree none one ls k other at place (line_fault l b line rest k' s e fault) q =
     line_fault_same tree none one l b line rest k' other place s e fault q
-first_faults_same tree none one ls k other at place (no_link l whole guards rest s g e r) q =
-    open_fault_same tree none one l whole guards rest other place s g e r q
+first_faults_same tree none one ls k other at place (open_fault l whole guards rest s e r) q =
+    open_fault_same tree none one l whole guards rest other place s e r q
 
 -- ---- bytes
 
 pub no_refusal : OneTree → NoFault → (bytes : Text) (rules : RuleSet) (k : RuleErrorKind) (line : ℕ) → IsRuleText bytes rules → IsRefused bytes k line → ⊥
 no_refusal tree none bytes rules k line a (inl f) = omega (arith, f.0, a.short)
 no_refusal tree none bytes rules k line a (inr (inl f)) = f.1 a.utf8
-no_refusal tree none bytes rules k line a (inr (inr f)) = rules_have_no_fault tree none (lines bytes) rules k line a.sound a.spelled f.2
+no_refusal tree none bytes rules k line a (inr (inr f)) = rules_have_no_fault tree none (lines bytes) rules k line a.sound a.spelled (numbered_fault (lines bytes) k line f.2)
 
 pub one_refusal : OneTree → NoFault → OneFault → (bytes : Text) (k other : RuleErrorKind) (line place : ℕ) → IsRefused bytes k line → IsRefused bytes other place
     → (k ≡ other) × (line ≡ place)
@@ -322,4 +320,5 @@ one_refusal tree none one bytes k other line place (inr (inl p)) (inr (inl q)) =
 one_refusal tree none one bytes k other line place (inr (inl p)) (inr (inr q)) = absurd (p.1 q.1)
 one_refusal tree none one bytes k other line place (inr (inr p)) (inl q) = absurd (omega (arith, p.0, q.0))
 one_refusal tree none one bytes k other line place (inr (inr p)) (inr (inl q)) = absurd (q.1 p.1)
-one_refusal tree none one bytes k other line place (inr (inr p)) (inr (inr q)) = first_faults_same tree none one (lines bytes) k other line place p.2 q.2
+one_refusal tree none one bytes k other line place (inr (inr p)) (inr (inr q)) = first_faults_same tree none one (lines bytes) k other line place (numbered_fault (lines bytes) k line p.2)
+    (numbered_fault (lines bytes) other place q.2)

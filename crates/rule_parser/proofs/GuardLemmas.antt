@@ -9,7 +9,7 @@ use Rattle.rule_parser.specs.declared.rule.Bound.{Bound}
 use Rattle.rule_parser.specs.declared.rule.Bound.TheVariants as bound
 use Rattle.rule_parser.specs.declared.rule.Guard.{Guard}
 use Rattle.rule_parser.specs.declared.rule.Guard.TheVariants as guard
-use Rattle.rule_parser.specs.Rules.{IsBound, IsGuard}
+use Rattle.rule_parser.specs.Rules.{IsBound, AreBounds, IsGuard}
 use Rattle.rule_parser.specs.Statements.{quoted, escaped, bound_text, bounds_text, guard_text}
 use Rattle.rule_parser.specs.Reading.{ReadsEscaped, ReadsQuoted, ReadsBound, ReadsBounds, ReadsGuard, IsWord}
 use Rattle.rule_parser.proofs.WordLemmas.{word_split, no_space, name_is_word, bound_is_word}
@@ -46,31 +46,31 @@ bounds_words : (low high : Bound) (l rest : Text) → IsWord l → IsBound low �
     → (l ≡ bound_text low) × (rest ≡ codes "to " ++ bound_text high)
 bounds_words low high l rest w h e = word_split l rest (bound_text low) (codes "to " ++ bound_text high) w (bound_is_word low h) e
 
-pub no_bounds_in_word : (t : Text) → IsWord t → (low high : Bound) → IsBound low → IsBound high → t ≡ bounds_text low high → ⊥
-no_bounds_in_word t w low high a b e = no_space t (bound_text low) (codes "to " ++ bound_text high) w e
+pub no_bounds_in_word : (t : Text) → IsWord t → (low high : Bound) → AreBounds low high → t ≡ bounds_text low high → ⊥
+no_bounds_in_word t w low high b e = no_space t (bound_text low) (codes "to " ++ bound_text high) w e
 
 pub no_bounds_without_to : (t l rest : Text) → t ≡ l ++ 32 ∷ rest → IsWord l → ((high : Text) → rest ≢ codes "to " ++ high)
-    → (low high : Bound) → IsBound low → IsBound high → t ≡ bounds_text low high → ⊥
-no_bounds_without_to t l rest s w h low high a b e =
+    → (low high : Bound) → AreBounds low high → t ≡ bounds_text low high → ⊥
+no_bounds_without_to t l rest s w h low high b e =
     let whole : l ++ 32 ∷ rest ≡ bounds_text low high = cc in
-    h (bound_text high) (bounds_words low high l rest w a whole).1
+    h (bound_text high) (bounds_words low high l rest w b.0 whole).1
 
 pub no_bounds_without_low : (t l rest : Text) → t ≡ l ++ 32 ∷ rest → IsWord l → ReadsBound l None
-    → (low high : Bound) → IsBound low → IsBound high → t ≡ bounds_text low high → ⊥
-no_bounds_without_low t l rest s w h low high a b e =
+    → (low high : Bound) → AreBounds low high → t ≡ bounds_text low high → ⊥
+no_bounds_without_low t l rest s w h low high b e =
     let whole : l ++ 32 ∷ rest ≡ bounds_text low high = cc in
-    h low a (bounds_words low high l rest w a whole).0
+    h low b.0 (bounds_words low high l rest w b.0 whole).0
 
 pub no_bounds_without_high : (t l rest u : Text) → t ≡ l ++ 32 ∷ rest → rest ≡ codes "to " ++ u → IsWord l → ReadsBound u None
-    → (low high : Bound) → IsBound low → IsBound high → t ≡ bounds_text low high → ⊥
-no_bounds_without_high t l rest u s r w h low high a b e =
+    → (low high : Bound) → AreBounds low high → t ≡ bounds_text low high → ⊥
+no_bounds_without_high t l rest u s r w h low high b e =
     let whole : l ++ 32 ∷ rest ≡ bounds_text low high = cc in
-    let behind : rest ≡ codes "to " ++ bound_text high = (bounds_words low high l rest w a whole).1 in
-    h high b (cc)
+    let behind : rest ≡ codes "to " ++ bound_text high = (bounds_words low high l rest w b.0 whole).1 in
+    h high b.1 (cc)
 
 pub bounds_read : (t l rest u : Text) (low high : Bound) → t ≡ l ++ 32 ∷ rest → rest ≡ codes "to " ++ u → ReadsBound l (Some low) → ReadsBound u (Some high)
     → ReadsBounds t (Some (low, high))
-bounds_read t l rest u low high s r a b = (a.0, b.0, rw (s, r, a.1, b.1) refl)
+bounds_read t l rest u low high s r a b = ((a.0, b.0), rw (s, r, a.1, b.1) refl)
 
 -- ---- guards of two words
 
@@ -82,6 +82,7 @@ IsDefined verb name (guard.Given n) = IsName name × (verb ≡ codes "given") ×
 IsDefined verb name (guard.Same n t) = ⊥
 IsDefined verb name (guard.Holds n t) = ⊥
 IsDefined verb name (guard.Between n low high) = ⊥
+IsDefined verb name (guard.Counts n low high) = ⊥
 
 pub defined_words : (verb name : Text) → IsWord verb → IsWord name → (g : Guard) → IsGuard g → verb ++ 32 ∷ name ≡ guard_text g → IsDefined verb name g
 defined_words verb name v w (guard.Has n) h e = let p = word_split verb name (codes "has") n v (search rules) e in (rw p.1 h, p.0, sym p.1)
@@ -93,6 +94,8 @@ defined_words verb name v w (guard.Holds n t) h e =
     no_space name (codes "holds") (quoted t) w (word_split verb name n (codes "holds " ++ quoted t) v (name_is_word n h) e).1
 defined_words verb name v w (guard.Between n low high) h e =
     no_space name (codes "from") (bounds_text low high) w (word_split verb name n (codes "from " ++ bounds_text low high) v (name_is_word n h.0) e).1
+defined_words verb name v w (guard.Counts n low high) h e =
+    no_space name (codes "counts") (bounds_text low high) w (word_split verb name n (codes "counts " ++ bounds_text low high) v (name_is_word n h.0) e).1
 
 pub no_guard_without_name : (verb name : Text) → IsWord verb → IsWord name → (IsName name → ⊥) → ReadsGuard (verb ++ 32 ∷ name) None
 no_guard_without_name verb name v w no_name g h e = refuted g (defined_words verb name v w g h e)
@@ -104,6 +107,7 @@ no_guard_without_name verb name v w no_name g h e = refuted g (defined_words ver
     refuted (guard.Same n t) p = p
     refuted (guard.Holds n t) p = p
     refuted (guard.Between n low high) p = p
+    refuted (guard.Counts n low high) p = p
 
 pub no_guard_of_verb : (verb name : Text) → IsWord verb → IsWord name → verb ≢ codes "has" → verb ≢ codes "lacks" → verb ≢ codes "given"
     → ReadsGuard (verb ++ 32 ∷ name) None
@@ -116,6 +120,7 @@ no_guard_of_verb verb name v w no_has no_lacks no_given g h e = refuted g (defin
     refuted (guard.Same n t) p = p
     refuted (guard.Holds n t) p = p
     refuted (guard.Between n low high) p = p
+    refuted (guard.Counts n low high) p = p
 
 -- ---- guards of more words
 
@@ -127,7 +132,9 @@ IsCompared name verb value (guard.Given n) = ⊥
 IsCompared name verb value (guard.Same n t) = IsName name × (verb ≡ codes "is") × (value ≡ quoted t) × (n ≡ name)
 IsCompared name verb value (guard.Holds n t) = IsName name × (verb ≡ codes "holds") × (value ≡ quoted t) × (n ≡ name)
 IsCompared name verb value (guard.Between n low high) =
-    IsName name × (verb ≡ codes "from") × IsBound low × IsBound high × (value ≡ bounds_text low high) × (n ≡ name)
+    IsName name × (verb ≡ codes "from") × AreBounds low high × (value ≡ bounds_text low high) × (n ≡ name)
+IsCompared name verb value (guard.Counts n low high) =
+    IsName name × (verb ≡ codes "counts") × AreBounds low high × (value ≡ bounds_text low high) × (n ≡ name)
 
 pub compared_words : (name verb value : Text) → IsWord name → IsWord verb → (g : Guard) → IsGuard g → name ++ 32 ∷ (verb ++ 32 ∷ value) ≡ guard_text g
     → IsCompared name verb value g
@@ -148,15 +155,20 @@ compared_words name verb value w v (guard.Holds n t) h e =
 compared_words name verb value w v (guard.Between n low high) h e =
     let first = word_split name (verb ++ 32 ∷ value) n (codes "from " ++ bounds_text low high) w (name_is_word n h.0) e in
     let second = word_split verb value (codes "from") (bounds_text low high) v (search rules) first.1 in
-    (rw first.0 h.0, second.0, h.1, h.2, second.1, sym first.0)
+    (rw first.0 h.0, second.0, h.1, second.1, sym first.0)
+compared_words name verb value w v (guard.Counts n low high) h e =
+    let first = word_split name (verb ++ 32 ∷ value) n (codes "counts " ++ bounds_text low high) w (name_is_word n h.0) e in
+    let second = word_split verb value (codes "counts") (bounds_text low high) v (search rules) first.1 in
+    (rw first.0 h.0, second.0, h.1, second.1, sym first.0)
 
 -- a guard that a name, a verb and the text behind them spell, refuted by what each verb would ask
 pub no_compared_guard : (name verb value : Text) → IsWord name → IsWord verb
     → (IsName name → verb ≡ codes "is" → (t : Text) → value ≡ quoted t → ⊥)
     → (IsName name → verb ≡ codes "holds" → (t : Text) → value ≡ quoted t → ⊥)
-    → (IsName name → verb ≡ codes "from" → (low high : Bound) → IsBound low → IsBound high → value ≡ bounds_text low high → ⊥)
+    → (IsName name → verb ≡ codes "from" → (low high : Bound) → AreBounds low high → value ≡ bounds_text low high → ⊥)
+    → (IsName name → verb ≡ codes "counts" → (low high : Bound) → AreBounds low high → value ≡ bounds_text low high → ⊥)
     → ReadsGuard (name ++ 32 ∷ (verb ++ 32 ∷ value)) None
-no_compared_guard name verb value w v no_is no_holds no_from g h e = refuted g (compared_words name verb value w v g h e)
+no_compared_guard name verb value w v no_is no_holds no_from no_counts' g h e = refuted g (compared_words name verb value w v g h e)
   where
     refuted : (g : Guard) → IsCompared name verb value g → ⊥
     refuted (guard.Has n) p = p
@@ -164,19 +176,26 @@ no_compared_guard name verb value w v no_is no_holds no_from g h e = refuted g (
     refuted (guard.Given n) p = p
     refuted (guard.Same n t) p = no_is p.0 p.1 t p.2
     refuted (guard.Holds n t) p = no_holds p.0 p.1 t p.2
-    refuted (guard.Between n low high) p = no_from p.0 p.1 low high p.2 p.3 p.4
+    refuted (guard.Between n low high) p = no_from p.0 p.1 low high p.2 p.3
+    refuted (guard.Counts n low high) p = no_counts' p.0 p.1 low high p.2 p.3
 
 pub no_same : (name value : Text) → IsName name → ReadsQuoted value None → ReadsGuard (name ++ (codes " is " ++ value)) None
 no_same name value n h =
-    no_compared_guard name (codes "is") value (name_is_word name n) (search rules) (λ a b t q. h t q) (λ a b t q. cc) (λ a b low high l k q. cc)
+    no_compared_guard name (codes "is") value (name_is_word name n) (search rules) (λ a b t q. h t q) (λ a b t q. cc) (λ a b low high k q. cc) (λ a b low high k q. cc)
 
 pub no_holds : (name value : Text) → IsName name → ReadsQuoted value None → ReadsGuard (name ++ (codes " holds " ++ value)) None
 no_holds name value n h =
-    no_compared_guard name (codes "holds") value (name_is_word name n) (search rules) (λ a b t q. cc) (λ a b t q. h t q) (λ a b low high l k q. cc)
+    no_compared_guard name (codes "holds") value (name_is_word name n) (search rules) (λ a b t q. cc) (λ a b t q. h t q) (λ a b low high k q. cc) (λ a b low high k q. cc)
 
 pub no_between : (name value : Text) → IsName name → ReadsBounds value None → ReadsGuard (name ++ (codes " from " ++ value)) None
 no_between name value n h =
-    no_compared_guard name (codes "from") value (name_is_word name n) (search rules) (λ a b t q. cc) (λ a b t q. cc) (λ a b low high l k q. h low high l k q)
+    no_compared_guard name (codes "from") value (name_is_word name n) (search rules) (λ a b t q. cc) (λ a b t q. cc) (λ a b low high k q. h low high k q)
+    (λ a b low high k q. cc)
+
+pub no_counts : (name value : Text) → IsName name → ReadsBounds value None → ReadsGuard (name ++ (codes " counts " ++ value)) None
+no_counts name value n h =
+    no_compared_guard name (codes "counts") value (name_is_word name n) (search rules) (λ a b t q. cc) (λ a b t q. cc) (λ a b low high k q. cc)
+    (λ a b low high k q. h low high k q)
 
 -- ---- guards of one word
 
@@ -187,6 +206,7 @@ has_space (guard.Given n) = (codes "given", n, refl)
 has_space (guard.Same n t) = (n, codes "is " ++ quoted t, refl)
 has_space (guard.Holds n t) = (n, codes "holds " ++ quoted t, refl)
 has_space (guard.Between n low high) = (n, codes "from " ++ bounds_text low high, refl)
+has_space (guard.Counts n low high) = (n, codes "counts " ++ bounds_text low high, refl)
 
 pub no_guard_in_word : (t : Text) → IsWord t → ReadsGuard t None
 no_guard_in_word t w g h e = let s = has_space g in no_space t s.0 s.1 w (cc (s.2))

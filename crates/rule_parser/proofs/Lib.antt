@@ -2,8 +2,14 @@ pub mod WordLemmas
 pub mod EscapeLemmas
 pub mod GuardLemmas
 pub mod ReaderLemmas
+pub mod LineNumbers
 pub mod LineLemmas
 pub mod NameLemmas
 pub mod LawLemmas
 pub mod LineLaws
 pub mod FaultLaws
+pub mod NameChoice
+pub mod GuardChoice
+pub mod LineChoice
+pub mod Examples
+pub mod LineExamples

@@ -3,7 +3,7 @@ use Rattle.std.proofs.Common.{◌≡◌, ℕ, List, [], ◌∷◌, ◌++◌, tru
 use Rattle.std.specs.List.{list_all, AllByRecursion}
 use Rattle.std.specs.Str.{bytes_eq}
 use Rattle.std.specs.Char.{is_ascii_digit}
-use Rattle.std.proofs.lemmas.Bool.{both_ways}
+use Rattle.std.proofs.lemmas.Bool.{both_ways, eqb-false}
 use Rattle.std.proofs.lemmas.List.{append_cancel_left, append_cancel_right}
 use Rattle.text_model.specs.Texts.{Text}
 use Rattle.uri_grammar.specs.Names.{IsName}
@@ -11,7 +11,7 @@ use Rattle.rule_parser.specs.declared.rule.Bound.{Bound}
 use Rattle.rule_parser.specs.declared.rule.Bound.TheVariants as bound
 use Rattle.rule_parser.specs.declared.rule.Guard.{Guard}
 use Rattle.rule_parser.specs.declared.rule.Guard.TheVariants as guard
-use Rattle.rule_parser.specs.Rules.{IsBound, IsGuard}
+use Rattle.rule_parser.specs.Rules.{IsBound, AreBounds, IsGuard}
 use Rattle.rule_parser.specs.Statements.{Statement, Declare, Begin, When, Link, IsStatement, line_of, quoted, escaped, bound_text, bounds_text, guard_text}
 use Rattle.rule_parser.proofs.WordLemmas.{same_tails, other_heads, word_split, name_is_word, bound_is_word, star_is_no_name}
 use Rattle.rule_parser.proofs.EscapeLemmas.{escaped_same}
@@ -36,10 +36,10 @@ bound_same (bound.Name n) bound.Open h k e = absurd (star_is_no_name (subst IsNa
 bound_same (bound.Name n) (bound.Digits d) h k e = absurd (digits_or_not d n k.0 h.1 (sym e))
 bound_same (bound.Name n) (bound.Name m) h k e = ap (λ t. bound.Name t) e
 
-bounds_same : (b c d f : Bound) → IsBound b → IsBound c → IsBound d → IsBound f → bounds_text b c ≡ bounds_text d f → (b ≡ d) × (c ≡ f)
-bounds_same b c d f h k l m e =
-    let cut = word_split (bound_text b) (codes "to " ++ bound_text c) (bound_text d) (codes "to " ++ bound_text f) (bound_is_word b h) (bound_is_word d l) e in
-    (bound_same b d h l cut.0, bound_same c f k m (append_cancel_left (codes "to ") (bound_text c) (bound_text f) cut.1))
+bounds_same : (b c d f : Bound) → AreBounds b c → AreBounds d f → bounds_text b c ≡ bounds_text d f → (b ≡ d) × (c ≡ f)
+bounds_same b c d f h k e =
+    let cut = word_split (bound_text b) (codes "to " ++ bound_text c) (bound_text d) (codes "to " ++ bound_text f) (bound_is_word b h.0) (bound_is_word d k.0) e in
+    (bound_same b d h.0 k.0 cut.0, bound_same c f h.1 k.1 (append_cancel_left (codes "to ") (bound_text c) (bound_text f) cut.1))
 
 -- ---- guards
 
@@ -54,39 +54,53 @@ defined_is verb name (guard.Given n) p = ap (λ t. guard.Given t) p.2 ∙ ap (λ
 defined_is verb name (guard.Same n t) p = absurd p
 defined_is verb name (guard.Holds n t) p = absurd p
 defined_is verb name (guard.Between n low high) p = absurd p
+defined_is verb name (guard.Counts n low high) p = absurd p
 
 defined_same : (verb name : Text) (g h : Guard) → IsDefined verb name g → IsDefined verb name h → g ≡ h
 defined_same verb name g h p q = defined_is verb name g p ∙ sym (defined_is verb name h q)
 
-other_verbs : (verb : Text) (x y : ℕ) (s t : Text) → verb ≡ x ∷ s → verb ≡ y ∷ t → (x == y) ≡ false → ⊥
-other_verbs verb x y s t a b n = other_heads x y s t n (sym a ∙ b)
+-- which of the seven guards it is
+abbrev kind_of : Guard → ℕ
+kind_of (guard.Has n) = 0
+kind_of (guard.Lacks n) = 1
+kind_of (guard.Given n) = 2
+kind_of (guard.Same n t) = 3
+kind_of (guard.Holds n t) = 4
+kind_of (guard.Between n low high) = 5
+kind_of (guard.Counts n low high) = 6
+
+-- and by its verb
+abbrev kind_by : Text → ℕ
+kind_by verb =
+    if bytes_eq verb (codes "is") then 3 else (if bytes_eq verb (codes "holds") then 4 else (if bytes_eq verb (codes "from") then 5 else 6))
+
+kind_is : (name verb value : Text) (g : Guard) → IsCompared name verb value g → kind_of g ≡ kind_by verb
+kind_is name verb value (guard.Has n) p = absurd p
+kind_is name verb value (guard.Lacks n) p = absurd p
+kind_is name verb value (guard.Given n) p = absurd p
+kind_is name verb value (guard.Same n t) p = sym (ap kind_by p.1)
+kind_is name verb value (guard.Holds n t) p = sym (ap kind_by p.1)
+kind_is name verb value (guard.Between n low high) p = sym (ap kind_by p.1)
+kind_is name verb value (guard.Counts n low high) p = sym (ap kind_by p.1)
+
+other_kinds : (name verb value : Text) (g h : Guard) → (kind_of g == kind_of h) ≡ false → IsCompared name verb value g → IsCompared name verb value h → ⊥
+other_kinds name verb value g h n p q = eqb-false (kind_of g) (kind_of h) n (kind_is name verb value g p ∙ sym (kind_is name verb value h q))
 
 compared_same : (name verb value : Text) (g h : Guard) → IsCompared name verb value g → IsCompared name verb value h → g ≡ h
 compared_same name verb value (guard.Has n) h p q = absurd p
 compared_same name verb value (guard.Lacks n) h p q = absurd p
 compared_same name verb value (guard.Given n) h p q = absurd p
-compared_same name verb value (guard.Same n t) (guard.Has m) p q = absurd q
-compared_same name verb value (guard.Same n t) (guard.Lacks m) p q = absurd q
-compared_same name verb value (guard.Same n t) (guard.Given m) p q = absurd q
 compared_same name verb value (guard.Same n t) (guard.Same m u) p q =
     ap (λ x. guard.Same x t) (p.3 ∙ sym q.3) ∙ ap (λ x. guard.Same m x) (quoted_same t u (sym p.2 ∙ q.2))
-compared_same name verb value (guard.Same n t) (guard.Holds m u) p q = absurd (other_verbs verb 105 104 _ _ p.1 q.1 refl)
-compared_same name verb value (guard.Same n t) (guard.Between m b c) p q = absurd (other_verbs verb 105 102 _ _ p.1 q.1 refl)
-compared_same name verb value (guard.Holds n t) (guard.Has m) p q = absurd q
-compared_same name verb value (guard.Holds n t) (guard.Lacks m) p q = absurd q
-compared_same name verb value (guard.Holds n t) (guard.Given m) p q = absurd q
-compared_same name verb value (guard.Holds n t) (guard.Same m u) p q = absurd (other_verbs verb 104 105 _ _ p.1 q.1 refl)
 compared_same name verb value (guard.Holds n t) (guard.Holds m u) p q =
     ap (λ x. guard.Holds x t) (p.3 ∙ sym q.3) ∙ ap (λ x. guard.Holds m x) (quoted_same t u (sym p.2 ∙ q.2))
-compared_same name verb value (guard.Holds n t) (guard.Between m b c) p q = absurd (other_verbs verb 104 102 _ _ p.1 q.1 refl)
-compared_same name verb value (guard.Between n b c) (guard.Has m) p q = absurd q
-compared_same name verb value (guard.Between n b c) (guard.Lacks m) p q = absurd q
-compared_same name verb value (guard.Between n b c) (guard.Given m) p q = absurd q
-compared_same name verb value (guard.Between n b c) (guard.Same m u) p q = absurd (other_verbs verb 102 105 _ _ p.1 q.1 refl)
-compared_same name verb value (guard.Between n b c) (guard.Holds m u) p q = absurd (other_verbs verb 102 104 _ _ p.1 q.1 refl)
 compared_same name verb value (guard.Between n b c) (guard.Between m d f) p q =
-    let same = bounds_same b c d f p.2 p.3 q.2 q.3 (sym p.4 ∙ q.4) in
-    ap (λ x. guard.Between x b c) (p.5 ∙ sym q.5) ∙ ap (λ x. guard.Between m x c) same.0 ∙ ap (λ x. guard.Between m d x) same.1
+    let same = bounds_same b c d f p.2 q.2 (sym p.3 ∙ q.3) in
+    ap (λ x. guard.Between x b c) (p.4 ∙ sym q.4) ∙ ap (λ x. guard.Between m x c) same.0 ∙ ap (λ x. guard.Between m d x) same.1
+compared_same name verb value (guard.Counts n b c) (guard.Counts m d f) p q =
+    let same = bounds_same b c d f p.2 q.2 (sym p.3 ∙ q.3) in
+    ap (λ x. guard.Counts x b c) (p.4 ∙ sym q.4) ∙ ap (λ x. guard.Counts m x c) same.0 ∙ ap (λ x. guard.Counts m d x) same.1
+compared_same name verb value g h p q = absurd (other_kinds name verb value g h refl p q)
 
 guard_same : (g h : Guard) → IsGuard g → IsGuard h → guard_text g ≡ guard_text h → g ≡ h
 guard_same (guard.Has n) h a b e =
@@ -102,8 +116,11 @@ guard_same (guard.Holds n t) h a b e =
     compared_same n (codes "holds") (quoted t) (guard.Holds n t) h (a, refl, refl, refl)
     (compared_words n (codes "holds") (quoted t) (name_is_word n a) (search rules) h b e)
 guard_same (guard.Between n c d) h a b e =
-    compared_same n (codes "from") (bounds_text c d) (guard.Between n c d) h (a.0, refl, a.1, a.2, refl, refl)
+    compared_same n (codes "from") (bounds_text c d) (guard.Between n c d) h (a.0, refl, a.1, refl, refl)
     (compared_words n (codes "from") (bounds_text c d) (name_is_word n a.0) (search rules) h b e)
+guard_same (guard.Counts n c d) h a b e =
+    compared_same n (codes "counts") (bounds_text c d) (guard.Counts n c d) h (a.0, refl, a.1, refl, refl)
+    (compared_words n (codes "counts") (bounds_text c d) (name_is_word n a.0) (search rules) h b e)
 
 -- ---- lines
 

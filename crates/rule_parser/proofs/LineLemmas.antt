@@ -1,6 +1,5 @@
--- Lines that were read, and the numbers of lines.
+-- Lines that were read.
 use Rattle.std.proofs.Common.{◌≡◌, ℕ, ◌+◌, ◌<◌, ◌≤◌, zero, suc, List, [], ◌∷◌, ◌++◌, Bool, true, false, Option, Some, None, IfSome, Result, Ok, Err, IfOk, IfErr, Bor, ◌⊎◌, inl, inr, map, length, get_or, take, if◌then◌else◌, refl, ap, subst, sym, ◌∙◌, arith}
-use Rattle.std.specs.List.{slice_index}
 use Rattle.std.proofs.lemmas.List.{append-nil, map-append, length-map, length-take, take_more, take_all}
 use Rattle.std.proofs.lemmas.List.Elements.{All-nil}
 use Rattle.text_model.specs.Texts.{Text}
@@ -15,42 +14,12 @@ use Rattle.rule_parser.specs.Rules.{RuleSet, IsSound, IsSoundRule}
 use Rattle.rule_parser.specs.Statements.{Statement, line_of, statements}
 use Rattle.std.specs.Prelude.{IsUtf8}
 use Rattle.std.specs.Str.Lines.{lines}
-use Rattle.rule_parser.specs.Grammar.{is_significant, significant, max_rule_bytes, IsRuleText}
-use Rattle.rule_parser.specs.Faults.{Begun, IsSoundBegun, begun_statements, statements_of_guards, IsFirstFault, line_fault, no_link, line_number, significant_numbers, EndsRule, IsRefused}
-use Rattle.rule_parser.specs.Progress.{begun_of, no_rules, GoesOn, KeepsLine, IsStepFault}
+use Rattle.rule_parser.specs.declared.rules.TheConstants.{MAX_BYTES}
+use Rattle.rule_parser.specs.Grammar.{is_significant, significant, IsRuleText}
+use Rattle.rule_parser.specs.Faults.{Begun, IsSoundBegun, begun_statements, statements_of_guards, IsFirstFault, EndsRule, IsRefused}
+use Rattle.rule_parser.specs.Progress.{begun_of, no_rules, GoesOn, IsNumbered, KeepsLine, IsStepFault}
+use Rattle.rule_parser.proofs.LineNumbers.{significant-append, one_significant, line_number, split_at, significant_around, number_is, line_fault, open_rule, first_fault}
 use Rattle.rule_parser.proofs.ReaderLemmas.{guards_from}
-
--- ---- significant lines
-
-pub significant-append : (xs ys : List Text) → significant (xs ++ ys) ≡ significant xs ++ significant ys
-significant-append [] ys = refl
-significant-append (x ∷ xs) ys = by_case (is_significant x) (significant-append xs ys)
-  where
-    by_case : (b : Bool) → significant (xs ++ ys) ≡ significant xs ++ significant ys
-        → (if b then (x ∷ significant (xs ++ ys)) else significant (xs ++ ys)) ≡ (if b then (x ∷ significant xs) else significant xs) ++ significant ys
-    by_case true e = ap (λ l. x ∷ l) e
-    by_case false e = e
-
-pub one_significant : (x : Text) (b : Bool) → is_significant x ≡ b → significant (x ∷ []) ≡ (if b then (x ∷ []) else [])
-one_significant x b e = ap (λ (y : Bool). if y then (x ∷ []) else []) e
-
--- the number of a significant line
-pub number_at : (n : ℕ) (front rest : List Text) (x : Text) → is_significant x ≡ true
-    → slice_index (significant_numbers n (front ++ x ∷ rest)) (length (significant front)) ≡ n + length front
-number_at n [] rest x e = ap (λ (y : Bool). slice_index (if y then (n ∷ significant_numbers (n + 1) rest) else significant_numbers (n + 1) rest) 0) e ∙ omega arith
-number_at n (y ∷ front) rest x e = by_case (is_significant y) (number_at (n + 1) front rest x e)
-  where
-    by_case : (b : Bool) → slice_index (significant_numbers (n + 1) (front ++ x ∷ rest)) (length (significant front)) ≡ n + 1 + length front
-        → slice_index (if b then (n ∷ significant_numbers (n + 1) (front ++ x ∷ rest)) else significant_numbers (n + 1) (front ++ x ∷ rest))
-        (length (if b then (y ∷ significant front) else significant front)) ≡ n + length (y ∷ front)
-    by_case true h = h ∙ omega arith
-    by_case false h = h ∙ omega arith
-
--- the line at an index
-split_at : (ls : List Text) (i : ℕ) (line : Text) → i < length ls → get_or ls i line ≡ line → (rest : List Text) × (ls ≡ take i ls ++ line ∷ rest)
-split_at [] i line h e = absurd (omega arith)
-split_at (x ∷ xs) zero line h e = (xs, ap (λ y. y ∷ xs) e)
-split_at (x ∷ xs) (suc i) line h e = let r = split_at xs i line (omega arith) e in (r.0, ap (λ l. x ∷ l) r.1)
 
 -- ---- lines that were read
 
@@ -58,13 +27,13 @@ split_at (x ∷ xs) (suc i) line h e = let r = split_at xs i line (omega arith) 
 pub record AreRead (ls : List Text) (i : ℕ) (reader : Reader) : Type 0 where
   pub spelled : significant (take i ls) ≡ map line_of (begun_statements (begun_of reader))
   pub sound : IsSoundBegun (begun_of reader)
-  pub numbered : IfSome reader.rule_line (λ line. line ≡ line_number ls (length (statements (begun_of reader).whole)))
+  pub numbered : IsNumbered (line_number ls) reader
 
 no_rule_line : (line : Option ℕ) (guards : List Guard) (P : ℕ → Type 0) → guards_from line guards ≡ None → IfSome line P
 no_rule_line None guards P e = tt
 no_rule_line (Some l) guards P e = absurd (cc)
 
-no_rules_are_sound : IsSoundBegun no_rules
+pub no_rules_are_sound : IsSoundBegun no_rules
 no_rules_are_sound = record { whole = record { names = All-nil IsName; rules = All-nil (IsSoundRule []) }; guards = tt }
 
 pub none_read : (ls : List Text) (reader : Reader) → begun_of reader ≡ no_rules → AreRead ls 0 reader
@@ -73,26 +42,6 @@ none_read ls reader e = record {
   sound = subst IsSoundBegun (sym e) no_rules_are_sound;
   numbered = no_rule_line reader.rule_line reader.guards.items _ (ap (λ (b : Begun). b.guards) e);
 }
-
--- the lines before, one line, and the lines behind
-significant_around : (ls front rest : List Text) (line : Text) → ls ≡ front ++ line ∷ rest → is_significant line ≡ true
-    → significant ls ≡ significant front ++ line ∷ significant rest
-significant_around ls front rest line e h =
-    ap significant e ∙ significant-append front (line ∷ rest)
-    ∙ ap (λ l. significant front ++ l) (ap (λ (y : Bool). if y then (line ∷ significant rest) else significant rest) h)
-
--- the number of the line behind those that were read
-number_is : (ls : List Text) (i : ℕ) (statements' : List Statement) (line : Text) → i < length ls → get_or ls i line ≡ line → is_significant line ≡ true
-    → significant (take i ls) ≡ map line_of statements' → line_number ls (length statements') ≡ i + 1
-number_is ls i ss line h e x s =
-    let split = split_at ls i line h e in
-    let count : length (significant (take i ls)) ≡ length ss = ap length s ∙ length-map ss line_of in
-    let taken : length (take i ls) ≡ i = length_take i ls h in
-    ap (λ (l : List Text). line_number l (length ss)) split.1 ∙ sym (ap (λ (k : ℕ). line_number (take i ls ++ line ∷ split.0) k) count)
-    ∙ number_at 1 (take i ls) split.0 line x ∙ omega (arith, taken)
-  where
-    length_take : (n : ℕ) (xs : List Text) → n < length xs → length (take n xs) ≡ n
-    length_take n xs l = simp length-take (omega arith)
 
 pub line_read : (ls : List Text) (i : ℕ) (reader new : Reader) (line : Text) → AreRead ls i reader → i < length ls → get_or ls i line ≡ line
     → is_significant line ≡ true → GoesOn (begun_of reader) (begun_of new) line → KeepsLine reader new (i + 1) → AreRead ls (i + 1) new
@@ -126,7 +75,7 @@ no_link_found ls whole guards None at k rest a b s e r n = absurd (cc)
 no_link_found ls whole guards (Some l) at k rest a b s e r n =
     let same : l ≡ at = cc in
     subst (λ (x : RuleErrorKind). IsFirstFault ls x at) (sym b)
-    (subst (IsFirstFault ls kind.NoLink) (sym n ∙ same) (no_link ls whole guards rest s.whole s.guards e r))
+    (subst (IsFirstFault ls kind.NoLink) (sym n ∙ same) (first_fault ls _ _ (open_rule ls whole guards rest s e r)))
 
 pub line_refused : (ls : List Text) (i : ℕ) (reader : Reader) (line : Text) (e : RuleError) → AreRead ls i reader → i < length ls → get_or ls i line ≡ line
     → is_significant line ≡ true → IsStepFault reader (i + 1) line e → (e ≡ NO_MEMORY) ⊎ IsFirstFault ls e.kind e.line
@@ -136,7 +85,7 @@ line_refused ls i reader line e r h g x (inr (inl f)) =
     let spelled = significant_around ls (take i ls) split.0 line split.1 x ∙ ap (λ l. l ++ line ∷ significant split.0) r.spelled in
     inr
     (subst (IsFirstFault ls e.kind) (number_is ls i (begun_statements (begun_of reader)) line h g x r.spelled ∙ sym f.1)
-    (line_fault ls (begun_of reader) line (significant split.0) e.kind r.sound spelled f.0))
+    (first_fault ls _ _ (line_fault ls (begun_of reader) line (significant split.0) e.kind r.sound spelled f.0)))
 line_refused ls i reader line e r h g x (inr (inr f)) =
     let split = split_at ls i line h g in
     let spelled = significant_around ls (take i ls) split.0 line split.1 x ∙ ap (λ l. l ++ line ∷ significant split.0) r.spelled in
@@ -174,12 +123,12 @@ pub end_result : (ls : List Text) (i : ℕ) (reader : Reader) (r : Result RuleSe
 end_result ls i reader (Ok rules) a h f = tt
 end_result ls i reader (Err e) a h f = inr (end_refused ls i reader e a h f.0 f.1)
 
-pub text_result : (bytes : Text) (ls : List Text) (r : Result RuleSet RuleError) → length bytes ≤ max_rule_bytes → IsUtf8 bytes → ls ≡ lines bytes
+pub text_result : (bytes : Text) (ls : List Text) (r : Result RuleSet RuleError) → length bytes ≤ MAX_BYTES → IsUtf8 bytes → ls ≡ lines bytes
     → IfOk r IsSound → IfOk r (λ rules. significant ls ≡ map line_of (statements rules)) → IfOk r (IsRuleText bytes)
 text_result bytes ls (Ok rules) short utf8 e s h = record { short = short; utf8 = utf8; spelled = ap significant (sym e) ∙ h; sound = s }
 text_result bytes ls (Err f) short utf8 e s h = tt
 
-pub refused_result : (bytes : Text) (ls : List Text) (r : Result RuleSet RuleError) → length bytes ≤ max_rule_bytes → IsUtf8 bytes → ls ≡ lines bytes
+pub refused_result : (bytes : Text) (ls : List Text) (r : Result RuleSet RuleError) → length bytes ≤ MAX_BYTES → IsUtf8 bytes → ls ≡ lines bytes
     → IfErr r (λ (e : RuleError). (e ≡ NO_MEMORY) ⊎ IsFirstFault ls e.kind e.line)
     → IfErr r (λ (e : RuleError). (e ≡ NO_MEMORY) ⊎ IsRefused bytes e.kind e.line)
 refused_result bytes ls (Ok rules) short utf8 e h = tt

@@ -8,7 +8,8 @@ use Rattle.std.proofs.lemmas.List.{append-nil, map-append, take_more}
 use Rattle.std.proofs.lemmas.Map.Views.{any-filter_same}
 use Rattle.text_model.specs.Texts.{Text}
 use Rattle.environment_model.specs.Environment.{is_among}
-use Rattle.rule_parser.specs.Names.{each_once, list_names}
+use Rattle.environment_model.specs.Lists.{list_names}
+use Rattle.rule_parser.specs.Names.{each_once}
 
 filter-append : (p : Text → Bool) (xs ys : List Text) → filter p (xs ++ ys) ≡ filter p xs ++ filter p ys
 filter-append p [] ys = refl

@@ -9,6 +9,7 @@ use Rattle.text_model.specs.Texts.{Text}
 use Rattle.uri_grammar.specs.Names.{IsName}
 use Rattle.uri_grammar.specs.Texts.{IsTemplate, IsRefused}
 use Rattle.uri_grammar.specs.declared.error.TemplateError.{TemplateError}
+use Rattle.uri_grammar.specs.declared.error.TemplateErrorKind.{TemplateErrorKind}
 use Rattle.uri_grammar.specs.declared.error.TemplateErrorKind.TheVariants as template_kind
 use Rattle.uri_grammar.specs.declared.error.TheConstants.{NO_MEMORY as TEMPLATE_NO_MEMORY}
 use Rattle.rule_parser.specs.declared.error.TheConstants.{NO_MEMORY}
@@ -20,9 +21,10 @@ use Rattle.rule_parser.specs.declared.rule.Guard.{Guard}
 use Rattle.rule_parser.specs.declared.rule.Rule.{Rule}
 use Rattle.rule_parser.specs.Rules.{IsSoundGuard, IsSoundRule, guard_fits, parts_fit}
 use Rattle.rule_parser.specs.Statements.{Statement, Declare, Begin, When, Link, IsStatement, line_of, guard_text}
-use Rattle.rule_parser.specs.Faults.{Begun, IsSoundBegun, IsLineFault, out_of_order, bad_template, mismatched_guard, takes_lists}
+use Rattle.rule_parser.specs.Faults.{Begun, IsSoundBegun, IsLineFault, no_statement, out_of_order, bad_template, mismatched_guard, takes_lists}
 use Rattle.rule_parser.specs.Progress.{GoesOn, IsStepFault, begun_of}
 use Rattle.rule_parser.specs.Reading.{ReadsGuard}
+use Rattle.rule_parser.proofs.GuardChoice.{guard_choice}
 use Rattle.rule_parser.proofs.WordLemmas.{same_tails, other_heads}
 
 abbrev pub stage : List Text → List Rule → Option (List Guard) → Begun
@@ -112,10 +114,12 @@ line_faulty r number line e k s h =
 pub list_out_of_order : (begun : Begun) (name : Text) → IsName name → takes_lists begun ≡ false → IsLineFault begun (codes "list " ++ name) kind.BadLine
 list_out_of_order begun name n o = out_of_order begun (Declare name) n o
 
-pub guard_out_of_order : (begun : Begun) (words : Text) (g : Guard) → ReadsGuard words (Some g) → is_some begun.guards ≡ false
-    → IsLineFault begun (codes "when " ++ words) kind.BadLine
-guard_out_of_order begun words g h o =
-    subst (λ (w : Text). IsLineFault begun (codes "when " ++ w) kind.BadLine) (sym h.1) (out_of_order begun (When g) h.0 o)
+pub when_out_of_order : (begun : Begun) (words : Text) → is_some begun.guards ≡ false → IsLineFault begun (codes "when " ++ words) kind.BadLine
+when_out_of_order begun words o = by_reading (guard_choice words)
+  where
+    by_reading : (read : Option Guard) × ReadsGuard words read → IsLineFault begun (codes "when " ++ words) kind.BadLine
+    by_reading (None, n) = no_statement begun (codes "when " ++ words) (no_when words n)
+    by_reading (Some g, h) = subst (λ (w : Text). IsLineFault begun (codes "when " ++ w) kind.BadLine) (sym h.1) (out_of_order begun (When g) h.0 o)
 
 pub guard_mismatched : (begun : Begun) (words : Text) (g : Guard) → ReadsGuard words (Some g) → is_some begun.guards ≡ true → guard_fits begun.whole.lists g ≡ false
     → IsLineFault begun (codes "when " ++ words) kind.KindMismatch
@@ -125,11 +129,18 @@ guard_mismatched begun words g h o k =
 pub link_out_of_order : (begun : Begun) (text : Text) → is_some begun.guards ≡ false → IsLineFault begun (codes "link " ++ text) kind.BadLine
 link_out_of_order begun text o = out_of_order begun (Link text) tt o
 
+no_memory_or_not : (k : TemplateErrorKind) → (k ≡ template_kind.NoMemory) ⊎ (k ≢ template_kind.NoMemory)
+no_memory_or_not template_kind.NoMemory = inl refl
+no_memory_or_not k = inr (λ e. cc)
+
 -- a fault of a template, unless memory was wanting
 pub template_faulty : (r : Reader) (number : ℕ) (text : Text) (t : TemplateError) (e : RuleError) → is_some (begun_of r).guards ≡ true
     → (t ≡ TEMPLATE_NO_MEMORY) ⊎ IsRefused text t.kind t.at
-    → (e ≡ NO_MEMORY) ⊎ ((t.kind ≢ template_kind.NoMemory) × (e ≡ record { kind = kind.Template t.kind; line = number }))
+    → (t.kind ≡ template_kind.NoMemory → e ≡ NO_MEMORY) → (t.kind ≢ template_kind.NoMemory → e ≡ record { kind = kind.Template t.kind; line = number })
     → IsStepFault r number (codes "link " ++ text) e
-template_faulty r number text t e o h (inl m) = inl m
-template_faulty r number text t e o (inl m) (inr k) = absurd (k.0 (ap (λ (x : TemplateError). x.kind) m))
-template_faulty r number text t e o (inr f) (inr k) = line_faulty r number (codes "link " ++ text) e (kind.Template t.kind) k.1 (bad_template (begun_of r) text t.kind t.at o f)
+template_faulty r number text t e o (inl m) memory fault = inl (memory (ap (λ (x : TemplateError). x.kind) m))
+template_faulty r number text t e o (inr f) memory fault =
+    elim (no_memory_or_not t.kind) [
+      | inl m ↦ inl (memory m)
+      | inr n ↦ line_faulty r number (codes "link " ++ text) e (kind.Template t.kind) (fault n) (bad_template (begun_of r) text t.kind t.at o f)
+    ]

@@ -1,5 +1,5 @@
 -- The first fault of bytes that spell no rules: lines that begin a set of rules, and then a line that cannot go on with it.
-use Rattle.std.specs.Prelude.{◌≡◌, ℕ, ◌+◌, ◌<◌, ◌≤◌, List, [], ◌∷◌, ◌++◌, Bool, true, false, Option, Some, None, is_some, is_none, ◌&&◌, ◌==◌, map, length, slice_index, All, IsUtf8, ◌⊎◌, if◌then◌else◌}
+use Rattle.std.specs.Prelude.{◌≡◌, ℕ, ◌+◌, ◌<◌, ◌≤◌, List, [], ◌∷◌, ◌++◌, Bool, true, false, Option, Some, None, is_some, is_none, ◌&&◌, ◌==◌, map, length, All, IsUtf8, ◌⊎◌}
 use Rattle.std.specs.Str.Lines.{lines}
 use Rattle.text_model.specs.Texts.{Text}
 use Rattle.uri_grammar.specs.declared.parts.Part.{Part}
@@ -10,7 +10,8 @@ use Rattle.rule_parser.specs.declared.error.RuleErrorKind.TheVariants as kind
 use Rattle.rule_parser.specs.declared.rule.Guard.{Guard}
 use Rattle.rule_parser.specs.Rules.{RuleSet, IsGuard, IsSound, IsSoundGuard, guard_fits, parts_fit}
 use Rattle.rule_parser.specs.Statements.{Statement, Declare, Begin, When, Link, IsStatement, line_of, statements}
-use Rattle.rule_parser.specs.Grammar.{max_rule_bytes, is_significant, significant}
+use Rattle.rule_parser.specs.declared.rules.TheConstants.{MAX_BYTES}
+use Rattle.rule_parser.specs.Grammar.{is_significant, significant}
 
 -- Rules that are whole, and the guards of one more rule whose link is yet to come, if one has begun.
 pub record Begun : Type 0 where
@@ -59,32 +60,45 @@ pub data IsLineFault : Begun → Text → RuleErrorKind → Type 0 where
 
 -- ---- the first fault
 
--- the numbers of the significant lines, where the first line has this number
-abbrev pub significant_numbers : ℕ → List Text → List ℕ
-significant_numbers n [] = []
-significant_numbers n (line ∷ ls) = if is_significant line then (n ∷ significant_numbers (n + 1) ls) else significant_numbers (n + 1) ls
-
--- the number of the line behind so many significant ones, counted from 1
-abbrev pub line_number : List Text → ℕ → ℕ
-line_number ls k = slice_index (significant_numbers 1 ls) k
+-- a line that cannot go on with those before it
+pub record StopsAtLine (ls : List Text) (k : RuleErrorKind) (number : ℕ) : Type 0 where
+  pub before : List Text
+  pub line : Text
+  pub behind : List Text
+  pub begun : Begun
+  pub whole : ls ≡ before ++ line ∷ behind
+  pub counted : number ≡ length before + 1
+  pub spelled : significant before ≡ map line_of (begun_statements begun)
+  pub sound : IsSoundBegun begun
+  pub is_no_comment : is_significant line ≡ true
+  pub faulty : IsLineFault begun line k
 
 -- the next rule begins, or nothing more comes
 abbrev pub EndsRule : List Text → Type 0
 EndsRule [] = Unit {0}
 EndsRule (line ∷ ls) = line ≡ line_of Begin
 
--- A rule without a link is found where the next one begins, or at the end, and has the number of its own line.
-pub data IsFirstFault : List Text → RuleErrorKind → ℕ → Type 0 where
-  line_fault : (ls : List Text) (begun : Begun) (line : Text) (rest : List Text) (k : RuleErrorKind) → IsSoundBegun begun
-      → significant ls ≡ map line_of (begun_statements begun) ++ line ∷ rest → IsLineFault begun line k
-      → IsFirstFault ls k (line_number ls (length (begun_statements begun)))
-  no_link : (ls : List Text) (whole : RuleSet) (guards : List Guard) (rest : List Text) → IsSound whole → All (IsSoundGuard whole.lists) guards
-      → significant ls ≡ map line_of (statements whole ++ statements_of_guards (Some guards)) ++ rest → EndsRule rest
-      → IsFirstFault ls kind.NoLink (line_number ls (length (statements whole)))
+-- a rule that ends without a link, which has the number of its own line
+pub record LacksLink (ls : List Text) (k : RuleErrorKind) (number : ℕ) : Type 0 where
+  pub before : List Text
+  pub behind : List Text
+  pub rules : RuleSet
+  pub guards : List Guard
+  pub rest : List Text
+  pub whole : ls ≡ before ++ line_of Begin ∷ behind
+  pub counted : number ≡ length before + 1
+  pub spelled : significant before ≡ map line_of (statements rules)
+  pub guarded : significant behind ≡ map line_of (map When guards) ++ rest
+  pub ends : EndsRule rest
+  pub sound : IsSoundBegun (record { whole = rules; guards = Some guards })
+  pub no_link : k ≡ kind.NoLink
 
--- the bytes spell no rules: what is wrong with them, and the number of the line, 0 where it is no line's fault
+abbrev pub IsFirstFault : List Text → RuleErrorKind → ℕ → Type 0
+IsFirstFault ls k number = StopsAtLine ls k number ⊎ LacksLink ls k number
+
+-- the bytes spell no rules: what is wrong with them, and the number of the line, from 1; 0 where it is no line's fault
 abbrev pub IsRefused : Text → RuleErrorKind → ℕ → Type 0
-IsRefused bytes k line =
-    ((max_rule_bytes < length bytes) × (k ≡ kind.TooLong) × (line ≡ 0))
-    ⊎ ((length bytes ≤ max_rule_bytes) × (IsUtf8 bytes → ⊥) × (k ≡ kind.NotUtf8) × (line ≡ 0))
-    ⊎ ((length bytes ≤ max_rule_bytes) × IsUtf8 bytes × IsFirstFault (lines bytes) k line)
+IsRefused bytes k number =
+    ((MAX_BYTES < length bytes) × (k ≡ kind.TooLong) × (number ≡ 0))
+    ⊎ ((length bytes ≤ MAX_BYTES) × (IsUtf8 bytes → ⊥) × (k ≡ kind.NotUtf8) × (number ≡ 0))
+    ⊎ ((length bytes ≤ MAX_BYTES) × IsUtf8 bytes × IsFirstFault (lines bytes) k number)

@@ -1,18 +1,16 @@
 -- Which bytes spell which rules.
-use Rattle.std.specs.Prelude.{◌≡◌, ℕ, ◌≤◌, List, [], ◌∷◌, Bool, false, not, ◌==◌, filter, map, length, IsUtf8}
+use Rattle.std.specs.Prelude.{◌≡◌, ◌≤◌, List, [], ◌∷◌, Bool, false, not, ◌==◌, filter, map, length, IsUtf8}
 use Rattle.std.specs.Str.Lines.{lines}
 use Rattle.text_model.specs.Texts.{Text}
+use Rattle.rule_parser.specs.declared.rules.TheConstants.{MAX_BYTES}
+use Rattle.rule_parser.specs.Characters.{number_sign}
 use Rattle.rule_parser.specs.Rules.{RuleSet, IsSound}
 use Rattle.rule_parser.specs.Statements.{line_of, statements}
-
--- the most bytes that a rule text has
-abbrev pub max_rule_bytes : ℕ
-max_rule_bytes = 65536
 
 -- neither empty nor a comment
 abbrev pub is_significant : Text → Bool
 is_significant [] = false
-is_significant (b ∷ line) = not (b == 35)
+is_significant (b ∷ line) = not (b == number_sign)
 
 abbrev pub significant : List Text → List Text
 significant ls = filter is_significant ls
@@ -20,7 +18,7 @@ significant ls = filter is_significant ls
 -- The lines of a text, its comments left out, spell the rules. A line ends with LF, and a CR before that is dropped; the last LF
 -- may be missing.
 pub record IsRuleText (bytes : Text) (rules : RuleSet) : Type 0 where
-  pub short : length bytes ≤ max_rule_bytes
+  pub short : length bytes ≤ MAX_BYTES
   pub utf8 : IsUtf8 bytes
   pub spelled : significant (lines bytes) ≡ map line_of (statements rules)
   pub sound : IsSound rules

@@ -1,5 +1,5 @@
 -- What rules mean in an environment.
-use Rattle.std.specs.Prelude.{ℕ, [], ◌∷◌, Option, Some, None, Bool, true, false, not, ◌&&◌, nat_le, option_and_then}
+use Rattle.std.specs.Prelude.{ℕ, [], ◌∷◌, Option, Some, None, Bool, true, false, not, ◌&&◌, nat_le, length, option_and_then}
 use Rattle.std.specs.List.{list_all, find}
 use Rattle.std.specs.Option.{option_map}
 use Rattle.std.specs.Str.{bytes_eq}
@@ -12,7 +12,7 @@ use Rattle.rule_parser.specs.declared.rule.Bound.TheVariants as bound
 use Rattle.rule_parser.specs.declared.rule.Guard.{Guard}
 use Rattle.rule_parser.specs.declared.rule.Guard.TheVariants as guard
 use Rattle.rule_parser.specs.declared.rule.Rule.{Rule}
-use Rattle.rule_parser.specs.Names.{list_names}
+use Rattle.environment_model.specs.Lists.{list_names}
 use Rattle.rule_parser.specs.Rules.{RuleSet}
 
 -- ---- guards
@@ -48,9 +48,13 @@ abbrev pub is_at_most : Option ℕ → ℕ → Bool
 is_at_most None n = true
 is_at_most (Some high) n = nat_le n high
 
-abbrev pub is_within : Option ℕ → Option ℕ → Option ℕ → Bool
-is_within low high None = false
-is_within low high (Some n) = is_at_least low n && is_at_most high n
+-- on a bound or between the two
+abbrev pub is_within : Option ℕ → Option ℕ → ℕ → Bool
+is_within low high n = is_at_least low n && is_at_most high n
+
+abbrev pub is_number_within : Option ℕ → Option ℕ → Option ℕ → Bool
+is_number_within low high None = false
+is_number_within low high (Some n) = is_within low high n
 
 abbrev pub guard_holds : LookUp → Guard → Bool
 guard_holds look (guard.Has name) = is_defined (look name)
@@ -59,7 +63,9 @@ guard_holds look (guard.Given name) = is_given (text_in (look name))
 guard_holds look (guard.Same name text) = is_text text (text_in (look name))
 guard_holds look (guard.Holds name text) = is_among text (members_in (look name))
 guard_holds look (guard.Between name low high) =
-    is_within (bound_number look low) (bound_number look high) (option_and_then leading_number (text_in (look name)))
+    is_number_within (bound_number look low) (bound_number look high) (option_and_then leading_number (text_in (look name)))
+guard_holds look (guard.Counts name low high) =
+    is_within (bound_number look low) (bound_number look high) (length (members_in (look name)))
 
 -- ---- rules
 

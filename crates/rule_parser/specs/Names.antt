@@ -1,20 +1,7 @@
--- Which names stand for lists.
-use Rattle.std.specs.Prelude.{List, [], ◌∷◌, ◌++◌, Bool, not, filter, codes}
+-- The names of lists, as `lists` answers them.
+use Rattle.std.specs.Prelude.{List, [], ◌∷◌, not, filter}
 use Rattle.std.specs.Str.{bytes_eq}
 use Rattle.text_model.specs.Texts.{Text}
-use Rattle.environment_model.specs.Environment.{is_among}
-
--- the keys of ANSI/NISO Z39.88 that can come more than once: authors, and identifiers of the referent
-abbrev pub standard_lists : List Text
-standard_lists = codes "rft.au" ∷ codes "rft_id" ∷ []
-
--- the names of lists, where these are declared
-abbrev pub list_names : List Text → List Text
-list_names declared = standard_lists ++ declared
-
--- whether the name stands for a list, where these are declared
-abbrev pub is_list : List Text → Text → Bool
-is_list declared name = is_among name (list_names declared)
 
 -- the texts without those that came before
 abbrev pub each_once : List Text → List Text

@@ -1,4 +1,4 @@
--- How far the lines of a rule text were read.
+-- For private contracts. How far the lines of a rule text were read.
 use Rattle.std.specs.Prelude.{◌≡◌, ℕ, [], ◌∷◌, ◌++◌, Some, None, IfSome, length, ◌⊎◌}
 use Rattle.std.specs.Option.{option_map}
 use Rattle.text_model.specs.Texts.{Text}
@@ -22,13 +22,14 @@ pub record GoesOn (old new : Begun) (line : Text) : Type 0 where
   pub longer : begun_statements new ≡ begun_statements old ++ statement ∷ []
   pub sound : IsSoundBegun new
 
--- However lines are numbered: where this one, behind all the old statements, has the number, and the rule whose link is yet to come
--- had the number of its line, it has it still.
+-- the rule whose link is yet to come has the number of its line, where statements have these
+abbrev pub IsNumbered : (ℕ → ℕ) → Reader → Type 0
+IsNumbered number_of r = IfSome r.rule_line (λ line. line ≡ number_of (length (statements (begun_of r).whole)))
+
+-- However statements are numbered, where the next one has this number: the rule has the number of its line still.
 abbrev pub KeepsLine : Reader → Reader → ℕ → Type 0
 KeepsLine old new number =
-    (number_of : ℕ → ℕ) → number_of (length (begun_statements (begun_of old))) ≡ number
-    → IfSome old.rule_line (λ line. line ≡ number_of (length (statements (begun_of old).whole)))
-    → IfSome new.rule_line (λ line. line ≡ number_of (length (statements (begun_of new).whole)))
+    (number_of : ℕ → ℕ) → number_of (length (begun_statements (begun_of old))) ≡ number → IsNumbered number_of old → IsNumbered number_of new
 
 -- the line with this number cannot go on
 abbrev pub IsStepFault : Reader → ℕ → Text → RuleError → Type 0

@@ -13,7 +13,8 @@ use Rattle.rule_parser.specs.declared.rule.Bound.TheVariants as bound
 use Rattle.rule_parser.specs.declared.rule.Guard.{Guard}
 use Rattle.rule_parser.specs.declared.rule.Guard.TheVariants as guard
 use Rattle.rule_parser.specs.declared.rule.Rule.{Rule}
-use Rattle.rule_parser.specs.Names.{is_list}
+use Rattle.environment_model.specs.Lists.{is_list}
+use Rattle.rule_parser.specs.declared.guard.TheConstants.{MAX_DIGITS}
 
 -- the declared lists, in the order of their lines, and the rules
 pub record RuleSet : Type 0 where
@@ -25,8 +26,11 @@ pub record RuleSet : Type 0 where
 -- digits alone are no name of a bound
 abbrev pub IsBound : Bound → Type 0
 IsBound bound.Open = Unit {0}
-IsBound (bound.Digits digits) = (list_all is_ascii_digit digits ≡ true) × (1 ≤ length digits) × (length digits ≤ 9)
+IsBound (bound.Digits digits) = (list_all is_ascii_digit digits ≡ true) × (1 ≤ length digits) × (length digits ≤ MAX_DIGITS)
 IsBound (bound.Name name) = IsName name × (list_all is_ascii_digit name ≡ false)
+
+abbrev pub AreBounds : Bound → Bound → Type 0
+AreBounds low high = IsBound low × IsBound high
 
 abbrev pub IsGuard : Guard → Type 0
 IsGuard (guard.Has name) = IsName name
@@ -34,7 +38,8 @@ IsGuard (guard.Lacks name) = IsName name
 IsGuard (guard.Given name) = IsName name
 IsGuard (guard.Same name text) = IsName name
 IsGuard (guard.Holds name text) = IsName name
-IsGuard (guard.Between name low high) = IsName name × IsBound low × IsBound high
+IsGuard (guard.Between name low high) = IsName name × AreBounds low high
+IsGuard (guard.Counts name low high) = IsName name × AreBounds low high
 
 -- ---- kinds: each name is used as what it is declared
 
@@ -43,13 +48,17 @@ bound_fits lists bound.Open = true
 bound_fits lists (bound.Digits digits) = true
 bound_fits lists (bound.Name name) = not (is_list lists name)
 
+abbrev pub bounds_fit : List Text → Bound → Bound → Bool
+bounds_fit lists low high = bound_fits lists low && bound_fits lists high
+
 abbrev pub guard_fits : List Text → Guard → Bool
 guard_fits lists (guard.Has name) = true
 guard_fits lists (guard.Lacks name) = true
 guard_fits lists (guard.Given name) = not (is_list lists name)
 guard_fits lists (guard.Same name text) = not (is_list lists name)
 guard_fits lists (guard.Holds name text) = is_list lists name
-guard_fits lists (guard.Between name low high) = not (is_list lists name) && (bound_fits lists low && bound_fits lists high)
+guard_fits lists (guard.Between name low high) = not (is_list lists name) && bounds_fit lists low high
+guard_fits lists (guard.Counts name low high) = is_list lists name && bounds_fit lists low high
 
 -- a prefix stands on texts alone
 abbrev pub spec_fits : List Text → Spec → Bool

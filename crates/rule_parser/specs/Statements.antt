@@ -8,6 +8,7 @@ use Rattle.rule_parser.specs.declared.rule.Bound.TheVariants as bound
 use Rattle.rule_parser.specs.declared.rule.Guard.{Guard}
 use Rattle.rule_parser.specs.declared.rule.Guard.TheVariants as guard
 use Rattle.rule_parser.specs.declared.rule.Rule.{Rule}
+use Rattle.rule_parser.specs.Characters.{quote, backslash}
 use Rattle.rule_parser.specs.Rules.{RuleSet, IsGuard}
 
 pub data Statement : Type 0 where
@@ -26,15 +27,15 @@ IsStatement (Link text) = Unit {0}
 
 -- a quote or a backslash
 abbrev pub is_special : ℕ → Bool
-is_special b = b == 34 || b == 92
+is_special b = b == quote || b == backslash
 
 -- a backslash before each of these
 abbrev pub escaped : Text → Text
 escaped [] = []
-escaped (b ∷ text) = if is_special b then (92 ∷ b ∷ escaped text) else (b ∷ escaped text)
+escaped (b ∷ text) = if is_special b then (backslash ∷ b ∷ escaped text) else (b ∷ escaped text)
 
 abbrev pub quoted : Text → Text
-quoted text = 34 ∷ escaped text ++ 34 ∷ []
+quoted text = quote ∷ escaped text ++ quote ∷ []
 
 abbrev pub bound_text : Bound → Text
 bound_text bound.Open = codes "*"
@@ -51,6 +52,7 @@ guard_text (guard.Given name) = codes "given " ++ name
 guard_text (guard.Same name text) = name ++ (codes " is " ++ quoted text)
 guard_text (guard.Holds name text) = name ++ (codes " holds " ++ quoted text)
 guard_text (guard.Between name low high) = name ++ (codes " from " ++ bounds_text low high)
+guard_text (guard.Counts name low high) = name ++ (codes " counts " ++ bounds_text low high)
 
 abbrev pub line_of : Statement → Text
 line_of (Declare name) = codes "list " ++ name

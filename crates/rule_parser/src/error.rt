@@ -1,4 +1,4 @@
-ghost use Rattle.std.specs.Prelude.{◌≡◌, ◌≢◌, ◌⊎◌};
+ghost use Rattle.std.specs.Prelude.{◌≡◌, ◌≢◌};
 
 use std::alloc::{AllocError, AllocFailed};
 use thiserror::Error;
@@ -22,7 +22,7 @@ pub enum RuleErrorKind {
     /// A link that is no template.
     #[error("Template {0:?}")]
     Template(TemplateErrorKind),
-    /// A list where a text is wanted, or a text before `holds`.
+    /// A list where a text is wanted, or a text before `holds` or `counts`.
     #[error("KindMismatch")]
     KindMismatch,
     /// A growth was refused.
@@ -47,7 +47,8 @@ impl RuleError {
 
     // A template's fault, at its line. A template's want of memory is the rule text's.
     pub(crate) fn in_template(kind: TemplateErrorKind, line: usize) -> RuleError
-        ensures { (result ≡ NO_MEMORY) ⊎ ((kind ≢ TemplateErrorKind.NoMemory) × (result ≡ record { kind = RuleErrorKind.Template kind; line = line })) }
+        ensures no_memory { kind ≡ TemplateErrorKind.NoMemory → result ≡ NO_MEMORY }
+        ensures fault { kind ≢ TemplateErrorKind.NoMemory → result ≡ record { kind = RuleErrorKind.Template kind; line = line } }
     {
         match kind {
             TemplateErrorKind::NoMemory => NO_MEMORY,

@@ -12,6 +12,9 @@ use crate::rule::{Bound, Guard};
 use std::alloc::{AllocError, Global};
 use uri_grammar::{Text, is_name};
 
+/// The most digits that a bound has.
+pub const MAX_DIGITS: usize = 9;
+
 /// The guard that the words after `when ` spell, if they spell one.
 pub(crate) fn guard(alloc: Global, words: &str) -> Result<Option<Guard>, AllocError>
     ensures { IfOk result (λ read. ReadsGuard words.now read) }
@@ -53,6 +56,7 @@ fn compared(alloc: Global, name: &str, verb: &str, value: &str) -> Result<Option
         "is" => same(alloc, name, value),
         "holds" => holds(alloc, name, value),
         "from" => between(alloc, name, value),
+        "counts" => counts(alloc, name, value),
         _ => Ok(None),
     }
 }
@@ -85,6 +89,16 @@ fn between(alloc: Global, name: &str, range: &str) -> Result<Option<Guard>, Allo
         return Ok(None);
     };
     Ok(Some(Guard::Between(copy(alloc, name)?, low, high)))
+}
+
+fn counts(alloc: Global, name: &str, range: &str) -> Result<Option<Guard>, AllocError>
+    requires { IsName name.now }
+    ensures { IfOk result (λ read. ReadsGuard (name.now ++ (codes " counts " ++ range.now)) read) }
+{
+    let Some((low, high)) = bounds(alloc, range)? else {
+        return Ok(None);
+    };
+    Ok(Some(Guard::Counts(copy(alloc, name)?, low, high)))
 }
 
 /// The text between two quotes.
@@ -154,7 +168,7 @@ fn bound(alloc: Global, word: &str) -> Result<Option<Bound>, AllocError>
         return Ok(Some(Bound::Open));
     }
     if are_digits(word) {
-        if !(1..=9).contains(&word.len()) {
+        if !(1..=MAX_DIGITS).contains(&word.len()) {
             return Ok(None);
         }
         return Ok(Some(Bound::Digits(copy(alloc, word)?)));

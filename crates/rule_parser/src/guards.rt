@@ -7,7 +7,7 @@ ghost use Rattle.std.specs.Option.{option_and_then};
 ghost use Rattle.environment_model.specs.Environment.{text_in, is_among};
 ghost use Rattle.text_model.specs.Number.{leading_number as number_of};
 ghost use Rattle.target_vars.specs.Members.{members_left};
-ghost use Rattle.rule_parser.specs.Meaning.{is_defined as stands_for_something, is_given as is_not_empty, is_text, bound_number as number_of_bound, is_at_least, is_at_most, is_within, guard_holds as is_held};
+ghost use Rattle.rule_parser.specs.Meaning.{is_defined as stands_for_something, is_given as is_not_empty, is_text, bound_number as number_of_bound, is_at_least, is_at_most, is_within as lies_within, guard_holds as is_held};
 
 use crate::rule::{Bound, Guard};
 use target_vars::Members;
@@ -31,10 +31,12 @@ fn holds<V: Variables>(variables: &V, guard: &Guard) -> bool
         Guard::Same(name, text) => is_same(variables, name.as_str(), text.as_str()),
         Guard::Holds(name, text) => has_member(&variables.list(name.as_str()), text.as_str()),
         Guard::Between(name, low, high) => match number(variables, name.as_str()) {
-            Some(n) => reaches(bound_number(variables, low), n)
-                && stays_below(bound_number(variables, high), n),
+            Some(n) => is_within(variables, low, high, n as usize),
             None => false,
         },
+        Guard::Counts(name, low, high) => {
+            is_within(variables, low, high, variables.list(name.as_str()).len())
+        }
     }
 }
 
@@ -101,20 +103,26 @@ fn bound_number<V: Variables>(variables: &V, bound: &Bound) -> Option<u32>
     }
 }
 
-fn reaches(low: Option<u32>, n: u32) -> bool
+fn is_within<V: Variables>(variables: &V, low: &Bound, high: &Bound, n: usize) -> bool
+    ensures { result ≡ lies_within (number_of_bound (V.look variables.now) low.now) (number_of_bound (V.look variables.now) high.now) n }
+{
+    reaches(bound_number(variables, low), n) && stays_below(bound_number(variables, high), n)
+}
+
+fn reaches(low: Option<u32>, n: usize) -> bool
     ensures { result ≡ is_at_least low n }
 {
     match low {
-        Some(low) => low <= n,
+        Some(low) => low as usize <= n,
         None => true,
     }
 }
 
-fn stays_below(high: Option<u32>, n: u32) -> bool
+fn stays_below(high: Option<u32>, n: usize) -> bool
     ensures { result ≡ is_at_most high n }
 {
     match high {
-        Some(high) => n <= high,
+        Some(high) => n <= high as usize,
         None => true,
     }
 }

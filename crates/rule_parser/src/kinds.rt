@@ -2,7 +2,7 @@
 
 ghost use Rattle.std.specs.Prelude.{◌≡◌};
 ghost use Rattle.std.specs.List.{list_all};
-ghost use Rattle.rule_parser.specs.Rules.{bound_fits as bound_is_fit, guard_fits as guard_is_fit, spec_fits as spec_is_fit, part_fits as part_is_fit, parts_fit as parts_are_fit};
+ghost use Rattle.rule_parser.specs.Rules.{bound_fits as bound_is_fit, bounds_fit as bounds_are_fit, guard_fits as guard_is_fit, spec_fits as spec_is_fit, part_fits as part_is_fit, parts_fit as parts_are_fit};
 
 use crate::names::is_list;
 use crate::rule::{Bound, Guard};
@@ -17,6 +17,12 @@ fn bound_fits(lists: &[Text], bound: &Bound) -> bool
     }
 }
 
+fn bounds_fit(lists: &[Text], low: &Bound, high: &Bound) -> bool
+    ensures { result ≡ bounds_are_fit lists.now low.now high.now }
+{
+    bound_fits(lists, low) && bound_fits(lists, high)
+}
+
 /// Whether the guard wants a list where a name stands for one, and a text where not.
 pub(crate) fn guard_fits(lists: &[Text], guard: &Guard) -> bool
     ensures { result ≡ guard_is_fit lists.now guard.now }
@@ -26,7 +32,10 @@ pub(crate) fn guard_fits(lists: &[Text], guard: &Guard) -> bool
         Guard::Given(name) | Guard::Same(name, _) => !is_list(lists, name.as_str()),
         Guard::Holds(name, _) => is_list(lists, name.as_str()),
         Guard::Between(name, low, high) => {
-            !is_list(lists, name.as_str()) && bound_fits(lists, low) && bound_fits(lists, high)
+            !is_list(lists, name.as_str()) && bounds_fit(lists, low, high)
+        }
+        Guard::Counts(name, low, high) => {
+            is_list(lists, name.as_str()) && bounds_fit(lists, low, high)
         }
     }
 }

@@ -1,13 +1,13 @@
 //! What holds of every rule text.
 
-ghost use Rattle.std.specs.Prelude.{◌≡◌, ℕ};
+ghost use Rattle.std.specs.Prelude.{◌≡◌, ◌⊎◌, ℕ};
 ghost use Rattle.text_model.specs.Texts.{Text};
 ghost use Rattle.rule_parser.specs.Rules.{RuleSet};
 ghost use Rattle.rule_parser.specs.Grammar.{IsRuleText};
 ghost use Rattle.rule_parser.specs.Faults.{IsRefused};
 ghost use Rattle.rule_parser.specs.declared.error.RuleErrorKind.{RuleErrorKind};
 
-use uri_grammar::laws::{one_first_fault as one_template_fault, one_tree, tree_without_fault};
+use uri_grammar::laws::{one_first_fault as one_template_fault, one_tree, tree_or_fault, tree_without_fault};
 
 /// A rule text spells one set of rules.
 pub fn one_rule_set()
@@ -22,6 +22,13 @@ pub fn rules_without_fault()
 {
     one_tree();
     tree_without_fault();
+}
+
+/// Bytes have rules or a first fault.
+pub fn rules_or_fault()
+    ensures { (bytes : Text) → ((rules : RuleSet) × IsRuleText bytes rules) ⊎ ((kind : RuleErrorKind) × (line : ℕ) × IsRefused bytes kind line) }
+{
+    tree_or_fault();
 }
 
 /// Bytes have at most one first fault.

@@ -16,6 +16,7 @@ mod view;
 
 pub use error::{NO_MEMORY, RuleError, RuleErrorKind};
 pub use first_link::meaning;
+pub use guard::MAX_DIGITS;
 pub use rule::{Bound, Guard, Guards, Rule};
 pub use rules::{MAX_BYTES, Rules};
 

@@ -1,6 +1,6 @@
 ghost use Rattle.std.specs.Prelude.{◌≡◌, IfOk};
 ghost use Rattle.environment_model.specs.Environment.{is_among as is_one_of};
-ghost use Rattle.rule_parser.specs.Names.{is_list as stands_for_list};
+ghost use Rattle.environment_model.specs.Lists.{is_list as stands_for_list};
 
 use std::alloc::{AllocError, Global};
 use uri_grammar::Text;

@@ -1,6 +1,8 @@
 //! How a rule text is read, line by line.
 
-ghost use Rattle.std.specs.Prelude.{◌≡◌, ◌++◌, codes, is_some, IfOk, IfErr, OnOk};
+ghost use Rattle.std.specs.Prelude.{◌≡◌, ◌++◌, true, codes, is_some, Err, IfOk, IfErr, OnOk};
+ghost use Rattle.uri_grammar.specs.Names.{IsName};
+ghost use Rattle.rule_parser.specs.declared.error.TheConstants.{NO_MEMORY};
 ghost use Rattle.rule_parser.specs.Faults.{IsSoundBegun, takes_lists as lists_may_come};
 ghost use Rattle.rule_parser.specs.Statements.{Begin, line_of};
 ghost use Rattle.rule_parser.specs.Progress.{begun_of, GoesOn, KeepsLine, IsStepFault, no_rules};
@@ -64,7 +66,7 @@ impl Reader {
         requires { IsSoundBegun (begun_of self.old) }
         ensures ok { OnOk result (GoesOn (begun_of self.old) (begun_of self.new) (line_of Begin)) }
         ensures line { OnOk result (KeepsLine self.old self.new number) }
-        ensures err { IfErr result (IsStepFault self.old number (line_of Begin)) }
+        ensures err { IfErr result (λ e. (e.kind ≡ RuleErrorKind.NoLink) × (self.old.rule_line ≡ Some e.line)) }
     {
         if let Some(line) = self.rule_line {
             return Err(RuleError::new(RuleErrorKind::NoLink, line));
@@ -91,6 +93,7 @@ impl Reader {
         ensures ok { OnOk result (GoesOn (begun_of self.old) (begun_of self.new) (codes "list " ++ name.now)) }
         ensures line { OnOk result (KeepsLine self.old self.new number) }
         ensures err { IfErr result (IsStepFault self.old number (codes "list " ++ name.now)) }
+        ensures no_memory { result ≡ Err NO_MEMORY → IsName name.now × (lists_may_come (begun_of self.old) ≡ true) }
     {
         if !is_name(name) {
             return Err(RuleError::new(RuleErrorKind::BadLine, number));
@@ -107,13 +110,14 @@ impl Reader {
         ensures ok { OnOk result (GoesOn (begun_of self.old) (begun_of self.new) (codes "when " ++ words.now)) }
         ensures line { OnOk result (KeepsLine self.old self.new number) }
         ensures err { IfErr result (IsStepFault self.old number (codes "when " ++ words.now)) }
+        ensures no_memory { result ≡ Err NO_MEMORY → is_some (begun_of self.old).guards ≡ true }
     {
-        let Some(guard) = guard(alloc, words)? else {
-            return Err(RuleError::new(RuleErrorKind::BadLine, number));
-        };
         if !self.is_in_rule() {
             return Err(RuleError::new(RuleErrorKind::BadLine, number));
         }
+        let Some(guard) = guard(alloc, words)? else {
+            return Err(RuleError::new(RuleErrorKind::BadLine, number));
+        };
         if !guard_fits(&self.lists, &guard) {
             return Err(RuleError::new(RuleErrorKind::KindMismatch, number));
         }
@@ -126,6 +130,7 @@ impl Reader {
         ensures ok { OnOk result (GoesOn (begun_of self.old) (begun_of self.new) (codes "link " ++ text.now)) }
         ensures line { OnOk result (KeepsLine self.old self.new number) }
         ensures err { IfErr result (IsStepFault self.old number (codes "link " ++ text.now)) }
+        ensures no_memory { result ≡ Err NO_MEMORY → is_some (begun_of self.old).guards ≡ true }
     {
         if !self.is_in_rule() {
             return Err(RuleError::new(RuleErrorKind::BadLine, number));

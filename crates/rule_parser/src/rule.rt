@@ -3,12 +3,12 @@ ghost use Rattle.std.specs.Prelude.{◌≡◌};
 use std::marker::Model;
 use uri_grammar::{Template, Text};
 
-/// A bound of a `from` guard.
+/// A bound of a `from` or `counts` guard.
 #[derive(Debug, Drop)]
 pub enum Bound {
     /// `*`
     Open,
-    /// 1 to 9 decimal digits, as they are written.
+    /// 1 to [`MAX_DIGITS`](crate::MAX_DIGITS) decimal digits, as they are written.
     Digits(Text),
     /// The name of a text, whose leading number is the bound.
     Name(Text),
@@ -30,6 +30,9 @@ pub enum Guard {
     /// `NAME from LO to HI`: the leading number of the name's text exists and lies between the bounds, which it may
     /// reach. A bound without a number is open.
     Between(Text, Bound, Bound),
+    /// `LIST counts LO to HI`: the number of the list's members lies between the bounds, which it may reach. A list
+    /// that is not defined has none, and a bound without a number is open.
+    Counts(Text, Bound, Bound),
 }
 
 /// Guards, which contracts see as a list.

@@ -1,7 +1,9 @@
-ghost use Rattle.std.specs.Prelude.{◌≡◌, ◌⊎◌, map, IfOk, IfErr};
+ghost use Rattle.std.specs.Prelude.{◌≡◌, ◌<◌, ◌≤◌, ◌↔◌, ◌⊎◌, map, length, IsUtf8, Err, IfOk, IfErr};
 ghost use Rattle.rule_parser.specs.Grammar.{IsRuleText};
 ghost use Rattle.rule_parser.specs.Faults.{IsRefused};
-ghost use Rattle.rule_parser.specs.Names.{is_list as stands_for_list, each_once, list_names};
+ghost use Rattle.environment_model.specs.Lists.{is_list as stands_for_list, list_names};
+ghost use Rattle.rule_parser.specs.Names.{each_once};
+ghost use Rattle.rule_parser.specs.declared.guard.TheConstants.{MAX_DIGITS};
 ghost use Rattle.rule_parser.specs.Rules.{IsSound};
 
 use crate::error::{RuleError, RuleErrorKind};
@@ -47,8 +49,11 @@ impl Rules {
     /// Any other bytes are refused whole, by their first fault. A rule without a link is found where the next one begins, or
     /// at the end. `NoMemory` where a growth was refused.
     pub fn parse(alloc: Global, bytes: &[u8]) -> Result<Rules, RuleError>
+        ensures limits { (MAX_BYTES ≡ 65536) × (MAX_DIGITS ≡ 9) }
         ensures ok { IfOk result (λ rules. IsRuleText bytes.now rules) }
         ensures err { IfErr result (λ e. (e ≡ record { kind = RuleErrorKind.NoMemory; line = 0 }) ⊎ IsRefused bytes.now e.kind e.line) }
+        ensures too_long { (result ≡ Err (record { kind = RuleErrorKind.TooLong; line = 0 })) ↔ (MAX_BYTES < length bytes.now) }
+        ensures not_utf8 { (result ≡ Err (record { kind = RuleErrorKind.NotUtf8; line = 0 })) ↔ ((length bytes.now ≤ MAX_BYTES) × (IsUtf8 bytes.now → ⊥)) }
     {
         if bytes.len() > MAX_BYTES {
             return Err(RuleError::new(RuleErrorKind::TooLong, 0));

@@ -14,7 +14,7 @@ pub(crate) struct RulesView<'a> {
 
 impl Variables for RulesView<'_> {
     ghost use Rattle.environment_model.specs.Environment.{look_up, view};
-    ghost use Rattle.rule_parser.specs.Names.{list_names};
+    ghost use Rattle.environment_model.specs.Lists.{list_names};
 
     ghost look = { λ v. view (list_names v.rules.now.lists) (look_up v.env.now.entries) };
 

@@ -2,17 +2,17 @@
 use Rattle.std.proofs.Common.{sym, ◌∙◌}
 use Rattle.rule_parser.specs.Faults.{no_statement}
 use Rattle.rule_parser.specs.Progress.{begun_of}
-use Rattle.rule_parser.proofs.ReaderLemmas.{no_when, line_faulty, guard_out_of_order, guard_mismatched, guards_more}
+use Rattle.rule_parser.proofs.ReaderLemmas.{no_when, line_faulty, when_out_of_order, guard_mismatched, guards_more}
 use Rattle.rule_parser.proofs.reader.Reader.add_guard.Goals as goal
 
 pub returns-in_default-clause-err : goal.returns-in_default-clause-err
 returns-in_default-clause-err c =
-    line_faulty c.args.self.now _ _ _ _ c.new.ensures (no_statement _ _ (no_when _ (rw c.in_default.is at c.in_ok-guard.ensures)))
+    line_faulty c.args.self.now _ _ _ _ c.new-in_default.ensures (no_statement _ _ (no_when _ (rw c.in_default.is at c.in_ok-guard.ensures)))
 
 pub returns-then-not-is_in_rule-clause-err : goal.returns-then-not-is_in_rule-clause-err
 returns-then-not-is_in_rule-clause-err c =
-    line_faulty c.args.self.now _ _ _ _ c.new-then-not-is_in_rule.ensures
-    (guard_out_of_order (begun_of c.args.self.now) _ _ (rw c.in-Some.is at c.in_ok-guard.ensures) (sym c.is_in_rule.ensures ∙ c.if-not-is_in_rule.true))
+    line_faulty c.args.self.now _ _ _ _ c.new.ensures
+    (when_out_of_order (begun_of c.args.self.now) _ (sym c.is_in_rule.ensures ∙ c.if-not-is_in_rule.true))
 
 pub returns-then-not-guard_fits-clause-err : goal.returns-then-not-guard_fits-clause-err
 returns-then-not-guard_fits-clause-err c =

@@ -11,7 +11,8 @@ returns-then-not-is_in_rule-clause-err c =
 
 pub returns-in-Err-clause-err : goal.returns-in-Err-clause-err
 returns-in-Err-clause-err c =
-    template_faulty c.args.self.now _ _ _ _ (sym c.is_in_rule.ensures ∙ c.if-not-is_in_rule.false) c.in-Err.ensures.err c.in_template.ensures
+    template_faulty c.args.self.now _ _ _ _ (sym c.is_in_rule.ensures ∙ c.if-not-is_in_rule.false) c.in-Err.ensures.err c.in_template.ensures.no_memory
+    c.in_template.ensures.fault
 
 pub returns-then-not-parts_fit-clause-err : goal.returns-then-not-parts_fit-clause-err
 returns-then-not-parts_fit-clause-err c =

@@ -1,6 +1,7 @@
 -- The lists so far are those of the names so far.
 use Rattle.std.proofs.Common.{◌≡◌, map, take}
-use Rattle.rule_parser.specs.Names.{each_once, list_names}
+use Rattle.environment_model.specs.Lists.{list_names}
+use Rattle.rule_parser.specs.Names.{each_once}
 use Rattle.rule_parser.proofs.rules.Rules.lists.Given as goal
 
 abbrev pub invariant-loop-list : goal.invariant-loop-list

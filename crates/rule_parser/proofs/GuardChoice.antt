@@ -1,0 +1,246 @@
+-- Words spell a guard or they spell none.
+use Rattle.std.proofs.Common.{◌≡◌, ◌≢◌, ℕ, ◌≤◌, [], ◌∷◌, ◌++◌, Bool, true, false, ◌==◌, Option, Some, None, ◌⊎◌, inl, inr, length, refl, ap, subst, sym, ◌∙◌, codes, arith}
+use Rattle.std.specs.Char.{is_ascii_digit}
+use Rattle.std.specs.Cmp.Lexicographic.{bytes_decides}
+use Rattle.std.specs.List.{list_all}
+use Rattle.std.specs.Str.{bytes_eq}
+use Rattle.std.proofs.lemmas.Bool.{both_ways, cases_Bool, cases_eq, cases_lt}
+use Rattle.text_model.specs.Texts.{Text}
+use Rattle.uri_grammar.specs.Names.{IsName}
+use Rattle.rule_parser.specs.declared.rule.Bound.{Bound}
+use Rattle.rule_parser.specs.declared.rule.Bound.TheVariants as bound
+use Rattle.rule_parser.specs.declared.rule.Guard.{Guard}
+use Rattle.rule_parser.specs.declared.rule.Guard.TheVariants as guard
+use Rattle.rule_parser.specs.Rules.{IsGuard}
+use Rattle.rule_parser.specs.Statements.{escaped, quoted, is_special, guard_text}
+use Rattle.rule_parser.specs.Reading.{ReadsEscaped, ReadsQuoted, ReadsBound, ReadsBounds, ReadsGuard, IsWord}
+use Rattle.rule_parser.proofs.NameChoice.{name_choice}
+use Rattle.rule_parser.proofs.WordLemmas.{name_is_word}
+use Rattle.rule_parser.proofs.EscapeLemmas.{escaped_special, escaped_plain, escaped_rest, special_is, not_quote, after_backslash}
+use Rattle.rule_parser.proofs.GuardLemmas.{quoted_reads, not_quoted, not_closed, no_bound, no_bounds_in_word, no_bounds_without_to, no_bounds_without_low, no_bounds_without_high, bounds_read, no_guard_without_name, no_guard_of_verb, no_compared_guard, no_same, no_holds, no_between, no_counts, no_guard_in_word}
+
+-- ---- texts
+
+pub text_choice : (x y : Text) → (x ≡ y) ⊎ (x ≢ y)
+text_choice x y =
+    elim (cases_Bool (bytes_eq x y)) [
+      | inl e ↦ inl ((bytes_decides x y).0 e)
+      | inr e ↦ inr (λ s. both_ways (bytes_eq x y) e ((bytes_decides x y).1 s))
+    ]
+
+-- a text begins with another, or it does not
+pub front_choice : (front text : Text) → ((rest : Text) × (text ≡ front ++ rest)) ⊎ ((rest : Text) → text ≢ front ++ rest)
+front_choice [] text = inl (text, refl)
+front_choice (x ∷ front) [] = inr (λ rest e. cc)
+front_choice (x ∷ front) (y ∷ text) = by_case (cases_eq y x) (front_choice front text)
+  where
+    by_case : (y ≡ x) ⊎ (y ≡ x → ⊥) → ((rest : Text) × (text ≡ front ++ rest)) ⊎ ((rest : Text) → text ≢ front ++ rest)
+        → ((rest : Text) × (y ∷ text ≡ x ∷ front ++ rest)) ⊎ ((rest : Text) → y ∷ text ≢ x ∷ front ++ rest)
+    by_case (inl e) (inl r) = inl (r.0, ap (λ b. b ∷ text) e ∙ ap (λ t. x ∷ t) r.1)
+    by_case (inl e) (inr n) = inr (λ rest s. n rest (cc))
+    by_case (inr d) c = inr (λ rest s. d (cc))
+
+-- a byte ends a text, or it does not
+end_choice : (c : ℕ) (text : Text) → ((front : Text) × (text ≡ front ++ c ∷ [])) ⊎ ((front : Text) → text ≢ front ++ c ∷ [])
+end_choice c [] = inr nothing
+  where
+    nothing : (front : Text) → [] ≢ front ++ c ∷ []
+    nothing [] e = cc
+    nothing (x ∷ front) e = cc
+end_choice c (b ∷ text) = by_case text (cases_eq b c) (end_choice c text)
+  where
+    by_case : (t : Text) → (b ≡ c) ⊎ (b ≡ c → ⊥) → ((front : Text) × (t ≡ front ++ c ∷ [])) ⊎ ((front : Text) → t ≢ front ++ c ∷ [])
+        → ((front : Text) × (b ∷ t ≡ front ++ c ∷ [])) ⊎ ((front : Text) → b ∷ t ≢ front ++ c ∷ [])
+    by_case t d (inl r) = inl (b ∷ r.0, ap (λ s. b ∷ s) r.1)
+    by_case [] (inl e) (inr n) = inl ([], ap (λ x. x ∷ []) e)
+    by_case [] (inr d) (inr n) = inr refuted
+      where
+        refuted : (front : Text) → b ∷ [] ≢ front ++ c ∷ []
+        refuted [] e = d (cc)
+        refuted (x ∷ front) e = n front (cc)
+    by_case (y ∷ t) d (inr n) = inr refuted
+      where
+        refuted : (front : Text) → b ∷ y ∷ t ≢ front ++ c ∷ []
+        refuted [] e = cc
+        refuted (x ∷ front) e = n front (cc)
+
+-- the first space parts a text, or it has none
+space_choice : (text : Text) → IsWord text ⊎ ((word : Text) × (rest : Text) × (text ≡ word ++ 32 ∷ rest) × IsWord word)
+space_choice [] = inl tt
+space_choice (b ∷ text) = by_case (cases_eq b 32) (space_choice text)
+  where
+    by_case : (b ≡ 32) ⊎ (b ≢ 32) → IsWord text ⊎ ((word : Text) × (rest : Text) × (text ≡ word ++ 32 ∷ rest) × IsWord word)
+        → IsWord (b ∷ text) ⊎ ((word : Text) × (rest : Text) × (b ∷ text ≡ word ++ 32 ∷ rest) × IsWord word)
+    by_case (inl e) c = inr ([], text, ap (λ x. x ∷ text) e, tt)
+    by_case (inr d) (inl w) = inl (d, w)
+    by_case (inr d) (inr c) = inr (b ∷ c.0, c.1, ap (λ t. b ∷ t) c.2, (d, c.3))
+
+-- ---- quoted texts
+
+plain_more : (b : ℕ) (t : Text) → is_special b ≡ false → (read : Option Text) × ReadsEscaped t read → (read : Option Text) × ReadsEscaped (b ∷ t) read
+plain_more b t p (Some u, e) = (Some (b ∷ u), ap (λ x. b ∷ x) e ∙ sym (escaped_plain b u p))
+plain_more b t p (None, n) = (None, λ v e.
+    let rest = escaped_rest v (b ∷ []) t (sym e ∙ sym (ap (λ x. x ++ t) (escaped_plain b [] p))) in
+    n rest.0 (sym rest.1))
+
+special_more : (b : ℕ) (t : Text) → is_special b ≡ true → (read : Option Text) × ReadsEscaped t read → (read : Option Text) × ReadsEscaped (92 ∷ b ∷ t) read
+special_more b t s (Some u, e) = (Some (b ∷ u), ap (λ x. 92 ∷ b ∷ x) e ∙ sym (escaped_special b u s))
+special_more b t s (None, n) = (None, λ v e.
+    let rest = escaped_rest v (b ∷ []) t (sym e ∙ sym (ap (λ x. x ++ t) (escaped_special b [] s))) in
+    n rest.0 (sym rest.1))
+
+no_special : (b : ℕ) (t : Text) → is_special b ≡ false → (v : Text) → 92 ∷ b ∷ t ≡ escaped v → ⊥
+no_special b t p v e =
+    let behind = after_backslash v (b ∷ t) (sym e) in
+    let first : b ≡ behind.0 = cc (behind.2) in
+    both_ways (is_special b) p (ap is_special first ∙ behind.3)
+
+no_end : (v : Text) → 92 ∷ [] ≡ escaped v → ⊥
+no_end v e = let behind = after_backslash v [] (sym e) in let none : [] ≡ behind.0 ∷ behind.1 = behind.2 in cc
+
+escaped_choice : (text : Text) → (read : Option Text) × ReadsEscaped text read
+escaped_choice [] = (Some [], refl)
+escaped_choice (b ∷ []) =
+    elim (cases_Bool (is_special b)) [
+      | inr p ↦ plain_more b [] p (Some [], refl)
+      | inl s ↦ elim (special_is b s) [
+        | inl quote ↦ (None, λ v e. not_quote v [] (sym e ∙ ap (λ x. x ∷ []) quote))
+        | inr backslash ↦ (None, λ v e. no_end v (sym (ap (λ x. x ∷ []) backslash) ∙ e))
+      ]
+    ]
+escaped_choice (b ∷ c ∷ text) = by_case (cases_Bool (is_special b)) (escaped_choice (c ∷ text)) (escaped_choice text)
+  where
+    by_case : (is_special b ≡ true) ⊎ (is_special b ≡ false) → (read : Option Text) × ReadsEscaped (c ∷ text) read → (read : Option Text) × ReadsEscaped text read
+        → (read : Option Text) × ReadsEscaped (b ∷ c ∷ text) read
+    by_case (inr p) behind more = plain_more b (c ∷ text) p behind
+    by_case (inl s) behind more =
+        elim (special_is b s) [
+          | inl quote ↦ (None, λ v e. not_quote v (c ∷ text) (sym e ∙ ap (λ x. x ∷ c ∷ text) quote))
+          | inr backslash ↦ subst (λ x. (read : Option Text) × ReadsEscaped (x ∷ c ∷ text) read) (sym backslash)
+              (elim (cases_Bool (is_special c)) [ inl t ↦ special_more c text t more | inr p ↦ (None, no_special c text p) ])
+        ]
+
+quoted_choice : (value : Text) → (read : Option Text) × ReadsQuoted value read
+quoted_choice value =
+    elim (front_choice (34 ∷ []) value) [
+      | inr n ↦ (None, not_quoted value n)
+      | inl v ↦ elim (end_choice 34 v.0) [
+        | inr n ↦ (None, not_closed value v.0 v.1 n)
+        | inl r ↦ let read = escaped_choice r.0 in (read.0, quoted_reads value v.0 r.0 read.0 v.1 r.1 read.1)
+      ]
+    ]
+
+-- ---- bounds
+
+digits_choice : (word : Text) → list_all is_ascii_digit word ≡ true → (word ≡ codes "*" → ⊥) → (read : Option Bound) × ReadsBound word read
+digits_choice word d star =
+    elim (cases_lt (length word) 1) [
+      | inl short ↦ (None, no_bound word star (λ _ l m. omega (arith, short, l)) (λ n e. both_ways (list_all is_ascii_digit word) e d))
+      | inr some ↦ elim (cases_lt 9 (length word)) [
+        | inl long ↦ (None, no_bound word star (λ _ l m. omega (arith, long, m)) (λ n e. both_ways (list_all is_ascii_digit word) e d))
+        | inr few ↦ (Some (bound.Digits word), ((d, some, few), refl))
+      ]
+    ]
+
+name_bound_choice : (word : Text) → list_all is_ascii_digit word ≡ false → (word ≡ codes "*" → ⊥) → (read : Option Bound) × ReadsBound word read
+name_bound_choice word d star =
+    elim (name_choice word) [
+      | inl n ↦ (Some (bound.Name word), ((n, d), refl))
+      | inr n ↦ (None, no_bound word star (λ e _ _. both_ways (list_all is_ascii_digit word) d e) (λ m _. n m))
+    ]
+
+bound_choice : (word : Text) → (read : Option Bound) × ReadsBound word read
+bound_choice word =
+    elim (text_choice word (codes "*")) [
+      | inl e ↦ (Some bound.Open, (tt, e))
+      | inr star ↦ elim (cases_Bool (list_all is_ascii_digit word)) [
+        | inl d ↦ digits_choice word d star
+        | inr d ↦ name_bound_choice word d star
+      ]
+    ]
+
+two_bounds : (text l rest u : Text) → text ≡ l ++ 32 ∷ rest → rest ≡ codes "to " ++ u → IsWord l → (read : Option Bound) × ReadsBound l read
+    → (read : Option Bound) × ReadsBound u read → (read : Option (Bound × Bound)) × ReadsBounds text read
+two_bounds text l rest u s r w (None, a) high = (None, no_bounds_without_low text l rest s w a)
+two_bounds text l rest u s r w (Some low, a) (None, b) = (None, no_bounds_without_high text l rest u s r w b)
+two_bounds text l rest u s r w (Some low, a) (Some high, b) = (Some (low, high), bounds_read text l rest u low high s r a b)
+
+bounds_choice : (text : Text) → (read : Option (Bound × Bound)) × ReadsBounds text read
+bounds_choice text =
+    elim (space_choice text) [
+      | inl w ↦ (None, no_bounds_in_word text w)
+      | inr c ↦ elim (front_choice (codes "to ") c.1) [
+        | inr n ↦ (None, no_bounds_without_to text c.0 c.1 c.2 c.3 n)
+        | inl t ↦ two_bounds text c.0 c.1 t.0 c.2 t.1 c.3 (bound_choice c.0) (bound_choice t.0)
+      ]
+    ]
+
+-- ---- guards
+
+abbrev Reads : Text → Type 0
+Reads words = (read : Option Guard) × ReadsGuard words read
+
+defined_choice : (verb name : Text) → IsWord verb → IsWord name → Reads (verb ++ 32 ∷ name)
+defined_choice verb name v w =
+    elim (name_choice name) [
+      | inr n ↦ (None, no_guard_without_name verb name v w n)
+      | inl n ↦ elim (text_choice verb (codes "has")) [
+        | inl e ↦ (Some (guard.Has name), (n, ap (λ x. x ++ 32 ∷ name) e))
+        | inr no_has ↦ elim (text_choice verb (codes "lacks")) [
+          | inl e ↦ (Some (guard.Lacks name), (n, ap (λ x. x ++ 32 ∷ name) e))
+          | inr no_lacks ↦ elim (text_choice verb (codes "given")) [
+            | inl e ↦ (Some (guard.Given name), (n, ap (λ x. x ++ 32 ∷ name) e))
+            | inr no_given ↦ (None, no_guard_of_verb verb name v w no_has no_lacks no_given)
+          ]
+        ]
+      ]
+    ]
+
+same_choice : (name value : Text) → IsName name → (read : Option Text) × ReadsQuoted value read → Reads (name ++ 32 ∷ (codes "is" ++ 32 ∷ value))
+same_choice name value n (None, q) = (None, no_same name value n q)
+same_choice name value n (Some t, q) = (Some (guard.Same name t), (n, ap (λ x. name ++ (codes " is " ++ x)) q))
+
+holds_choice : (name value : Text) → IsName name → (read : Option Text) × ReadsQuoted value read → Reads (name ++ 32 ∷ (codes "holds" ++ 32 ∷ value))
+holds_choice name value n (None, q) = (None, no_holds name value n q)
+holds_choice name value n (Some t, q) = (Some (guard.Holds name t), (n, ap (λ x. name ++ (codes " holds " ++ x)) q))
+
+between_choice : (name value : Text) → IsName name → (read : Option (Bound × Bound)) × ReadsBounds value read → Reads (name ++ 32 ∷ (codes "from" ++ 32 ∷ value))
+between_choice name value n (None, q) = (None, no_between name value n q)
+between_choice name value n (Some b, q) = (Some (guard.Between name b.0 b.1), ((n, q.0), ap (λ x. name ++ (codes " from " ++ x)) q.1))
+
+counts_choice : (name value : Text) → IsName name → (read : Option (Bound × Bound)) × ReadsBounds value read → Reads (name ++ 32 ∷ (codes "counts" ++ 32 ∷ value))
+counts_choice name value n (None, q) = (None, no_counts name value n q)
+counts_choice name value n (Some b, q) = (Some (guard.Counts name b.0 b.1), ((n, q.0), ap (λ x. name ++ (codes " counts " ++ x)) q.1))
+
+-- the same words with another verb
+with_verb : (name verb other value : Text) → verb ≡ other → Reads (name ++ 32 ∷ (other ++ 32 ∷ value)) → Reads (name ++ 32 ∷ (verb ++ 32 ∷ value))
+with_verb name verb other value e r = subst (λ v. Reads (name ++ 32 ∷ (v ++ 32 ∷ value))) (sym e) r
+
+compared_choice : (name verb value : Text) → IsWord name → IsWord verb → Reads (name ++ 32 ∷ (verb ++ 32 ∷ value))
+compared_choice name verb value w v =
+    elim (name_choice name) [
+      | inr n ↦ (None, no_compared_guard name verb value w v (λ m _ _ _. n m) (λ m _ _ _. n m) (λ m _ _ _ _ _. n m) (λ m _ _ _ _ _. n m))
+      | inl n ↦ elim (text_choice verb (codes "is")) [
+        | inl e ↦ with_verb name verb _ value e (same_choice name value n (quoted_choice value))
+        | inr no_is ↦ elim (text_choice verb (codes "holds")) [
+          | inl e ↦ with_verb name verb _ value e (holds_choice name value n (quoted_choice value))
+          | inr no_holds' ↦ elim (text_choice verb (codes "from")) [
+            | inl e ↦ with_verb name verb _ value e (between_choice name value n (bounds_choice value))
+            | inr no_from ↦ elim (text_choice verb (codes "counts")) [
+              | inl e ↦ with_verb name verb _ value e (counts_choice name value n (bounds_choice value))
+              | inr no_counts' ↦ (None, no_compared_guard name verb value w v (λ _ e _ _. no_is e) (λ _ e _ _. no_holds' e) (λ _ e _ _ _ _. no_from e) (λ _ e _ _ _ _. no_counts' e))
+            ]
+          ]
+        ]
+      ]
+    ]
+
+pub guard_choice : (words : Text) → Reads words
+guard_choice words =
+    elim (space_choice words) [
+      | inl w ↦ (None, no_guard_in_word words w)
+      | inr first ↦ subst Reads (sym first.2) (elim (space_choice first.1) [
+        | inl w ↦ defined_choice first.0 first.1 first.3 w
+        | inr second ↦ subst (λ t. Reads (first.0 ++ 32 ∷ t)) (sym second.2) (compared_choice first.0 second.0 second.1 first.3 second.3)
+      ])
+    ]

@@ -1,0 +1,162 @@
+-- The numbers of lines: the statement behind so many others has the number of its line.
+use Rattle.std.proofs.Common.{◌≡◌, ℕ, ◌+◌, ◌<◌, zero, suc, List, [], ◌∷◌, ◌++◌, Bool, true, false, Some, map, length, get_or, take, All, ◌⊎◌, inl, inr, if◌then◌else◌, refl, ap, subst, sym, ◌∙◌, arith}
+use Rattle.std.specs.List.{slice_index}
+use Rattle.std.proofs.lemmas.List.{length-map, length-take, append_assoc, map-append}
+use Rattle.text_model.specs.Texts.{Text}
+use Rattle.rule_parser.specs.declared.error.RuleErrorKind.{RuleErrorKind}
+use Rattle.rule_parser.specs.declared.error.RuleErrorKind.TheVariants as kind
+use Rattle.rule_parser.specs.declared.rule.Guard.{Guard}
+use Rattle.rule_parser.specs.Rules.{RuleSet}
+use Rattle.rule_parser.specs.Statements.{Statement, Begin, When, line_of, statements}
+use Rattle.rule_parser.specs.Grammar.{is_significant, significant}
+use Rattle.rule_parser.specs.Faults.{Begun, IsSoundBegun, begun_statements, statements_of_guards, StopsAtLine, LacksLink, EndsRule, IsLineFault, IsFirstFault}
+
+-- ---- significant lines
+
+pub significant-append : (xs ys : List Text) → significant (xs ++ ys) ≡ significant xs ++ significant ys
+significant-append [] ys = refl
+significant-append (x ∷ xs) ys = by_case (is_significant x) (significant-append xs ys)
+  where
+    by_case : (b : Bool) → significant (xs ++ ys) ≡ significant xs ++ significant ys
+        → (if b then (x ∷ significant (xs ++ ys)) else significant (xs ++ ys)) ≡ (if b then (x ∷ significant xs) else significant xs) ++ significant ys
+    by_case true e = ap (λ l. x ∷ l) e
+    by_case false e = e
+
+pub one_significant : (x : Text) (b : Bool) → is_significant x ≡ b → significant (x ∷ []) ≡ (if b then (x ∷ []) else [])
+one_significant x b e = ap (λ (y : Bool). if y then (x ∷ []) else []) e
+
+-- the numbers of the significant lines, where the first line has this number
+abbrev pub significant_numbers : ℕ → List Text → List ℕ
+significant_numbers n [] = []
+significant_numbers n (line ∷ ls) = if is_significant line then (n ∷ significant_numbers (n + 1) ls) else significant_numbers (n + 1) ls
+
+-- the number of the line behind so many significant ones, counted from 1
+abbrev pub line_number : List Text → ℕ → ℕ
+line_number ls k = slice_index (significant_numbers 1 ls) k
+
+-- the number of a significant line
+pub number_at : (n : ℕ) (front rest : List Text) (x : Text) → is_significant x ≡ true
+    → slice_index (significant_numbers n (front ++ x ∷ rest)) (length (significant front)) ≡ n + length front
+number_at n [] rest x e = ap (λ (y : Bool). slice_index (if y then (n ∷ significant_numbers (n + 1) rest) else significant_numbers (n + 1) rest) 0) e ∙ omega arith
+number_at n (y ∷ front) rest x e = by_case (is_significant y) (number_at (n + 1) front rest x e)
+  where
+    by_case : (b : Bool) → slice_index (significant_numbers (n + 1) (front ++ x ∷ rest)) (length (significant front)) ≡ n + 1 + length front
+        → slice_index (if b then (n ∷ significant_numbers (n + 1) (front ++ x ∷ rest)) else significant_numbers (n + 1) (front ++ x ∷ rest))
+        (length (if b then (y ∷ significant front) else significant front)) ≡ n + length (y ∷ front)
+    by_case true h = h ∙ omega arith
+    by_case false h = h ∙ omega arith
+
+-- the line at an index
+pub split_at : (ls : List Text) (i : ℕ) (line : Text) → i < length ls → get_or ls i line ≡ line → (rest : List Text) × (ls ≡ take i ls ++ line ∷ rest)
+split_at [] i line h e = absurd (omega arith)
+split_at (x ∷ xs) zero line h e = (xs, ap (λ y. y ∷ xs) e)
+split_at (x ∷ xs) (suc i) line h e = let r = split_at xs i line (omega arith) e in (r.0, ap (λ l. x ∷ l) r.1)
+
+-- the lines before, one line, and the lines behind
+pub significant_around : (ls front rest : List Text) (line : Text) → ls ≡ front ++ line ∷ rest → is_significant line ≡ true
+    → significant ls ≡ significant front ++ line ∷ significant rest
+significant_around ls front rest line e h =
+    ap significant e ∙ significant-append front (line ∷ rest)
+    ∙ ap (λ l. significant front ++ l) (ap (λ (y : Bool). if y then (line ∷ significant rest) else significant rest) h)
+
+-- the number of the line behind those that were read
+pub number_is : (ls : List Text) (i : ℕ) (statements' : List Statement) (line : Text) → i < length ls → get_or ls i line ≡ line → is_significant line ≡ true
+    → significant (take i ls) ≡ map line_of statements' → line_number ls (length statements') ≡ i + 1
+number_is ls i ss line h e x s =
+    let split = split_at ls i line h e in
+    let count : length (significant (take i ls)) ≡ length ss = ap length s ∙ length-map ss line_of in
+    let taken : length (take i ls) ≡ i = length_take i ls h in
+    ap (λ (l : List Text). line_number l (length ss)) split.1 ∙ sym (ap (λ (k : ℕ). line_number (take i ls ++ line ∷ split.0) k) count)
+    ∙ number_at 1 (take i ls) split.0 line x ∙ omega (arith, taken)
+  where
+    length_take : (n : ℕ) (xs : List Text) → n < length xs → length (take n xs) ≡ n
+    length_take n xs l = simp length-take (omega arith)
+
+-- ---- first faults, by the numbers of their statements
+
+pub data IsNumberedFault : List Text → RuleErrorKind → ℕ → Type 0 where
+  line_fault : (ls : List Text) (begun : Begun) (line : Text) (rest : List Text) (k : RuleErrorKind) → IsSoundBegun begun
+      → significant ls ≡ map line_of (begun_statements begun) ++ line ∷ rest → IsLineFault begun line k
+      → IsNumberedFault ls k (line_number ls (length (begun_statements begun)))
+  open_rule : (ls : List Text) (whole : RuleSet) (guards : List Guard) (rest : List Text) → IsSoundBegun (record { whole = whole; guards = Some guards })
+      → significant ls ≡ map line_of (statements whole ++ statements_of_guards (Some guards)) ++ rest → EndsRule rest
+      → IsNumberedFault ls kind.NoLink (line_number ls (length (statements whole)))
+
+-- the number of a line behind others that spell these statements
+number_behind : (ls front behind : List Text) (line : Text) (ss : List Statement) → ls ≡ front ++ line ∷ behind → is_significant line ≡ true
+    → significant front ≡ map line_of ss → line_number ls (length ss) ≡ length front + 1
+number_behind ls front behind line ss e h s =
+    let count : length (significant front) ≡ length ss = ap length s ∙ length-map ss line_of in
+    ap (λ (l : List Text). line_number l (length ss)) e ∙ sym (ap (λ (k : ℕ). line_number (front ++ line ∷ behind) k) count)
+    ∙ number_at 1 front behind line h ∙ omega arith
+
+pub numbered_fault : (ls : List Text) (k : RuleErrorKind) (at : ℕ) → IsFirstFault ls k at → IsNumberedFault ls k at
+numbered_fault ls k at (inl f) =
+    subst (IsNumberedFault ls k) (number_behind ls f.before f.behind f.line (begun_statements f.begun) f.whole f.is_no_comment f.spelled ∙ sym f.counted)
+    (line_fault ls f.begun f.line (significant f.behind) k f.sound
+    (significant_around ls f.before f.behind f.line f.whole f.is_no_comment ∙ ap (λ l. l ++ f.line ∷ significant f.behind) f.spelled) f.faulty)
+numbered_fault ls k at (inr f) =
+    subst (λ x. IsNumberedFault ls x at) (sym f.no_link)
+    (subst (IsNumberedFault ls kind.NoLink) (number_behind ls f.before f.behind (line_of Begin) (statements f.rules) f.whole refl f.spelled ∙ sym f.counted)
+    (open_rule ls f.rules f.guards f.rest f.sound spelled f.ends))
+  where
+    spelled : significant ls ≡ map line_of (statements f.rules ++ statements_of_guards (Some f.guards)) ++ f.rest
+    spelled =
+        significant_around ls f.before f.behind (line_of Begin) f.whole refl ∙ ap (λ l. l ++ line_of Begin ∷ significant f.behind) f.spelled
+        ∙ ap (λ l. map line_of (statements f.rules) ++ line_of Begin ∷ l) f.guarded
+        ∙ sym (append_assoc (map line_of (statements f.rules)) (map line_of (statements_of_guards (Some f.guards))) f.rest)
+        ∙ ap (λ l. l ++ f.rest) (sym (map-append line_of (statements f.rules) (statements_of_guards (Some f.guards))))
+
+-- a significant line, with the lines before and behind it
+record SplitsAt (ls before : List Text) (line : Text) (behind : List Text) : Type 0 where
+  front : List Text
+  back : List Text
+  whole : ls ≡ front ++ line ∷ back
+  before_it : significant front ≡ before
+  behind_it : significant back ≡ behind
+  is_no_comment : is_significant line ≡ true
+
+splits_at : (ls before : List Text) (line : Text) (behind : List Text) → significant ls ≡ before ++ line ∷ behind → SplitsAt ls before line behind
+splits_at [] [] line behind e = absurd (let never : [] ≡ line ∷ behind = e in cc)
+splits_at [] (x ∷ before) line behind e = absurd (let never : [] ≡ x ∷ before ++ line ∷ behind = e in cc)
+splits_at (l ∷ ls) before line behind e = by_case (is_significant l) refl before e (λ front. splits_at ls front line behind)
+  where
+    by_case : (b : Bool) → is_significant l ≡ b → (front : List Text) → (if b then (l ∷ significant ls) else significant ls) ≡ front ++ line ∷ behind
+        → ((xs : List Text) → significant ls ≡ xs ++ line ∷ behind → SplitsAt ls xs line behind) → SplitsAt (l ∷ ls) front line behind
+    by_case true h [] f next =
+        let same : l ≡ line = cc in
+        record { front = []; back = ls; whole = ap (λ x. x ∷ ls) same; before_it = refl; behind_it = cc; is_no_comment = sym (ap is_significant same) ∙ h }
+    by_case true h (x ∷ front) f next =
+        let more = next front (cc) in
+        let same : l ≡ x = cc in
+        record {
+          front = l ∷ more.front; back = more.back; whole = ap (λ t. l ∷ t) more.whole;
+          before_it = ap (λ (b : Bool). if b then (l ∷ significant more.front) else significant more.front) h ∙ ap (λ t. l ∷ t) more.before_it ∙ ap (λ y. y ∷ front) same;
+          behind_it = more.behind_it; is_no_comment = more.is_no_comment;
+        }
+    by_case false h front f next =
+        let more = next front f in
+        record {
+          front = l ∷ more.front; back = more.back; whole = ap (λ t. l ∷ t) more.whole;
+          before_it = ap (λ (b : Bool). if b then (l ∷ significant more.front) else significant more.front) h ∙ more.before_it;
+          behind_it = more.behind_it; is_no_comment = more.is_no_comment;
+        }
+
+pub first_fault : (ls : List Text) (k : RuleErrorKind) (at : ℕ) → IsNumberedFault ls k at → IsFirstFault ls k at
+first_fault ls k at (line_fault l b line rest k' s e f) =
+    let split = splits_at l (map line_of (begun_statements b)) line rest e in
+    inl (record {
+      before = split.front; line = line; behind = split.back; begun = b; whole = split.whole;
+      counted = number_behind l split.front split.back line (begun_statements b) split.whole split.is_no_comment split.before_it;
+      spelled = split.before_it; sound = s; is_no_comment = split.is_no_comment; faulty = f;
+    })
+first_fault ls k at (open_rule l whole guards rest s e r) =
+    let around =
+        e ∙ ap (λ t. t ++ rest) (map-append line_of (statements whole) (statements_of_guards (Some guards)))
+        ∙ append_assoc (map line_of (statements whole)) (map line_of (statements_of_guards (Some guards))) rest in
+    let split = splits_at l (map line_of (statements whole)) (line_of Begin) (map line_of (map When guards) ++ rest) around in
+    inr (record {
+      before = split.front; behind = split.back; rules = whole; guards = guards; rest = rest; whole = split.whole;
+      counted = number_behind l split.front split.back (line_of Begin) (statements whole) split.whole refl split.before_it;
+      spelled = split.before_it; guarded = split.behind_it; ends = r; sound = s; no_link = refl;
+    })

@@ -1,0 +1,127 @@
+-- A text is a name or it is none: its bytes are gone through once, by what may come next.
+use Rattle.std.proofs.Common.{◌≡◌, ◌≢◌, ℕ, [], ◌∷◌, ◌++◌, Bool, true, false, ◌&&◌, ◌==◌, ◌⊎◌, inl, inr, length, fold, if◌then◌else◌, refl, ap, subst, sym, ◌∙◌, arith}
+use Rattle.std.specs.Prelude.{nat_le}
+use Rattle.std.proofs.lemmas.Bool.{and_parts, and_from, cases_lt, leb-true, eqb-true, both_ways, cases_Bool}
+use Rattle.std.proofs.lemmas.List.{append-nil, append_assoc}
+use Rattle.std.proofs.lemmas.List.Sums.{fold-append}
+use Rattle.text_model.specs.Texts.{Text, is_hexadecimal}
+use Rattle.uri_grammar.specs.Names.{IsVarchar, IsVarname, IsName, is_name_character, character_varchar, triplet_varchar, first_varchar, next_varchar, dotted_varchar}
+
+-- what may come behind the bytes so far: more or nothing, where they are a name; a varchar; two digits of a triplet, or one; nothing
+pub data Stage : Type 0 where
+  Named : Stage
+  Wanting : Stage
+  TwoDigits : Stage
+  OneDigit : Stage
+  Lost : Stage
+
+abbrev pub begun_by : ℕ → Stage
+begun_by b = if is_name_character b then Named else (if b == 37 then TwoDigits else Lost)
+
+abbrev pub step : Stage → ℕ → Stage
+step Named b = if b == 46 then Wanting else begun_by b
+step Wanting b = begun_by b
+step TwoDigits b = if is_hexadecimal b then OneDigit else Lost
+step OneDigit b = if is_hexadecimal b then Named else Lost
+step Lost b = Lost
+
+abbrev pub after : Stage → Text → Stage
+after stage text = fold step stage text
+
+-- ---- what was gone through is the front of a name
+
+abbrev Stands : Stage → Text → Type 0
+Stands Named front = IsVarname front
+Stands Wanting front = (v : Text) → IsVarchar v → IsVarname (front ++ v)
+Stands TwoDigits front = (high low : ℕ) → is_hexadecimal high ≡ true → is_hexadecimal low ≡ true → IsVarname (front ++ high ∷ low ∷ [])
+Stands OneDigit front = (low : ℕ) → is_hexadecimal low ≡ true → IsVarname (front ++ low ∷ [])
+Stands Lost front = Unit {0}
+
+varchar_stands : (front : Text) → Stands Wanting front → (b : ℕ) → Stands (begun_by b) (front ++ b ∷ [])
+varchar_stands front w b = by_case (is_name_character b) (b == 37) refl refl
+  where
+    by_case : (x y : Bool) → is_name_character b ≡ x → (b == 37) ≡ y → Stands (if x then Named else (if y then TwoDigits else Lost)) (front ++ b ∷ [])
+    by_case true y e f = w (b ∷ []) (character_varchar b e)
+    by_case false true e f = λ high low h l.
+        subst IsVarname (sym (append_assoc front (b ∷ []) (high ∷ low ∷ []))) (w (b ∷ high ∷ low ∷ []) (triplet_varchar b high low (and_from _ _ f (and_from _ _ h l))))
+    by_case false false e f = tt
+
+step_stands : (stage : Stage) (front : Text) → Stands stage front → (b : ℕ) → Stands (step stage b) (front ++ b ∷ [])
+step_stands Named front h b = by_case (b == 46) refl
+  where
+    by_case : (x : Bool) → (b == 46) ≡ x → Stands (if x then Wanting else begun_by b) (front ++ b ∷ [])
+    by_case true e = λ v k.
+        subst IsVarname (sym (append_assoc front (b ∷ []) v)) (subst (λ c. IsVarname (front ++ c ∷ v)) (sym (eqb-true b 46 e)) (dotted_varchar front v h k))
+    by_case false e = varchar_stands front (λ v k. next_varchar front v h k) b
+step_stands Wanting front h b = varchar_stands front h b
+step_stands TwoDigits front h b = by_case (is_hexadecimal b) refl
+  where
+    by_case : (x : Bool) → is_hexadecimal b ≡ x → Stands (if x then OneDigit else Lost) (front ++ b ∷ [])
+    by_case true e = λ low l. subst IsVarname (sym (append_assoc front (b ∷ []) (low ∷ []))) (h b low e l)
+    by_case false e = tt
+step_stands OneDigit front h b = by_case (is_hexadecimal b) refl
+  where
+    by_case : (x : Bool) → is_hexadecimal b ≡ x → Stands (if x then Named else Lost) (front ++ b ∷ [])
+    by_case true e = h b e
+    by_case false e = tt
+step_stands Lost front h b = tt
+
+text_stands : (text front : Text) (stage : Stage) → Stands stage front → Stands (after stage text) (front ++ text)
+text_stands [] front stage h = subst (Stands stage) (sym (append-nil front)) h
+text_stands (b ∷ text) front stage h =
+    subst (Stands (after (step stage b) text)) (append_assoc front (b ∷ []) text) (text_stands text (front ++ b ∷ []) (step stage b) (step_stands stage front h b))
+
+abbrev pub is_named : Stage → Bool
+is_named Named = true
+is_named stage = false
+
+-- a name by computation
+pub name_from : (text : Text) → is_named (after Wanting text) ≡ true → nat_le (length text) 255 ≡ true → IsName text
+name_from text e l = (by_stage (after Wanting text) (text_stands text [] Wanting (λ v h. first_varchar v h)) e, leb-true (length text) 255 l)
+  where
+    by_stage : (stage : Stage) → Stands stage text → is_named stage ≡ true → IsVarname text
+    by_stage Named h f = h
+    by_stage stage h f = absurd (let never : false ≡ true = f in cc)
+
+-- ---- a name is gone through
+
+varchar_is_gone_through : (v : Text) → IsVarchar v → after Wanting v ≡ Named
+varchar_is_gone_through v (character_varchar c h) = ap (λ x. if x then Named else (if c == 37 then TwoDigits else Lost)) h
+varchar_is_gone_through v (triplet_varchar c high low h) =
+    let first : ((c == 37) ≡ true) × ((is_hexadecimal high && is_hexadecimal low) ≡ true) = and_parts _ _ h in
+    let digits : (is_hexadecimal high ≡ true) × (is_hexadecimal low ≡ true) = and_parts _ _ first.1 in
+    ap (λ b. after (begun_by b) (high ∷ low ∷ [])) (eqb-true c 37 first.0) ∙ ap (λ x. step (if x then OneDigit else Lost) low) digits.0
+    ∙ ap (λ x. if x then Named else Lost) digits.1
+
+-- a varchar begins with no dot
+varchar_goes_on : (v : Text) → IsVarchar v → after Named v ≡ after Wanting v
+varchar_goes_on v (character_varchar c h) = ap (λ x. if x then Wanting else begun_by c) no_dot
+  where
+    no_dot : (c == 46) ≡ false
+    no_dot = elim (cases_Bool (c == 46)) [ inl e ↦ absurd (both_ways (is_name_character c) (ap is_name_character (eqb-true c 46 e)) h) | inr e ↦ e ]
+varchar_goes_on v (triplet_varchar c high low h) =
+    let first : ((c == 37) ≡ true) × ((is_hexadecimal high && is_hexadecimal low) ≡ true) = and_parts _ _ h in
+    ap (λ b. after (step Named b) (high ∷ low ∷ [])) (eqb-true c 37 first.0) ∙ sym (ap (λ b. after (begun_by b) (high ∷ low ∷ [])) (eqb-true c 37 first.0))
+
+name_is_gone_through : (name : Text) → IsVarname name → after Wanting name ≡ Named
+name_is_gone_through name (first_varchar v h) = varchar_is_gone_through v h
+name_is_gone_through name (next_varchar m v h k) =
+    fold-append step Wanting m v ∙ ap (λ s. after s v) (name_is_gone_through m h) ∙ varchar_goes_on v k ∙ varchar_is_gone_through v k
+name_is_gone_through name (dotted_varchar m v h k) =
+    fold-append step Wanting m (46 ∷ v) ∙ ap (λ s. after s (46 ∷ v)) (name_is_gone_through m h) ∙ varchar_is_gone_through v k
+
+-- ---- the choice
+
+stage_choice : (stage : Stage) → (stage ≡ Named) ⊎ (stage ≢ Named)
+stage_choice Named = inl refl
+stage_choice stage = inr (λ e. cc)
+
+pub name_choice : (text : Text) → IsName text ⊎ (IsName text → ⊥)
+name_choice text =
+    elim (stage_choice (after Wanting text)) [
+      | inl e ↦ elim (cases_lt 255 (length text)) [
+        | inl long ↦ inr (λ h. omega (arith, long, h.1))
+        | inr short ↦ inl (subst (λ s. Stands s text) e (text_stands text [] Wanting (λ v h. first_varchar v h)), short)
+      ]
+      | inr n ↦ inr (λ h. n (name_is_gone_through text h.0))
+    ]
