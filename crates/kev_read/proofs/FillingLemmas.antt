@@ -1,25 +1,26 @@
 -- What filling an environment adds to it, and where it stops.
-use Rattle.std.proofs.Common.{◌≡◌, ◌↔◌, ◌⊎◌, ℕ, suc, ◌+◌, ◌≤◌, ◌<◌, Bool, true, false, cond, MatchBool, List, [], ◌∷◌, ◌++◌, length, take, drop, get_or, Result, Ok, Err, OnOk, IfErr, IsErrAnd, subst, refl, sym, ap, ◌∙◌, arith, length-append, append-nil, inl, ◌||◌}
+use Rattle.std.proofs.Common.{◌≡◌, ◌↔◌, ◌⊎◌, ℕ, ◌+◌, ◌≤◌, ◌<◌, Bool, true, false, cond, MatchBool, List, [], ◌∷◌, ◌++◌, length, take, drop, slice_get, Some, Result, Ok, Err, OnOk, IfErr, IsErrAnd, subst, refl, sym, ap, ◌∙◌, arith, length-append, append-nil, inl}
 use Rattle.std.proofs.Math.Logic.{⊎_elim}
-use Rattle.std.proofs.Math.Seq.{drop-cons}
-use Rattle.std.proofs.lemmas.List.{take-append-drop}
-use Rattle.std.proofs.lemmas.List.Sums.{sum_by-cons, sum_by-append}
-use Rattle.std.specs.Borrow.{Bor}
-use Rattle.std.specs.List.{list_any}
-use Rattle.std.specs.Str.{bytes_eq}
-use Rattle.text_model.specs.Texts.{Text, texts_of}
-use Rattle.environment_model.specs.Environment.{Environment, is_among, byte_count, member_count, with_text, with_member}
+use Rattle.std.proofs.lemmas.List.{take-append-drop, drop_more}
+use Rattle.std.proofs.lemmas.Option.{slice_get-map, slice_get_within, get_or_from_slice_get}
+use Rattle.std.proofs.lemmas.List.Sums.{sum_by-cons, sum_by-append, fold_more}
+use Rattle.std.specs.Option.{option_map, option_map_or}
+use Rattle.text_model.specs.Texts.{Text}
+use Rattle.environment_model.specs.Environment.{Environment, byte_count, member_count, with_text, with_member}
+use Rattle.environment_model.specs.Lists.{is_list}
 use Rattle.environment_model.proofs.Environments.{member_count-with_text}
 use Rattle.environment_model.proofs.EnvironmentGrowth.{byte_count-with_text-le, byte_count-with_member-le, member_count-with_member-le}
 use Rattle.target_vars.specs.declared.env.TheConstants.{MAX_BYTES, MAX_MEMBERS}
 use Rattle.target_vars.specs.declared.error.VarsError.{VarsError}
 use Rattle.target_vars.specs.declared.error.VarsError.TheVariants.{TooLarge, NoMemory}
 use Rattle.kev_read.specs.Pairs.{KeyValue, value_bytes}
-use Rattle.kev_read.specs.Filling.{is_list, fill_one, filled, MemberIsTooLarge, TextIsTooLarge, IsTooLarge, StopsAtPair}
+use Rattle.kev_read.specs.KeyOrder.{passes_at}
+use Rattle.kev_read.specs.Filling.{fill_one, filled, is_added, MemberIsTooLarge, TextIsTooLarge, IsTooLarge, StopsAtPair}
 
-pub is_among_texts_of : (key : Text) (names : List (Bor Text)) → is_among key (texts_of names) ≡ list_any (λ name. bytes_eq name.now key) names
-is_among_texts_of key [] = refl
-is_among_texts_of key (name ∷ names) = ap (λ later. bytes_eq name.now key || later) (is_among_texts_of key names)
+-- the test of the key of the pair at an index
+pub passes_there : (test : Text → Bool) (pairs : List KeyValue) (index : ℕ) (pair : KeyValue) → slice_get pairs index ≡ Some pair → passes_at test pairs index ≡ test pair.key
+passes_there test pairs index pair is =
+    ap (λ key. option_map_or test key false) (slice_get-map (λ (p : KeyValue). p.key) pairs index ∙ ap (option_map (λ (p : KeyValue). p.key)) is)
 
 -- ---- growth
 
@@ -52,17 +53,26 @@ filled_members lists env (pair ∷ pairs) =
 
 -- ---- where it stops
 
+-- one more pair
+pub filled_more : (lists : List Text) (old : Environment) (pairs : List KeyValue) (index : ℕ) (pair : KeyValue) → slice_get pairs index ≡ Some pair
+    → filled lists old (take (index + 1) pairs) ≡ fill_one lists (filled lists old (take index pairs)) pair
+filled_more lists old pairs index pair is =
+    fold_more (fill_one lists) old pairs index pair (slice_get_within pairs index pair is)
+    ∙ ap (fill_one lists (filled lists old (take index pairs))) (get_or_from_slice_get pairs index pair pair is)
+
 -- a pair is refused after those before it were added
-pub stops_at : (lists : List Text) (old now new : Environment) (pairs : List KeyValue) (i : ℕ) (pair : KeyValue) (e : VarsError)
-    → i < length pairs → pair ≡ get_or pairs i pair → now ≡ filled lists old (take i pairs) → new ≡ now
-    → ((◌≡◌ {A = Result (Unit {0}) VarsError} (Err e) (Err TooLarge)) ↔ IsTooLarge lists now pair) → StopsAtPair lists old pairs new e
-stops_at lists old now new pairs i pair e inside is so_far unchanged too_large = record {
-  before = take i pairs;
+pub stops_at : (lists : List Text) (old now new : Environment) (pairs : List KeyValue) (index : ℕ) (pair : KeyValue) (list : Bool) (e : VarsError)
+    → slice_get pairs index ≡ Some pair → list ≡ is_list lists pair.key → now ≡ filled lists old (take index pairs) → new ≡ now → is_added list now pair ≡ true
+    → ((◌≡◌ {A = Result (Unit {0}) VarsError} (Err e) (Err TooLarge)) ↔ IsTooLarge list now pair) → StopsAtPair lists old pairs new e
+stops_at lists old now new pairs index pair list e is marked so_far unchanged added too_large = record {
+  before = take index pairs;
   refused = pair;
-  after = drop (suc i) pairs;
-  in_order = sym (take-append-drop i pairs) ∙ ap (λ rest. take i pairs ++ rest) (drop-cons pairs i pair inside ∙ ap (λ p. p ∷ drop (suc i) pairs) (sym is));
+  after = drop (index + 1) pairs;
+  in_order = sym (take-append-drop index pairs)
+      ∙ ap (λ rest. take index pairs ++ rest) (drop_more pairs index pair (slice_get_within pairs index pair is) ∙ ap (λ p. p ∷ drop (index + 1) pairs) (get_or_from_slice_get pairs index pair pair is));
   reached = unchanged ∙ so_far;
-  too_large = rw unchanged ((λ same. too_large.0 (ap Err same)), (λ over. let same = too_large.1 over in cc));
+  is_added = rw (unchanged, ← marked) added;
+  too_large = rw (unchanged, ← marked) ((λ same. too_large.0 (ap Err same)), (λ over. let same = too_large.1 over in cc));
 }
 
 -- what holds of the error that `?` passes on holds of the error that it returns

@@ -1,25 +1,11 @@
 -- How many bytes the values of a query have together.
-use Rattle.std.proofs.Common.{◌≡◌, ℕ, ◌+◌, ◌*◌, ◌≤◌, ◌==◌, true, false, cond, List, [], ◌∷◌, length, map, drop, filter, sum_by, arith, length-drop}
+use Rattle.std.proofs.Common.{ℕ, ◌+◌, ◌*◌, ◌≤◌, ◌==◌, true, false, cond, List, [], ◌∷◌, length, map, drop, filter, sum_by, arith, length-drop}
 use Rattle.std.proofs.lemmas.List.Sums.{sum_by-cons}
 use Rattle.std.specs.List.{position_or_len}
 use Rattle.form_urlencoded.specs.Form as form
 use Rattle.kev_read.specs.Pairs.{KeyValue, decoded_pair, pairs_of, value_bytes}
+use Rattle.kev_read.proofs.PairCount.{split_bytes}
 use Rattle.kev_read.proofs.DecodedLength.{length-decoded-le}
-
-onto_first_bytes : (b : ℕ) (pieces : List (List ℕ)) → sum_by length (form.onto_first b pieces) ≡ sum_by length pieces + 1
-onto_first_bytes b [] = omega arith
-onto_first_bytes b (piece ∷ pieces) = omega (arith, sum_by-cons length (b ∷ piece) pieces, sum_by-cons length piece pieces)
-
--- the pieces have no byte more than the query
-split_bytes : (separator : ℕ) (bs : List ℕ) → sum_by length (form.split separator bs) ≤ length bs
-unfolding form.split
-split_bytes separator [] = omega arith
-split_bytes separator (b ∷ bs) =
-    let later = split_bytes separator bs in
-    elim (b == separator) as (λ t. sum_by length (cond t ([] ∷ form.split separator bs) (form.onto_first b (form.split separator bs))) ≤ length (b ∷ bs)) [
-      | true ↦ omega (arith, sum_by-cons length [] (form.split separator bs))
-      | false ↦ omega (arith, onto_first_bytes b (form.split separator bs))
-    ]
 
 decoded_value_bytes : (piece : List ℕ) → length (decoded_pair (form.split_pair piece)).value ≤ 3 * length piece
 decoded_value_bytes piece =

@@ -1,27 +1,23 @@
 -- What the pairs of a request make of an environment.
-use Rattle.std.specs.Prelude.{◌≡◌, ◌↔◌, ◌⊎◌, ◌+◌, ◌<◌, Bool, false, ◌||◌, MatchBool, List, ◌∷◌, ◌++◌, length, fold, codes, if◌then◌else◌}
-use Rattle.std.specs.Str.{bytes_eq}
+use Rattle.std.specs.Prelude.{◌≡◌, ◌↔◌, ◌⊎◌, ◌+◌, ◌<◌, Bool, true, false, not, MatchBool, List, ◌∷◌, ◌++◌, length, fold, if◌then◌else◌}
 use Rattle.text_model.specs.Texts.{Text}
-use Rattle.environment_model.specs.Environment.{Environment, is_there, is_among, byte_count, member_count, with_text, with_member}
+use Rattle.environment_model.specs.Environment.{Environment, is_there, byte_count, member_count, with_text, with_member}
+use Rattle.environment_model.specs.Lists.{is_list}
 use Rattle.target_vars.specs.EnvValue.{stands_for_text}
 use Rattle.target_vars.specs.declared.env.TheConstants.{MAX_BYTES, MAX_MEMBERS}
 use Rattle.target_vars.specs.declared.error.VarsError.{VarsError}
 use Rattle.target_vars.specs.declared.error.VarsError.TheVariants.{TooLarge}
 use Rattle.kev_read.specs.Pairs.{KeyValue}
 
--- Authors and identifiers may be repeated in a request (Z39.88-2004), so they are always lists; so is each key
--- that is declared one.
-abbrev pub is_list : List Text → Text → Bool
-is_list lists key = bytes_eq key (codes "rft.au") || bytes_eq key (codes "rft_id") || is_among key lists
+-- ---- one pair, as a member of a list or as a text
 
--- the environment after one pair
-abbrev pub fill_one : List Text → Environment → KeyValue → Environment
-fill_one lists env pair =
-    if is_list lists pair.key then with_member env pair.key pair.value else with_text env pair.key pair.value
+-- the environment after the pair
+abbrev pub added : Bool → Environment → KeyValue → Environment
+added list env pair = if list then with_member env pair.key pair.value else with_text env pair.key pair.value
 
--- the environment after each pair, in order
-abbrev pub filled : List Text → Environment → List KeyValue → Environment
-filled lists env pairs = fold (fill_one lists) env pairs
+-- the pair changes the environment: its key does not stand for a text yet, or its key is new
+abbrev pub is_added : Bool → Environment → KeyValue → Bool
+is_added list env pair = if list then not (stands_for_text env pair.key) else not (is_there env pair.key)
 
 -- the pair would be added, and pass a limit of the environment
 abbrev pub MemberIsTooLarge : Environment → KeyValue → Type 0
@@ -32,14 +28,25 @@ MemberIsTooLarge env pair =
 abbrev pub TextIsTooLarge : Environment → KeyValue → Type 0
 TextIsTooLarge env pair = (is_there env pair.key ≡ false) × (MAX_BYTES < byte_count env + length pair.value)
 
-abbrev pub IsTooLarge : List Text → Environment → KeyValue → Type 0
-IsTooLarge lists env pair = MatchBool (is_list lists pair.key) (MemberIsTooLarge env pair) (TextIsTooLarge env pair)
+abbrev pub IsTooLarge : Bool → Environment → KeyValue → Type 0
+IsTooLarge list env pair = MatchBool list (MemberIsTooLarge env pair) (TextIsTooLarge env pair)
 
--- the environment is as the pairs before a refused one left it
+-- ---- all pairs
+
+-- the environment after one pair, where these lists are declared
+abbrev pub fill_one : List Text → Environment → KeyValue → Environment
+fill_one lists env pair = added (is_list lists pair.key) env pair
+
+-- the environment after each pair, in order
+abbrev pub filled : List Text → Environment → List KeyValue → Environment
+filled lists env pairs = fold (fill_one lists) env pairs
+
+-- the environment is as the pairs before a refused one left it, and the refused one would have been added
 pub record StopsAtPair (lists : List Text) (old : Environment) (pairs : List KeyValue) (new : Environment) (e : VarsError) : Type 0 where
   pub before : List KeyValue
   pub refused : KeyValue
   pub after : List KeyValue
   pub in_order : pairs ≡ before ++ refused ∷ after
   pub reached : new ≡ filled lists old before
-  pub too_large : (e ≡ TooLarge) ↔ IsTooLarge lists new refused
+  pub is_added : is_added (is_list lists refused.key) new refused ≡ true
+  pub too_large : (e ≡ TooLarge) ↔ IsTooLarge (is_list lists refused.key) new refused

@@ -4,6 +4,7 @@ use Rattle.std.specs.Option.{option_map_or}
 use Rattle.std.specs.Str.{bytes_eq}
 use Rattle.text_model.specs.Texts.{Text}
 use Rattle.kev_read.specs.Pairs.{KeyValue, pairs_of, first_of}
+use Rattle.kev_read.specs.declared.read.TheConstants.{MAX_PAIRS, MAX_QUERY_BYTES}
 use Rattle.kev_read.specs.declared.error.KevError.{KevError}
 use Rattle.kev_read.specs.declared.error.KevError.TheVariants.{TooLong, TooManyPairs, WrongVersion}
 
@@ -19,6 +20,6 @@ states_other_version pairs =
 -- the first reason in the order length, number of pairs, version
 abbrev pub refusal : List ℕ → Option KevError
 refusal query =
-    if nat_lt 65536 (length query) then Some TooLong
-    else (if nat_lt 4096 (length (pairs_of query)) then Some TooManyPairs
+    if nat_lt MAX_QUERY_BYTES (length query) then Some TooLong
+    else (if nat_lt MAX_PAIRS (length (pairs_of query)) then Some TooManyPairs
     else (if states_other_version (pairs_of query) then Some WrongVersion else None))

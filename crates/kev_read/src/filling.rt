@@ -1,46 +1,44 @@
-ghost use Rattle.std.specs.Prelude.{◌≡◌, ◌↔◌, IfErr, OnOk, OnErr};
-ghost use Rattle.std.specs.List.{list_any};
-ghost use Rattle.std.specs.Str.{bytes_eq};
+ghost use Rattle.std.specs.Prelude.{◌≡◌, ◌≤◌, true, ◌↔◌, length, IfErr, OnOk, OnErr};
 ghost use Rattle.text_model.specs.Texts.{texts_of};
 ghost use Rattle.kev_read.specs.Filling as spec;
+ghost use Rattle.kev_read.specs.KeyOrder.{IsKeyOrder};
+ghost use Rattle.kev_read.specs.Layout.{key_value};
 
-use crate::pair::Pair;
+use crate::list_keys::list_marks;
+use crate::pairs::{Pair, Pairs};
+use crate::read::MAX_PAIRS;
 use target_vars::{Env, VarsError};
 
 /// Adds each pair to the environment, up to the first that is refused.
-pub(crate) fn fill(pairs: &[Pair], lists: &[&str], env: &mut Env) -> Result<(), VarsError>
+pub(crate) fn fill(
+    pairs: &Pairs,
+    order: &[u16],
+    lists: &[&str],
+    env: &mut Env,
+) -> Result<(), VarsError>
+    requires order { IsKeyOrder pairs.now order.now }
+    requires few { length pairs.now ≤ MAX_PAIRS }
     ensures ok { OnOk result (env.new.entries ≡ spec.filled (texts_of lists.now) env.old.entries pairs.now) }
     ensures err { IfErr result (spec.StopsAtPair (texts_of lists.now) env.old.entries pairs.now env.new.entries) }
 {
-    for pair in pairs {
-        fill_one(pair, lists, env)?;
+    let are_lists = list_marks(pairs, order, lists);
+    for index in 0..pairs.len() {
+        add(pairs.at(index), are_lists[index], env)?;
     }
     Ok(())
 }
 
-/// Adds a pair to the environment: as a member where its key is a list, and otherwise as a text.
-fn fill_one(pair: &Pair, lists: &[&str], env: &mut Env) -> Result<(), VarsError>
-    ensures ok { OnOk result (env.new.entries ≡ spec.fill_one (texts_of lists.now) env.old.entries pair.now) }
-    ensures too_large { (result ≡ Err VarsError.TooLarge) ↔ spec.IsTooLarge (texts_of lists.now) env.old.entries pair.now }
+/// Adds a pair to the environment: as a member where its key stands for a list, and otherwise as a text.
+fn add(pair: Pair<'_>, is_list: bool, env: &mut Env) -> Result<(), VarsError>
+    ensures ok { OnOk result (env.new.entries ≡ spec.added is_list env.old.entries (key_value pair.entry)) }
+    ensures too_large { (result ≡ Err VarsError.TooLarge) ↔ spec.IsTooLarge is_list env.old.entries (key_value pair.entry) }
+    ensures added { OnErr result (spec.is_added is_list env.old.entries (key_value pair.entry) ≡ true) }
     ensures err { OnErr result (env.new.entries ≡ env.old.entries) }
 {
-    if is_list(lists, pair.key()) {
-        env.add_member(pair.key(), pair.value())?;
+    if is_list {
+        env.add_member(pair.key, pair.value)?;
     } else {
-        env.put_text(pair.key(), pair.value())?;
+        env.put_text(pair.key, pair.value)?;
     }
     Ok(())
-}
-
-#[tactic(auto, using(crate::proofs::FillingLemmas::is_among_texts_of))]
-fn is_list(lists: &[&str], key: &str) -> bool
-    ensures { result ≡ spec.is_list (texts_of lists.now) key.now }
-{
-    key == "rft.au" || key == "rft_id" || is_among(key, lists)
-}
-
-fn is_among(name: &str, names: &[&str]) -> bool
-    ensures { result ≡ list_any (λ other. bytes_eq other.now name.now) names.now }
-{
-    names.iter().any(|other| *other == name)
 }

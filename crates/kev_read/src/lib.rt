@@ -3,12 +3,15 @@
 
 mod error;
 mod filling;
-mod pair;
+mod key_order;
+mod list_keys;
+mod pairs;
 mod read;
 mod request;
 #[cfg(test)]
 mod tests;
 mod values;
+mod version;
 
 pub use error::KevError;
 pub use read::{MAX_PAIRS, MAX_QUERY_BYTES, read_kev};

@@ -1,13 +1,15 @@
-ghost use Rattle.std.specs.Prelude.{◌≡◌, ◌≤◌, ◌<◌, ◌↔◌, ◌⊎◌, length, IfOk, IfErr, Some, None};
+ghost use Rattle.std.specs.Prelude.{◌≡◌, ◌≤◌, ◌<◌, ◌↔◌, ◌⊎◌, length, IfOk, IfErr, IsTrue, Some, None};
 ghost use Rattle.kev_read.specs.Pairs.{pairs_of};
 ghost use Rattle.kev_read.specs.ReadQuery.{IsBounded};
 ghost use Rattle.kev_read.specs.Refusal.{refusal};
 
 use crate::error::KevError;
-use crate::pair::Pair;
+use crate::key_order::key_order;
+use crate::pairs::Pairs;
 use crate::request::Request;
-use form_urlencoded::parse;
-use std::alloc::Global;
+use crate::version::states_other_version;
+use form_urlencoded::{parse, raw_pairs};
+use std::alloc::{AllocError, Global};
 
 /// The largest query that is read, in bytes.
 pub const MAX_QUERY_BYTES: usize = 65_536;
@@ -28,30 +30,52 @@ pub fn read_kev(alloc: Global, query: &[u8]) -> Result<Request, KevError>
 
     // However little memory there is.
     ensures too_long { (result ≡ Err KevError.TooLong) ↔ (MAX_QUERY_BYTES < length query.now) }
+    ensures too_many { (result ≡ Err KevError.TooManyPairs)
+        ↔ ((length query.now ≤ MAX_QUERY_BYTES) × (MAX_PAIRS < length (pairs_of query.now))) }
+    ensures limits { (MAX_QUERY_BYTES ≡ 65536) × (MAX_PAIRS ≡ 4096) }
 {
     if query.len() > MAX_QUERY_BYTES {
         return Err(KevError::TooLong);
     }
-    let request = Request::new(read_pairs(alloc, query)?, query.len());
-    if request.states_other_version() {
+    if has_too_many_pairs(query) {
+        return Err(KevError::TooManyPairs);
+    }
+    let pairs = read_pairs(alloc, query)?;
+    if states_other_version(&pairs) {
         return Err(KevError::WrongVersion);
     }
-    Ok(request)
+    let order = key_order(alloc, &pairs)?;
+    Ok(Request::new(pairs, order, query.len()))
 }
 
-fn read_pairs(alloc: Global, query: &[u8]) -> Result<Vec<Pair>, KevError>
-    ensures pairs { IfOk result (λ pairs. pairs.items ≡ pairs_of query.now) }
-    ensures within { IfOk result (λ pairs. length pairs.items ≤ 4096) }
-    ensures refused { IfErr result (λ e. (e ≡ KevError.NoMemory)
-        ⊎ ((e ≡ KevError.TooManyPairs) × (4096 < length (pairs_of query.now)))) }
+#[tactic(auto, using(crate::proofs::PairCount::two_bytes_a_pair))]
+fn has_too_many_pairs(query: &[u8]) -> bool
+    ensures { IsTrue result ↔ (MAX_PAIRS < length (pairs_of query.now)) }
 {
-    let mut pairs = Vec::new(alloc);
+    // A pair has a byte at least, and so has what parts it from the next.
+    query.len() > 2 * MAX_PAIRS && pair_count(query) > MAX_PAIRS
+}
+
+/// How many pairs a query has, without decoding them.
+fn pair_count(query: &[u8]) -> usize
+    ensures { result ≡ length (pairs_of query.now) }
+{
+    let mut count = 0;
+    for _ in raw_pairs(query) {
+        count += 1;
+    }
+    count
+}
+
+/// The pairs of a query. Their text is as long as the query as a rule, and longer only where U+FFFD
+/// stands for bytes that are not UTF-8.
+fn read_pairs(alloc: Global, query: &[u8]) -> Result<Pairs, AllocError>
+    ensures { IfOk result (λ pairs. pairs ≡ pairs_of query.now) }
+{
+    let mut pairs = Pairs::with_capacity(alloc, query.len())?;
     for pair in parse(alloc, query) {
-        if pairs.len() == MAX_PAIRS {
-            return Err(KevError::TooManyPairs);
-        }
         let (key, value) = pair?;
-        pairs.push(Pair::new(key.into_owned(alloc)?, value.into_owned(alloc)?))?;
+        pairs.push(key.as_str(), value.as_str())?;
     }
     Ok(pairs)
 }

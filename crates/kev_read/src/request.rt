@@ -4,17 +4,15 @@ ghost use Rattle.environment_model.specs.Environment.{byte_count, member_count};
 ghost use Rattle.target_vars.specs.declared.env.TheConstants.{MAX_BYTES, MAX_MEMBERS};
 ghost use Rattle.kev_read.specs.Pairs as spec;
 ghost use Rattle.kev_read.specs.Filling.{filled, StopsAtPair};
+ghost use Rattle.kev_read.specs.declared.read.TheConstants.{MAX_PAIRS};
 ghost use Rattle.text_model.specs.Texts.{texts_of};
-ghost use Rattle.kev_read.specs.Refusal.{is_other_version, states_other_version};
+ghost use Rattle.kev_read.specs.KeyOrder.{IsKeyOrder};
 
 use crate::filling::fill;
-use crate::pair::Pair;
+use crate::pairs::Pairs;
 use crate::values::Values;
 use std::marker::Model;
 use target_vars::{Env, VarsError};
-
-/// The version of OpenURL that is read.
-const VERSION: &str = "Z39.88-2004";
 
 /// An OpenURL request: its pairs of key and value (ANSI/NISO Z39.88-2004, key/encoded-value form), in
 /// the order of the query.
@@ -23,7 +21,9 @@ const VERSION: &str = "Z39.88-2004";
 /// how many bytes the query had.
 #[derive(Debug, Drop)]
 pub struct Request {
-    pairs: Vec<Pair>,
+    pairs: Pairs,
+    // The indices of the pairs in the order of their keys.
+    order: Vec<u16>,
     // Bounds what the pairs add to an environment.
     query_bytes: usize,
 }
@@ -33,20 +33,27 @@ impl Model for Request {
 
     ghost Value = { ReadQuery };
 
-    ghost view = { λ request. record { pairs = request.pairs.items; query_bytes = request.query_bytes } };
+    ghost view = { λ request. record { pairs = request.pairs; query_bytes = request.query_bytes } };
 
-    ghost invariant = { λ request. IsBounded record { pairs = request.pairs.items; query_bytes = request.query_bytes } };
+    ghost use Rattle.kev_read.specs.KeyOrder.{IsKeyOrder};
+
+    ghost invariant = { λ request. IsBounded record { pairs = request.pairs; query_bytes = request.query_bytes }
+        × IsKeyOrder request.pairs request.order.items };
 }
 
 impl Request {
-    ghost use Rattle.std.specs.Prelude.{vec_len};
     ghost use Rattle.kev_read.specs.ReadQuery.{IsBounded};
 
-    pub(crate) fn new(pairs: Vec<Pair>, query_bytes: usize) -> Request
-        requires { IsBounded record { pairs = pairs.items; query_bytes = query_bytes } }
-        ensures { result ≡ record { pairs = pairs.items; query_bytes = query_bytes } }
+    pub(crate) fn new(pairs: Pairs, order: Vec<u16>, query_bytes: usize) -> Request
+        requires bounded { IsBounded record { pairs = pairs; query_bytes = query_bytes } }
+        requires ordered { IsKeyOrder pairs order.items }
+        ensures { result ≡ record { pairs = pairs; query_bytes = query_bytes } }
     {
-        Request { pairs, query_bytes }
+        Request {
+            pairs,
+            order,
+            query_bytes,
+        }
     }
 
     /// The first value of a key; `None` where no pair has the key.
@@ -60,7 +67,7 @@ impl Request {
     #[tactic(auto, using(crate::proofs::ValuesOfKey::all_of_few))]
     pub fn all<'a, 'k>(&'a self, key: &'k str) -> Values<'a, 'k>
         ensures values { result ≡ spec.all_of self.now.pairs key.now }
-        ensures few { length result ≤ 4096 }
+        ensures few { length result ≤ MAX_PAIRS }
     {
         Values::new(&self.pairs, key)
     }
@@ -92,21 +99,6 @@ impl Request {
             → IfErr result (λ e. e ≡ VarsError.NoMemory) }
         ensures empty { env.old.entries ≡ [] → IfErr result (λ e. e ≡ VarsError.NoMemory) }
     {
-        fill(&self.pairs, lists, env)
-    }
-
-    pub(crate) fn states_other_version(&self) -> bool
-        ensures { result ≡ states_other_version self.now.pairs }
-    {
-        is_other_version(self.first("ctx_ver")) || is_other_version(self.first("url_ver"))
-    }
-}
-
-fn is_other_version(stated: Option<&str>) -> bool
-    ensures { result ≡ is_other_version (option_copied stated.entry) }
-{
-    match stated {
-        Some(version) => version != VERSION,
-        None => false,
+        fill(&self.pairs, &self.order, lists, env)
     }
 }

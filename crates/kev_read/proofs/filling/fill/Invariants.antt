@@ -4,5 +4,5 @@ use Rattle.text_model.specs.Texts.{texts_of}
 use Rattle.kev_read.proofs.filling.fill.Given as goal
 
 -- the pairs so far were added
-abbrev pub invariant-loop-pair : goal.invariant-loop-pair
-invariant-loop-pair l = l.env.entries ≡ filled (texts_of l.lists) l.fn.env.entries (take l.pair-index l.pairs)
+abbrev pub invariant-loop-index : goal.invariant-loop-index
+invariant-loop-index l = l.env.entries ≡ filled (texts_of l.lists) l.fn.env.entries (take l.index l.pairs)

@@ -1,10 +1,10 @@
-use Rattle.std.proofs.Common.{arith}
+use Rattle.std.proofs.Common.{ap, length, arith}
 use Rattle.kev_read.proofs.ValueBytes.{value_bytes-pairs_of-le}
 use Rattle.kev_read.proofs.read.read_kev.Goals as goal
 
-pub new-request-requires : goal.new-request-requires
-new-request-requires c = record {
+pub new-requires-clause-bounded : goal.new-requires-clause-bounded
+new-requires-clause-bounded c = record {
   query_bytes = omega arith;
-  pairs = c.in_ok-read_pairs.ensures.within;
-  values = rw c.in_ok-read_pairs.ensures.pairs (value_bytes-pairs_of-le c.args.query.now);
+  pairs = let all = ap length c.in_ok-pairs.ensures in grind (arith, all, c.has_too_many_pairs.ensures);
+  values = rw c.in_ok-pairs.ensures (value_bytes-pairs_of-le c.args.query.now);
 }

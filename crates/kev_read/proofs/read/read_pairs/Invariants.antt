@@ -1,11 +1,8 @@
-use Rattle.std.proofs.Common.{◌≡◌, ◌≤◌, ◌++◌, map, length}
+use Rattle.std.proofs.Common.{◌≡◌, ◌++◌, map}
 use Rattle.form_urlencoded.specs.Parse.{pairs_left}
 use Rattle.kev_read.specs.Pairs.{pairs_of, decoded_pair}
 use Rattle.kev_read.proofs.read.read_pairs.Given as goal
 
 -- what was read, with what is left, is the whole
 abbrev pub invariant-loop-pair : goal.invariant-loop-pair
-invariant-loop-pair l = record {
-  whole : l.pairs.items ++ map decoded_pair (pairs_left l.pair-iterator) ≡ pairs_of l.query;
-  within : length l.pairs.items ≤ 4096;
-}
+invariant-loop-pair l = l.pairs ++ map decoded_pair (pairs_left l.pair-iterator) ≡ pairs_of l.query

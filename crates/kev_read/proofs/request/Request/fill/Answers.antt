@@ -1,6 +1,5 @@
 use Rattle.std.proofs.Common.{length, ap, arith}
 use Rattle.environment_model.specs.Environment.{byte_count, member_count}
-use Rattle.kev_read.specs.Pairs.{value_bytes}
 use Rattle.kev_read.specs.ReadQuery.{ReadQuery}
 use Rattle.kev_read.proofs.FillingLemmas.{reaches, reached_bytes, reached_members, only_memory}
 use Rattle.kev_read.proofs.request.Request.fill.Goals as goal
@@ -8,32 +7,26 @@ use Rattle.kev_read.proofs.request.Request.fill.Goals as goal
 pub returns-clause-bytes : goal.returns-clause-bytes
 returns-clause-bytes c =
     let reach = reaches _ _ _ _ c.fill.result c.fill.ensures.ok c.fill.ensures.err in
-    let values = ap value_bytes c.deref.ensures.value in
     let query_bytes = ap (λ (r : ReadQuery). r.query_bytes) c.self.view_is in
-    let bounded = c.self.invariant.values in
+    let bounded = c.self.invariant.0.values in
     omega (arith, reached_bytes _ _ _ _ reach)
 
 pub returns-clause-members : goal.returns-clause-members
 returns-clause-members c =
     let reach = reaches _ _ _ _ c.fill.result c.fill.ensures.ok c.fill.ensures.err in
-    let inside = ap length c.deref.ensures.value in
     let whole = ap (λ (r : ReadQuery). length r.pairs) c.self.view_is in
     omega (arith, reached_members _ _ _ _ reach)
 
 pub returns-clause-room : goal.returns-clause-room
 returns-clause-room c = λ few_bytes few_members.
-    let values = ap value_bytes c.deref.ensures.value in
     let query_bytes = ap (λ (r : ReadQuery). r.query_bytes) c.self.view_is in
-    let inside = ap length c.deref.ensures.value in
     let whole = ap (λ (r : ReadQuery). length r.pairs) c.self.view_is in
-    let bounded = c.self.invariant.values in
+    let bounded = c.self.invariant.0.values in
     only_memory _ _ _ _ c.fill.result c.fill.ensures.err (omega arith) (omega arith)
 
 pub returns-clause-empty : goal.returns-clause-empty
 returns-clause-empty c = λ empty.
     let no_bytes = ap byte_count empty in
     let no_members = ap member_count empty in
-    let values = ap value_bytes c.deref.ensures.value in
-    let inside = ap length c.deref.ensures.value in
-    let bounded = c.self.invariant in
+    let bounded = c.self.invariant.0 in
     only_memory _ _ _ _ c.fill.result c.fill.ensures.err (omega arith) (omega arith)

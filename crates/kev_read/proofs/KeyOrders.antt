@@ -1,0 +1,145 @@
+-- The order of pairs by their keys, and which of them have a key.
+use Rattle.std.proofs.Common.{◌≡◌, ℕ, ◌+◌, ◌-◌, ◌≤◌, ◌<◌, ◌==◌, Bool, true, false, List, length, take, drop, get_or, Option, Some, None, refl, sym, ap, ◌∙◌, subst, arith, length-drop}
+use Rattle.std.proofs.Math.Logic.{⊎_elim}
+use Rattle.std.proofs.lemmas.Bool.{cases_lt, eqb-true, eq-eqb}
+use Rattle.std.proofs.lemmas.Cmp.{nat_list_cmp_total, nat_list_eq_equiv}
+use Rattle.std.proofs.lemmas.List.{get_or-drop, get_or-take, length-take-le, length-map}
+use Rattle.std.proofs.lemmas.List.Folds.{Any-from_list_any, list_any_at}
+use Rattle.std.proofs.lemmas.List.FromFn.{length-range_with_len, get_or-range_with_len}
+use Rattle.std.proofs.lemmas.List.Sorted.{All-permutation, list_any-IsPermutation, searchable_from_sorted}
+use Rattle.std.proofs.lemmas.Map.Text.{is_eq-slice_cmp}
+use Rattle.std.proofs.lemmas.Option.{slice_get_past}
+use Rattle.std.specs.Cmp.{both_ways}
+use Rattle.std.specs.Cmp.Lexicographic.{options_total}
+use Rattle.std.specs.List.{range_with_len}
+use Rattle.std.specs.List.Sorted.{IsPermutation, IsSortedBy, IsNonDecreasingBy, IsPartitionedBy, IsPartitionPoint}
+use Rattle.std.specs.Option.{option_map_or}
+use Rattle.std.specs.Ordering.{is_lt, is_le, is_eq, ordering_index}
+use Rattle.std.specs.Str.{bytes_eq}
+use Rattle.std.specs.declared.cmp.Ordering.{Ordering}
+use Rattle.std.specs.declared.cmp.Ordering.TheVariants.{Less, Equal, Greater}
+use Rattle.text_model.specs.Texts.{Text}
+use Rattle.kev_read.specs.Pairs.{KeyValue}
+use Rattle.kev_read.specs.KeyOrder.{key_at, passes_at, compared, has_index, IsKeyOrder}
+
+-- ---- the order
+
+-- what a sort of all indices gives
+pub key_order_from_sort : (pairs : List KeyValue) (from to : List ℕ) → from ≡ range_with_len 0 (length pairs) → IsPermutation from to
+    → IsSortedBy (λ a b. is_lt (compared (key_at pairs a) (key_at pairs b))) to → IsKeyOrder pairs to
+key_order_from_sort pairs from to all moved sorted =
+    let count = ap length all ∙ length-range_with_len 0 (length pairs) in
+    let at : (i d : ℕ) → i < length pairs → get_or from i d ≡ i = λ i d within. ap (λ xs. get_or xs i d) all ∙ get_or-range_with_len 0 (length pairs) i d within ∙ omega arith in
+    record {
+      sorted = sorted;
+      every = λ index within.
+          sym (list_any-IsPermutation (λ other. other == index) from to moved)
+          ∙ list_any_at (λ other. other == index) from index index (omega arith) (eq-eqb (get_or from index index) index (at index index within));
+      within = All-permutation (λ index. index < length pairs) from to moved (λ k d below. let within : k < length pairs = omega arith in rw (at k d within) within);
+    }
+
+-- ---- a key against the order
+
+-- how the key of the pair at an index compares with the key
+abbrev pub compared_at : List KeyValue → Text → ℕ → Ordering
+compared_at pairs key index = compared (key_at pairs index) (Some key)
+
+-- the test passes nothing after what it fails
+abbrev pub Falls : (Ordering → Bool) → Type 0
+Falls test = (a b : Ordering) → ordering_index a ≤ ordering_index b → test b ≡ true → test a ≡ true
+
+pub is_lt-Falls : Falls is_lt
+is_lt-Falls Less b le h = refl
+is_lt-Falls Equal Less le h = absurd (omega arith)
+is_lt-Falls Equal Equal le h = h
+is_lt-Falls Equal Greater le h = h
+is_lt-Falls Greater Less le h = absurd (omega arith)
+is_lt-Falls Greater Equal le h = h
+is_lt-Falls Greater Greater le h = h
+
+pub is_le-Falls : Falls is_le
+is_le-Falls Less b le h = refl
+is_le-Falls Equal b le h = refl
+is_le-Falls Greater Less le h = absurd (omega arith)
+is_le-Falls Greater Equal le h = absurd (omega arith)
+is_le-Falls Greater Greater le h = h
+
+pub rises : (pairs : List KeyValue) (order : List ℕ) (key : Text) → IsKeyOrder pairs order → IsNonDecreasingBy (λ index. ordering_index (compared_at pairs key index)) order
+rises pairs order key ordered = searchable_from_sorted (options_total nat_list_cmp_total) (key_at pairs) order (Some key) ordered.sorted
+
+pub parted : (test : Ordering → Bool) → Falls test → (pairs : List KeyValue) (indices : List ℕ) (key : Text)
+    → IsNonDecreasingBy (λ index. ordering_index (compared_at pairs key index)) indices → IsPartitionedBy (λ index. test (compared_at pairs key index)) indices
+parted test falls pairs indices key rise i j d le below h = falls _ _ (rise i j d le below) h
+
+-- ---- the indices of a key
+
+abbrev PartedAt : (Ordering → Bool) → List KeyValue → Text → List ℕ → ℕ → Type 0
+PartedAt test pairs key = IsPartitionPoint (λ index. test (compared_at pairs key index) ≡ true) (λ index. test (compared_at pairs key index) ≡ false)
+
+neither : (o : Ordering) → is_lt o ≡ false → is_le o ≡ true → is_eq o ≡ true
+neither Less lt le = absurd (cc)
+neither Equal lt le = refl
+neither Greater lt le = absurd (cc)
+
+equal_not_lt : (o : Ordering) → is_eq o ≡ true → is_lt o ≡ true → ⊥
+equal_not_lt Less eq lt = cc
+equal_not_lt Equal eq lt = cc
+equal_not_lt Greater eq lt = cc
+
+equal_le : (o : Ordering) → is_eq o ≡ true → is_le o ≡ false → ⊥
+equal_le Less eq le = cc
+equal_le Equal eq le = cc
+equal_le Greater eq le = cc
+
+passes_equal : (other : Option Text) (key : Text) → option_map_or (bytes_eq key) other false ≡ is_eq (compared other (Some key))
+passes_equal None key = refl
+passes_equal (Some other) key = nat_list_eq_equiv.symm key other ∙ sym (is_eq-slice_cmp other key)
+
+within_pairs : (pairs : List KeyValue) (key : Text) (index : ℕ) → is_eq (compared_at pairs key index) ≡ true → index < length pairs
+within_pairs pairs key index equal =
+    ⊎_elim (λ below. below)
+    (λ past. let none : key_at pairs index ≡ None = slice_get_past _ index (rw length-map past) in absurd (let e = ap (λ k. is_eq (compared k (Some key))) none in cc))
+    (cases_lt index (length pairs))
+
+pub found : (pairs : List KeyValue) (order : List ℕ) (key : Text) (start count : ℕ) → IsKeyOrder pairs order → start ≤ length order → count ≤ length (drop start order)
+    → PartedAt is_lt pairs key order start → PartedAt is_le pairs key (drop start order) count
+    → (index : ℕ) → has_index index (take count (drop start order)) ≡ passes_at (bytes_eq key) pairs index
+found pairs order key start count ordered few fewer lt le index = both_ways _ _ (λ h. passes_equal (key_at pairs index) key ∙ forwards h) (λ h. backwards (sym (passes_equal (key_at pairs index) key) ∙ h))
+  where
+    run : List ℕ
+    run = take count (drop start order)
+
+    run_length : length run ≡ count
+    run_length = length-take-le count (drop start order) fewer
+
+    at_run : (k d : ℕ) → k < count → get_or run k d ≡ get_or order (start + k) d
+    at_run k d below = get_or-take count (drop start order) k d below ∙ get_or-drop start order k d
+
+    forwards : has_index index run ≡ true → is_eq (compared_at pairs key index) ≡ true
+    forwards h =
+        let any = Any-from_list_any (λ other. other == index) run h in
+        let k = any.0 in
+        let x = any.1 in
+        let below : k < count = let b = any.2 in let l = run_length in omega arith in
+        let is : x ≡ index = eqb-true x index any.4 in
+        let rest = length-drop start order in
+        let here : get_or order (start + k) x ≡ index = sym (at_run k x below) ∙ any.3 ∙ is in
+        let not_lt : is_lt (compared_at pairs key index) ≡ false = subst (λ i. is_lt (compared_at pairs key i) ≡ false) here (lt.1 (start + k) x (omega arith) (omega arith)) in
+        let is_le : is_le (compared_at pairs key index) ≡ true = subst (λ i. is_le (compared_at pairs key i) ≡ true) (get_or-drop start order k x ∙ here) (le.0 k x (omega arith) below) in
+        neither _ not_lt is_le
+
+    backwards : is_eq (compared_at pairs key index) ≡ true → has_index index run ≡ true
+    backwards equal =
+        let any = Any-from_list_any (λ other. other == index) order (ordered.every index (within_pairs pairs key index equal)) in
+        let j = any.0 in
+        let x = any.1 in
+        let within = any.2 in
+        let rest = length-drop start order in
+        let here : get_or order j x ≡ index = any.3 ∙ eqb-true x index any.4 in
+        let from : start ≤ j = ⊎_elim (λ below. absurd (equal_not_lt _ equal (subst (λ i. is_lt (compared_at pairs key i) ≡ true) here (lt.0 j x (omega arith) below)))) (λ ge. ge) (cases_lt j start) in
+        let k = j - start in
+        let place : start + k ≡ j = omega arith in
+        let there : get_or (drop start order) k x ≡ index = get_or-drop start order k x ∙ ap (λ i. get_or order i x) place ∙ here in
+        let below : k < count = ⊎_elim (λ lt. lt) (λ past. absurd (equal_le _ equal (subst (λ i. is_le (compared_at pairs key i) ≡ false) there (le.1 k x past (omega arith))))) (cases_lt k count) in
+        let l = run_length in
+        list_any_at (λ other. other == index) run k x (omega arith) (eq-eqb (get_or run k x) index (get_or-take count (drop start order) k x below ∙ there))

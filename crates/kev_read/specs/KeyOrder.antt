@@ -1,0 +1,31 @@
+-- The order of the pairs of a request by their keys.
+use Rattle.std.specs.Prelude.{◌≡◌, ℕ, ◌<◌, ◌==◌, Bool, true, false, List, All, length, map, Option, slice_get}
+use Rattle.std.specs.declared.cmp.Ordering.{Ordering}
+use Rattle.std.specs.Ordering.{nat_cmp, is_lt}
+use Rattle.std.specs.Option.{option_cmp, option_map_or}
+use Rattle.std.specs.Cmp.Lexicographic.{slice_cmp}
+use Rattle.std.specs.List.{list_any}
+use Rattle.std.specs.List.Sorted.{IsSortedBy}
+use Rattle.text_model.specs.Texts.{Text}
+use Rattle.kev_read.specs.Pairs.{KeyValue}
+
+-- the key of the pair at the index, where there is one
+abbrev pub key_at : List KeyValue → ℕ → Option Text
+key_at pairs index = slice_get (map (λ pair. pair.key) pairs) index
+
+-- there is a pair at the index, and its key passes the test
+abbrev pub passes_at : (Text → Bool) → List KeyValue → ℕ → Bool
+passes_at test pairs index = option_map_or test (key_at pairs index) false
+
+-- how keys compare, by their bytes
+abbrev pub compared : Option Text → Option Text → Ordering
+compared = option_cmp (slice_cmp nat_cmp)
+
+abbrev pub has_index : ℕ → List ℕ → Bool
+has_index index indices = list_any (λ other. other == index) indices
+
+-- the indices of all pairs, in the order of their keys
+pub record IsKeyOrder (pairs : List KeyValue) (order : List ℕ) : Type 0 where
+  pub sorted : IsSortedBy (λ a b. is_lt (compared (key_at pairs a) (key_at pairs b))) order
+  pub every : (index : ℕ) → index < length pairs → has_index index order ≡ true
+  pub within : All (λ index. index < length pairs) order

@@ -1,0 +1,45 @@
+ghost use Rattle.std.specs.Prelude.{◌≡◌, ◌<◌, ◌≤◌, ℕ, All, length, IfOk};
+ghost use Rattle.std.specs.List.{range_with_len};
+ghost use Rattle.std.specs.Option.{option_copied};
+ghost use Rattle.std.specs.Str.{bytes_eq};
+ghost use Rattle.kev_read.specs.KeyOrder.{IsKeyOrder, compared, has_index, key_at, passes_at};
+
+use crate::pairs::Pairs;
+use crate::read::MAX_PAIRS;
+use std::alloc::{AllocError, Global};
+use std::cmp::Ordering;
+
+/// The indices of all pairs, in the order of their keys.
+pub(crate) fn key_order(alloc: Global, pairs: &Pairs) -> Result<Vec<u16>, AllocError>
+    requires { length pairs.now ≤ MAX_PAIRS }
+    ensures { IfOk result (λ order. IsKeyOrder pairs.now order.items) }
+{
+    let mut order = indices(alloc, pairs.len() as u16)?;
+    order.sort_unstable_by(|a, b| compare(pairs, *a, pairs.key(*b as usize)));
+    Ok(order)
+}
+
+fn indices(alloc: Global, count: u16) -> Result<Vec<u16>, AllocError>
+    ensures { IfOk result (λ indices. indices.items ≡ range_with_len 0 count) }
+{
+    (0..count).collect(alloc)
+}
+
+/// How the key of the pair at the index compares with another; no key comes before every key.
+fn compare(pairs: &Pairs, index: u16, other: Option<&str>) -> Ordering
+    ensures { result ≡ compared (key_at pairs.now index) (option_copied other.entry) }
+{
+    pairs.key(index as usize).cmp(&other)
+}
+
+/// The indices of the pairs that have the key, found by halves.
+pub(crate) fn indices_of<'a>(pairs: &Pairs, order: &'a [u16], key: &str) -> &'a [u16]
+    requires { IsKeyOrder pairs.now order.now }
+    ensures found { (index : ℕ) → has_index index result.now ≡ passes_at (bytes_eq key.now) pairs.now index }
+    ensures within { All (λ index. index < length pairs.now) result.now }
+{
+    let start = order.partition_point(|index| compare(pairs, *index, Some(key)).is_lt());
+    let (_, rest) = order.split_at(start);
+    let count = rest.partition_point(|index| compare(pairs, *index, Some(key)).is_le());
+    &rest[..count]
+}

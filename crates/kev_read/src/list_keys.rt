@@ -1,0 +1,46 @@
+ghost use Rattle.std.specs.Prelude.{◌≡◌, ◌||◌, ◌<◌, ◌≤◌, ℕ, false, All, length, slice_index_or};
+ghost use Rattle.environment_model.specs.Environment.{is_among};
+ghost use Rattle.environment_model.specs.Lists.{is_list};
+ghost use Rattle.text_model.specs.Texts.{texts_of};
+ghost use Rattle.kev_read.specs.KeyOrder.{IsKeyOrder, has_index, passes_at};
+
+use crate::key_order::indices_of;
+use crate::pairs::Pairs;
+use crate::read::MAX_PAIRS;
+
+/// The keys that stand for lists in every request: authors, and identifiers of the referent.
+const STANDARD_LISTS: [&str; 2] = ["rft.au", "rft_id"];
+
+/// Whether the key of each pair stands for a list. The work grows with the pairs, and with the lists
+/// times the logarithm of the pairs, and takes no memory.
+pub(crate) fn list_marks(pairs: &Pairs, order: &[u16], declared: &[&str]) -> [bool; MAX_PAIRS]
+    requires order { IsKeyOrder pairs.now order.now }
+    requires few { length pairs.now ≤ MAX_PAIRS }
+    ensures { (index : ℕ) → slice_index_or result index false ≡ passes_at (is_list (texts_of declared.now)) pairs.now index }
+{
+    let mut marks = [false; MAX_PAIRS];
+    mark_names(pairs, order, &STANDARD_LISTS, &mut marks);
+    mark_names(pairs, order, declared, &mut marks);
+    marks
+}
+
+/// Marks the pairs whose key is one of the names.
+fn mark_names(pairs: &Pairs, order: &[u16], names: &[&str], marks: &mut [bool])
+    requires order { IsKeyOrder pairs.now order.now }
+    requires room { length pairs.now ≤ length marks.old }
+    ensures { (index : ℕ) → slice_index_or marks.new index false
+        ≡ (slice_index_or marks.old index false || passes_at (λ key. is_among key (texts_of names.now)) pairs.now index) }
+{
+    for name in names {
+        mark(marks, indices_of(pairs, order, name));
+    }
+}
+
+fn mark(marks: &mut [bool], indices: &[u16])
+    requires { All (λ index. index < length marks.old) indices.now }
+    ensures { (index : ℕ) → slice_index_or marks.new index false ≡ (slice_index_or marks.old index false || has_index index indices.now) }
+{
+    for index in indices {
+        marks[*index as usize] = true;
+    }
+}

@@ -1,0 +1,96 @@
+ghost use Rattle.std.specs.Prelude.{◌≡◌, ◌<◌, ◌++◌, ◌∷◌, [], length, slice_get, IfOk, OnOk, Some};
+ghost use Rattle.std.specs.Option.{option_copied};
+ghost use Rattle.kev_read.specs.KeyOrder.{key_at};
+ghost use Rattle.kev_read.specs.Layout.{key_value};
+
+use std::alloc::{AllocError, Global};
+use std::marker::Model;
+
+/// A key and its value, both decoded.
+#[derive(Clone, Copy, Debug)]
+pub(crate) struct Pair<'a> {
+    pub(crate) key: &'a str,
+    pub(crate) value: &'a str,
+}
+
+/// Where a pair lies in a text, in bytes: its key, and right behind it its value.
+#[derive(Clone, Copy, Debug)]
+pub(crate) struct Place {
+    start: usize,
+    middle: usize,
+    end: usize,
+}
+
+/// Pairs of key and value, which lie one after another in one text; contracts see the pairs.
+#[derive(Debug, Drop)]
+pub(crate) struct Pairs {
+    text: String,
+    places: Vec<Place>,
+}
+
+impl Model for Pairs {
+    ghost use Rattle.std.specs.Prelude.{List};
+    ghost use Rattle.kev_read.specs.Pairs.{KeyValue};
+
+    ghost Value = { List KeyValue };
+
+    ghost use Rattle.std.specs.Prelude.{map, All, string_bytes};
+    ghost use Rattle.kev_read.specs.Layout.{pair_in, IsPlaced};
+
+    ghost view = { λ pairs. map (pair_in (string_bytes pairs.text)) pairs.places.items };
+
+    ghost invariant = { λ pairs. All (IsPlaced (string_bytes pairs.text)) pairs.places.items };
+}
+
+impl Pairs {
+    /// No pairs, with room for so many bytes of keys and values.
+    pub(crate) fn with_capacity(alloc: Global, bytes: usize) -> Result<Pairs, AllocError>
+        ensures { IfOk result (λ pairs. pairs ≡ []) }
+    {
+        Ok(Pairs {
+            text: String::with_capacity(alloc, bytes)?,
+            places: Vec::new(alloc),
+        })
+    }
+
+    pub(crate) fn push(&mut self, key: &str, value: &str) -> Result<(), AllocError>
+        ensures { OnOk result (self.new ≡ self.old ++ record { key = key.now; value = value.now } ∷ []) }
+    {
+        let start = self.text.len();
+        self.text.push_str(key)?;
+        let middle = self.text.len();
+        self.text.push_str(value)?;
+        let end = self.text.len();
+        self.places.push(Place { start, middle, end })?;
+        Ok(())
+    }
+
+    pub(crate) fn len(&self) -> usize
+        ensures { result ≡ length self.now }
+    {
+        self.places.len()
+    }
+
+    /// The pair at the index.
+    pub(crate) fn at(&self, index: usize) -> Pair<'_>
+        requires { index < length self.now }
+        ensures { slice_get self.now index ≡ Some (key_value result) }
+    {
+        let place = self.places[index];
+        Pair {
+            key: &self.text[place.start..place.middle],
+            value: &self.text[place.middle..place.end],
+        }
+    }
+
+    /// The key of the pair at the index; `None` where there is no such pair.
+    pub(crate) fn key(&self, index: usize) -> Option<&str>
+        ensures { option_copied result ≡ key_at self.now index }
+    {
+        if index < self.len() {
+            Some(self.at(index).key)
+        } else {
+            None
+        }
+    }
+}
