@@ -6,6 +6,7 @@ use Rattle.std.proofs.lemmas.Bool.{cases_Bool, eqb-true, eq-eqb, both_ways}
 use Rattle.std.proofs.lemmas.List.Elements.{All-nil, All-cons}
 use Rattle.text_model.specs.Texts.{Text}
 use Rattle.text_model.specs.Writing.{written_ur}
+use Rattle.uri_grammar.specs.Characters.{open_brace, close_brace, comma}
 use Rattle.uri_grammar.specs.declared.error.TemplateErrorKind.{TemplateErrorKind}
 use Rattle.uri_grammar.specs.declared.error.TemplateErrorKind.TheVariants as kind
 use Rattle.uri_grammar.specs.declared.parts.Op.{Op}
@@ -118,10 +119,10 @@ spec_or_fault cs =
 -- ---- lists of specs
 
 abbrev SpecsOrFault : List ℕ → Type 0
-SpecsOrFault list = ((ss : List Spec) × SpellsSpecs (list ++ 44 ∷ []) ss) ⊎ ((k : TemplateErrorKind) × (d : ℕ) × IsListFault list k d)
+SpecsOrFault list = ((ss : List Spec) × SpellsSpecs (list ++ comma ∷ []) ss) ⊎ ((k : TemplateErrorKind) × (d : ℕ) × IsListFault list k d)
 
 -- the first piece of a list is no spec
-first_fault : (list piece after : List ℕ) (k : TemplateErrorKind) (d : ℕ) → list ++ 44 ∷ [] ≡ piece ++ 44 ∷ after → Lacks 44 piece → IsSpecFault piece k d → IsListFault list k d
+first_fault : (list piece after : List ℕ) (k : TemplateErrorKind) (d : ℕ) → list ++ comma ∷ [] ≡ piece ++ comma ∷ after → Lacks comma piece → IsSpecFault piece k d → IsListFault list k d
 first_fault list piece after k d e lacks f = record {
   front = [];
   specs = [];
@@ -135,7 +136,7 @@ first_fault list piece after k d e lacks f = record {
   place = omega arith;
 }
 
-last_or_fault : (list : List ℕ) → Lacks 44 list → SpecsOrFault list
+last_or_fault : (list : List ℕ) → Lacks comma list → SpecsOrFault list
 last_or_fault list lacks =
     ⊎_elim
     (λ s. inl (s.0 ∷ [], ([], record { piece = list; whole = refl; lacks = lacks; is_spec = s.1 }, refl)))
@@ -143,26 +144,26 @@ last_or_fault list lacks =
     (spec_or_fault list)
 
 -- a comma behind a list, seen from its first piece
-comma_behind : (list piece rest : List ℕ) → list ≡ piece ++ 44 ∷ rest → list ++ 44 ∷ [] ≡ piece ++ 44 ∷ (rest ++ 44 ∷ [])
-comma_behind list piece rest e = ap (λ (t : List ℕ). t ++ 44 ∷ []) e ∙ append_assoc piece (44 ∷ rest) (44 ∷ [])
+comma_behind : (list piece rest : List ℕ) → list ≡ piece ++ comma ∷ rest → list ++ comma ∷ [] ≡ piece ++ comma ∷ (rest ++ comma ∷ [])
+comma_behind list piece rest e = ap (λ (t : List ℕ). t ++ comma ∷ []) e ∙ append_assoc piece (comma ∷ rest) (comma ∷ [])
 
-first_or_fault : (list piece rest : List ℕ) → list ≡ piece ++ 44 ∷ rest → Lacks 44 piece → SpecsOrFault rest → SpecsOrFault list
+first_or_fault : (list piece rest : List ℕ) → list ≡ piece ++ comma ∷ rest → Lacks comma piece → SpecsOrFault rest → SpecsOrFault list
 first_or_fault list piece rest e lacks more =
     ⊎_elim
     (λ s. ⊎_elim
-    (λ ss. inl (s.0 ∷ ss.0, (rest ++ 44 ∷ [], record { piece = piece; whole = comma_behind list piece rest e; lacks = lacks; is_spec = s.1 }, ss.1)))
+    (λ ss. inl (s.0 ∷ ss.0, (rest ++ comma ∷ [], record { piece = piece; whole = comma_behind list piece rest e; lacks = lacks; is_spec = s.1 }, ss.1)))
     (λ f.
     let l = f.2 in
     inr (
       f.0,
-      length (piece ++ 44 ∷ l.front) + l.distance,
+      length (piece ++ comma ∷ l.front) + l.distance,
       record {
-        front = piece ++ 44 ∷ l.front;
+        front = piece ++ comma ∷ l.front;
         specs = s.0 ∷ l.specs;
         piece = l.piece;
         after = l.after;
         distance = l.distance;
-        whole = comma_behind list piece rest e ∙ (ap (λ (t : List ℕ). piece ++ 44 ∷ t) l.whole ∙ sym (append_assoc piece (44 ∷ l.front) (l.piece ++ 44 ∷ l.after)));
+        whole = comma_behind list piece rest e ∙ (ap (λ (t : List ℕ). piece ++ comma ∷ t) l.whole ∙ sym (append_assoc piece (comma ∷ l.front) (l.piece ++ comma ∷ l.after)));
         spelled = (l.front, record { piece = piece; whole = refl; lacks = lacks; is_spec = s.1 }, l.spelled);
         lacks = l.lacks;
         fault = l.fault;
@@ -170,7 +171,7 @@ first_or_fault list piece rest e lacks more =
       },
     ))
     more)
-    (λ f. inr (f.0, f.1, first_fault list piece (rest ++ 44 ∷ []) f.0 f.1 (comma_behind list piece rest e) lacks f.2))
+    (λ f. inr (f.0, f.1, first_fault list piece (rest ++ comma ∷ []) f.0 f.1 (comma_behind list piece rest e) lacks f.2))
     (spec_or_fault piece)
 
 specs_or_fault : (n : ℕ) (list : List ℕ) → length list < n → SpecsOrFault list
@@ -179,9 +180,9 @@ specs_or_fault (suc n) list l =
     ⊎_elim
     (λ lacks. last_or_fault list lacks)
     (λ cut.
-    let shorter : length cut.1 < n = omega (arith, ap length cut.2, length-append cut.0 (44 ∷ cut.1), l) in
+    let shorter : length cut.1 < n = omega (arith, ap length cut.2, length-append cut.0 (comma ∷ cut.1), l) in
     first_or_fault list cut.0 cut.1 cut.2 cut.3 (specs_or_fault n cut.1 shorter))
-    (lacks_or_cut 44 list)
+    (lacks_or_cut comma list)
 
 -- ---- expressions
 
@@ -204,14 +205,14 @@ PartOrFault cs =
     ((front : List ℕ) × (rest : List ℕ) × (part : Part) × (cs ≡ front ++ rest) × (0 < length front) × IsExpression front part)
     ⊎ ((k : TemplateErrorKind) × (d : ℕ) × IsPartFault cs k d)
 
-closed_or_fault : (cs body rest : List ℕ) → cs ≡ 123 ∷ body ++ 125 ∷ rest → Lacks 125 body → PartOrFault cs
+closed_or_fault : (cs body rest : List ℕ) → cs ≡ open_brace ∷ body ++ close_brace ∷ rest → Lacks close_brace body → PartOrFault cs
 closed_or_fault cs [] rest e lacks =
     inr (kind.EmptyExpression, 0, subst (λ (t : List ℕ). IsPartFault t kind.EmptyExpression 0) (sym e) (empty_expression rest))
 closed_or_fault cs (c ∷ body) rest e lacks =
     ⊎_elim
     (λ b.
-    let whole = e ∙ sym (ap (λ (t : List ℕ). 123 ∷ t) (append_assoc (c ∷ body) (125 ∷ []) rest)) in
-    inl (123 ∷ (c ∷ body) ++ 125 ∷ [], rest, Expression b.0 b.1, whole, omega arith, record { body = c ∷ body; whole = refl; lacks = lacks; is_body = b.2 }))
+    let whole = e ∙ sym (ap (λ (t : List ℕ). open_brace ∷ t) (append_assoc (c ∷ body) (close_brace ∷ []) rest)) in
+    inl (open_brace ∷ (c ∷ body) ++ close_brace ∷ [], rest, Expression b.0 b.1, whole, omega arith, record { body = c ∷ body; whole = refl; lacks = lacks; is_body = b.2 }))
     (λ f. inr (f.0, 1 + f.1, subst (λ (t : List ℕ). IsPartFault t f.0 (1 + f.1)) (sym e) (bad_expression (c ∷ body) rest f.0 f.1 (omega arith) lacks f.2)))
     (body_or_fault (c ∷ body))
 
@@ -220,11 +221,11 @@ expression_or_fault cs some z =
     ⊎_elim
     (λ t.
     let inner = drop 1 cs in
-    let open_brace = brace_behind cs t in
+    let behind_brace = brace_behind cs t in
     ⊎_elim
-    (λ lacks. inr (kind.Unclosed, 0, subst (λ (x : List ℕ). IsPartFault x kind.Unclosed 0) (sym open_brace) (unclosed inner lacks)))
-    (λ cut. closed_or_fault cs cut.0 cut.1 (open_brace ∙ ap (λ (x : List ℕ). 123 ∷ x) cut.2) cut.3)
-    (lacks_or_cut 125 inner))
+    (λ lacks. inr (kind.Unclosed, 0, subst (λ (x : List ℕ). IsPartFault x kind.Unclosed 0) (sym behind_brace) (unclosed inner lacks)))
+    (λ cut. closed_or_fault cs cut.0 cut.1 (behind_brace ∙ ap (λ (x : List ℕ). open_brace ∷ x) cut.2) cut.3)
+    (lacks_or_cut close_brace inner))
     (λ f. inr (kind.BadLiteral, 0, IsPartFault-literal cs some z f))
     (cases_Bool (begins_with_brace cs))
 

@@ -8,6 +8,7 @@ use Rattle.std.proofs.lemmas.Str.{length-encode}
 use Rattle.text_model.specs.Texts.{is_unreserved, is_reserved}
 use Rattle.text_model.specs.Writing.{written_ur}
 use Rattle.text_model.specs.Number.{value_from}
+use Rattle.uri_grammar.specs.Characters.{open_brace, close_brace, comma}
 use Rattle.uri_grammar.specs.declared.error.TemplateErrorKind.{TemplateErrorKind}
 use Rattle.uri_grammar.specs.declared.error.TemplateErrorKind.TheVariants as kind
 use Rattle.uri_grammar.specs.declared.parts.Op.{Op}
@@ -77,21 +78,21 @@ spelled_spec name after cut explode h t m = record { after = after; whole = refl
 -- ---- trees
 
 -- one expression with one spec: the body, its operator and the list behind it
-one_expression : (body list : List ℕ) (op : Op) (spec : Spec) → Lacks 125 body → HasOperator body op list → Lacks 44 list → IsSpec list spec → Spells (123 ∷ body ++ 125 ∷ []) (Expression op (spec ∷ []) ∷ [])
+one_expression : (body list : List ℕ) (op : Op) (spec : Spec) → Lacks close_brace body → HasOperator body op list → Lacks comma list → IsSpec list spec → Spells (open_brace ∷ body ++ close_brace ∷ []) (Expression op (spec ∷ []) ∷ [])
 one_expression body list op spec l o m is =
-    let specs : SpellsSpecs (list ++ 44 ∷ []) (spec ∷ []) = ([], record { piece = list; whole = refl; lacks = m; is_spec = is }, refl) in
+    let specs : SpellsSpecs (list ++ comma ∷ []) (spec ∷ []) = ([], record { piece = list; whole = refl; lacks = m; is_spec = is }, refl) in
     ([], record { body = body; whole = refl; lacks = l; is_body = (list, o, specs) }, refl)
 
 expression : IsTemplate (codes "{hello}") (Expression operator.Simple (spec_of (codes "hello") 0 false ∷ []) ∷ [])
 expression =
     has_tree (codes "{hello}") (Expression operator.Simple (spec_of (codes "hello") 0 false ∷ []) ∷ []) refl refl
-    (one_expression (codes "hello") (codes "hello") operator.Simple (spec_of (codes "hello") 0 false) (lacks 125 (codes "hello") refl) (no_operator (codes "hello") refl refl) (lacks 44 (codes "hello") refl)
+    (one_expression (codes "hello") (codes "hello") operator.Simple (spec_of (codes "hello") 0 false) (lacks close_brace (codes "hello") refl) (no_operator (codes "hello") refl refl) (lacks comma (codes "hello") refl)
     (spelled_spec (codes "hello") [] 0 false (word 104 (codes "ello") refl refl) refl no_modifier))
 
 dotted : IsTemplate (codes "{?rft.au}") (Expression operator.Question (spec_of (codes "rft.au") 0 false ∷ []) ∷ [])
 dotted =
     has_tree (codes "{?rft.au}") (Expression operator.Question (spec_of (codes "rft.au") 0 false ∷ []) ∷ []) refl refl
-    (one_expression (codes "?rft.au") (codes "rft.au") operator.Question (spec_of (codes "rft.au") 0 false) (lacks 125 (codes "?rft.au") refl) (record { whole = refl; not_reserved = refl; chosen = λ e. absurd (let never : ⊥ = cc in never) }) (lacks 44 (codes "rft.au") refl)
+    (one_expression (codes "?rft.au") (codes "rft.au") operator.Question (spec_of (codes "rft.au") 0 false) (lacks close_brace (codes "?rft.au") refl) (record { whole = refl; not_reserved = refl; chosen = λ e. absurd (let never : ⊥ = cc in never) }) (lacks comma (codes "rft.au") refl)
     (spelled_spec (codes "rft.au") [] 0 false (word_more (codes "rft.a") (codes "u") (dotted_varchar (codes "rft") (codes "a") (word 114 (codes "ft") refl refl) (character_varchar 97 refl)) refl) refl no_modifier))
 
 -- a prefix of four digits is the longest
@@ -99,7 +100,7 @@ longest_prefix : IsTemplate (codes "{a:9999}") (Expression operator.Simple (spec
 unfolding value_from
 longest_prefix =
     has_tree (codes "{a:9999}") (Expression operator.Simple (spec_of (codes "a") 9999 false ∷ []) ∷ []) refl refl
-    (one_expression (codes "a:9999") (codes "a:9999") operator.Simple (spec_of (codes "a") 9999 false) (lacks 125 (codes "a:9999") refl) (no_operator (codes "a:9999") refl refl) (lacks 44 (codes "a:9999") refl)
+    (one_expression (codes "a:9999") (codes "a:9999") operator.Simple (spec_of (codes "a") 9999 false) (lacks close_brace (codes "a:9999") refl) (no_operator (codes "a:9999") refl refl) (lacks comma (codes "a:9999") refl)
     (spelled_spec (codes "a") (codes ":9999") 9999 false (word 97 [] refl refl) refl (prefix_modifier (codes "9999") refl)))
 
 -- literals are one part, in their written form
@@ -117,11 +118,11 @@ faulty : (cs : List ℕ) (k : TemplateErrorKind) (d : ℕ) → IsPartFault cs k 
 faulty cs k d f = record { front = []; parts = []; rest = cs; distance = d; whole = refl; spelled = refl; fault = f; place = omega arith }
 
 -- `{`, a list, `}`: the fault of the list
-listed : (list : List ℕ) (k : TemplateErrorKind) (d : ℕ) → 0 < length list → Lacks 125 list → IsBodyFault list k d → IsFirstFault (123 ∷ list ++ 125 ∷ []) k (1 + d)
-listed list k d some lack f = faulty (123 ∷ list ++ 125 ∷ []) k (1 + d) (bad_expression list [] k d some lack f)
+listed : (list : List ℕ) (k : TemplateErrorKind) (d : ℕ) → 0 < length list → Lacks close_brace list → IsBodyFault list k d → IsFirstFault (open_brace ∷ list ++ close_brace ∷ []) k (1 + d)
+listed list k d some lack f = faulty (open_brace ∷ list ++ close_brace ∷ []) k (1 + d) (bad_expression list [] k d some lack f)
 
 -- the one spec of a list is faulty
-only_spec : (list : List ℕ) (k : TemplateErrorKind) (d : ℕ) → Lacks 44 list → IsSpecFault list k d → IsListFault list k d
+only_spec : (list : List ℕ) (k : TemplateErrorKind) (d : ℕ) → Lacks comma list → IsSpecFault list k d → IsListFault list k d
 only_spec list k d lack f = record {
   front = [];
   specs = [];
@@ -144,10 +145,10 @@ modified_a after e b none =
     bad_modifier (97 ∷ after) (97 ∷ []) after (record { begins = letter_a after e; short = leb-true 1 255 refl; follows = inr b }) (modifier_of-none after none)
 
 -- a list with one faulty spec and no operator
-simple_list : (list : List ℕ) (k : TemplateErrorKind) (d : ℕ) → 0 < length list → list_all (λ x. not (x == 125)) list ≡ true → list_all (λ x. not (x == 44)) list ≡ true
-    → begins_with_reserved list ≡ false → begins_with_operator list ≡ false → IsSpecFault list k d → IsFirstFault (123 ∷ list ++ 125 ∷ []) k (1 + (0 + d))
+simple_list : (list : List ℕ) (k : TemplateErrorKind) (d : ℕ) → 0 < length list → list_all (λ x. not (x == close_brace)) list ≡ true → list_all (λ x. not (x == comma)) list ≡ true
+    → begins_with_reserved list ≡ false → begins_with_operator list ≡ false → IsSpecFault list k d → IsFirstFault (open_brace ∷ list ++ close_brace ∷ []) k (1 + (0 + d))
 simple_list list k d some l m r o f =
-    listed list k (0 + d) some (lacks 125 list l) (bad_list list operator.Simple list k d (no_operator list r o) (only_spec list k d (lacks 44 list m) f))
+    listed list k (0 + d) some (lacks close_brace list l) (bad_list list operator.Simple list k d (no_operator list r o) (only_spec list k d (lacks comma list m) f))
 
 bad_character : IsRefused (codes "{a b}") kind.BadName 1
 bad_character =
@@ -173,36 +174,36 @@ cut_and_explode =
 
 no_spec_behind_the_comma : IsRefused (codes "{a,}") kind.BadName 3
 no_spec_behind_the_comma =
-    refused (codes "{a,}") kind.BadName 3 refl refl (listed (codes "a,") kind.BadName 2 (omega arith) (lacks 125 (codes "a,") refl) (bad_list (codes "a,") operator.Simple (codes "a,") kind.BadName 2 (no_operator (codes "a,") refl refl) (record {
+    refused (codes "{a,}") kind.BadName 3 refl refl (listed (codes "a,") kind.BadName 2 (omega arith) (lacks close_brace (codes "a,") refl) (bad_list (codes "a,") operator.Simple (codes "a,") kind.BadName 2 (no_operator (codes "a,") refl refl) (record {
       front = codes "a,";
       specs = spec_of (codes "a") 0 false ∷ [];
       piece = [];
       after = [];
       distance = 0;
       whole = refl;
-      spelled = ([], record { piece = codes "a"; whole = refl; lacks = lacks 44 (codes "a") refl; is_spec = spelled_spec (codes "a") [] 0 false (word 97 [] refl refl) refl no_modifier }, refl);
-      lacks = lacks 44 [] refl;
+      spelled = ([], record { piece = codes "a"; whole = refl; lacks = lacks comma (codes "a") refl; is_spec = spelled_spec (codes "a") [] 0 false (word 97 [] refl refl) refl no_modifier }, refl);
+      lacks = lacks comma [] refl;
       fault = bad_name [] (no_name [] refl);
       place = refl;
     })))
 
 reserved : IsRefused (codes "{,a}") kind.ReservedOperator 1
 reserved =
-    refused (codes "{,a}") kind.ReservedOperator 1 refl refl (listed (codes ",a") kind.ReservedOperator 0 (omega arith) (lacks 125 (codes ",a") refl) (reserved_operator (codes ",a") refl))
+    refused (codes "{,a}") kind.ReservedOperator 1 refl refl (listed (codes ",a") kind.ReservedOperator 0 (omega arith) (lacks close_brace (codes ",a") refl) (reserved_operator (codes ",a") refl))
 
 nothing_behind_the_operator : IsRefused (codes "{.}") kind.BadName 2
 nothing_behind_the_operator =
-    refused (codes "{.}") kind.BadName 2 refl refl (listed (codes ".") kind.BadName 1 (omega arith) (lacks 125 (codes ".") refl) (bad_list (codes ".") operator.Dot [] kind.BadName 0 (record { whole = refl; not_reserved = refl; chosen = λ e. absurd (let never : ⊥ = cc in never) }) (only_spec [] kind.BadName 0 (lacks 44 [] refl) (bad_name [] (no_name [] refl)))))
+    refused (codes "{.}") kind.BadName 2 refl refl (listed (codes ".") kind.BadName 1 (omega arith) (lacks close_brace (codes ".") refl) (bad_list (codes ".") operator.Dot [] kind.BadName 0 (record { whole = refl; not_reserved = refl; chosen = λ e. absurd (let never : ⊥ = cc in never) }) (only_spec [] kind.BadName 0 (lacks comma [] refl) (bad_name [] (no_name [] refl)))))
 
-open_brace : IsRefused (codes "{a") kind.Unclosed 0
-open_brace = refused (codes "{a") kind.Unclosed 0 refl refl (faulty (codes "{a") kind.Unclosed 0 (unclosed (codes "a") (lacks 125 (codes "a") refl)))
+unclosed_brace : IsRefused (codes "{a") kind.Unclosed 0
+unclosed_brace = refused (codes "{a") kind.Unclosed 0 refl refl (faulty (codes "{a") kind.Unclosed 0 (unclosed (codes "a") (lacks close_brace (codes "a") refl)))
 
 empty : IsRefused (codes "{}") kind.EmptyExpression 0
 empty = refused (codes "{}") kind.EmptyExpression 0 refl refl (faulty (codes "{}") kind.EmptyExpression 0 (empty_expression []))
 
 caret : IsRefused (codes "^") kind.BadLiteral 0
 unfolding is_literal_character
-caret = refused (codes "^") kind.BadLiteral 0 refl refl (faulty (codes "^") kind.BadLiteral 0 (bad_literal 94 [] refl (λ e. false≢true (eq-eqb 94 123 e))))
+caret = refused (codes "^") kind.BadLiteral 0 refl refl (faulty (codes "^") kind.BadLiteral 0 (bad_literal 94 [] refl (λ e. false≢true (eq-eqb 94 open_brace e))))
 
 -- places count bytes: `é` has two
 behind_two_bytes : IsFirstFault (0xE9 ∷ codes "%4") kind.BadLiteral 2
@@ -214,6 +215,6 @@ behind_two_bytes = record {
   distance = 0;
   whole = refl;
   spelled = ([], record { raw = 0xE9 ∷ []; whole = refl; some = omega arith; are_literals = characters (0xE9 ∷ []) refl; is_written = refl }, tt, refl);
-  fault = bad_literal 37 (codes "4") refl (λ e. false≢true (eq-eqb 37 123 e));
+  fault = bad_literal 37 (codes "4") refl (λ e. false≢true (eq-eqb 37 open_brace e));
   place = omega (arith, ap length (append-nil (encode_utf8 0xE9)), length-encode 0xE9);
 }

@@ -5,6 +5,7 @@ use Rattle.std.proofs.lemmas.Bool.{both_ways}
 use Rattle.std.proofs.lemmas.List.Elements.{All-nil}
 use Rattle.text_model.specs.Texts.{Text}
 use Rattle.text_model.specs.Writing.{written_ur}
+use Rattle.uri_grammar.specs.Characters.{open_brace, close_brace, comma}
 use Rattle.uri_grammar.specs.declared.error.TemplateErrorKind.{TemplateErrorKind}
 use Rattle.uri_grammar.specs.declared.parts.Op.{Op}
 use Rattle.uri_grammar.specs.declared.parts.Part.{Part}
@@ -30,17 +31,17 @@ use Rattle.uri_grammar.proofs.TemplateLemmas.{literals_before, expression_before
 record NoSpec (cs : List ℕ) : Type 0 where
   pub never : (rest : List ℕ) (spec : Spec) → BeginsWithSpec cs spec rest → ⊥
 
-no_cut : (piece rest : List ℕ) → [] ≡ piece ++ 44 ∷ rest → ⊥
+no_cut : (piece rest : List ℕ) → [] ≡ piece ++ comma ∷ rest → ⊥
 no_cut [] rest e = cc
 no_cut (c ∷ piece) rest e = cc
 
 nothing_no_spec : NoSpec []
 nothing_no_spec = record { never = λ rest spec h. no_cut h.piece rest h.whole }
 
-fault_no_spec : (cs piece after : List ℕ) (k : TemplateErrorKind) (d : ℕ) → cs ≡ piece ++ 44 ∷ after → Lacks 44 piece → IsSpecFault piece k d → NoSpec cs
+fault_no_spec : (cs piece after : List ℕ) (k : TemplateErrorKind) (d : ℕ) → cs ≡ piece ++ comma ∷ after → Lacks comma piece → IsSpecFault piece k d → NoSpec cs
 fault_no_spec cs piece after k d e l f = record {
   never = λ rest spec h.
-      spec_no_fault h.piece spec k d h.is_spec (subst (λ (t : List ℕ). IsSpecFault t k d) (split_same 44 piece h.piece after rest l h.lacks (sym e ∙ h.whole)).0 f);
+      spec_no_fault h.piece spec k d h.is_spec (subst (λ (t : List ℕ). IsSpecFault t k d) (split_same comma piece h.piece after rest l h.lacks (sym e ∙ h.whole)).0 f);
 }
 
 -- specs, and then what no spec begins: in one way
@@ -56,32 +57,32 @@ specs_same (s ∷ ss) [] front other rest behind h k n m e =
 specs_same (s ∷ ss) (t ∷ ts) front other rest behind h k n m e =
     let b = spec_before front h.0 rest s h.1 in
     let d = spec_before other k.0 behind t k.1 in
-    let cut = split_same 44 b.piece d.piece (h.0 ++ rest) (k.0 ++ behind) b.lacks d.lacks (sym b.whole ∙ (e ∙ d.whole)) in
+    let cut = split_same comma b.piece d.piece (h.0 ++ rest) (k.0 ++ behind) b.lacks d.lacks (sym b.whole ∙ (e ∙ d.whole)) in
     let head : s ≡ t = spec_same d.piece s t (subst (λ (p : List ℕ). IsSpec p s) cut.0 b.is_spec) d.is_spec in
     let tails = specs_same ss ts h.0 k.0 rest behind h.2 k.2 n m cut.1 in
     let specs : ss ≡ ts = tails.0 in
     let more : h.0 ≡ k.0 = tails.1 in
-    (cc, h.1.whole ∙ (ap (λ (p : List ℕ). p ++ 44 ∷ h.0) cut.0 ∙ (ap (λ (r : List ℕ). k.1.piece ++ 44 ∷ r) more ∙ sym k.1.whole)), tails.2)
+    (cc, h.1.whole ∙ (ap (λ (p : List ℕ). p ++ comma ∷ h.0) cut.0 ∙ (ap (λ (r : List ℕ). k.1.piece ++ comma ∷ r) more ∙ sym k.1.whole)), tails.2)
 
-no_empty_list : (specs : List Spec) → SpellsSpecs (44 ∷ []) specs → ⊥
+no_empty_list : (specs : List Spec) → SpellsSpecs (comma ∷ []) specs → ⊥
 no_empty_list [] h = cc
 no_empty_list (s ∷ ss) h =
     let is = h.1.is_spec in
-    let cut = split_same 44 [] h.1.piece [] h.0 (All-nil (λ x. x ≢ 44)) h.1.lacks h.1.whole in
+    let cut = split_same comma [] h.1.piece [] h.0 (All-nil (λ x. x ≢ comma)) h.1.lacks h.1.whole in
     omega (arith, ap length (cut.0 ∙ is.whole), length-append s.name is.after, length-varname s.name is.is_name.0)
 
-list_no_fault : (list other : List ℕ) (ss : List Spec) (k : TemplateErrorKind) (d : ℕ) → list ≡ other → SpellsSpecs (list ++ 44 ∷ []) ss → IsListFault other k d → ⊥
+list_no_fault : (list other : List ℕ) (ss : List Spec) (k : TemplateErrorKind) (d : ℕ) → list ≡ other → SpellsSpecs (list ++ comma ∷ []) ss → IsListFault other k d → ⊥
 list_no_fault list other ss k d e h f =
-    let text : (list ++ 44 ∷ []) ++ [] ≡ f.front ++ (f.piece ++ 44 ∷ f.after) = append-nil (list ++ 44 ∷ []) ∙ (ap (λ (t : List ℕ). t ++ 44 ∷ []) e ∙ f.whole) in
-    no_cut f.piece f.after (specs_same ss f.specs (list ++ 44 ∷ []) f.front [] (f.piece ++ 44 ∷ f.after) h f.spelled nothing_no_spec (fault_no_spec (f.piece ++ 44 ∷ f.after) f.piece f.after k f.distance refl f.lacks f.fault) text).2
+    let text : (list ++ comma ∷ []) ++ [] ≡ f.front ++ (f.piece ++ comma ∷ f.after) = append-nil (list ++ comma ∷ []) ∙ (ap (λ (t : List ℕ). t ++ comma ∷ []) e ∙ f.whole) in
+    no_cut f.piece f.after (specs_same ss f.specs (list ++ comma ∷ []) f.front [] (f.piece ++ comma ∷ f.after) h f.spelled nothing_no_spec (fault_no_spec (f.piece ++ comma ∷ f.after) f.piece f.after k f.distance refl f.lacks f.fault) text).2
 
 list_one_fault : (list other : List ℕ) (k l : TemplateErrorKind) (d e : ℕ) → list ≡ other → IsListFault list k d → IsListFault other l e → (k ≡ l) × (d ≡ e)
 list_one_fault list other k l d e same f g =
-    let commas : f.front ++ (f.piece ++ 44 ∷ f.after) ≡ g.front ++ (g.piece ++ 44 ∷ g.after) = sym f.whole ∙ (ap (λ (t : List ℕ). t ++ 44 ∷ []) same ∙ g.whole) in
-    let none = fault_no_spec (f.piece ++ 44 ∷ f.after) f.piece f.after k f.distance refl f.lacks f.fault in
-    let no_other = fault_no_spec (g.piece ++ 44 ∷ g.after) g.piece g.after l g.distance refl g.lacks g.fault in
-    let fronts = specs_same f.specs g.specs f.front g.front (f.piece ++ 44 ∷ f.after) (g.piece ++ 44 ∷ g.after) f.spelled g.spelled none no_other commas in
-    let pieces = split_same 44 f.piece g.piece f.after g.after f.lacks g.lacks fronts.2 in
+    let commas : f.front ++ (f.piece ++ comma ∷ f.after) ≡ g.front ++ (g.piece ++ comma ∷ g.after) = sym f.whole ∙ (ap (λ (t : List ℕ). t ++ comma ∷ []) same ∙ g.whole) in
+    let none = fault_no_spec (f.piece ++ comma ∷ f.after) f.piece f.after k f.distance refl f.lacks f.fault in
+    let no_other = fault_no_spec (g.piece ++ comma ∷ g.after) g.piece g.after l g.distance refl g.lacks g.fault in
+    let fronts = specs_same f.specs g.specs f.front g.front (f.piece ++ comma ∷ f.after) (g.piece ++ comma ∷ g.after) f.spelled g.spelled none no_other commas in
+    let pieces = split_same comma f.piece g.piece f.after g.after f.lacks g.lacks fronts.2 in
     let faults = spec_one_fault g.piece k l f.distance g.distance (subst (λ (t : List ℕ). IsSpecFault t k f.distance) pieces.0 f.fault) g.fault in
     let front : length f.front ≡ length g.front = ap length fronts.1 in
     let distance : f.distance ≡ g.distance = faults.1 in
@@ -92,13 +93,13 @@ list_one_fault list other k l d e same f g =
 body_same : (body : List ℕ) (o p : Op) (ss ts : List Spec) → IsBody body o ss → IsBody body p ts → (o ≡ p) × (ss ≡ ts)
 body_same body o p ss ts h k =
     let ops = operator_same body o p h.0 k.0 h.1 k.1 in
-    let specs = specs_same ss ts (h.0 ++ 44 ∷ []) (k.0 ++ 44 ∷ []) [] [] h.2 k.2 nothing_no_spec nothing_no_spec (ap (λ (t : List ℕ). (t ++ 44 ∷ []) ++ []) ops.1) in
+    let specs = specs_same ss ts (h.0 ++ comma ∷ []) (k.0 ++ comma ∷ []) [] [] h.2 k.2 nothing_no_spec nothing_no_spec (ap (λ (t : List ℕ). (t ++ comma ∷ []) ++ []) ops.1) in
     (ops.0, specs.0)
 
 no_empty_body : (body : List ℕ) (o : Op) (ss : List Spec) → body ≡ [] → IsBody body o ss → ⊥
 no_empty_body body o ss e h =
     let nil : h.0 ≡ [] = none_left (operator_text o) h.0 (sym h.1.whole ∙ e) in
-    no_empty_list ss (subst (λ (t : List ℕ). SpellsSpecs (t ++ 44 ∷ []) ss) nil h.2)
+    no_empty_list ss (subst (λ (t : List ℕ). SpellsSpecs (t ++ comma ∷ []) ss) nil h.2)
   where
     none_left : (xs ys : List ℕ) → xs ++ ys ≡ [] → ys ≡ []
     none_left [] ys e = e
@@ -125,7 +126,7 @@ record NoPart (cs : List ℕ) : Type 0 where
   pub no_literal : literal_item_len cs ≡ 0
   pub no_expression : (rest : List ℕ) (o : Op) (specs : List Spec) → BeginsWithExpression cs o specs rest → ⊥
 
-no_brace : (body rest : List ℕ) → [] ≡ 123 ∷ body ++ 125 ∷ rest → ⊥
+no_brace : (body rest : List ℕ) → [] ≡ open_brace ∷ body ++ close_brace ∷ rest → ⊥
 no_brace body rest e = cc
 
 nothing_no_part : NoPart []
@@ -134,25 +135,25 @@ nothing_no_part = record { no_literal = refl; no_expression = λ rest o specs h.
 first_same : (x y : ℕ) (xs ys : List ℕ) → x ∷ xs ≡ y ∷ ys → x ≡ y
 first_same x y xs ys e = cc
 
-behind_brace : (xs ys : List ℕ) → 123 ∷ xs ≡ 123 ∷ ys → xs ≡ ys
+behind_brace : (xs ys : List ℕ) → open_brace ∷ xs ≡ open_brace ∷ ys → xs ≡ ys
 behind_brace xs ys e = cc
 
 fault_no_part : (cs : List ℕ) (k : TemplateErrorKind) (d : ℕ) → IsPartFault cs k d → NoPart cs
 fault_no_part cs k d (bad_literal c xs l b) = record {
   no_literal = no_literal-length (c ∷ xs) l;
-  no_expression = λ rest o specs h. b (first_same c 123 xs (h.body ++ 125 ∷ rest) h.whole);
+  no_expression = λ rest o specs h. b (first_same c open_brace xs (h.body ++ close_brace ∷ rest) h.whole);
 }
 fault_no_part cs k d (unclosed xs lack) = record {
   no_literal = literal_item_len-brace xs;
-  no_expression = λ rest o specs h. lacks_split 125 xs h.body rest lack (behind_brace xs (h.body ++ 125 ∷ rest) h.whole);
+  no_expression = λ rest o specs h. lacks_split close_brace xs h.body rest lack (behind_brace xs (h.body ++ close_brace ∷ rest) h.whole);
 }
 fault_no_part cs k d (empty_expression more) = record {
-  no_literal = literal_item_len-brace (125 ∷ more);
-  no_expression = λ rest o specs h. no_empty_body h.body o specs (sym (split_same 125 [] h.body more rest (All-nil (λ x. x ≢ 125)) h.lacks (behind_brace (125 ∷ more) (h.body ++ 125 ∷ rest) h.whole)).0) h.is_body;
+  no_literal = literal_item_len-brace (close_brace ∷ more);
+  no_expression = λ rest o specs h. no_empty_body h.body o specs (sym (split_same close_brace [] h.body more rest (All-nil (λ x. x ≢ close_brace)) h.lacks (behind_brace (close_brace ∷ more) (h.body ++ close_brace ∷ rest) h.whole)).0) h.is_body;
 }
 fault_no_part cs k d (bad_expression xs more k' d' l lack f) = record {
-  no_literal = literal_item_len-brace (xs ++ 125 ∷ more);
-  no_expression = λ rest o specs h. body_no_fault h.body o specs k d' h.is_body (subst (λ (t : List ℕ). IsBodyFault t k d') (split_same 125 xs h.body more rest lack h.lacks (behind_brace (xs ++ 125 ∷ more) (h.body ++ 125 ∷ rest) h.whole)).0 f);
+  no_literal = literal_item_len-brace (xs ++ close_brace ∷ more);
+  no_expression = λ rest o specs h. body_no_fault h.body o specs k d' h.is_body (subst (λ (t : List ℕ). IsBodyFault t k d') (split_same close_brace xs h.body more rest lack h.lacks (behind_brace (xs ++ close_brace ∷ more) (h.body ++ close_brace ∷ rest) h.whole)).0 f);
 }
 
 length-fault : (cs : List ℕ) (k : TemplateErrorKind) (d : ℕ) → IsPartFault cs k d → 0 < length cs
@@ -166,22 +167,22 @@ not_nothing xs l e = omega (arith, ap length e)
 
 part_one_fault : (cs ds : List ℕ) (k l : TemplateErrorKind) (d e : ℕ) → cs ≡ ds → IsPartFault cs k d → IsPartFault ds l e → (k ≡ l) × (d ≡ e)
 part_one_fault cs ds k l d e w (bad_literal c xs p b) (bad_literal c' ys q b') = (refl, refl)
-part_one_fault cs ds k l d e w (bad_literal c xs p b) (unclosed ys lack) = absurd (b (first_same c 123 xs ys w))
-part_one_fault cs ds k l d e w (bad_literal c xs p b) (empty_expression more) = absurd (b (first_same c 123 xs (125 ∷ more) w))
-part_one_fault cs ds k l d e w (bad_literal c xs p b) (bad_expression ys more l' e' q lack g) = absurd (b (first_same c 123 xs (ys ++ 125 ∷ more) w))
-part_one_fault cs ds k l d e w (unclosed xs lack) (bad_literal c ys p b) = absurd (b (first_same c 123 ys xs (sym w)))
+part_one_fault cs ds k l d e w (bad_literal c xs p b) (unclosed ys lack) = absurd (b (first_same c open_brace xs ys w))
+part_one_fault cs ds k l d e w (bad_literal c xs p b) (empty_expression more) = absurd (b (first_same c open_brace xs (close_brace ∷ more) w))
+part_one_fault cs ds k l d e w (bad_literal c xs p b) (bad_expression ys more l' e' q lack g) = absurd (b (first_same c open_brace xs (ys ++ close_brace ∷ more) w))
+part_one_fault cs ds k l d e w (unclosed xs lack) (bad_literal c ys p b) = absurd (b (first_same c open_brace ys xs (sym w)))
 part_one_fault cs ds k l d e w (unclosed xs lack) (unclosed ys other) = (refl, refl)
-part_one_fault cs ds k l d e w (unclosed xs lack) (empty_expression more) = absurd (lacks_split 125 xs [] more lack (behind_brace xs (125 ∷ more) w))
-part_one_fault cs ds k l d e w (unclosed xs lack) (bad_expression ys more l' e' q other g) = absurd (lacks_split 125 xs ys more lack (behind_brace xs (ys ++ 125 ∷ more) w))
-part_one_fault cs ds k l d e w (empty_expression more) (bad_literal c ys p b) = absurd (b (first_same c 123 ys (125 ∷ more) (sym w)))
-part_one_fault cs ds k l d e w (empty_expression more) (unclosed ys other) = absurd (lacks_split 125 ys [] more other (behind_brace ys (125 ∷ more) (sym w)))
+part_one_fault cs ds k l d e w (unclosed xs lack) (empty_expression more) = absurd (lacks_split close_brace xs [] more lack (behind_brace xs (close_brace ∷ more) w))
+part_one_fault cs ds k l d e w (unclosed xs lack) (bad_expression ys more l' e' q other g) = absurd (lacks_split close_brace xs ys more lack (behind_brace xs (ys ++ close_brace ∷ more) w))
+part_one_fault cs ds k l d e w (empty_expression more) (bad_literal c ys p b) = absurd (b (first_same c open_brace ys (close_brace ∷ more) (sym w)))
+part_one_fault cs ds k l d e w (empty_expression more) (unclosed ys other) = absurd (lacks_split close_brace ys [] more other (behind_brace ys (close_brace ∷ more) (sym w)))
 part_one_fault cs ds k l d e w (empty_expression more) (empty_expression rest) = (refl, refl)
-part_one_fault cs ds k l d e w (empty_expression more) (bad_expression ys rest l' e' q other g) = absurd (not_nothing ys q (split_same 125 [] ys more rest (All-nil (λ x. x ≢ 125)) other (behind_brace (125 ∷ more) (ys ++ 125 ∷ rest) w)).0)
-part_one_fault cs ds k l d e w (bad_expression xs more k' d' p lack f) (bad_literal c ys q b) = absurd (b (first_same c 123 ys (xs ++ 125 ∷ more) (sym w)))
-part_one_fault cs ds k l d e w (bad_expression xs more k' d' p lack f) (unclosed ys other) = absurd (lacks_split 125 ys xs more other (behind_brace ys (xs ++ 125 ∷ more) (sym w)))
-part_one_fault cs ds k l d e w (bad_expression xs more k' d' p lack f) (empty_expression rest) = absurd (not_nothing xs p (split_same 125 [] xs rest more (All-nil (λ x. x ≢ 125)) lack (behind_brace (125 ∷ rest) (xs ++ 125 ∷ more) (sym w))).0)
+part_one_fault cs ds k l d e w (empty_expression more) (bad_expression ys rest l' e' q other g) = absurd (not_nothing ys q (split_same close_brace [] ys more rest (All-nil (λ x. x ≢ close_brace)) other (behind_brace (close_brace ∷ more) (ys ++ close_brace ∷ rest) w)).0)
+part_one_fault cs ds k l d e w (bad_expression xs more k' d' p lack f) (bad_literal c ys q b) = absurd (b (first_same c open_brace ys (xs ++ close_brace ∷ more) (sym w)))
+part_one_fault cs ds k l d e w (bad_expression xs more k' d' p lack f) (unclosed ys other) = absurd (lacks_split close_brace ys xs more other (behind_brace ys (xs ++ close_brace ∷ more) (sym w)))
+part_one_fault cs ds k l d e w (bad_expression xs more k' d' p lack f) (empty_expression rest) = absurd (not_nothing xs p (split_same close_brace [] xs rest more (All-nil (λ x. x ≢ close_brace)) lack (behind_brace (close_brace ∷ rest) (xs ++ close_brace ∷ more) (sym w))).0)
 part_one_fault cs ds k l d e w (bad_expression xs more k' d' p lack f) (bad_expression ys rest l' e' q other g) =
-    let cut = split_same 125 xs ys more rest lack other (behind_brace (xs ++ 125 ∷ more) (ys ++ 125 ∷ rest) w) in
+    let cut = split_same close_brace xs ys more rest lack other (behind_brace (xs ++ close_brace ∷ more) (ys ++ close_brace ∷ rest) w) in
     let faults = body_one_fault ys k l d' e' (subst (λ (t : List ℕ). IsBodyFault t k d') cut.0 f) g in
     (faults.0, ap (λ (n : ℕ). 1 + n) faults.1)
 
@@ -191,13 +192,13 @@ spelled_front : (ps : List Part) (front rest : List ℕ) → Spells front ps →
 spelled_front [] front rest s b k = ap (λ (t : List ℕ). literal_item_len (t ++ rest)) s ∙ k.no_literal
 spelled_front (Literal w ∷ ps) front rest s b k = absurd b
 spelled_front (Expression o specs ∷ ps) front rest s b k =
-    ap (λ (t : List ℕ). literal_item_len (t ++ rest)) s.1.whole ∙ literal_item_len-brace ((s.1.body ++ 125 ∷ s.0) ++ rest)
+    ap (λ (t : List ℕ). literal_item_len (t ++ rest)) s.1.whole ∙ literal_item_len-brace ((s.1.body ++ close_brace ∷ s.0) ++ rest)
 
 no_literal_here : (cs : List ℕ) (w : Text) (rest : List ℕ) → BeginsWithLiterals cs w rest → literal_item_len cs ≡ 0 → ⊥
 no_literal_here cs w rest h z = omega (arith, ap literal_item_len h.whole, z, item-Run literal_item_len h.raw rest (AreLiterals-run h.raw h.are_literals) h.some)
 
 no_literal_at_brace : (cs : List ℕ) (o : Op) (specs : List Spec) (rest : List ℕ) → BeginsWithExpression cs o specs rest → literal_item_len cs ≡ 0
-no_literal_at_brace cs o specs rest h = ap literal_item_len h.whole ∙ literal_item_len-brace (h.body ++ 125 ∷ rest)
+no_literal_at_brace cs o specs rest h = ap literal_item_len h.whole ∙ literal_item_len-brace (h.body ++ close_brace ∷ rest)
 
 -- parts, and then what no part begins: in one way
 spelled_same : (ps qs : List Part) (front other rest behind : List ℕ) → Spells front ps → Spells other qs → NoPart rest → NoPart behind → front ++ rest ≡ other ++ behind → (ps ≡ qs) × (front ≡ other) × (rest ≡ behind)
@@ -226,13 +227,13 @@ spelled_same (Expression o specs ∷ ps) (Literal w ∷ qs) front other rest beh
 spelled_same (Expression o specs ∷ ps) (Expression p others ∷ qs) front other rest behind s t k m e =
     let b = expression_before front o specs s.0 rest s.1 in
     let d = expression_before other p others t.0 behind t.1 in
-    let cut = split_same 125 b.body d.body (s.0 ++ rest) (t.0 ++ behind) b.lacks d.lacks (behind_brace (b.body ++ 125 ∷ (s.0 ++ rest)) (d.body ++ 125 ∷ (t.0 ++ behind)) (sym b.whole ∙ (e ∙ d.whole))) in
+    let cut = split_same close_brace b.body d.body (s.0 ++ rest) (t.0 ++ behind) b.lacks d.lacks (behind_brace (b.body ++ close_brace ∷ (s.0 ++ rest)) (d.body ++ close_brace ∷ (t.0 ++ behind)) (sym b.whole ∙ (e ∙ d.whole))) in
     let bodies = body_same d.body o p specs others (subst (λ (x : List ℕ). IsBody x o specs) cut.0 b.is_body) d.is_body in
     let tails = spelled_same ps qs s.0 t.0 rest behind s.2 t.2 k m cut.1 in
     let first : o ≡ p = bodies.0 in
     let second : specs ≡ others = bodies.1 in
     let parts : ps ≡ qs = tails.0 in
-    (cc, s.1.whole ∙ (ap (λ (x : List ℕ). 123 ∷ x ++ 125 ∷ s.0) cut.0 ∙ (ap (λ (x : List ℕ). 123 ∷ t.1.body ++ 125 ∷ x) tails.1 ∙ sym t.1.whole)), tails.2)
+    (cc, s.1.whole ∙ (ap (λ (x : List ℕ). open_brace ∷ x ++ close_brace ∷ s.0) cut.0 ∙ (ap (λ (x : List ℕ). open_brace ∷ t.1.body ++ close_brace ∷ x) tails.1 ∙ sym t.1.whole)), tails.2)
 
 -- ---- texts
 

@@ -4,6 +4,7 @@ use Rattle.std.specs.Prelude.{if◌then◌else◌}
 use Rattle.std.proofs.Math.Seq.{take-add}
 use Rattle.std.proofs.lemmas.Bool.{cond_both, cond-true, cond-false, eqb-true, and_parts, or_parts}
 use Rattle.text_model.specs.Texts.{begins_with_triplet, is_triplet, is_hexadecimal}
+use Rattle.uri_grammar.specs.Characters.{open_brace}
 use Rattle.uri_grammar.specs.Literals.{is_literal_character, begins_with_literal, AreLiterals, no_literals, literal_character, literal_triplet}
 use Rattle.uri_grammar.specs.Lengths.{literal_item_len}
 use Rattle.uri_grammar.proofs.RunLemmas.{Run, no_item, next_item}
@@ -41,7 +42,7 @@ no_length-literal (c ∷ cs) h = by_tests (is_literal_character c) (begins_with_
     by_tests false false e = refl
 
 -- no literal begins with a brace
-pub literal_item_len-brace : (cs : List ℕ) → literal_item_len (123 ∷ cs) ≡ 0
+pub literal_item_len-brace : (cs : List ℕ) → literal_item_len (open_brace ∷ cs) ≡ 0
 unfolding is_literal_character
 literal_item_len-brace [] = refl
 literal_item_len-brace (c ∷ []) = refl

@@ -4,6 +4,7 @@ use Rattle.std.proofs.Math.Seq.{take-add, take-append-add}
 use Rattle.std.proofs.lemmas.Bool.{cases_Bool, cond-true, cond-false, eqb-true, and_parts, false≢true}
 use Rattle.std.proofs.lemmas.List.{drop_more, length-take-le, drop-append-le}
 use Rattle.text_model.specs.Number.{value_from}
+use Rattle.uri_grammar.specs.Characters.{comma}
 use Rattle.uri_grammar.specs.declared.error.TemplateError.{TemplateError}
 use Rattle.uri_grammar.specs.declared.error.TemplateErrorKind.{TemplateErrorKind}
 use Rattle.uri_grammar.specs.declared.parts.Spec.{Spec}
@@ -163,52 +164,52 @@ spec_one_fault cs k l d e (bad_modifier xs name after is other) (bad_modifier ys
 abbrev pub spec_before : (front rest more : List ℕ) (s : Spec) → BeginsWithSpec front s rest → BeginsWithSpec (front ++ more) s (rest ++ more)
 spec_before front rest more s h = record {
   piece = h.piece;
-  whole = ap (λ (x : List ℕ). x ++ more) h.whole ∙ append_assoc h.piece (44 ∷ rest) more;
+  whole = ap (λ (x : List ℕ). x ++ more) h.whole ∙ append_assoc h.piece (comma ∷ rest) more;
   lacks = h.lacks;
   is_spec = h.is_spec;
 }
 
-pub SpellsSpecs-more : (ss : List Spec) (front piece : List ℕ) (s : Spec) → SpellsSpecs front ss → Lacks 44 piece → IsSpec piece s → SpellsSpecs (front ++ (piece ++ 44 ∷ [])) (ss ++ s ∷ [])
-SpellsSpecs-more [] front piece s h l is = ([], record { piece = piece; whole = ap (λ (t : List ℕ). t ++ (piece ++ 44 ∷ [])) h; lacks = l; is_spec = is }, refl)
+pub SpellsSpecs-more : (ss : List Spec) (front piece : List ℕ) (s : Spec) → SpellsSpecs front ss → Lacks comma piece → IsSpec piece s → SpellsSpecs (front ++ (piece ++ comma ∷ [])) (ss ++ s ∷ [])
+SpellsSpecs-more [] front piece s h l is = ([], record { piece = piece; whole = ap (λ (t : List ℕ). t ++ (piece ++ comma ∷ [])) h; lacks = l; is_spec = is }, refl)
 SpellsSpecs-more (t ∷ ts) front piece s h l is =
-    (h.0 ++ (piece ++ 44 ∷ []), spec_before (front) (h.0) (piece ++ 44 ∷ []) t h.1, SpellsSpecs-more ts h.0 piece s h.2 l is)
+    (h.0 ++ (piece ++ comma ∷ []), spec_before (front) (h.0) (piece ++ comma ∷ []) t h.1, SpellsSpecs-more ts h.0 piece s h.2 l is)
 
 pub spec_moves : (cs : List ℕ) (k : TemplateErrorKind) (d at n : ℕ) → IsSpecFault cs k d → moved_place k at n ≡ at + n
 spec_moves cs k d at n (bad_name xs h) = refl
 spec_moves cs k d at n (bad_modifier xs name after h i) = refl
 
 -- a comma behind a text cuts it as one within it does
-pub piece_cut : (rest : List ℕ) (end : ℕ) → end < length rest → get_or rest end 0 ≡ 44 → (x : List ℕ) × (rest ++ 44 ∷ [] ≡ take end rest ++ 44 ∷ x)
+pub piece_cut : (rest : List ℕ) (end : ℕ) → end < length rest → get_or rest end 0 ≡ comma → (x : List ℕ) × (rest ++ comma ∷ [] ≡ take end rest ++ comma ∷ x)
 piece_cut rest end l h =
-    let back : drop end rest ≡ 44 ∷ drop (end + 1) rest = drop_more rest end 0 l ∙ ap (λ (x : ℕ). x ∷ drop (end + 1) rest) h in
-    let whole : rest ≡ take end rest ++ 44 ∷ drop (end + 1) rest = sym (take-append-drop end rest) ∙ ap (λ (t : List ℕ). take end rest ++ t) back in
-    (drop (end + 1) rest ++ 44 ∷ [], ap (λ (t : List ℕ). t ++ 44 ∷ []) whole ∙ append_assoc (take end rest) (44 ∷ drop (end + 1) rest) (44 ∷ []))
+    let back : drop end rest ≡ comma ∷ drop (end + 1) rest = drop_more rest end 0 l ∙ ap (λ (x : ℕ). x ∷ drop (end + 1) rest) h in
+    let whole : rest ≡ take end rest ++ comma ∷ drop (end + 1) rest = sym (take-append-drop end rest) ∙ ap (λ (t : List ℕ). take end rest ++ t) back in
+    (drop (end + 1) rest ++ comma ∷ [], ap (λ (t : List ℕ). t ++ comma ∷ []) whole ∙ append_assoc (take end rest) (comma ∷ drop (end + 1) rest) (comma ∷ []))
 
-behind : (list rest : List ℕ) (done len : ℕ) → done ≤ length list → rest ≡ drop done list → (x : List ℕ) → rest ++ 44 ∷ [] ≡ take len rest ++ 44 ∷ x → drop done (list ++ 44 ∷ []) ≡ take len rest ++ 44 ∷ x
-behind list rest done len w r x e = drop-append-le done list (44 ∷ []) w ∙ (ap (λ (t : List ℕ). t ++ 44 ∷ []) (sym r) ∙ e)
+behind : (list rest : List ℕ) (done len : ℕ) → done ≤ length list → rest ≡ drop done list → (x : List ℕ) → rest ++ comma ∷ [] ≡ take len rest ++ comma ∷ x → drop done (list ++ comma ∷ []) ≡ take len rest ++ comma ∷ x
+behind list rest done len w r x e = drop-append-le done list (comma ∷ []) w ∙ (ap (λ (t : List ℕ). t ++ comma ∷ []) (sym r) ∙ e)
 
 -- one more piece that is a spec
-pub specs_step : (list rest piece : List ℕ) (done len : ℕ) (ss : List Spec) (s : Spec) → done ≤ length list → rest ≡ drop done list → piece ≡ take len rest → len ≤ length rest → Lacks 44 (take len rest) → ((x : List ℕ) × (rest ++ 44 ∷ [] ≡ take len rest ++ 44 ∷ x)) → IsSpec piece s → SpellsSpecs (take done (list ++ 44 ∷ [])) ss → SpellsSpecs (take (done + (len + 1)) (list ++ 44 ∷ [])) (ss ++ s ∷ [])
+pub specs_step : (list rest piece : List ℕ) (done len : ℕ) (ss : List Spec) (s : Spec) → done ≤ length list → rest ≡ drop done list → piece ≡ take len rest → len ≤ length rest → Lacks comma (take len rest) → ((x : List ℕ) × (rest ++ comma ∷ [] ≡ take len rest ++ comma ∷ x)) → IsSpec piece s → SpellsSpecs (take done (list ++ comma ∷ [])) ss → SpellsSpecs (take (done + (len + 1)) (list ++ comma ∷ [])) (ss ++ s ∷ [])
 specs_step list rest piece done len ss s w r p within lacks cut is h =
     let size : length (take len rest) ≡ len = length-take-le len rest within in
-    let front : take (len + 1) (take len rest ++ 44 ∷ cut.0) ≡ take len rest ++ 44 ∷ [] =
-    ap (λ (n : ℕ). take (n + 1) (take len rest ++ 44 ∷ cut.0)) (sym size) ∙ take-append-add (take len rest) (44 ∷ cut.0) 1 in
-    let all : take (done + (len + 1)) (list ++ 44 ∷ []) ≡ take done (list ++ 44 ∷ []) ++ (take len rest ++ 44 ∷ []) =
-    take-add done (len + 1) (list ++ 44 ∷ []) ∙ ap (λ (t : List ℕ). take done (list ++ 44 ∷ []) ++ t) (ap (λ (t : List ℕ). take (len + 1) t) (behind list rest done len w r cut.0 cut.1) ∙ front) in
-    subst (λ (t : List ℕ). SpellsSpecs t (ss ++ s ∷ [])) (sym all) (SpellsSpecs-more ss (take done (list ++ 44 ∷ [])) (take len rest) s h lacks (subst (λ (t : List ℕ). IsSpec t s) p is))
+    let front : take (len + 1) (take len rest ++ comma ∷ cut.0) ≡ take len rest ++ comma ∷ [] =
+    ap (λ (n : ℕ). take (n + 1) (take len rest ++ comma ∷ cut.0)) (sym size) ∙ take-append-add (take len rest) (comma ∷ cut.0) 1 in
+    let all : take (done + (len + 1)) (list ++ comma ∷ []) ≡ take done (list ++ comma ∷ []) ++ (take len rest ++ comma ∷ []) =
+    take-add done (len + 1) (list ++ comma ∷ []) ∙ ap (λ (t : List ℕ). take done (list ++ comma ∷ []) ++ t) (ap (λ (t : List ℕ). take (len + 1) t) (behind list rest done len w r cut.0 cut.1) ∙ front) in
+    subst (λ (t : List ℕ). SpellsSpecs t (ss ++ s ∷ [])) (sym all) (SpellsSpecs-more ss (take done (list ++ comma ∷ [])) (take len rest) s h lacks (subst (λ (t : List ℕ). IsSpec t s) p is))
 
 -- a piece that is no spec
-pub specs_fault : (list rest piece : List ℕ) (done len : ℕ) (ss : List Spec) (e : TemplateError) → done ≤ length list → rest ≡ drop done list → piece ≡ take len rest → Lacks 44 (take len rest) → ((x : List ℕ) × (rest ++ 44 ∷ [] ≡ take len rest ++ 44 ∷ x)) → SpellsSpecs (take done (list ++ 44 ∷ [])) ss → IsFault e (IsSpecFault piece) → IsFault (moved e done) (IsListFault list)
+pub specs_fault : (list rest piece : List ℕ) (done len : ℕ) (ss : List Spec) (e : TemplateError) → done ≤ length list → rest ≡ drop done list → piece ≡ take len rest → Lacks comma (take len rest) → ((x : List ℕ) × (rest ++ comma ∷ [] ≡ take len rest ++ comma ∷ x)) → SpellsSpecs (take done (list ++ comma ∷ [])) ss → IsFault e (IsSpecFault piece) → IsFault (moved e done) (IsListFault list)
 specs_fault list rest piece done len ss e w r p lacks cut h f =
-    let size : length (take done (list ++ 44 ∷ [])) ≡ done = length-take-le done (list ++ 44 ∷ []) (omega (arith, length-append list (44 ∷ []), w)) in
-    let whole : list ++ 44 ∷ [] ≡ take done (list ++ 44 ∷ []) ++ (take len rest ++ 44 ∷ cut.0) =
-    sym (take-append-drop done (list ++ 44 ∷ [])) ∙ ap (λ (t : List ℕ). take done (list ++ 44 ∷ []) ++ t) (behind list rest done len w r cut.0 cut.1) in
+    let size : length (take done (list ++ comma ∷ [])) ≡ done = length-take-le done (list ++ comma ∷ []) (omega (arith, length-append list (comma ∷ []), w)) in
+    let whole : list ++ comma ∷ [] ≡ take done (list ++ comma ∷ []) ++ (take len rest ++ comma ∷ cut.0) =
+    sym (take-append-drop done (list ++ comma ∷ [])) ∙ ap (λ (t : List ℕ). take done (list ++ comma ∷ []) ++ t) (behind list rest done len w r cut.0 cut.1) in
     ⊎_elim
     (λ m. inl (ap (λ (x : TemplateError). moved x done) m))
     (λ g.
-    let place : moved_place e.kind e.at done ≡ length (take done (list ++ 44 ∷ [])) + e.at = spec_moves piece e.kind e.at e.at done g ∙ omega (arith, size) in
+    let place : moved_place e.kind e.at done ≡ length (take done (list ++ comma ∷ [])) + e.at = spec_moves piece e.kind e.at e.at done g ∙ omega (arith, size) in
     inr (record {
-      front = take done (list ++ 44 ∷ []);
+      front = take done (list ++ comma ∷ []);
       specs = ss;
       piece = take len rest;
       after = cut.0;

@@ -5,6 +5,7 @@ use Rattle.std.proofs.lemmas.Bool.{eqb-true, eq-eqb, both_ways}
 use Rattle.std.proofs.lemmas.List.{drop_more, length-take-le}
 use Rattle.text_model.specs.Texts.{Text}
 use Rattle.text_model.specs.Writing.{written_ur}
+use Rattle.uri_grammar.specs.Characters.{open_brace, close_brace}
 use Rattle.uri_grammar.specs.declared.error.TemplateError.{TemplateError}
 use Rattle.uri_grammar.specs.declared.error.TemplateErrorKind.{TemplateErrorKind}
 use Rattle.uri_grammar.specs.declared.error.TemplateErrorKind.TheVariants as kind
@@ -38,7 +39,7 @@ literals_before front text rest more h = record {
 abbrev pub expression_before : (front : List ℕ) (op : Op) (specs : List Spec) (rest more : List ℕ) → BeginsWithExpression front op specs rest → BeginsWithExpression (front ++ more) op specs (rest ++ more)
 expression_before front op specs rest more h = record {
   body = h.body;
-  whole = ap (λ (x : List ℕ). x ++ more) h.whole ∙ ap (λ (x : List ℕ). 123 ∷ x) (append_assoc h.body (125 ∷ rest) more);
+  whole = ap (λ (x : List ℕ). x ++ more) h.whole ∙ ap (λ (x : List ℕ). open_brace ∷ x) (append_assoc h.body (close_brace ∷ rest) more);
   lacks = h.lacks;
   is_body = h.is_body;
 }
@@ -87,24 +88,24 @@ length-take_within : (n : ℕ) (xs : List ℕ) → n < length xs → length (tak
 length-take_within n xs l = length-take-le n xs (omega arith)
 
 -- the text up to the brace at a place, and what follows it
-braced : (cs inner : List ℕ) (end : ℕ) → begins_with_brace cs ≡ true → inner ≡ drop 1 cs → end < length inner → get_or inner end 0 ≡ 125 → cs ≡ 123 ∷ take end inner ++ 125 ∷ drop (end + 1) inner
+braced : (cs inner : List ℕ) (end : ℕ) → begins_with_brace cs ≡ true → inner ≡ drop 1 cs → end < length inner → get_or inner end 0 ≡ close_brace → cs ≡ open_brace ∷ take end inner ++ close_brace ∷ drop (end + 1) inner
 braced [] inner end b e l h = cc
 braced (c ∷ cs) inner end b e l h =
-    let open_brace : c ≡ 123 = eqb-true c 123 b in
-    let rest : drop end inner ≡ 125 ∷ drop (end + 1) inner = drop_more inner end 0 l ∙ ap (λ x. x ∷ drop (end + 1) inner) h in
-    let whole : take end inner ++ 125 ∷ drop (end + 1) inner ≡ cs = ap (λ x. take end inner ++ x) (sym rest) ∙ (take-append-drop end inner ∙ e) in
-    ap (λ x. x ∷ cs) open_brace ∙ ap (λ x. 123 ∷ x) (sym whole)
+    let is_brace : c ≡ open_brace = eqb-true c open_brace b in
+    let rest : drop end inner ≡ close_brace ∷ drop (end + 1) inner = drop_more inner end 0 l ∙ ap (λ x. x ∷ drop (end + 1) inner) h in
+    let whole : take end inner ++ close_brace ∷ drop (end + 1) inner ≡ cs = ap (λ x. take end inner ++ x) (sym rest) ∙ (take-append-drop end inner ∙ e) in
+    ap (λ x. x ∷ cs) is_brace ∙ ap (λ x. open_brace ∷ x) (sym whole)
 
-pub IsExpression-braced : (cs inner : List ℕ) (end : ℕ) (op : Op) (specs : List Spec) → begins_with_brace cs ≡ true → inner ≡ drop 1 cs → end < length inner → get_or inner end 0 ≡ 125 → Lacks 125 (take end inner) → IsBody (take end inner) op specs → IsExpression (take (end + 2) cs) (Expression op specs)
+pub IsExpression-braced : (cs inner : List ℕ) (end : ℕ) (op : Op) (specs : List Spec) → begins_with_brace cs ≡ true → inner ≡ drop 1 cs → end < length inner → get_or inner end 0 ≡ close_brace → Lacks close_brace (take end inner) → IsBody (take end inner) op specs → IsExpression (take (end + 2) cs) (Expression op specs)
 IsExpression-braced cs inner end op specs b e l h lacks ok =
     let whole = braced cs inner end b e l h in
     let size : length (take end inner) ≡ end = length-take_within end inner l in
     record { body = take end inner; whole = front cs (take end inner) (drop (end + 1) inner) end size whole; lacks = lacks; is_body = ok }
   where
-    front : (cs body rest : List ℕ) (end : ℕ) → length body ≡ end → cs ≡ 123 ∷ body ++ 125 ∷ rest → take (end + 2) cs ≡ 123 ∷ body ++ 125 ∷ []
+    front : (cs body rest : List ℕ) (end : ℕ) → length body ≡ end → cs ≡ open_brace ∷ body ++ close_brace ∷ rest → take (end + 2) cs ≡ open_brace ∷ body ++ close_brace ∷ []
     front cs body rest end size whole =
         let n : end + 2 ≡ suc (length body + 1) = omega arith in
-        rw (whole, n) (ap (λ x. 123 ∷ x) (take-append-add body (125 ∷ rest) 1))
+        rw (whole, n) (ap (λ x. open_brace ∷ x) (take-append-add body (close_brace ∷ rest) 1))
 
 -- ---- one step of reading
 
@@ -125,7 +126,7 @@ part_moves cs k d at n (unclosed xs l) = refl
 part_moves cs k d at n (empty_expression xs) = refl
 part_moves cs k d at n (bad_expression body rest k' d' l lack f) = body_moves body k d' at n f
 
-pub IsPartFault-body : (cs inner : List ℕ) (end : ℕ) (e : TemplateError) → begins_with_brace cs ≡ true → inner ≡ drop 1 cs → end < length inner → 0 < end → get_or inner end 0 ≡ 125 → Lacks 125 (take end inner) → IsFault e (IsBodyFault (take end inner)) → IsFault (moved e 1) (IsPartFault cs)
+pub IsPartFault-body : (cs inner : List ℕ) (end : ℕ) (e : TemplateError) → begins_with_brace cs ≡ true → inner ≡ drop 1 cs → end < length inner → 0 < end → get_or inner end 0 ≡ close_brace → Lacks close_brace (take end inner) → IsFault e (IsBodyFault (take end inner)) → IsFault (moved e 1) (IsPartFault cs)
 IsPartFault-body cs inner end e b is l pos h lacks f =
     ⊎_elim
     (λ m. inl (ap (λ (x : TemplateError). moved x 1) m))
@@ -133,26 +134,26 @@ IsPartFault-body cs inner end e b is l pos h lacks f =
     let whole = braced cs inner end b is l h in
     let some : 0 < length (take end inner) = omega (arith, length-take_within end inner l, pos) in
     let place : 1 + e.at ≡ moved_place e.kind e.at 1 = omega (arith, body_moves (take end inner) e.kind e.at e.at 1 g) in
-    inr (subst (λ (t : List ℕ). IsPartFault t e.kind (moved_place e.kind e.at 1)) (sym whole) (subst (λ (n : ℕ). IsPartFault (123 ∷ take end inner ++ 125 ∷ drop (end + 1) inner) e.kind n) place (bad_expression (take end inner) (drop (end + 1) inner) e.kind e.at some lacks g))))
+    inr (subst (λ (t : List ℕ). IsPartFault t e.kind (moved_place e.kind e.at 1)) (sym whole) (subst (λ (n : ℕ). IsPartFault (open_brace ∷ take end inner ++ close_brace ∷ drop (end + 1) inner) e.kind n) place (bad_expression (take end inner) (drop (end + 1) inner) e.kind e.at some lacks g))))
     f
 
-pub brace_behind : (cs : List ℕ) → begins_with_brace cs ≡ true → cs ≡ 123 ∷ drop 1 cs
+pub brace_behind : (cs : List ℕ) → begins_with_brace cs ≡ true → cs ≡ open_brace ∷ drop 1 cs
 brace_behind [] b = cc
-brace_behind (c ∷ cs) b = ap (λ (x : ℕ). x ∷ cs) (eqb-true c 123 b)
+brace_behind (c ∷ cs) b = ap (λ (x : ℕ). x ∷ cs) (eqb-true c open_brace b)
 
 pub IsPartFault-literal : (cs : List ℕ) → 0 < length cs → literal_item_len cs ≡ 0 → begins_with_brace cs ≡ false → IsPartFault cs kind.BadLiteral 0
 IsPartFault-literal [] l z b = absurd (omega arith)
-IsPartFault-literal (c ∷ cs) l z b = bad_literal c cs (no_length-literal (c ∷ cs) z) (λ e. both_ways (c == 123) b (eq-eqb c 123 e))
+IsPartFault-literal (c ∷ cs) l z b = bad_literal c cs (no_length-literal (c ∷ cs) z) (λ e. both_ways (c == open_brace) b (eq-eqb c open_brace e))
 
-pub IsPartFault-unclosed : (cs inner : List ℕ) → begins_with_brace cs ≡ true → inner ≡ drop 1 cs → Lacks 125 inner → IsPartFault cs kind.Unclosed 0
+pub IsPartFault-unclosed : (cs inner : List ℕ) → begins_with_brace cs ≡ true → inner ≡ drop 1 cs → Lacks close_brace inner → IsPartFault cs kind.Unclosed 0
 IsPartFault-unclosed cs inner b is l =
-    subst (λ (t : List ℕ). IsPartFault t kind.Unclosed 0) (sym (brace_behind cs b ∙ ap (λ (t : List ℕ). 123 ∷ t) (sym is))) (unclosed inner l)
+    subst (λ (t : List ℕ). IsPartFault t kind.Unclosed 0) (sym (brace_behind cs b ∙ ap (λ (t : List ℕ). open_brace ∷ t) (sym is))) (unclosed inner l)
 
-pub IsPartFault-empty : (cs inner : List ℕ) (end : ℕ) → begins_with_brace cs ≡ true → inner ≡ drop 1 cs → end < length inner → get_or inner end 0 ≡ 125 → end ≡ 0 → IsPartFault cs kind.EmptyExpression 0
+pub IsPartFault-empty : (cs inner : List ℕ) (end : ℕ) → begins_with_brace cs ≡ true → inner ≡ drop 1 cs → end < length inner → get_or inner end 0 ≡ close_brace → end ≡ 0 → IsPartFault cs kind.EmptyExpression 0
 IsPartFault-empty cs inner end b is l h z =
     let whole = braced cs inner end b is l h in
     let nil : take end inner ≡ [] = ap (λ (n : ℕ). take n inner) z in
-    subst (λ (t : List ℕ). IsPartFault t kind.EmptyExpression 0) (sym (whole ∙ ap (λ (t : List ℕ). 123 ∷ t ++ 125 ∷ drop (end + 1) inner) nil)) (empty_expression (drop (end + 1) inner))
+    subst (λ (t : List ℕ). IsPartFault t kind.EmptyExpression 0) (sym (whole ∙ ap (λ (t : List ℕ). open_brace ∷ t ++ close_brace ∷ drop (end + 1) inner) nil)) (empty_expression (drop (end + 1) inner))
 
 -- a fault behind what was read is the first fault of the text
 pub IsFirstFault-after : (cs : List ℕ) (done : ℕ) (parts : List Part) (e : TemplateError) → Spells (take done cs) parts → IsFault e (IsPartFault (drop done cs)) → IsFault (moved e (length (encode_utf8_all (take done cs)))) (IsFirstFault cs)

@@ -1,4 +1,5 @@
 use Rattle.std.proofs.Common.{length, ◌+◌, ◌-◌, ◌≤◌, ◌++◌, [], ◌∷◌, take}
+use Rattle.uri_grammar.specs.Characters.{comma}
 use Rattle.uri_grammar.specs.Specs.{SpellsSpecs}
 use Rattle.uri_grammar.proofs.expressions.variable_list.Given as goal
 
@@ -6,7 +7,7 @@ use Rattle.uri_grammar.proofs.expressions.variable_list.Given as goal
 abbrev pub invariant-loop-done : goal.invariant-loop-done
 invariant-loop-done l = record {
   within : l.done ≤ length l.list + 1;
-  spelled : SpellsSpecs (take l.done (l.list ++ 44 ∷ [])) l.specs.items;
+  spelled : SpellsSpecs (take l.done (l.list ++ comma ∷ [])) l.specs.items;
 }
 
 abbrev pub decreases-loop-done : goal.decreases-loop-done
