@@ -9,6 +9,7 @@ use Rattle.std.proofs.lemmas.List.Elements.{recursion_from_All, All-from_get_or}
 use Rattle.std.proofs.lemmas.Str.{encode_ascii, inside_one, length-le-encodes}
 use Rattle.text_model.specs.Texts.{Text}
 use Rattle.rule_parser.specs.Statements.{escaped, is_special}
+use Rattle.rule_parser.proofs.WordLemmas.{same_parts}
 
 -- the text that is left, behind a backslash that was read and waits for its character
 abbrev pub waiting : Bool → Text → Text
@@ -67,9 +68,6 @@ escaped_plain_text : (bs : Text) → ArePlain bs → escaped bs ≡ bs
 escaped_plain_text [] h = refl
 escaped_plain_text (b ∷ bs) h = escaped_plain b bs h.0 ∙ ap (λ t. b ∷ t) (escaped_plain_text bs h.1)
 
-same_heads : (x y : ℕ) (s t : Text) → x ∷ s ≡ y ∷ t → (x ≡ y) × (s ≡ t)
-same_heads x y s t e = (cc, cc)
-
 -- a byte cannot be special and plain
 not_both : (b d : ℕ) → is_special b ≡ false → b ≡ d → is_special d ≡ true → ⊥
 not_both b d p e s = both_ways (is_special b) p (ap is_special e ∙ s)
@@ -79,12 +77,12 @@ rest_behind_bytes : (d b : ℕ) (t s more : Text) → (escaped t ≡ escaped s +
 rest_behind_bytes d b t s more next e =
     elim (cases_Bool (is_special b)) [
       | inl x ↦ elim (cases_Bool (is_special d)) [
-        | inl y ↦ next (same_heads _ _ _ _ (same_heads _ _ _ _ (sym (escaped_special d t y) ∙ e ∙ ap (λ v. v ++ more) (escaped_special b s x))).1).1
-        | inr y ↦ absurd (not_both d 92 y (same_heads _ _ _ _ (sym (escaped_plain d t y) ∙ e ∙ ap (λ v. v ++ more) (escaped_special b s x))).0 refl)
+        | inl y ↦ next (same_parts _ _ _ _ (same_parts _ _ _ _ (sym (escaped_special d t y) ∙ e ∙ ap (λ v. v ++ more) (escaped_special b s x))).1).1
+        | inr y ↦ absurd (not_both d 92 y (same_parts _ _ _ _ (sym (escaped_plain d t y) ∙ e ∙ ap (λ v. v ++ more) (escaped_special b s x))).0 refl)
       ]
       | inr x ↦ elim (cases_Bool (is_special d)) [
-        | inl y ↦ absurd (not_both b 92 x (sym (same_heads _ _ _ _ (sym (escaped_special d t y) ∙ e ∙ ap (λ v. v ++ more) (escaped_plain b s x))).0) refl)
-        | inr y ↦ next (same_heads _ _ _ _ (sym (escaped_plain d t y) ∙ e ∙ ap (λ v. v ++ more) (escaped_plain b s x))).1
+        | inl y ↦ absurd (not_both b 92 x (sym (same_parts _ _ _ _ (sym (escaped_special d t y) ∙ e ∙ ap (λ v. v ++ more) (escaped_plain b s x))).0) refl)
+        | inr y ↦ next (same_parts _ _ _ _ (sym (escaped_plain d t y) ∙ e ∙ ap (λ v. v ++ more) (escaped_plain b s x))).1
       ]
     ]
 
@@ -109,12 +107,12 @@ bytes_same : (d b : ℕ) (t u : Text) → (escaped t ≡ escaped u → t ≡ u) 
 bytes_same d b t u next e =
     elim (cases_Bool (is_special d)) [
       | inl y ↦ elim (cases_Bool (is_special b)) [
-        | inl x ↦ both_same (same_heads _ _ _ _ (same_heads _ _ _ _ (sym (escaped_special d t y) ∙ e ∙ escaped_special b u x)).1)
-        | inr x ↦ absurd (not_both b 92 x (sym (same_heads _ _ _ _ (sym (escaped_special d t y) ∙ e ∙ escaped_plain b u x)).0) refl)
+        | inl x ↦ both_same (same_parts _ _ _ _ (same_parts _ _ _ _ (sym (escaped_special d t y) ∙ e ∙ escaped_special b u x)).1)
+        | inr x ↦ absurd (not_both b 92 x (sym (same_parts _ _ _ _ (sym (escaped_special d t y) ∙ e ∙ escaped_plain b u x)).0) refl)
       ]
       | inr y ↦ elim (cases_Bool (is_special b)) [
-        | inl x ↦ absurd (not_both d 92 y (same_heads _ _ _ _ (sym (escaped_plain d t y) ∙ e ∙ escaped_special b u x)).0 refl)
-        | inr x ↦ both_same (same_heads _ _ _ _ (sym (escaped_plain d t y) ∙ e ∙ escaped_plain b u x))
+        | inl x ↦ absurd (not_both d 92 y (same_parts _ _ _ _ (sym (escaped_plain d t y) ∙ e ∙ escaped_special b u x)).0 refl)
+        | inr x ↦ both_same (same_parts _ _ _ _ (sym (escaped_plain d t y) ∙ e ∙ escaped_plain b u x))
       ]
     ]
   where
@@ -142,7 +140,7 @@ not_quote [] more e = not_empty _ _ e
 not_quote (b ∷ u) more e =
     elim (cases_Bool (is_special b)) [
       | inl x ↦ backslash_is_no_quote _ _ (sym (escaped_special b u x) ∙ e)
-      | inr x ↦ not_both b 34 x (same_heads _ _ _ _ (sym (escaped_plain b u x) ∙ e)).0 refl
+      | inr x ↦ not_both b 34 x (same_parts _ _ _ _ (sym (escaped_plain b u x) ∙ e)).0 refl
     ]
 
 -- a special byte at the front
@@ -154,14 +152,14 @@ pub after_backslash : (u more : Text) → escaped u ≡ 92 ∷ more → BeginsSp
 after_backslash [] more e = absurd (not_empty _ _ e)
 after_backslash (b ∷ u) more e =
     elim (cases_Bool (is_special b)) [
-      | inl x ↦ (b, escaped u, sym (same_heads _ _ _ _ (sym (escaped_special b u x) ∙ e)).1, x)
-      | inr x ↦ absurd (not_both b 92 x (same_heads _ _ _ _ (sym (escaped_plain b u x) ∙ e)).0 refl)
+      | inl x ↦ (b, escaped u, sym (same_parts _ _ _ _ (sym (escaped_special b u x) ∙ e)).1, x)
+      | inr x ↦ absurd (not_both b 92 x (same_parts _ _ _ _ (sym (escaped_plain b u x) ∙ e)).0 refl)
     ]
 
 -- a character's first byte
 plain_first : (bs next : Text) → ArePlain bs → 0 < length bs → BeginsSpecial (bs ++ next) → ⊥
 plain_first [] next p l h = absurd (omega arith)
-plain_first (d ∷ bs) next p l h = not_both d h.0 p.0 (same_heads _ _ _ _ h.2).0 h.3
+plain_first (d ∷ bs) next p l h = not_both d h.0 p.0 (same_parts _ _ _ _ h.2).0 h.3
 
 -- ---- the steps of the reader
 

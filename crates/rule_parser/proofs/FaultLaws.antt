@@ -17,6 +17,7 @@ use Rattle.rule_parser.specs.Faults.{Begun, IsSoundBegun, begun_statements, is_i
 use Rattle.rule_parser.specs.Progress.{no_rules}
 use Rattle.rule_parser.proofs.LineNumbers.{line_number, IsNumberedFault, line_fault, open_rule as open_fault, numbered_fault}
 use Rattle.rule_parser.proofs.LawLemmas.{OneTree, Follows, Runs, begun_runs, begun_same, goes_on}
+use Rattle.rule_parser.proofs.WordLemmas.{same_parts}
 use Rattle.rule_parser.proofs.LineLaws.{statement_same, AreStatements, HasNext, compare}
 
 -- a template's text has no fault
@@ -53,7 +54,7 @@ follows_in_order b (Declare name) c p =
     ap (λ o. is_none o && length b.whole.rules == 0) p.0 ∙ ap (λ rules. length rules == 0) p.1
 follows_in_order b Begin c p = refl
 follows_in_order b (When g) c p = ap is_some p.1
-follows_in_order b (Link text) c p = ap is_some p.2
+follows_in_order b (Link text) c p = ap is_some p.in_rule
 
 -- ---- what is wrong with a line, by its statement
 
@@ -110,8 +111,8 @@ bad_is_no_next tree none b (When g) k c (inr p) f = both_ways (guard_fits b.whol
 bad_is_no_next tree none b (Link text) k c (inr p) f = no_link_follows p.1
   where
     no_link_follows : IsBadContent b (Link text) k → ⊥
-    no_link_follows (inl q) = none text f.1 q.0 q.1 f.3 q.2
-    no_link_follows (inr q) = both_ways (parts_fit b.whole.lists q.0) q.2 (ap (parts_fit b.whole.lists) (tree text q.0 f.1 q.1 f.3) ∙ f.4)
+    no_link_follows (inl q) = none text f.parts q.0 q.1 f.template q.2
+    no_link_follows (inr q) = both_ways (parts_fit b.whole.lists q.0) q.2 (ap (parts_fit b.whole.lists) (tree text q.0 f.parts q.1 f.template) ∙ f.kinds)
 
 -- a faulty line spells no statement that follows
 faulty_is_no_next : OneTree → NoFault → (b : Begun) (line : Text) (k : RuleErrorKind) (s : Statement) (c : Begun) → IsLineFault b line k → IsStatement s
@@ -140,14 +141,11 @@ begin_is_not_faulty b line k fault e = refuted (bad_text b line k fault)
 extends_not : OneTree → NoFault → (b c : Begun) (line : Text) (k : RuleErrorKind) (rest : List Text) → IsSoundBegun b → IsSoundBegun c → IsLineFault b line k
     → HasNext (begun_statements b) (begun_statements c) (line ∷ rest) → ⊥
 extends_not tree none b c line k rest s t fault n =
-    let next = goes_on tree b c n.0 n.1 s t n.3 in
-    faulty_is_no_next tree none b line k n.0 next.0 fault n.4 (heads line (line_of n.0) rest n.2 n.5) next.1
-  where
-    heads : (x y : Text) (xs ys : List Text) → x ∷ xs ≡ y ∷ ys → x ≡ y
-    heads x y xs ys e = cc
+    let next = goes_on tree b c n.next n.more s t n.goes_on in
+    faulty_is_no_next tree none b line k n.next next.0 fault n.is_statement (same_parts line (line_of n.next) rest n.rest n.spelled).0 next.1
 
 nothing_next : (ss ts : List Statement) → HasNext ss ts [] → ⊥
-nothing_next ss ts n = no_lines (line_of n.0) n.2 n.5
+nothing_next ss ts n = no_lines (line_of n.next) n.rest n.spelled
   where
     no_lines : (x : Text) (xs : List Text) → [] ≡ x ∷ xs → ⊥
     no_lines x xs e = cc
@@ -158,13 +156,10 @@ open_not_extended : OneTree → (whole : RuleSet) (guards : List Guard) (c : Beg
 open_not_extended tree whole guards c [] s t r n = nothing_next (begun_statements (record { whole = whole; guards = Some guards })) (begun_statements c) n
 open_not_extended tree whole guards c (line ∷ rest) s t r n =
     let b : Begun = record { whole = whole; guards = Some guards } in
-    let next = goes_on tree b c n.0 n.1 s t n.3 in
-    let begin : n.0 ≡ Begin = statement_same n.0 Begin n.4 tt (sym (heads line (line_of n.0) rest n.2 n.5) ∙ r) in
+    let next = goes_on tree b c n.next n.more s t n.goes_on in
+    let begin : n.next ≡ Begin = statement_same n.next Begin n.is_statement tt (sym (same_parts line (line_of n.next) rest n.rest n.spelled).0 ∙ r) in
     no_begin (subst (λ x. Follows b x next.0) begin next.1).0
   where
-    heads : (x y : Text) (xs ys : List Text) → x ∷ xs ≡ y ∷ ys → x ≡ y
-    heads x y xs ys e = cc
-
     no_begin : Some guards ≡ None → ⊥
     no_begin e = cc
 
@@ -254,16 +249,13 @@ line_fault_same tree none one ls b line rest k other place s e fault (line_fault
     by_comparison
     (compare (begun_statements b) (begun_statements c) (line ∷ rest) (line' ∷ rest') (begun_are_statements b s) (begun_are_statements c t) (sym e ∙ f))
   where
-    heads : (x y : Text) (xs ys : List Text) → x ∷ xs ≡ y ∷ ys → x ≡ y
-    heads x y xs ys d = cc
-
     by_comparison : ((begun_statements b ≡ begun_statements c) × (line ∷ rest ≡ line' ∷ rest'))
         ⊎ (HasNext (begun_statements b) (begun_statements c) (line ∷ rest) ⊎ HasNext (begun_statements c) (begun_statements b) (line' ∷ rest'))
         → (k ≡ k') × (line_number l (length (begun_statements b)) ≡ line_number l (length (begun_statements c)))
     by_comparison (inl p) = (
       bad_text_same tree none one b line k k' (bad_text b line k fault)
           (subst (λ (x : Begun). IsBadText x line k') (sym (begun_same tree b c s t p.0))
-          (subst (λ x. IsBadText c x k') (sym (heads line line' rest rest' p.1)) (bad_text c line' k' fault'))),
+          (subst (λ x. IsBadText c x k') (sym (same_parts line line' rest rest' p.1).0) (bad_text c line' k' fault'))),
       ap (λ ss. line_number l (length ss)) p.0,
     )
     by_comparison (inr (inl n)) = absurd (extends_not tree none b c line k rest s t fault n)

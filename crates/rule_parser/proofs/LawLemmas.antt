@@ -21,15 +21,22 @@ OneTree = (text : Text) (parts others : List Part) → IsTemplate text parts →
 
 -- ---- how statements go on
 
+-- a link ends the rule that was begun
+pub record EndsRuleBegun (b : Begun) (text : Text) (c : Begun) : Type 0 where
+  pub guards : List Guard
+  pub parts : List Part
+  pub in_rule : b.guards ≡ Some guards
+  pub template : IsTemplate text parts
+  pub kinds : parts_fit b.whole.lists parts ≡ true
+  pub whole : c ≡ stage b.whole.lists (b.whole.rules ++ record { guards = guards; template = record { text = text; parts = parts } } ∷ []) None
+
 -- the statement goes on with what was begun
 abbrev pub Follows : Begun → Statement → Begun → Type 0
 Follows b (Declare name) c = (b.guards ≡ None) × (b.whole.rules ≡ []) × IsName name × (c ≡ stage (b.whole.lists ++ name ∷ []) [] None)
 Follows b Begin c = (b.guards ≡ None) × (c ≡ stage b.whole.lists b.whole.rules (Some []))
 Follows b (When g) c =
     (guards : List Guard) × (b.guards ≡ Some guards) × IsSoundGuard b.whole.lists g × (c ≡ stage b.whole.lists b.whole.rules (Some (guards ++ g ∷ [])))
-Follows b (Link text) c =
-    (guards : List Guard) × (parts : List Part) × (b.guards ≡ Some guards) × IsTemplate text parts × (parts_fit b.whole.lists parts ≡ true)
-    × (c ≡ stage b.whole.lists (b.whole.rules ++ record { guards = guards; template = record { text = text; parts = parts } } ∷ []) None)
+Follows b (Link text) c = EndsRuleBegun b text c
 
 same_some : {X : Type 0} (o : Option X) (x y : X) → o ≡ Some x → o ≡ Some y → x ≡ y
 same_some o x y a b = cc
@@ -40,10 +47,10 @@ follows_same one b Begin c d p q = p.1 ∙ sym q.1
 follows_same one b (When g) c d p q =
     p.3 ∙ ap (λ gs. stage b.whole.lists b.whole.rules (Some (gs ++ g ∷ []))) (same_some b.guards p.0 q.0 p.1 q.1) ∙ sym q.3
 follows_same one b (Link text) c d p q =
-    p.5 ∙ ap (λ (gs : List Guard). stage b.whole.lists (b.whole.rules ++ record { guards = gs; template = record { text = text; parts = p.1 } } ∷ []) None)
-    (same_some b.guards p.0 q.0 p.2 q.2)
-    ∙ ap (λ (ps : List Part). stage b.whole.lists (b.whole.rules ++ record { guards = q.0; template = record { text = text; parts = ps } } ∷ []) None)
-    (one text p.1 q.1 p.3 q.3) ∙ sym q.5
+    p.whole ∙ ap (λ (gs : List Guard). stage b.whole.lists (b.whole.rules ++ record { guards = gs; template = record { text = text; parts = p.parts } } ∷ []) None)
+    (same_some b.guards p.guards q.guards p.in_rule q.in_rule)
+    ∙ ap (λ (ps : List Part). stage b.whole.lists (b.whole.rules ++ record { guards = q.guards; template = record { text = text; parts = ps } } ∷ []) None)
+    (one text p.parts q.parts p.template q.template) ∙ sym q.whole
 
 -- statements, one after another
 abbrev pub Runs : Begun → List Statement → Begun → Type 0
@@ -93,7 +100,7 @@ rule_runs lists rules rule h = (
   runs-append (stage lists rules (Some [])) (map When rule.guards) (Link rule.template.text ∷ []) (stage lists rules (Some rule.guards))
       (stage lists (rules ++ rule ∷ []) None)
       (guards_run lists rules [] rule.guards (recursion_from_All (IsSoundGuard lists) rule.guards h.guards))
-      (stage lists (rules ++ rule ∷ []) None, (rule.guards, rule.template.parts, refl, h.template, h.kinds, refl), refl),
+      (stage lists (rules ++ rule ∷ []) None, record { guards = rule.guards; parts = rule.template.parts; in_rule = refl; template = h.template; kinds = h.kinds; whole = refl }, refl),
 )
 
 rules_run : (lists : List Text) (rules more : List Rule) → AllByRecursion (IsSoundRule lists) more

@@ -7,6 +7,7 @@ use Rattle.std.specs.Str.Lines.{lines}
 use Rattle.std.proofs.lemmas.Bool.{leb-true, ltb-true, and_parts}
 use Rattle.std.proofs.lemmas.List.Elements.{All-nil, All-cons}
 use Rattle.std.proofs.lemmas.Str.{IsUtf8-nil, IsUtf8-from_ascii}
+use Rattle.std.proofs.lemmas.Str.Ascii.{IsAscii-cons}
 use Rattle.text_model.specs.Texts.{Text}
 use Rattle.uri_grammar.specs.Names.{IsName}
 use Rattle.uri_grammar.specs.Texts.{IsTemplate}
@@ -56,9 +57,10 @@ spelled = refl
 -- ---- texts
 
 is_ascii_text : (text : Text) → list_all (λ b. nat_lt b 128) text ≡ true → IsAscii text
-is_ascii_text [] e i = omega arith
-is_ascii_text (b ∷ text) e zero = let tests = and_parts (nat_lt b 128) (list_all (λ x. nat_lt x 128) text) e in ltb-true b 128 tests.0
-is_ascii_text (b ∷ text) e (suc i) = let tests = and_parts (nat_lt b 128) (list_all (λ x. nat_lt x 128) text) e in is_ascii_text text tests.1 i
+is_ascii_text [] e = λ i. omega arith
+is_ascii_text (b ∷ text) e =
+    let tests = and_parts (nat_lt b 128) (list_all (λ x. nat_lt x 128) text) e in
+    IsAscii-cons b text (ltb-true b 128 tests.0) (is_ascii_text text tests.1)
 
 text_of : (text : Text) → nat_le (length text) 65536 ≡ true → length text ≤ MAX_BYTES
 text_of text t = leb-true (length text) 65536 t

@@ -13,7 +13,7 @@ use Rattle.rule_parser.specs.declared.rule.Guard.{Guard}
 use Rattle.rule_parser.specs.declared.rule.Guard.TheVariants as guard
 use Rattle.rule_parser.specs.Rules.{IsBound, AreBounds, IsGuard}
 use Rattle.rule_parser.specs.Statements.{Statement, Declare, Begin, When, Link, IsStatement, line_of, quoted, escaped, bound_text, bounds_text, guard_text}
-use Rattle.rule_parser.proofs.WordLemmas.{same_tails, other_heads, word_split, name_is_word, bound_is_word, star_is_no_name}
+use Rattle.rule_parser.proofs.WordLemmas.{same_parts, same_tails, other_heads, word_split, name_is_word, bound_is_word, star_is_no_name}
 use Rattle.rule_parser.proofs.EscapeLemmas.{escaped_same}
 use Rattle.rule_parser.proofs.GuardLemmas.{IsDefined, defined_words, IsCompared, compared_words}
 
@@ -146,26 +146,26 @@ abbrev pub AreStatements : List Statement → Type 0
 AreStatements ss = AllByRecursion IsStatement ss
 
 -- one more statement behind others, spelled by the next line
-abbrev pub HasNext : List Statement → List Statement → List Text → Type 0
-HasNext ss tt' lines = (s : Statement) × (more : List Statement) × (rest : List Text) × (tt' ≡ ss ++ s ∷ more) × IsStatement s × (lines ≡ line_of s ∷ rest)
+pub record HasNext (ss longer : List Statement) (lines : List Text) : Type 0 where
+  pub next : Statement
+  pub more : List Statement
+  pub rest : List Text
+  pub goes_on : longer ≡ ss ++ next ∷ more
+  pub is_statement : IsStatement next
+  pub spelled : lines ≡ line_of next ∷ rest
 
 cons_next : (x : Statement) (ss ts : List Statement) (lines : List Text) → HasNext ss ts lines → HasNext (x ∷ ss) (x ∷ ts) lines
-cons_next x ss ts lines h = (h.0, h.1, h.2, ap (λ l. x ∷ l) h.3, h.4, h.5)
+cons_next x ss ts lines h =
+    record { next = h.next; more = h.more; rest = h.rest; goes_on = ap (λ l. x ∷ l) h.goes_on; is_statement = h.is_statement; spelled = h.spelled }
 
 -- Of two lists of statements at the front of the same lines one begins the other.
 pub compare : (ss ts : List Statement) (rest behind : List Text) → AreStatements ss → AreStatements ts → map line_of ss ++ rest ≡ map line_of ts ++ behind
     → ((ss ≡ ts) × (rest ≡ behind)) ⊎ (HasNext ss ts rest ⊎ HasNext ts ss behind)
 compare [] [] rest behind a b e = inl (refl, e)
-compare [] (t ∷ ts) rest behind a b e = inr (inl (t, ts, map line_of ts ++ behind, refl, b.0, e))
-compare (s ∷ ss) [] rest behind a b e = inr (inr (s, ss, map line_of ss ++ rest, refl, a.0, sym e))
-compare (s ∷ ss) (t ∷ ts) rest behind a b e = with_head (statement_same s t a.0 b.0 (heads _ _ _ _ e)) (compare ss ts rest behind a.1 b.1 (tails _ _ _ _ e))
+compare [] (t ∷ ts) rest behind a b e = inr (inl (record { next = t; more = ts; rest = map line_of ts ++ behind; goes_on = refl; is_statement = b.0; spelled = e }))
+compare (s ∷ ss) [] rest behind a b e = inr (inr (record { next = s; more = ss; rest = map line_of ss ++ rest; goes_on = refl; is_statement = a.0; spelled = sym e }))
+compare (s ∷ ss) (t ∷ ts) rest behind a b e = with_head (statement_same s t a.0 b.0 (same_parts _ _ _ _ e).0) (compare ss ts rest behind a.1 b.1 (same_parts _ _ _ _ e).1)
   where
-    heads : (x y : Text) (xs ys : List Text) → x ∷ xs ≡ y ∷ ys → x ≡ y
-    heads x y xs ys f = cc
-
-    tails : (x y : Text) (xs ys : List Text) → x ∷ xs ≡ y ∷ ys → xs ≡ ys
-    tails x y xs ys f = cc
-
     with_head : s ≡ t → ((ss ≡ ts) × (rest ≡ behind)) ⊎ (HasNext ss ts rest ⊎ HasNext ts ss behind)
         → ((s ∷ ss ≡ t ∷ ts) × (rest ≡ behind)) ⊎ (HasNext (s ∷ ss) (t ∷ ts) rest ⊎ HasNext (t ∷ ts) (s ∷ ss) behind)
     with_head f (inl p) = inl (ap (λ x. x ∷ ss) f ∙ ap (λ l. t ∷ l) p.0, p.1)

@@ -2,6 +2,7 @@
 use Rattle.std.proofs.Common.{◌≡◌, ℕ, ◌+◌, ◌<◌, zero, suc, List, [], ◌∷◌, ◌++◌, Bool, true, false, Some, map, length, get_or, take, All, ◌⊎◌, inl, inr, if◌then◌else◌, refl, ap, subst, sym, ◌∙◌, arith}
 use Rattle.std.specs.List.{slice_index}
 use Rattle.std.proofs.lemmas.List.{length-map, length-take, append_assoc, map-append}
+use Rattle.std.proofs.lemmas.List.Elements.{filter-append}
 use Rattle.text_model.specs.Texts.{Text}
 use Rattle.rule_parser.specs.declared.error.RuleErrorKind.{RuleErrorKind}
 use Rattle.rule_parser.specs.declared.error.RuleErrorKind.TheVariants as kind
@@ -14,13 +15,7 @@ use Rattle.rule_parser.specs.Faults.{Begun, IsSoundBegun, begun_statements, stat
 -- ---- significant lines
 
 pub significant-append : (xs ys : List Text) → significant (xs ++ ys) ≡ significant xs ++ significant ys
-significant-append [] ys = refl
-significant-append (x ∷ xs) ys = by_case (is_significant x) (significant-append xs ys)
-  where
-    by_case : (b : Bool) → significant (xs ++ ys) ≡ significant xs ++ significant ys
-        → (if b then (x ∷ significant (xs ++ ys)) else significant (xs ++ ys)) ≡ (if b then (x ∷ significant xs) else significant xs) ++ significant ys
-    by_case true e = ap (λ l. x ∷ l) e
-    by_case false e = e
+significant-append xs ys = filter-append is_significant xs ys
 
 pub one_significant : (x : Text) (b : Bool) → is_significant x ≡ b → significant (x ∷ []) ≡ (if b then (x ∷ []) else [])
 one_significant x b e = ap (λ (y : Bool). if y then (x ∷ []) else []) e
@@ -59,15 +54,20 @@ significant_around ls front rest line e h =
     ap significant e ∙ significant-append front (line ∷ rest)
     ∙ ap (λ l. significant front ++ l) (ap (λ (y : Bool). if y then (line ∷ significant rest) else significant rest) h)
 
+-- the number of a line behind others that spell these statements
+number_behind : (ls front behind : List Text) (line : Text) (ss : List Statement) → ls ≡ front ++ line ∷ behind → is_significant line ≡ true
+    → significant front ≡ map line_of ss → line_number ls (length ss) ≡ length front + 1
+number_behind ls front behind line ss e h s =
+    let count : length (significant front) ≡ length ss = ap length s ∙ length-map ss line_of in
+    ap (λ (l : List Text). line_number l (length ss)) e ∙ sym (ap (λ (k : ℕ). line_number (front ++ line ∷ behind) k) count)
+    ∙ number_at 1 front behind line h ∙ omega arith
+
 -- the number of the line behind those that were read
-pub number_is : (ls : List Text) (i : ℕ) (statements' : List Statement) (line : Text) → i < length ls → get_or ls i line ≡ line → is_significant line ≡ true
-    → significant (take i ls) ≡ map line_of statements' → line_number ls (length statements') ≡ i + 1
+pub number_is : (ls : List Text) (i : ℕ) (ss : List Statement) (line : Text) → i < length ls → get_or ls i line ≡ line → is_significant line ≡ true
+    → significant (take i ls) ≡ map line_of ss → line_number ls (length ss) ≡ i + 1
 number_is ls i ss line h e x s =
     let split = split_at ls i line h e in
-    let count : length (significant (take i ls)) ≡ length ss = ap length s ∙ length-map ss line_of in
-    let taken : length (take i ls) ≡ i = length_take i ls h in
-    ap (λ (l : List Text). line_number l (length ss)) split.1 ∙ sym (ap (λ (k : ℕ). line_number (take i ls ++ line ∷ split.0) k) count)
-    ∙ number_at 1 (take i ls) split.0 line x ∙ omega (arith, taken)
+    number_behind ls (take i ls) split.0 line ss split.1 x s ∙ ap (λ n. n + 1) (length_take i ls h)
   where
     length_take : (n : ℕ) (xs : List Text) → n < length xs → length (take n xs) ≡ n
     length_take n xs l = simp length-take (omega arith)
@@ -81,14 +81,6 @@ pub data IsNumberedFault : List Text → RuleErrorKind → ℕ → Type 0 where
   open_rule : (ls : List Text) (whole : RuleSet) (guards : List Guard) (rest : List Text) → IsSoundBegun (record { whole = whole; guards = Some guards })
       → significant ls ≡ map line_of (statements whole ++ statements_of_guards (Some guards)) ++ rest → EndsRule rest
       → IsNumberedFault ls kind.NoLink (line_number ls (length (statements whole)))
-
--- the number of a line behind others that spell these statements
-number_behind : (ls front behind : List Text) (line : Text) (ss : List Statement) → ls ≡ front ++ line ∷ behind → is_significant line ≡ true
-    → significant front ≡ map line_of ss → line_number ls (length ss) ≡ length front + 1
-number_behind ls front behind line ss e h s =
-    let count : length (significant front) ≡ length ss = ap length s ∙ length-map ss line_of in
-    ap (λ (l : List Text). line_number l (length ss)) e ∙ sym (ap (λ (k : ℕ). line_number (front ++ line ∷ behind) k) count)
-    ∙ number_at 1 front behind line h ∙ omega arith
 
 pub numbered_fault : (ls : List Text) (k : RuleErrorKind) (at : ℕ) → IsFirstFault ls k at → IsNumberedFault ls k at
 numbered_fault ls k at (inl f) =

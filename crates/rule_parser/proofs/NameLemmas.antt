@@ -5,20 +5,12 @@ use Rattle.std.specs.Str.{bytes_eq}
 use Rattle.std.specs.Cmp.Lexicographic.{same_text}
 use Rattle.std.proofs.lemmas.Bool.{cases_Bool, or_left, not_from_false}
 use Rattle.std.proofs.lemmas.List.{append-nil, map-append, take_more}
+use Rattle.std.proofs.lemmas.List.Elements.{filter-append}
 use Rattle.std.proofs.lemmas.Map.Views.{any-filter_same}
 use Rattle.text_model.specs.Texts.{Text}
 use Rattle.environment_model.specs.Environment.{is_among}
 use Rattle.environment_model.specs.Lists.{list_names}
 use Rattle.rule_parser.specs.Names.{each_once}
-
-filter-append : (p : Text → Bool) (xs ys : List Text) → filter p (xs ++ ys) ≡ filter p xs ++ filter p ys
-filter-append p [] ys = refl
-filter-append p (x ∷ xs) ys = by_case (p x) (filter-append p xs ys)
-  where
-    by_case : (b : Bool) → filter p (xs ++ ys) ≡ filter p xs ++ filter p ys
-        → (if b then (x ∷ filter p (xs ++ ys)) else filter p (xs ++ ys)) ≡ (if b then (x ∷ filter p xs) else filter p xs) ++ filter p ys
-    by_case true e = ap (λ l. x ∷ l) e
-    by_case false e = e
 
 abbrev others : Text → Text → Bool
 others t other = not (bytes_eq t other)

@@ -15,16 +15,16 @@ use Rattle.rule_parser.specs.Reading.{IsWord}
 pub word_from_index : (t : List ℕ) → ((i : ℕ) → i < length t → get_or t i 0 ≢ 32) → IsWord t
 word_from_index t h = recursion_from_All (λ b. b ≢ 32) t (All-from_get_or (λ b. b ≢ 32) t 0 h)
 
--- ---- the first bytes of two texts
+-- ---- the first bytes of two texts, and the first elements of two lists
+
+pub same_parts : {X : Type 0} (x y : X) (s t : List X) → x ∷ s ≡ y ∷ t → (x ≡ y) × (s ≡ t)
+same_parts x y s t e = (cc, cc)
 
 pub same_tails : (x y : ℕ) (s t : List ℕ) → x ∷ s ≡ y ∷ t → s ≡ t
-same_tails x y s t e = cc
-
-same_heads : (x y : ℕ) (s t : List ℕ) → x ∷ s ≡ y ∷ t → x ≡ y
-same_heads x y s t e = cc
+same_tails x y s t e = (same_parts x y s t e).1
 
 pub other_heads : (x y : ℕ) (s t : List ℕ) → (x == y) ≡ false → x ∷ s ≡ y ∷ t → ⊥
-other_heads x y s t n e = eqb-false x y n (same_heads x y s t e)
+other_heads x y s t n e = eqb-false x y n (same_parts x y s t e).0
 
 -- ---- spaces
 

@@ -47,7 +47,8 @@ impl Rules {
     /// `rule`, any number of lines `when ..`, and one line `link TEMPLATE`.
     ///
     /// Any other bytes are refused whole, by their first fault. A rule without a link is found where the next one begins, or
-    /// at the end. `NoMemory` where a growth was refused.
+    /// at the end. `NoMemory` where a growth was refused, and never in place of `TooLong` and `NotUtf8`. The clause `limits`
+    /// says what the limits of every rule text are.
     pub fn parse(alloc: Global, bytes: &[u8]) -> Result<Rules, RuleError>
         ensures limits { (MAX_BYTES ≡ 65536) × (MAX_DIGITS ≡ 9) }
         ensures ok { IfOk result (λ rules. IsRuleText bytes.now rules) }
