@@ -6,26 +6,11 @@ use Rattle.std.proofs.lemmas.List.{length-take-le, length-map}
 use Rattle.std.proofs.lemmas.Str.{utf8_valid_len_le}
 use Rattle.std.specs.Str.Lossy.{utf8_valid_len, utf8_invalid_len, after_first_chunk, replacement_bytes, utf8_lossy_within, utf8_lossy}
 use Rattle.std.specs.Str.Lossy.{utf8_error_len, error_len_of_some, error_len_after_one, error_len_after_two, second_byte_min, second_byte_max}
-use Rattle.std.specs.Char.{digit_value}
 use Rattle.std.specs.Int.{is_in_range}
 use Rattle.std.specs.Prelude.{Bool, Option, Some, None, nat_lt, unwrap_or}
-use Rattle.percent_encoding.specs.Percent.{is_escape, percent_decode}
+use Rattle.percent_encoding.proofs.PercentLemmas.{length-percent_decode}
 use Rattle.form_urlencoded.specs.Form as form
 use Rattle.kev_read.specs.Pairs.{decoded}
-
--- an escape becomes one byte
-length-percent_decode-le : (bs : List ℕ) → length (percent_decode bs) ≤ length bs
-unfolding percent_decode
-length-percent_decode-le [] = omega arith
-length-percent_decode-le (b ∷ []) = omega arith
-length-percent_decode-le (b ∷ c ∷ []) = omega arith
-length-percent_decode-le (b ∷ high ∷ low ∷ bs) =
-    let after_escape = length-percent_decode-le bs in
-    let after_byte = length-percent_decode-le (high ∷ low ∷ bs) in
-    elim (is_escape b high low) as (λ t. length (cond t ((16 * digit_value high + digit_value low) ∷ percent_decode bs) (b ∷ percent_decode (high ∷ low ∷ bs))) ≤ length (b ∷ high ∷ low ∷ bs)) [
-      | true ↦ omega arith
-      | false ↦ omega arith
-    ]
 
 positive_choice : (b : Bool) (x y : Option ℕ) (otherwise : ℕ) → 0 < unwrap_or x otherwise → 0 < unwrap_or y otherwise → 0 < unwrap_or (cond b x y) otherwise
 positive_choice true x y otherwise first second = first
@@ -72,4 +57,5 @@ unfolding utf8_lossy
 length-decoded-le bs =
     let lossy = length-utf8_lossy_within-le (length (form.decode bs)) (form.decode bs) in
     let spaced : length (map form.plus_to_space bs) ≡ length bs = rw length-map refl in
-    omega (arith, lossy, length-percent_decode-le (map form.plus_to_space bs))
+    let shorter = (length-percent_decode (map form.plus_to_space bs)).0 in
+    omega arith

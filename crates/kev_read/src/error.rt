@@ -1,8 +1,8 @@
 use std::alloc::{AllocError, AllocFailed};
 use thiserror::Error;
 
-/// Why a query is refused, in the order in which it is decided. `NoMemory` can come at any growth,
-/// and so in place of a later refusal.
+/// Why a query is refused, in the order in which it is decided. `NoMemory` can come in place of
+/// `WrongVersion`, and never of the refusals before it, which take no memory.
 #[derive(Clone, Copy, Debug, PartialEq, Eq, Error)]
 pub enum KevError {
     /// The query has more than [`MAX_QUERY_BYTES`](crate::MAX_QUERY_BYTES) bytes.

@@ -112,6 +112,53 @@ fn fills_texts_and_lists(rt: HostRuntime) -> Result<(), Fail> {
 }
 
 #[test]
+fn fills_each_declared_list(rt: HostRuntime) -> Result<(), Fail> {
+    let request = read_kev(rt.alloc(), b"c=1&a=2&b=3&a=4&bb=5&c=6&b=7&=8")?;
+    let mut env = Env::new(rt.alloc());
+    request.fill(&["c", "z", "a", "", "c"], &mut env)?;
+    let counts = [("a", 2), ("b", 0), ("bb", 0), ("c", 2), ("", 1), ("z", 0)];
+    for (name, count) in counts {
+        assert_eq!(rt; env.count(name), count, "of {name}");
+    }
+    assert_eq!(rt; env.member("c", 1), Some("6"));
+    assert_eq!(rt; env.text("b"), Some("3"));
+    Ok(())
+}
+
+// One case for each difference that has to do with texts.
+#[test]
+fn differs_from_the_standard(rt: HostRuntime) -> Result<(), Fail> {
+    let cases: [(&[u8], &str, &str); 8] = [
+        (b"ctx_enc=info:ofi/enc:ISO-8859-1&t=%E9", "t", "\u{FFFD}"),
+        (
+            b"rft_ref=http%3A%2F%2Fa.example%2Fm",
+            "rft_ref",
+            "http://a.example/m",
+        ),
+        (
+            b"rft_val_fmt=info:ofi/fmt:kev:mtx:book",
+            "rft_val_fmt",
+            "info:ofi/fmt:kev:mtx:book",
+        ),
+        (
+            b"rft_val_fmt=info:ofi/fmt:kev:mtx:book&rft.issue=1",
+            "rft.issue",
+            "1",
+        ),
+        (b"no.such=1", "no.such", "1"),
+        (b"svc_id=info:a&svc_id=info:b", "svc_id", "info:a"),
+        (b"rft.title=", "rft.title", ""),
+        (b"rft.title", "rft.title", ""),
+    ];
+    for (query, key, text) in cases {
+        let mut env = Env::new(rt.alloc());
+        read_kev(rt.alloc(), query)?.fill(&[], &mut env)?;
+        assert_eq!(rt; env.text(key), Some(text), "at {key}");
+    }
+    Ok(())
+}
+
+#[test]
 fn stops_at_a_refused_pair(rt: HostRuntime) -> Result<(), Fail> {
     let alloc = rt.alloc();
     let mut env = Env::new(alloc);
