@@ -1,0 +1,3 @@
+pub mod Running
+pub mod SumsBelow
+pub mod Shares

@@ -1,0 +1,137 @@
+use crate::{Budget, budget_of};
+use code_file::{Code, Literal, Name, spelling};
+use code_model::Instruction::{
+    Const, Count, Each, Emit, Empty, Fail as NoLink, Halt, List, Next, Put, Sep, Text, Undef,
+};
+use code_model::{Instr, Instruction};
+use std::alloc::{AllocError, Global};
+use std::test::Fail;
+
+/// The members of a list, with a comma between them.
+const LIST_CODE: [Instruction; 6] = [List(0, 0), Each(1, 0, 5), Sep(0), Put(1, 0), Next, Halt];
+
+/// The names, literals and instructions of a code; the name is one of a list.
+fn parts(
+    alloc: Global,
+    literals: &[(bool, &str)],
+    instructions: &[Instruction],
+) -> Result<(Vec<Name>, Vec<Literal>, Vec<Instr>), AllocError> {
+    let text = String::from_str(alloc, "list")?;
+    let names = vec![in alloc; Name { list: true, text }]?;
+    let mut entries = Vec::new(alloc);
+    for (compared, text) in literals {
+        let bytes = Vec::from_slice(alloc, text.as_bytes())?;
+        let compared = *compared;
+        entries.push(Literal { compared, bytes })?;
+    }
+    let mut instrs = Vec::new(alloc);
+    for instruction in instructions {
+        instrs.push(spelling(*instruction))?;
+    }
+    Ok((names, entries, instrs))
+}
+
+fn code(
+    alloc: Global,
+    literals: &[(bool, &str)],
+    instructions: &[Instruction],
+) -> Result<Code, Fail> {
+    let (names, literals, instrs) = parts(alloc, literals, instructions)?;
+    Ok(Code::from_parts(names, literals, instrs)?)
+}
+
+fn code2(
+    alloc: Global,
+    literals: &[(bool, &str)],
+    instructions: &[Instruction],
+) -> Result<Code, Fail> {
+    let (names, literals, instrs) = parts(alloc, literals, instructions)?;
+    Ok(Code::from_parts2(names, literals, instrs)?)
+}
+
+fn sums(budget: Budget) -> [u64; 6] {
+    let Budget {
+        s0,
+        s1,
+        o0,
+        o1,
+        o2,
+        o3,
+    } = budget;
+    [s0, s1, o0, o1, o2, o3]
+}
+
+#[test]
+fn counts_what_runs_can_take(rt: HostRuntime) -> Result<(), Fail> {
+    let comma = [(false, ",")];
+    let issn = [
+        (false, "http://e.org/"),
+        (true, ""),
+        (false, ","),
+        (true, "1"),
+    ];
+    let issn_code = [
+        Emit(0),
+        Const(4, 1),
+        Text(0, 0),
+        Undef(0, 8),
+        Empty(4, 6),
+        Emit(2),
+        Const(4, 3),
+        Put(0, 0),
+        Halt,
+        NoLink,
+    ];
+    let abc = [(true, "abc")];
+    let written = [
+        List(0, 0),
+        Each(1, 0, 5),
+        Const(1, 0),
+        Put(1, 0),
+        Next,
+        Halt,
+    ];
+    let x_code = [Text(2, 0), Undef(2, 3), Put(2, 0), Halt];
+    let cases = [
+        (
+            "a list",
+            comma.as_slice(),
+            LIST_CODE.as_slice(),
+            [3, 3, 0, 1, 3, 0],
+        ),
+        ("a rule", &issn, &issn_code, [10, 0, 17, 0, 3, 0]),
+        ("element written", &abc, &written, [3, 3, 0, 9, 0, 3]),
+        ("a text", &[], &x_code, [4, 0, 0, 0, 3, 0]),
+    ];
+    for (case, literals, instructions, expected) in cases {
+        let code = code(rt.alloc(), literals, instructions)?;
+        assert_eq!(rt; sums(budget_of(&code)), expected, "{case}");
+    }
+    Ok(())
+}
+
+#[test]
+fn bounds_steps_and_bytes(rt: HostRuntime) -> Result<(), Fail> {
+    let list = budget_of(&code(rt.alloc(), &[(false, ",")], &LIST_CODE)?);
+    assert_eq!(rt; list.steps(3), 12);
+    assert_eq!(rt; list.bytes(3, 12), 39);
+    assert_eq!(rt; list.bytes(20, 20_000), 60_020);
+    Ok(())
+}
+
+#[test]
+fn count_writes_in_version_2_alone(rt: HostRuntime) -> Result<(), Fail> {
+    let instructions = [
+        List(0, 0),
+        Each(1, 0, 5),
+        Put(1, 0),
+        Count(1, 0),
+        Next,
+        Halt,
+    ];
+    let first = code(rt.alloc(), &[], &instructions)?;
+    assert_eq!(rt; sums(budget_of(&first)), [3, 3, 0, 0, 3, 0]);
+    let second = code2(rt.alloc(), &[], &instructions)?;
+    assert_eq!(rt; sums(budget_of(&second)), [3, 3, 0, 0, 0, 3]);
+    Ok(())
+}
