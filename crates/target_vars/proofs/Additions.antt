@@ -1,152 +1,165 @@
--- A name that comes last, with a text or with the list of one member.
-use Rattle.std.proofs.Common.{◌≡◌, ℕ, ◌+◌, ◌<◌, ◌≤◌, List, [], ◌∷◌, ◌++◌, Bool, true, false, map, length, Option, Some, None, is_some, IsTrue, All, IsUtf8, string_bytes, refl, sym, ap, ◌∙◌, subst, arith, length-append, append-nil}
-use Rattle.std.proofs.lemmas.List.{length-map, map-append}
-use Rattle.std.proofs.lemmas.List.Elements.{All-push, All-nil}
-use Rattle.std.proofs.lemmas.List.Sums.{sum_by_push}
+-- A name that comes with a text, and a member that comes last in the list of its name.
+use Rattle.std.proofs.Common.{◌≡◌, ℕ, ◌+◌, ◌<◌, ◌≤◌, List, [], ◌∷◌, ◌++◌, Bool, true, false, map, length, insert, slice_get, Option, Some, None, is_some, IsTrue, All, IsUtf8, refl, sym, ap, ◌∙◌, subst, arith, length-append, zero-add, ⊎_elim}
+use Rattle.std.specs.Prelude.{◌==◌}
+use Rattle.std.proofs.lemmas.List.{map-append}
+use Rattle.std.proofs.lemmas.List.Edits.{length-insert}
+use Rattle.std.proofs.lemmas.List.Elements.{All-cons, All-push, All-filter, All-weaker}
+use Rattle.std.proofs.lemmas.List.Sorted.{IsPermutation-insert, All-permutation}
+use Rattle.std.proofs.lemmas.Option.{slice_get_within}
 use Rattle.text_model.specs.Texts.{Text}
-use Rattle.environment_model.specs.Environment.{Environment, Entry, Meaning, Single, Several, look_up, is_there, text_in, text_of, byte_count, with_text, with_member}
-use Rattle.environment_model.proofs.Environments.{byte_count-with_text, byte_count-with_member, with_text-new, with_member-new}
+use Rattle.environment_model.specs.Environment.{Environment, Entry, Meaning, Single, Several, is_there, is_among, text_in, text_of, byte_count, member_count, with_text, with_member}
+use Rattle.environment_model.proofs.Environments.{byte_count-with_text, byte_count-with_member, member_count-with_member, member_count-push, with_text-new, with_member-new, with_member-append, with_member-same}
 use Rattle.target_vars.specs.EnvValue.{EachNameOnce}
-use Rattle.target_vars.specs.Layout.{piece, meaning_in, entries_in, laid_entries, span_count, spans_of, IsPiece, IsPlace, IsLaid}
+use Rattle.target_vars.specs.Layout.{part_text, piece, spans_of, members_in, meaning_in, entries_from, laid_entries, IsPiece, IsPlace, IsPutLast, HasList, IsLaid}
+use Rattle.target_vars.specs.declared.place.Part.{Part}
 use Rattle.target_vars.specs.declared.place.Span.{Span}
-use Rattle.target_vars.specs.declared.place.Named.{Named}
+use Rattle.target_vars.specs.declared.place.Place.{Place}
 use Rattle.target_vars.specs.declared.place.Place.TheVariants.{One, Many}
 use Rattle.target_vars.specs.declared.env.TheConstants.{MAX_BYTES, MAX_MEMBERS}
-use Rattle.target_vars.proofs.Names.{once-push, once-with_member}
-use Rattle.target_vars.proofs.Layouts.{entry_in, entries_in-empty, entries_in-split}
-use Rattle.target_vars.proofs.Growth.{IsPlacedIn, same_pieces, same_entries, last_piece, last_is_piece, grown_pieces, grown_places}
+use Rattle.target_vars.proofs.Once.{once-push, once-with_member}
+use Rattle.target_vars.proofs.Growth.{same_pieces, pieces_stay, places_stay, last_part, last_is_part}
+use Rattle.target_vars.proofs.Spans.{none_of}
+use Rattle.target_vars.proofs.Entries.{entry, itself, entries_from-push, entries_stay, with_member-at}
+use Rattle.target_vars.proofs.Laid.{is_there-laid, look_up-lacking, no_text-at}
 
 -- a limit that a test found not to be passed
 pub within : (r : Bool) (limit n : ℕ) → (limit < n → IsTrue r) → r ≡ false → n ≤ limit
 within r limit n passes refused = let not_above : limit < n → ⊥ = λ above. (let yes : r ≡ true = passes above in cc) in omega arith
 
--- ---- what is laid
-
-pub laid_entries-empty : laid_entries [] [] [] ≡ []
-laid_entries-empty = entries_in-empty [] []
-
-pub laid_empty : IsLaid [] [] []
-laid_empty = record {
-  pieces = All-nil (IsPiece []);
-  placed = All-nil (IsPlacedIn []);
-  counted = refl;
-  filled = ap byte_count laid_entries-empty;
-  once = subst EachNameOnce (sym laid_entries-empty) tt;
-  few_bytes = omega arith;
-  few_members = omega arith;
-}
-
-pub laid_by : (b t : Text) (spans spans' : List Span) (names names' : List Named) (env : Environment) → IsLaid b spans names → All (IsPiece (b ++ t)) spans' → All (IsPlacedIn (b ++ t)) names' → spans_of names' ≡ length spans'
-    → laid_entries (b ++ t) spans' names' ≡ env → byte_count env ≡ byte_count (laid_entries b spans names) + length t → EachNameOnce env
-    → length b + length t ≤ MAX_BYTES → length spans' ≤ MAX_MEMBERS → IsLaid (b ++ t) spans' names'
-laid_by b t spans spans' names names' env laid pieces placed counted entries bytes once few_bytes few_members =
-    let filled = laid.filled in
-    let whole = length-append b t in
-    let bytes' = ap byte_count entries in
-    record {
-      pieces = pieces;
-      placed = placed;
-      counted = counted;
-      filled = omega arith;
-      once = subst EachNameOnce (sym entries) once;
-      few_bytes = omega arith;
-      few_members = few_members;
-    }
-
--- ---- a name that comes last
-
-abbrev snoc_entry : Named → Meaning → Entry
-snoc_entry e m = record { name = string_bytes e.name; meaning = m }
-
-entries_in-push : (b : Text) (ms more_ms : List Text) (names : List Named) (e : Named) → spans_of names ≡ length ms → span_count e.place ≡ length more_ms
-    → entries_in b (ms ++ more_ms) (names ++ e ∷ []) ≡ entries_in b ms names ++ entry_in b more_ms e ∷ []
-entries_in-push b ms more_ms names e before own =
-    ap (λ ts. entries_in b (ms ++ ts) (names ++ e ∷ [])) (sym (append-nil more_ms))
-    ∙ entries_in-split b names e [] ms more_ms [] before own
-    ∙ ap (λ es. entries_in b ms names ++ entry_in b more_ms e ∷ es) (entries_in-empty b [])
-
-pub put_entries : (b t : Text) (spans : List Span) (names : List Named) (e : Named) (s : Span) → IsLaid b spans names → e.place ≡ One s → s.start ≡ length b → s.len ≡ length t
-    → laid_entries (b ++ t) spans (names ++ e ∷ []) ≡ laid_entries b spans names ++ snoc_entry e (Single t) ∷ []
-put_entries b t spans names e s laid one start len =
-    let ms = map (piece b) spans in
-    let counted = laid.counted in
-    let same = length-map spans (piece b) in
-    ap (λ ts. entries_in (b ++ t) ts (names ++ e ∷ [])) (same_pieces b t spans laid.pieces ∙ sym (append-nil ms))
-    ∙ entries_in-push (b ++ t) ms [] names e (omega arith) (ap span_count one)
-    ∙ ap (λ es. es ++ entry_in (b ++ t) [] e ∷ []) (same_entries b t ms names laid.placed)
-    ∙ ap (λ p. entries_in b ms names ++ snoc_entry e (meaning_in (b ++ t) [] p) ∷ []) one
-    ∙ ap (λ x. entries_in b ms names ++ snoc_entry e (Single x) ∷ []) (last_piece b t s start len)
-
-pub start_entries : (b t : Text) (spans : List Span) (names : List Named) (e : Named) (s : Span) → IsLaid b spans names → e.place ≡ Many 1 → s.start ≡ length b → s.len ≡ length t
-    → laid_entries (b ++ t) (spans ++ s ∷ []) (names ++ e ∷ []) ≡ laid_entries b spans names ++ snoc_entry e (Several (t ∷ [])) ∷ []
-start_entries b t spans names e s laid many start len =
-    let ms = map (piece b) spans in
-    let counted = laid.counted in
-    let same = length-map spans (piece b) in
-    let pieces : map (piece (b ++ t)) (spans ++ s ∷ []) ≡ ms ++ t ∷ [] =
-    map-append (piece (b ++ t)) spans (s ∷ []) ∙ ap (λ ts. ts ++ piece (b ++ t) s ∷ []) (same_pieces b t spans laid.pieces) ∙ ap (λ x. ms ++ x ∷ []) (last_piece b t s start len) in
-    ap (λ ts. entries_in (b ++ t) ts (names ++ e ∷ [])) pieces
-    ∙ entries_in-push (b ++ t) ms (t ∷ []) names e (omega arith) (ap span_count many)
-    ∙ ap (λ es. es ++ entry_in (b ++ t) (t ∷ []) e ∷ []) (same_entries b t ms names laid.placed)
-    ∙ ap (λ p. entries_in b ms names ++ snoc_entry e (meaning_in (b ++ t) (t ∷ []) p) ∷ []) many
+-- the lists stay where a text goes to the end of the buffer
+members_stay : (b t : Text) (spans : List Span) (j : ℕ) → All (IsPiece b) spans → members_in (b ++ t) spans j ≡ members_in b spans j
+members_stay b t spans j pieces = same_pieces b t (spans_of spans j) (All-filter (λ s. s.list == j) (IsPiece b) spans pieces)
 
 -- ---- a text
 
-pub put_is : (b t : Text) (spans : List Span) (names : List Named) (e : Named) (s : Span) (name : Text) → IsLaid b spans names → string_bytes e.name ≡ name → e.place ≡ One s → s.start ≡ length b → s.len ≡ length t → is_there (laid_entries b spans names) name ≡ false
-    → laid_entries (b ++ t) spans (names ++ e ∷ []) ≡ with_text (laid_entries b spans names) name t
-put_is b t spans names e s name laid named one start len absent =
-    put_entries b t spans names e s laid one start len
-    ∙ ap (λ n. laid_entries b spans names ++ record { name = n; meaning = Single t } ∷ []) named
-    ∙ sym (with_text-new (laid_entries b spans names) name t absent)
+pub put_is : (b t : Text) (spans : List Span) (names : List Text) (places : List Place) (name : Text) (p : Part) → IsLaid b spans names places → is_among name names ≡ false → p.start ≡ length b → p.len ≡ length t
+    → laid_entries (b ++ t) spans (names ++ name ∷ []) (places ++ One p ∷ []) ≡ with_text (laid_entries b spans names places) name t
+put_is b t spans names places name p laid lacks start len =
+    entries_from-push (b ++ t) (members_in (b ++ t) spans) 0 names places name (One p) laid.one_each
+    ∙ ap (λ es. es ++ entry (b ++ t) [] name (One p) ∷ []) (entries_stay b t (members_in b spans) (members_in (b ++ t) spans) 0 names places laid.placed (λ j from. members_stay b t spans j laid.pieces))
+    ∙ ap (λ x. laid_entries b spans names places ++ record { name = name; meaning = Single x } ∷ []) (last_part b t p start len)
+    ∙ sym (with_text-new (laid_entries b spans names places) name t (is_there-laid b spans names places name laid ∙ lacks))
 
-pub laid_put : (b t : Text) (spans : List Span) (names : List Named) (e : Named) (s : Span) (name : Text) → IsUtf8 b → IsUtf8 t → IsLaid b spans names → string_bytes e.name ≡ name → e.place ≡ One s → s.start ≡ length b → s.len ≡ length t → is_there (laid_entries b spans names) name ≡ false
-    → length b + length t ≤ MAX_BYTES → IsLaid (b ++ t) spans (names ++ e ∷ [])
-laid_put b t spans names e s name ub ut laid named one start len absent few =
-    let env = laid_entries b spans names in
+pub laid_put : (b t : Text) (spans : List Span) (names : List Text) (places : List Place) (name : Text) (p : Part) → IsUtf8 b → IsUtf8 t → IsLaid b spans names places → is_among name names ≡ false → p.start ≡ length b → p.len ≡ length t
+    → length b + length t ≤ MAX_BYTES → IsLaid (b ++ t) spans (names ++ name ∷ []) (places ++ One p ∷ [])
+laid_put b t spans names places name p ub ut laid lacks start len few =
+    let env = laid_entries b spans names places in
+    let e : Entry = record { name = name; meaning = Single t } in
+    let absent : is_there env name ≡ false = is_there-laid b spans names places name laid ∙ lacks in
+    let entries = put_is b t spans names places name p laid lacks start len in
+    let pushed : with_text env name t ≡ env ++ e ∷ [] = with_text-new env name t absent in
+    let one_each = laid.one_each in
+    let more_names = length-append names (name ∷ []) in
+    let more_places = length-append places (One p ∷ []) in
+    let whole = length-append b t in
+    let bytes : byte_count (laid_entries (b ++ t) spans (names ++ name ∷ []) (places ++ One p ∷ [])) ≡ byte_count env + length t = ap byte_count entries ∙ byte_count-with_text env name t absent in
+    let members : member_count (laid_entries (b ++ t) spans (names ++ name ∷ []) (places ++ One p ∷ [])) ≡ member_count env + 0 = ap member_count (entries ∙ pushed) ∙ member_count-push env e in
+    let filled = laid.filled in
     let counted = laid.counted in
-    let pushed : spans_of (names ++ e ∷ []) ≡ spans_of names + span_count e.place = sum_by_push (λ x. span_count x.place) names e in
-    let none : span_count e.place ≡ 0 = ap span_count one in
-    let placed : IsPlacedIn (b ++ t) e = subst (IsPlace (b ++ t)) (sym one) (last_is_piece b t s ut start len) in
-    laid_by b t spans spans names (names ++ e ∷ []) (with_text env name t) laid
-    (grown_pieces b t spans ub ut laid.pieces)
-    (All-push (IsPlacedIn (b ++ t)) names e (grown_places b t names ub ut laid.placed) placed)
-    (omega arith)
-    (put_is b t spans names e s name laid named one start len absent)
-    (byte_count-with_text env name t absent)
-    (subst EachNameOnce (sym (with_text-new env name t absent)) (once-push env (record { name = name; meaning = Single t }) laid.once absent))
-    few
-    laid.few_members
+    record {
+      pieces = pieces_stay b t spans ub ut laid.pieces;
+      placed = All-push (IsPlace (b ++ t)) places (One p) (places_stay b t places ub ut laid.placed) (last_is_part b t p ut start len);
+      one_each = omega arith;
+      in_order = laid.in_order;
+      known = All-weaker (λ s. s.list < length names) (λ s. s.list < length (names ++ name ∷ [])) (λ s below. omega arith) spans laid.known;
+      filled = omega arith;
+      counted = omega arith;
+      once = subst EachNameOnce (sym (entries ∙ pushed)) (once-push env e laid.once absent);
+      few_bytes = omega arith;
+      few_members = laid.few_members;
+    }
 
--- ---- a list of one member
+-- ---- the list of a name
 
-pub start_is : (b t : Text) (spans : List Span) (names : List Named) (e : Named) (s : Span) (name : Text) → IsLaid b spans names → string_bytes e.name ≡ name → e.place ≡ Many 1 → s.start ≡ length b → s.len ≡ length t → is_there (laid_entries b spans names) name ≡ false
-    → laid_entries (b ++ t) (spans ++ s ∷ []) (names ++ e ∷ []) ≡ with_member (laid_entries b spans names) name t
-start_is b t spans names e s name laid named many start len absent =
-    start_entries b t spans names e s laid many start len
-    ∙ ap (λ n. laid_entries b spans names ++ record { name = n; meaning = Several (t ∷ []) } ∷ []) named
-    ∙ sym (with_member-new (laid_entries b spans names) name t absent)
+-- the name has an empty list, or the one that it had
+record IsReady (b t : Text) (spans : List Span) (names : List Text) (places : List Place) (name : Text) (names' : List Text) (places' : List Place) : Type 0 where
+  once : EachNameOnce (laid_entries b spans names' places')
+  same : with_member (laid_entries b spans names' places') name t ≡ with_member (laid_entries b spans names places) name t
+  placed : All (IsPlace b) places'
+  one_each : length places' ≡ length names'
+  known : All (λ s. s.list < length names') spans
+  no_text : is_some (text_of (laid_entries b spans names places) name) ≡ false
 
-no_text : (env : Environment) (name : Text) → is_there env name ≡ false → is_some (text_of env name) ≡ false
-no_text env name absent = by_cases (look_up env name) refl
+ready : (b t : Text) (spans : List Span) (names : List Text) (places : List Place) (name : Text) (names' : List Text) (places' : List Place) (k : ℕ) → IsLaid b spans names places → HasList names places name names' places' k → IsReady b t spans names places name names' places'
+ready b t spans names places name names' places' k laid has = ⊎_elim known_list new_list has.cases
   where
-    by_cases : (o : Option Meaning) → look_up env name ≡ o → is_some (text_of env name) ≡ false
-    by_cases None none = ap (λ m. is_some (text_in m)) none
-    by_cases (Some m) some = let there : is_there env name ≡ true = ap is_some some in absurd (cc)
+    known_list : (names' ≡ names) × (places' ≡ places) → IsReady b t spans names places name names' places'
+    known_list h =
+        let named : slice_get names k ≡ Some name = ap (λ ns. slice_get ns k) (sym h.0) ∙ has.named in
+        let listed : slice_get places k ≡ Some Many = ap (λ ps. slice_get ps k) (sym h.1) ∙ has.is_list in
+        rw (h.0, h.1) (record {
+          once = laid.once;
+          same = refl;
+          placed = laid.placed;
+          one_each = laid.one_each;
+          known = laid.known;
+          no_text = ap is_some (no_text-at b spans names places name k laid named listed);
+        })
 
-pub laid_start : (b t : Text) (spans : List Span) (names : List Named) (e : Named) (s : Span) (name : Text) → IsUtf8 b → IsUtf8 t → IsLaid b spans names → string_bytes e.name ≡ name → e.place ≡ Many 1 → s.start ≡ length b → s.len ≡ length t → is_there (laid_entries b spans names) name ≡ false
-    → length b + length t ≤ MAX_BYTES → length spans + 1 ≤ MAX_MEMBERS → IsLaid (b ++ t) (spans ++ s ∷ []) (names ++ e ∷ [])
-laid_start b t spans names e s name ub ut laid named many start len absent few few_spans =
-    let env = laid_entries b spans names in
+    new_list : (is_among name names ≡ false) × (names' ≡ names ++ name ∷ []) × (places' ≡ places ++ Many ∷ []) → IsReady b t spans names places name names' places'
+    new_list h =
+        let env = laid_entries b spans names places in
+        let e : Entry = record { name = name; meaning = Several [] } in
+        let absent : is_there env name ≡ false = is_there-laid b spans names places name laid ∙ h.0 in
+        let none : members_in b spans (length names) ≡ [] = ap (map (piece b)) (none_of spans (length names) laid.known) in
+        let entries : laid_entries b spans (names ++ name ∷ []) (places ++ Many ∷ []) ≡ env ++ e ∷ [] =
+        entries_from-push b (members_in b spans) 0 names places name Many laid.one_each ∙ ap (λ ms. env ++ record { name = name; meaning = Several ms } ∷ []) (ap (members_in b spans) (zero-add (length names)) ∙ none) in
+        let one_each = laid.one_each in
+        let more_names = length-append names (name ∷ []) in
+        let more_places = length-append places (Many ∷ []) in
+        rw (h.1, h.2) (record {
+          once = subst EachNameOnce (sym entries) (once-push env e laid.once absent);
+          same = ap (λ es. with_member es name t) entries ∙ with_member-append env (e ∷ []) name t absent ∙ ap (λ es. env ++ es) (with_member-same e [] name t (itself name)) ∙ sym (with_member-new env name t absent);
+          placed = All-push (IsPlace b) places Many laid.placed tt;
+          one_each = omega arith;
+          known = All-weaker (λ s. s.list < length names) (λ s. s.list < length (names ++ name ∷ [])) (λ s below. omega arith) spans laid.known;
+          no_text = ap (λ o. is_some (text_in o)) (look_up-lacking b spans names places name laid h.0);
+        })
+
+-- ---- a member
+
+own_members : (b t : Text) (spans : List Span) (s : Span) (new : List Span) → All (IsPiece b) spans → IsPutLast spans s new → s.part.start ≡ length b → s.part.len ≡ length t → members_in (b ++ t) new s.list ≡ members_in b spans s.list ++ t ∷ []
+own_members b t spans s new pieces put start len =
+    ap (map (piece (b ++ t))) put.own
+    ∙ map-append (piece (b ++ t)) (spans_of spans s.list) (s ∷ [])
+    ∙ ap (λ ms. ms ++ piece (b ++ t) s ∷ []) (members_stay b t spans s.list pieces)
+    ∙ ap (λ x. members_in b spans s.list ++ x ∷ []) (last_part b t s.part start len)
+
+pub add_is : (b t : Text) (spans : List Span) (names : List Text) (places : List Place) (name : Text) (names' : List Text) (places' : List Place) (s : Span) (new : List Span) → IsLaid b spans names places → HasList names places name names' places' s.list → IsPutLast spans s new
+    → s.part.start ≡ length b → s.part.len ≡ length t → laid_entries (b ++ t) new names' places' ≡ with_member (laid_entries b spans names places) name t
+add_is b t spans names places name names' places' s new laid has put start len =
+    let is = ready b t spans names places name names' places' s.list laid has in
+    let m = members_in b spans in
+    let m' = members_in (b ++ t) new in
+    let zero = zero-add s.list in
+    entries_stay b t m' m' 0 names' places' is.placed (λ j from. refl)
+    ∙ with_member-at b t m m' 0 names' places' name s.list is.once has.named has.is_list
+    (subst (λ j. m' j ≡ m j ++ t ∷ []) (sym zero) (own_members b t spans s new laid.pieces put start len))
+    (λ j differs. ap (map (piece (b ++ t))) (put.others j (ap (λ x. x == j) (sym zero) ∙ differs)) ∙ members_stay b t spans j laid.pieces)
+    ∙ is.same
+
+pub laid_add : (b t : Text) (spans : List Span) (names : List Text) (places : List Place) (name : Text) (names' : List Text) (places' : List Place) (s : Span) (new : List Span) → IsUtf8 b → IsUtf8 t → IsLaid b spans names places → HasList names places name names' places' s.list → IsPutLast spans s new
+    → s.part.start ≡ length b → s.part.len ≡ length t → length b + length t ≤ MAX_BYTES → length spans + 1 ≤ MAX_MEMBERS → IsLaid (b ++ t) new names' places'
+laid_add b t spans names places name names' places' s new ub ut laid has put start len few few_spans =
+    let env = laid_entries b spans names places in
+    let is = ready b t spans names places name names' places' s.list laid has in
+    let entries = add_is b t spans names places name names' places' s new laid has put start len in
+    let whole = length-append b t in
+    let longer : length new ≡ length spans + 1 = ap length put.is ∙ length-insert spans put.place s put.within in
+    let bytes : byte_count (laid_entries (b ++ t) new names' places') ≡ byte_count env + length t = ap byte_count entries ∙ byte_count-with_member env name t is.no_text in
+    let members : member_count (laid_entries (b ++ t) new names' places') ≡ member_count env + 1 = ap member_count entries ∙ member_count-with_member env name t is.no_text in
+    let filled = laid.filled in
     let counted = laid.counted in
-    let pushed : spans_of (names ++ e ∷ []) ≡ spans_of names + span_count e.place = sum_by_push (λ x. span_count x.place) names e in
-    let own : span_count e.place ≡ 1 = ap span_count many in
-    let longer_spans : length (spans ++ s ∷ []) ≡ length spans + 1 = length-append spans (s ∷ []) in
-    laid_by b t spans (spans ++ s ∷ []) names (names ++ e ∷ []) (with_member env name t) laid
-    (All-push (IsPiece (b ++ t)) spans s (grown_pieces b t spans ub ut laid.pieces) (last_is_piece b t s ut start len))
-    (All-push (IsPlacedIn (b ++ t)) names e (grown_places b t names ub ut laid.placed) (subst (IsPlace (b ++ t)) (sym many) tt))
-    (omega arith)
-    (start_is b t spans names e s name laid named many start len absent)
-    (byte_count-with_member env name t (no_text env name absent))
-    (once-with_member env name t laid.once)
-    few
-    (omega arith)
+    let moved : (P : Span → Type 0) → P s → All P spans → All P new = λ P own all. subst (All P) (sym put.is) (All-permutation P (s ∷ spans) (insert spans put.place s) (IsPermutation-insert spans put.place s) (All-cons P s spans own all)) in
+    record {
+      pieces = moved (IsPiece (b ++ t)) (last_is_part b t s.part ut start len) (pieces_stay b t spans ub ut laid.pieces);
+      placed = places_stay b t places' ub ut is.placed;
+      one_each = is.one_each;
+      in_order = put.in_order;
+      known = moved (λ x. x.list < length names') (slice_get_within names' s.list name has.named) is.known;
+      filled = omega arith;
+      counted = omega arith;
+      once = subst EachNameOnce (sym entries) (once-with_member env name t laid.once);
+      few_bytes = omega arith;
+      few_members = omega arith;
+    }

@@ -1,6 +1,8 @@
-pub mod Names
-pub mod Layouts
-pub mod Readers
+pub mod NameOrder
+pub mod Spans
+pub mod Once
 pub mod Growth
+pub mod Entries
+pub mod Laid
 pub mod Additions
-pub mod Lengthening
+pub mod Facts

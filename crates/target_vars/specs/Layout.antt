@@ -1,23 +1,35 @@
 -- How the entries of an `Env` lie in its buffer and its spans.
-use Rattle.std.specs.Prelude.{◌≡◌, ℕ, ◌+◌, ◌≤◌, List, [], ◌∷◌, map, take, drop, length, slice_range, sum_by, string_bytes, All}
+use Rattle.std.specs.Prelude.{◌≡◌, ℕ, suc, ◌+◌, ◌<◌, ◌≤◌, ◌==◌, List, [], ◌∷◌, ◌++◌, map, take, drop, length, insert, Bool, true, false, Some, ◌⊎◌, slice_get, All}
+use Rattle.std.specs.List.{filter}
+use Rattle.std.specs.List.Sorted.{IsNonDecreasingBy}
 use Rattle.std.specs.Str.{IsCharBoundary}
 use Rattle.text_model.specs.Texts.{Text}
-use Rattle.environment_model.specs.Environment.{Environment, Meaning, Single, Several, byte_count}
-use Rattle.target_vars.specs.EnvValue.{EachNameOnce}
+use Rattle.environment_model.specs.Environment.{Environment, Meaning, Single, Several, byte_count, member_count, is_among, text_of}
+use Rattle.target_vars.specs.EnvValue.{EnvValue, EachNameOnce, piece_at}
+use Rattle.target_vars.specs.declared.place.Part.{Part}
 use Rattle.target_vars.specs.declared.place.Span.{Span}
-use Rattle.target_vars.specs.declared.place.Named.{Named}
 use Rattle.target_vars.specs.declared.place.Place.{Place}
 use Rattle.target_vars.specs.declared.place.Place.TheVariants.{One, Many}
 use Rattle.target_vars.specs.declared.env.TheConstants.{MAX_BYTES, MAX_MEMBERS}
 
--- the bytes of a span
-abbrev pub piece : Text → Span → Text
-piece buffer span = slice_range buffer span.start (span.start + span.len)
+-- the offset and the length of a part
+abbrev pub at : Part → ℕ × ℕ
+at part = (part.start, part.len)
 
--- the span begins and ends between two characters of the buffer
-pub record IsPiece (buffer : Text) (span : Span) : Type 0 where
-  pub begins : IsCharBoundary buffer span.start
-  pub ends : IsCharBoundary buffer (span.start + span.len)
+-- the bytes of a part, and of a span
+abbrev pub part_text : Text → Part → Text
+part_text buffer part = piece_at buffer (at part)
+
+abbrev pub piece : Text → Span → Text
+piece buffer span = part_text buffer span.part
+
+-- the part begins and ends between two characters of the buffer
+pub record IsPart (buffer : Text) (part : Part) : Type 0 where
+  pub begins : IsCharBoundary buffer part.start
+  pub ends : IsCharBoundary buffer (part.start + part.len)
+
+abbrev pub IsPiece : Text → Span → Type 0
+IsPiece buffer span = IsPart buffer span.part
 
 -- each span is a piece of the buffer, and there are no more than an `Env` has
 pub record IsPieces (buffer : Text) (spans : List Span) : Type 0 where
@@ -25,43 +37,79 @@ pub record IsPieces (buffer : Text) (spans : List Span) : Type 0 where
   pub few_bytes : length buffer ≤ MAX_BYTES
   pub few : length spans ≤ MAX_MEMBERS
 
--- how many spans a place takes
-abbrev pub span_count : Place → ℕ
-span_count (One span) = 0
-span_count (Many count) = count
+-- the spans that carry a name's number
+abbrev pub spans_of : List Span → ℕ → List Span
+spans_of spans number = filter (λ s. s.list == number) spans
 
-abbrev pub spans_of : List Named → ℕ
-spans_of names = sum_by (λ named. span_count named.place) names
+-- the spans of a list stand side by side, count of them from first on
+pub record IsRun (spans : List Span) (number first count : ℕ) : Type 0 where
+  pub within : first + count ≤ length spans
+  pub is : take count (drop first spans) ≡ spans_of spans number
 
--- the same name, with one more span
-abbrev pub longer : Named → Named
-longer named = record named { place = Many (span_count named.place + 1) }
+-- one more span, which comes last in its list
+pub record IsPutLast (spans : List Span) (span : Span) (new : List Span) : Type 0 where
+  pub place : ℕ
+  pub within : place ≤ length spans
+  pub is : new ≡ insert spans place span
+  pub in_order : IsNonDecreasingBy (λ s. s.list) new
+  pub own : spans_of new span.list ≡ spans_of spans span.list ++ span ∷ []
+  pub others : (number : ℕ) → (span.list == number) ≡ false → spans_of new number ≡ spans_of spans number
 
--- what lies at a place, where the members of its list come first
+-- ---- the entries
+
+-- the members of a name's list
+abbrev pub members_in : Text → List Span → ℕ → List Text
+members_in buffer spans number = map (piece buffer) (spans_of spans number)
+
+-- what a name stands for, where the members of its list are given
 abbrev pub meaning_in : Text → List Text → Place → Meaning
-meaning_in buffer members (One span) = Single (piece buffer span)
-meaning_in buffer members (Many count) = Several (take count members)
+meaning_in buffer members (One part) = Single (part_text buffer part)
+meaning_in buffer members Many = Several members
 
--- the entries of the names, whose lists' members stand one after another
-unfoldable pub entries_in : Text → List Text → List Named → Environment
-entries_in buffer members [] = []
-entries_in buffer members (named ∷ names) =
-    record { name = string_bytes named.name; meaning = meaning_in buffer members named.place } ∷ entries_in buffer (drop (span_count named.place) members) names
+-- the entries of the names from a number on, where the members of each number are given
+unfoldable pub entries_from : Text → (ℕ → List Text) → ℕ → List Text → List Place → Environment
+entries_from buffer members number [] places = []
+entries_from buffer members number (name ∷ names) [] = []
+entries_from buffer members number (name ∷ names) (place ∷ places) =
+    record { name = name; meaning = meaning_in buffer (members number) place } ∷ entries_from buffer members (suc number) names places
 
-abbrev pub laid_entries : Text → List Span → List Named → Environment
-laid_entries buffer spans names = entries_in buffer (map (piece buffer) spans) names
+abbrev pub laid_entries : Text → List Span → List Text → List Place → Environment
+laid_entries buffer spans names places = entries_from buffer (members_in buffer spans) 0 names places
 
--- a text's place is a piece of the buffer
+-- the offsets and lengths of the spans
+abbrev pub laid_spans : List Span → List (ℕ × ℕ)
+laid_spans spans = map (λ s. at s.part) spans
+
+-- the name stands for a text, which lies at this part
+pub record IsTextPart (env : EnvValue) (name : Text) (part : Part) : Type 0 where
+  pub is_part : IsPart env.buffer part
+  pub is : text_of env.entries name ≡ Some (part_text env.buffer part)
+
+abbrev pub is_one : Place → Bool
+is_one (One part) = true
+is_one Many = false
+
+-- a text's place is a part of the buffer
 abbrev pub IsPlace : Text → Place → Type 0
-IsPlace buffer (One span) = IsPiece buffer span
-IsPlace buffer (Many count) = Unit {0}
+IsPlace buffer (One part) = IsPart buffer part
+IsPlace buffer Many = Unit {0}
 
--- the buffer has the bytes of the entries and nothing else, and the spans those of all lists
-pub record IsLaid (buffer : Text) (spans : List Span) (names : List Named) : Type 0 where
+-- the buffer has the bytes of the entries and nothing else, and the spans those of all lists, by the numbers of
+-- their names
+pub record IsLaid (buffer : Text) (spans : List Span) (names : List Text) (places : List Place) : Type 0 where
   pub pieces : All (IsPiece buffer) spans
-  pub placed : All (λ named. IsPlace buffer named.place) names
-  pub counted : spans_of names ≡ length spans
-  pub filled : byte_count (laid_entries buffer spans names) ≡ length buffer
-  pub once : EachNameOnce (laid_entries buffer spans names)
+  pub placed : All (IsPlace buffer) places
+  pub one_each : length places ≡ length names
+  pub in_order : IsNonDecreasingBy (λ s. s.list) spans
+  pub known : All (λ s. s.list < length names) spans
+  pub filled : byte_count (laid_entries buffer spans names places) ≡ length buffer
+  pub counted : member_count (laid_entries buffer spans names places) ≡ length spans
+  pub once : EachNameOnce (laid_entries buffer spans names places)
   pub few_bytes : length buffer ≤ MAX_BYTES
   pub few_members : length spans ≤ MAX_MEMBERS
+
+-- the name has a list of this number, which is new where the name was not there
+pub record HasList (names : List Text) (places : List Place) (name : Text) (names' : List Text) (places' : List Place) (number : ℕ) : Type 0 where
+  pub named : slice_get names' number ≡ Some name
+  pub is_list : slice_get places' number ≡ Some Many
+  pub cases : ((names' ≡ names) × (places' ≡ places)) ⊎ ((is_among name names ≡ false) × (names' ≡ names ++ name ∷ []) × (places' ≡ places ++ Many ∷ []))

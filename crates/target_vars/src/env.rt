@@ -1,12 +1,14 @@
-ghost use Rattle.std.specs.Prelude.{◌≡◌, ◌+◌, ◌<◌, ◌≤◌, ◌↔◌, ◌⊎◌, true, false, not, [], length, slice_get, IfOk, IfSome, IsTrue, OnOk, OnErr, IsUtf8};
+ghost use Rattle.std.specs.Prelude.{◌≡◌, ℕ, ◌++◌, ◌+◌, ◌<◌, ◌≤◌, ◌↔◌, ◌⊎◌, true, false, not, [], length, slice_get, IfOk, IfSome, IsTrue, MatchOption, insert, if◌then◌else◌, All, OnOk, OnErr, IsUtf8};
 ghost use Rattle.std.specs.Option.{option_copied};
 ghost use Rattle.environment_model.specs.Environment.{is_there, text_of, members_of, byte_count, member_count, with_text, with_member};
-ghost use Rattle.target_vars.specs.EnvValue.{EachNameOnce, stands_for_text};
+ghost use Rattle.target_vars.specs.EnvValue.{EachNameOnce, stands_for_text, IsWithin, IsTextAt, AreMembersAt};
+ghost use Rattle.target_vars.specs.Layout.{IsTextPart};
 ghost use Rattle.target_vars.specs.Members.{members_left};
 
 use crate::error::VarsError;
 use crate::members::Members;
-use crate::place::{Named, Place, Span, append, find, lengthen, piece, span_total};
+use crate::names::Names;
+use crate::place::{Part, Place, Span, enter, is_text, list_of, put_last, run_of};
 use std::alloc::Global;
 use std::marker::Model;
 
@@ -22,8 +24,8 @@ pub const MAX_MEMBERS: usize = 65_535;
 pub struct Env {
     buffer: String,
     spans: Vec<Span>,
-    names: Vec<Named>,
-    alloc: Global,
+    names: Names,
+    places: Vec<Place>,
 }
 
 impl Model for Env {
@@ -32,11 +34,11 @@ impl Model for Env {
     ghost Value = { EnvValue };
 
     ghost use Rattle.std.specs.Prelude.{string_bytes};
-    ghost use Rattle.target_vars.specs.Layout.{laid_entries, IsLaid};
+    ghost use Rattle.target_vars.specs.Layout.{laid_entries, laid_spans, IsLaid};
 
-    ghost view = { λ env. record { entries = laid_entries (string_bytes env.buffer) env.spans.items env.names.items } };
+    ghost view = { λ env. record { entries = laid_entries (string_bytes env.buffer) env.spans.items env.names.listed env.places.items; buffer = string_bytes env.buffer; spans = laid_spans env.spans.items } };
 
-    ghost invariant = { λ env. IsLaid (string_bytes env.buffer) env.spans.items env.names.items };
+    ghost invariant = { λ env. IsLaid (string_bytes env.buffer) env.spans.items env.names.listed env.places.items };
 }
 
 impl Env {
@@ -48,8 +50,8 @@ impl Env {
         Env {
             buffer: String::new(alloc),
             spans: Vec::new(alloc),
-            names: Vec::new(alloc),
-            alloc,
+            names: Names::new(alloc),
+            places: Vec::new(alloc),
         }
     }
 
@@ -65,17 +67,20 @@ impl Env {
         ensures too_large { (result ≡ Err VarsError.TooLarge)
             ↔ ((is_there self.old.entries name.now ≡ false) × (MAX_BYTES < byte_count self.old.entries + length text.now)) }
         ensures err { OnErr result (self.new.entries ≡ self.old.entries) }
+        ensures buffer { IfOk result (λ is_new. self.new.buffer ≡ (if is_new then self.old.buffer ++ text.now else self.old.buffer)) }
+        ensures spans { self.new.spans ≡ self.old.spans }
+        ensures unmoved { OnErr result (self.new.buffer ≡ self.old.buffer) }
     {
-        if self.has(name) {
+        let Err(gap) = self.names.find(name) else {
             return Ok(false);
-        }
+        };
         if self.is_too_long(text) {
             return Err(VarsError::TooLarge);
         }
-        let name = String::from_str(self.alloc, name)?;
-        self.names.reserve(1)?;
-        let place = Place::One(append(&mut self.buffer, text)?);
-        self.names.push_reserved(Named { name, place });
+        self.buffer.reserve(text.len())?;
+        let part = Part::at_end(&self.buffer, text);
+        enter(&mut self.names, &mut self.places, name, gap, Place::One(part))?;
+        self.buffer.push_str(text).unwrap();
         Ok(true)
     }
 
@@ -94,27 +99,24 @@ impl Env {
             ↔ ((stands_for_text self.old.entries name.now ≡ false)
             × ((MAX_BYTES < byte_count self.old.entries + length text.now) ⊎ (MAX_MEMBERS < member_count self.old.entries + 1))) }
         ensures err { OnErr result (self.new.entries ≡ self.old.entries) }
+        ensures buffer { IfOk result (λ is_added. self.new.buffer ≡ (if is_added then self.old.buffer ++ text.now else self.old.buffer)) }
+        ensures span { result ≡ Ok true → (place : ℕ) × (place ≤ length self.old.spans) × (self.new.spans ≡ insert self.old.spans place (length self.old.buffer, length text.now)) }
+        ensures unmoved { OnErr result ((self.new.buffer ≡ self.old.buffer) × (self.new.spans ≡ self.old.spans)) }
+        ensures kept { result ≡ Ok false → self.new.spans ≡ self.old.spans }
     {
-        if self.text(name).is_some() {
+        let found = self.names.find(name);
+        if is_text(&self.places, found) {
             return Ok(false);
         }
         if self.is_too_long(text) || self.is_full() {
             return Err(VarsError::TooLarge);
         }
+        self.buffer.reserve(text.len())?;
         self.spans.reserve(1)?;
-        if let Some(index) = find(&self.names, name) {
-            let span = append(&mut self.buffer, text)?;
-            lengthen(&mut self.names, &mut self.spans, index, span);
-            return Ok(true);
-        }
-        let name = String::from_str(self.alloc, name)?;
-        self.names.reserve(1)?;
-        let span = append(&mut self.buffer, text)?;
-        self.spans.push_reserved(span);
-        self.names.push_reserved(Named {
-            name,
-            place: Place::Many(1),
-        });
+        let list = list_of(&mut self.names, &mut self.places, name, found)?;
+        let part = Part::at_end(&self.buffer, text);
+        self.buffer.push_str(text).unwrap();
+        put_last(&mut self.spans, Span { list, part });
         Ok(true)
     }
 
@@ -130,10 +132,31 @@ impl Env {
         self.members() >= MAX_MEMBERS
     }
 
-    fn has(&self, name: &str) -> bool
-        ensures { result ≡ is_there self.now.entries name.now }
+    /// The part of the buffer where the name's text lies.
+    fn part_of(&self, name: &str) -> Option<Part>
+        ensures { MatchOption result (text_of self.now.entries name.now ≡ None) (IsTextPart self.now name.now) }
     {
-        find(&self.names, name).is_some()
+        let Ok(number) = self.names.find(name) else {
+            return None;
+        };
+        match self.places[number] {
+            Place::One(part) => Some(part),
+            Place::Many => None,
+        }
+    }
+
+    /// Where the spans of the name's list begin, and how many they are.
+    fn run(&self, name: &str) -> (usize, usize)
+        ensures value { AreMembersAt self.now name.now result.0 result.1 }
+        ensures small { result.0 + result.1 ≤ MAX_MEMBERS }
+    {
+        let Ok(number) = self.names.find(name) else {
+            return (0, 0);
+        };
+        match self.places[number] {
+            Place::One(_) => (0, 0),
+            Place::Many => run_of(&self.spans, number),
+        }
     }
 
     /// The text of the name; `None` for a list.
@@ -142,11 +165,16 @@ impl Env {
         ensures small { IfSome result (λ text. length text.now ≤ MAX_BYTES) }
         ensures utf8 { IfSome result (λ text. IsUtf8 text.now) }
     {
-        let index = find(&self.names, name)?;
-        match self.names[index].place {
-            Place::One(span) => Some(piece(&self.buffer, span)),
-            Place::Many(_) => None,
-        }
+        let part = self.part_of(name)?;
+        Some(part.of(&self.buffer))
+    }
+
+    /// Where the text of the name lies in the buffer: its offset and its length, in bytes. `None` for a list.
+    pub fn text_at(&self, name: &str) -> Option<(u32, u32)>
+        ensures { MatchOption result (text_of self.now.entries name.now ≡ None) (λ at. IsTextAt self.now name.now (at.0, at.1)) }
+    {
+        let part = self.part_of(name)?;
+        Some((part.start, part.len))
     }
 
     /// How many members the list of the name has; 0 for a text.
@@ -154,19 +182,38 @@ impl Env {
         ensures value { result ≡ length (members_of self.now.entries name.now) }
         ensures small { result ≤ MAX_MEMBERS }
     {
-        self.list(name).len()
+        self.run(name).1
     }
 
     /// The members of the list of the name; none for a text.
     pub fn list(&self, name: &str) -> Members<'_>
         ensures { members_left result ≡ members_of self.now.entries name.now }
     {
-        let Some(index) = find(&self.names, name) else {
-            return Members::none();
-        };
-        let first = span_total(&self.names[..index]) as usize;
-        let count = self.names[index].place.spans() as usize;
+        let (first, count) = self.run(name);
         Members::new(&self.buffer, &self.spans[first..first + count])
+    }
+
+    /// Which spans are those of the name's list: the first, and how many. `(0, 0)` without a list.
+    pub fn members_at(&self, name: &str) -> (u32, u32)
+        ensures value { AreMembersAt self.now name.now result.0 result.1 }
+        ensures none { members_of self.now.entries name.now ≡ [] → result ≡ (0, 0) }
+    {
+        let (first, count) = self.run(name);
+        if count == 0 {
+            return (0, 0);
+        }
+        (first as u32, count as u32)
+    }
+
+    /// Where a span of a list lies in the buffer: its offset and its length, in bytes. The spans of all lists
+    /// are counted from 0, and there are [`members`](Env::members) of them.
+    pub fn span(&self, i: usize) -> (u32, u32)
+        requires { i < member_count self.now.entries }
+        ensures value { slice_get self.now.spans i ≡ Some (result.0, result.1) }
+        ensures within { IsWithin self.now.buffer (result.0, result.1) }
+    {
+        let part = self.spans[i].part;
+        (part.start, part.len)
     }
 
     /// Member `i` of the list of the name, counted from 0; `None` for a text, and past the last member.
@@ -176,6 +223,16 @@ impl Env {
         ensures utf8 { IfSome result (λ text. IsUtf8 text.now) }
     {
         self.list(name).get(i)
+    }
+
+    /// The bytes of all texts and members, in the order in which they came; names are not among them.
+    pub fn buffer(&self) -> &[u8]
+        ensures value { result.now ≡ self.now.buffer }
+        ensures len { length result.now ≡ byte_count self.now.entries }
+        ensures small { length result.now ≤ MAX_BYTES }
+        ensures within { All (IsWithin self.now.buffer) self.now.spans }
+    {
+        self.buffer.as_bytes()
     }
 
     /// How many bytes all texts and members have together; names do not count.
@@ -191,6 +248,7 @@ impl Env {
         ensures value { result ≡ member_count self.now.entries }
         ensures small { result ≤ MAX_MEMBERS }
         ensures once { EachNameOnce self.now.entries }
+        ensures spans { result ≡ length self.now.spans }
     {
         self.spans.len()
     }

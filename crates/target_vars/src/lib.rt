@@ -4,6 +4,8 @@
 mod env;
 mod error;
 mod members;
+mod members_iter;
+mod names;
 mod place;
 #[cfg(test)]
 mod tests;
@@ -11,3 +13,4 @@ mod tests;
 pub use env::{Env, MAX_BYTES, MAX_MEMBERS};
 pub use error::VarsError;
 pub use members::Members;
+pub use members_iter::MembersIter;

@@ -3,7 +3,7 @@ ghost use Rattle.std.specs.Option.{option_copied};
 ghost use Rattle.target_vars.specs.Layout.{IsPieces};
 ghost use Rattle.target_vars.specs.declared.env.TheConstants.{MAX_BYTES, MAX_MEMBERS};
 
-use crate::place::{Span, piece};
+use crate::place::Span;
 
 /// The members of a list of an [`Env`](crate::Env), in the order in which they came. As a slice does,
 /// it lends them: it is copied and shortened without touching a text, and takes no look-up for each.
@@ -59,7 +59,7 @@ impl<'a> Members<'a> {
         ensures small { IfSome result (λ text. length text.now ≤ MAX_BYTES) }
     {
         let span = self.spans.get(i)?;
-        Some(piece(self.buffer, *span))
+        Some(span.part.of(self.buffer))
     }
 
     /// The first member and those after it; `None` where there is no member.
@@ -72,6 +72,6 @@ impl<'a> Members<'a> {
             buffer: self.buffer,
             spans: after,
         };
-        Some((piece(self.buffer, *span), others))
+        Some((span.part.of(self.buffer), others))
     }
 }

@@ -1,91 +1,125 @@
-ghost use Rattle.std.specs.Prelude.{◌≡◌, ◌<◌, ◌≤◌, ◌+◌, ◌++◌, length, take, insert, slice_get, slice_set, string_bytes, string_len, vec_len, vec_capacity, IfOk, IfErr, OnOk, position as first_position};
-ghost use Rattle.std.specs.Str.{bytes_eq};
-ghost use Rattle.target_vars.specs.Layout.{piece as piece_of, IsPiece, span_count, spans_of, longer};
-ghost use Rattle.target_vars.specs.declared.place.Named.{Named};
+ghost use Rattle.std.specs.Prelude.{◌≡◌, false, ◌<◌, ◌≤◌, ◌+◌, [], ◌∷◌, ◌++◌, length, vec_len, vec_capacity, slice_get, MatchResult, IfOk, OnOk, OnErr};
+ghost use Rattle.std.specs.List.Sorted.{IsNonDecreasingBy};
+ghost use Rattle.target_vars.specs.Layout.{part_text, is_one, HasList, IsPart, IsPutLast, IsRun};
+ghost use Rattle.target_vars.specs.NamesValue.{IsGap};
+ghost use Rattle.target_vars.specs.declared.place.Place.TheVariants.{Many};
+ghost use Rattle.target_vars.specs.declared.place.Place.{Place as PlaceValue};
 
-use crate::env::{MAX_BYTES, MAX_MEMBERS};
-use crate::error::VarsError;
+use crate::env::MAX_BYTES;
+use crate::names::Names;
+use std::alloc::AllocError;
 
 /// A part of the buffer, in bytes.
 #[derive(Clone, Copy)]
-pub(crate) struct Span {
+pub(crate) struct Part {
     pub(crate) start: u32,
     pub(crate) len: u32,
 }
 
-/// Where what a name stands for lies: a text's own span, or how many spans its list has.
+/// Where a member lies, and the number of the name whose list it is of.
 #[derive(Clone, Copy)]
-pub(crate) enum Place {
-    One(Span),
-    Many(u32),
+pub(crate) struct Span {
+    pub(crate) list: usize,
+    pub(crate) part: Part,
 }
 
-impl Place {
-    pub(crate) fn spans(self) -> u32
-        ensures { result ≡ span_count self }
+/// What a name stands for: a text, or a list, whose spans carry the name's number.
+#[derive(Clone, Copy)]
+pub(crate) enum Place {
+    One(Part),
+    Many,
+}
+
+impl Part {
+    /// Where a text will lie that goes to the end of the buffer.
+    pub(crate) fn at_end(buffer: &str, text: &str) -> Part
+        requires { length buffer.now + length text.now ≤ MAX_BYTES }
+        ensures start { result.start ≡ length buffer.now }
+        ensures len { result.len ≡ length text.now }
     {
-        match self {
-            Place::One(_) => 0,
-            Place::Many(count) => count,
+        Part {
+            start: buffer.len() as u32,
+            len: text.len() as u32,
+        }
+    }
+
+    pub(crate) fn of(self, buffer: &str) -> &str
+        requires { IsPart buffer.now self }
+        ensures { result.now ≡ part_text buffer.now self }
+    {
+        let start = self.start as usize;
+        &buffer[start..start + self.len as usize]
+    }
+}
+
+/// Adds a name with its place.
+pub(crate) fn enter(
+    names: &mut Names,
+    places: &mut Vec<Place>,
+    name: &str,
+    gap: usize,
+    place: Place,
+) -> Result<(), AllocError>
+    requires { IsGap names.old name.now gap }
+    ensures names { OnOk result (names.new.listed ≡ names.old.listed ++ name.now ∷ []) }
+    ensures places { OnOk result (places.new.items ≡ places.old.items ++ place ∷ []) }
+    ensures err { OnErr result ((names.new.listed ≡ names.old.listed) × (places.new.items ≡ places.old.items)) }
+{
+    places.reserve(1)?;
+    names.add(name, gap)?;
+    places.push_reserved(place);
+    Ok(())
+}
+
+/// The name that was found stands for a text.
+pub(crate) fn is_text(places: &[Place], found: Result<usize, usize>) -> bool
+    requires { IfOk found (λ number. number < length places.now) }
+    ensures { MatchResult found (λ number. (place : PlaceValue) → slice_get places.now number ≡ Some place → result ≡ is_one place) (λ _. result ≡ false) }
+{
+    match found {
+        Ok(number) => matches!(places[number], Place::One(_)),
+        Err(_) => false,
+    }
+}
+
+/// The number of the name's list, which is a new one where the name was not found.
+pub(crate) fn list_of(
+    names: &mut Names,
+    places: &mut Vec<Place>,
+    name: &str,
+    found: Result<usize, usize>,
+) -> Result<usize, AllocError>
+    requires found { MatchResult found (λ number. (slice_get names.old.listed number ≡ Some name.now) × (slice_get places.old.items number ≡ Some Many)) (IsGap names.old name.now) }
+    requires one_each { length places.old.items ≡ length names.old.listed }
+    ensures ok { IfOk result (HasList names.old.listed places.old.items name.now names.new.listed places.new.items) }
+    ensures err { OnErr result ((names.new.listed ≡ names.old.listed) × (places.new.items ≡ places.old.items)) }
+{
+    match found {
+        Ok(number) => Ok(number),
+        Err(gap) => {
+            let number = places.len();
+            enter(names, places, name, gap, Place::Many)?;
+            Ok(number)
         }
     }
 }
 
-#[derive(Drop)]
-pub(crate) struct Named {
-    pub(crate) name: String,
-    pub(crate) place: Place,
-}
-
-/// The index of a name.
-pub(crate) fn find(names: &[Named], name: &str) -> Option<usize>
-    ensures { result ≡ first_position (λ named. bytes_eq (string_bytes named.name) name.now) names.now }
+/// Where the spans of the list begin, and how many they are.
+pub(crate) fn run_of(spans: &[Span], list: usize) -> (usize, usize)
+    requires { IsNonDecreasingBy (λ s. s.list) spans.now }
+    ensures { IsRun spans.now list result.0 result.1 }
 {
-    names.iter().position(|named| named.name.as_str() == name)
+    let first = spans.partition_point(|span| span.list < list);
+    let count = spans[first..].partition_point(|span| span.list <= list);
+    (first, count)
 }
 
-/// How many spans the lists of these names have together.
-pub(crate) fn span_total(names: &[Named]) -> u32
-    requires { spans_of names.now ≤ MAX_MEMBERS }
-    ensures { result ≡ spans_of names.now }
-{
-    names.iter().map(|named| named.place.spans()).sum()
-}
-
-pub(crate) fn piece(buffer: &str, span: Span) -> &str
-    requires { IsPiece buffer.now span }
-    ensures { result.now ≡ piece_of buffer.now span }
-{
-    let start = span.start as usize;
-    &buffer[start..start + span.len as usize]
-}
-
-/// Appends the text to the buffer, and answers where it lies now.
-pub(crate) fn append(buffer: &mut String, text: &str) -> Result<Span, VarsError>
-    requires room { string_len buffer.old + length text.now ≤ MAX_BYTES }
-    ensures span { IfOk result (λ span. (span.start ≡ length (string_bytes buffer.old)) × (span.len ≡ length text.now)) }
-    ensures ok { OnOk result (string_bytes buffer.new ≡ string_bytes buffer.old ++ text.now) }
-    ensures err { IfErr result (λ e. (e ≡ VarsError.NoMemory) × (string_bytes buffer.new ≡ string_bytes buffer.old)) }
-{
-    let start = buffer.len() as u32;
-    buffer.push_str(text)?;
-    Ok(Span {
-        start,
-        len: text.len() as u32,
-    })
-}
-
-/// Makes the span the last one of the list at the index.
-pub(crate) fn lengthen(names: &mut Vec<Named>, spans: &mut Vec<Span>, index: usize, span: Span)
-    requires at { index < vec_len names.old }
-    requires few { spans_of names.old.items ≤ MAX_MEMBERS }
+/// Puts the span last in its list.
+pub(crate) fn put_last(spans: &mut Vec<Span>, span: Span)
+    requires in_order { IsNonDecreasingBy (λ s. s.list) spans.old.items }
     requires room { vec_len spans.old < vec_capacity spans.old }
-    requires counted { spans_of names.old.items ≡ vec_len spans.old }
-    ensures spans { spans.new.items ≡ insert spans.old.items (spans_of (take (index + 1) names.old.items)) span }
-    ensures names { (named : Named) → slice_get names.old.items index ≡ Some named → names.new.items ≡ slice_set names.old.items index (longer named) }
+    ensures { IsPutLast spans.old.items span spans.new.items }
 {
-    let end = span_total(&names[..index + 1]) as usize;
+    let end = spans.partition_point(|other| other.list <= span.list);
     spans.insert(end, span).unwrap();
-    let named = &mut names[index];
-    named.place = Place::Many(named.place.spans() + 1);
 }

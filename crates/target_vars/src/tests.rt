@@ -34,6 +34,23 @@ fn whole_size(rt: HostRuntime) -> Result<(), Fail> {
 }
 
 #[test]
+fn buffer_and_spans(rt: HostRuntime) -> Result<(), Fail> {
+    let mut env = Env::new(rt.alloc());
+    env.put_text("a", "x")?;
+    env.add_member("l", "p")?;
+    env.put_text("b", "y")?;
+    env.add_member("m", "r")?;
+    env.add_member("l", "q")?;
+    assert_eq!(rt; env.buffer(), "xpyrq".as_bytes());
+    assert_eq!(rt; (env.text_at("a"), env.text_at("b")), (Some((0, 1)), Some((2, 1))));
+    assert_eq!(rt; (env.text_at("l"), env.text_at("c")), (None, None));
+    assert_eq!(rt; (env.members_at("l"), env.members_at("m")), ((0, 2), (2, 1)));
+    assert_eq!(rt; (env.members_at("a"), env.members_at("c")), ((0, 0), (0, 0)));
+    assert_eq!(rt; (env.span(0), env.span(1), env.span(2)), ((1, 1), (4, 1), (3, 1)));
+    Ok(())
+}
+
+#[test]
 fn too_many_members(rt: HostRuntime) -> Result<(), Fail> {
     let mut env = Env::new(rt.alloc());
     for _ in 0..65_535 {
@@ -78,6 +95,25 @@ fn members_stand_in_the_order_in_which_they_came(rt: HostRuntime) -> Result<(), 
 }
 
 #[test]
+fn names_are_found_in_whichever_order_they_came(rt: HostRuntime) -> Result<(), Fail> {
+    let names = ["rft.title", "", "rft", "rft.a", "é", "rft.titles", "a", "rft.au"];
+    let mut env = Env::new(rt.alloc());
+    for name in names {
+        assert_eq!(rt; env.text(name), None);
+        assert_eq!(rt; env.put_text(name, name), Ok(true));
+    }
+    for name in names {
+        assert_eq!(rt; env.text(name), Some(name));
+        assert_eq!(rt; env.put_text(name, "late"), Ok(false));
+        assert_eq!(rt; env.add_member(name, "late"), Ok(false));
+    }
+    for other in ["b", "rft.", "rft.b", "zz", "\u{0}"] {
+        assert_eq!(rt; (env.text(other), env.count(other)), (None, 0));
+    }
+    Ok(())
+}
+
+#[test]
 fn lists_are_lent(rt: HostRuntime) -> Result<(), Fail> {
     let mut env = Env::new(rt.alloc());
     env.put_text("rft.title", "Typee")?;
@@ -97,6 +133,10 @@ fn lists_are_lent(rt: HostRuntime) -> Result<(), Fail> {
         left = others;
     }
     assert_eq!(rt; left.len(), 0);
+    let mut listed = authors.into_iter();
+    for author in [Some("Melville"), Some("Hawthorne"), None] {
+        assert_eq!(rt; listed.next(), author);
+    }
     for none in [left, env.list("rft.title"), env.list("x"), Members::none()] {
         assert_eq!(rt; none.is_empty(), true);
         assert_eq!(rt; none.split_first().is_none(), true);

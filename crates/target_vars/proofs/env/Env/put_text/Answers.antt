@@ -1,36 +1,75 @@
-use Rattle.std.proofs.Common.{◌≡◌, ◌≤◌, ◌+◌, [], ◌∷◌, ◌++◌, length, false, string_bytes, refl, sym, ap, ◌∙◌, arith}
+use Rattle.std.proofs.Common.{rules, ◌≡◌, ◌+◌, ◌<◌, ◌≤◌, [], ◌∷◌, ◌++◌, true, false, not, length, IsTrue, string_bytes, refl, sym, ap, ◌∙◌, subst, arith, inl, inr}
 use Rattle.std.proofs.lemmas.Str.{IsUtf8-string_bytes}
-use Rattle.environment_model.specs.Environment.{is_there, with_text, byte_count}
+use Rattle.environment_model.specs.Environment.{is_there, with_text}
+use Rattle.environment_model.proofs.Environments.{with_text-known}
 use Rattle.target_vars.specs.EnvValue.{EnvValue}
-use Rattle.target_vars.specs.Layout.{laid_entries}
-use Rattle.target_vars.specs.declared.place.Span.{Span}
-use Rattle.target_vars.specs.declared.place.Named.{Named}
+use Rattle.target_vars.specs.Layout.{IsLaid, laid_entries}
 use Rattle.target_vars.specs.declared.place.Place.TheVariants.{One}
-use Rattle.target_vars.specs.declared.env.TheConstants.{MAX_BYTES}
-use Rattle.target_vars.proofs.Additions.{laid_put, put_is, within}
+use Rattle.target_vars.proofs.Additions.{put_is, laid_put}
+use Rattle.target_vars.proofs.Facts.{known, lacking, fits}
 use Rattle.target_vars.proofs.env.Env.put_text.Goals as goal
+
+pub returns-in_default-clause-answer : goal.returns-in_default-clause-answer
+returns-in_default-clause-answer c =
+    let there : is_there c.args.self.now.entries c.args.name.now ≡ true = known c.self.inside c.args.self.now c.args.name.now c.in_default.field-0 c.self.invariant c.self.view_is c.in_default.ensures in
+    ap not (sym there)
+
+pub returns-in_default-clause-ok : goal.returns-in_default-clause-ok
+returns-in_default-clause-ok c =
+    let there : is_there c.args.self.now.entries c.args.name.now ≡ true = known c.self.inside c.args.self.now c.args.name.now c.in_default.field-0 c.self.invariant c.self.view_is c.in_default.ensures in
+    sym (with_text-known c.args.self.now.entries c.args.name.now c.args.text.now there)
+
+pub returns-in_default-clause-too_large : goal.returns-in_default-clause-too_large
+returns-in_default-clause-too_large c =
+    let there : is_there c.args.self.now.entries c.args.name.now ≡ true = known c.self.inside c.args.self.now c.args.name.now c.in_default.field-0 c.self.invariant c.self.view_is c.in_default.ensures in
+    (λ is. absurd (cc), λ h. (let none = h.0 in absurd (cc)))
+
+pub returns-then-is_too_long-clause-known : goal.returns-then-is_too_long-clause-known
+returns-then-is_too_long-clause-known c =
+    let absent = lacking c.self.inside c.args.self.now c.args.name.now c.self.invariant c.self.view_is c.in-Err.ensures.lacks in
+    λ there. absurd (cc)
+
+pub returns-then-is_too_long-clause-too_large : goal.returns-then-is_too_long-clause-too_large
+returns-then-is_too_long-clause-too_large c =
+    let absent = lacking c.self.inside c.args.self.now c.args.name.now c.self.invariant c.self.view_is c.in-Err.ensures.lacks in
+    (λ is. (absent, c.is_too_long.ensures.0 c.if-is_too_long.true), λ h. refl)
+
+pub returns-in_err-reserve-clause-known : goal.returns-in_err-reserve-clause-known
+returns-in_err-reserve-clause-known c =
+    let absent = lacking c.self.inside c.args.self.now c.args.name.now c.self.invariant c.self.view_is c.in-Err.ensures.lacks in
+    λ there. absurd (cc)
+
+pub returns-in_err-enter-clause-known : goal.returns-in_err-enter-clause-known
+returns-in_err-enter-clause-known c =
+    let absent = lacking c.self.inside c.args.self.now c.args.name.now c.self.invariant c.self.view_is c.in-Err.ensures.lacks in
+    λ there. absurd (cc)
 
 pub invariant_of-self-2 : goal.invariant_of-self-2
 invariant_of-self-2 c =
     let r = c.self.inside in
     let b = string_bytes r.buffer in
-    let s : Span = c.in_ok-append.field-0 in
-    let e : Named = record { name = c.in_ok-name.name; place = One s } in
-    let buffer : string_bytes c.append.new.buffer ≡ b ++ c.args.text.now = c.in_ok-append.ensures.ok in
-    let names : c.push_reserved.new.self.items ≡ r.names.items ++ e ∷ [] = c.push_reserved.ensures.items ∙ ap (λ xs. xs ++ e ∷ []) c.reserve.ensures.items in
-    let absent : is_there (laid_entries b r.spans.items r.names.items) c.args.name.now ≡ false = ap (λ (v : EnvValue). is_there v.entries c.args.name.now) c.self.view_is ∙ sym c.has.ensures ∙ c.if-has.false in
-    let bytes = ap (λ (v : EnvValue). byte_count v.entries) c.self.view_is in
-    let fits : length b + length c.args.text.now ≤ MAX_BYTES = let short = within (c.is_too_long.result) MAX_BYTES (byte_count c.args.self.now.entries + length c.args.text.now) c.is_too_long.ensures.1 c.if-is_too_long.false in omega (arith, bytes, c.self.invariant.filled, short) in
-    rw (buffer, names) (laid_put b c.args.text.now r.spans.items r.names.items e s c.args.name.now (IsUtf8-string_bytes r.buffer) c.utf8.text c.self.invariant c.in_ok-name.ensures.ok refl c.in_ok-append.ensures.span.0 c.in_ok-append.ensures.span.1 absent fits)
+    let part = c.at_end-part.result in
+    let buffer : string_bytes c.push_str.new.self ≡ b ++ c.args.text.now = search rules in
+    let start : part.start ≡ length b = search rules in
+    let short = fits r c.args.self.now c.args.text.now c.is_too_long.result c.self.invariant c.self.view_is c.is_too_long.ensures.1 c.if-is_too_long.false in
+    rw (buffer, c.in_ok-enter.ensures.names, c.in_ok-enter.ensures.places) (laid_put b c.args.text.now r.spans.items r.names.listed r.places.items c.args.name.now part (IsUtf8-string_bytes r.buffer) c.utf8.text c.self.invariant c.in-Err.ensures.lacks start c.at_end-part.ensures.len short)
+
+pub returns-clause-answer : goal.returns-clause-answer
+returns-clause-answer c =
+    let absent = lacking c.self.inside c.args.self.now c.args.name.now c.self.invariant c.self.view_is c.in-Err.ensures.lacks in
+    ap not (sym absent)
 
 pub returns-clause-ok : goal.returns-clause-ok
 returns-clause-ok c =
     let r = c.self.inside in
     let b = string_bytes r.buffer in
-    let s : Span = c.in_ok-append.field-0 in
-    let e : Named = record { name = c.in_ok-name.name; place = One s } in
-    let buffer : string_bytes c.append.new.buffer ≡ b ++ c.args.text.now = c.in_ok-append.ensures.ok in
-    let names : c.push_reserved.new.self.items ≡ r.names.items ++ e ∷ [] = c.push_reserved.ensures.items ∙ ap (λ xs. xs ++ e ∷ []) c.reserve.ensures.items in
-    let absent : is_there (laid_entries b r.spans.items r.names.items) c.args.name.now ≡ false = ap (λ (v : EnvValue). is_there v.entries c.args.name.now) c.self.view_is ∙ sym c.has.ensures ∙ c.if-has.false in
-    let is = put_is b c.args.text.now r.spans.items r.names.items e s c.args.name.now c.self.invariant c.in_ok-name.ensures.ok refl c.in_ok-append.ensures.span.0 c.in_ok-append.ensures.span.1 absent in
-    rw (buffer, names) (is ∙ ap (λ (v : EnvValue). with_text v.entries c.args.name.now c.args.text.now) c.self.view_is)
+    let part = c.at_end-part.result in
+    let buffer : string_bytes c.push_str.new.self ≡ b ++ c.args.text.now = search rules in
+    let start : part.start ≡ length b = search rules in
+    let is = put_is b c.args.text.now r.spans.items r.names.listed r.places.items c.args.name.now part c.self.invariant c.in-Err.ensures.lacks start c.at_end-part.ensures.len in
+    rw (buffer, c.in_ok-enter.ensures.names, c.in_ok-enter.ensures.places) (is ∙ ap (λ (v : EnvValue). with_text v.entries c.args.name.now c.args.text.now) c.self.view_is)
+
+pub returns-clause-known : goal.returns-clause-known
+returns-clause-known c =
+    let absent = lacking c.self.inside c.args.self.now c.args.name.now c.self.invariant c.self.view_is c.in-Err.ensures.lacks in
+    λ there. absurd (cc)

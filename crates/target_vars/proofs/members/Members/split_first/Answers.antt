@@ -1,6 +1,6 @@
 use Rattle.std.proofs.Common.{subst}
 use Rattle.target_vars.specs.Layout.{IsPieces}
-use Rattle.target_vars.proofs.Readers.{after_first}
+use Rattle.target_vars.proofs.Laid.{after_first}
 use Rattle.target_vars.proofs.members.Members.split_first.Goals as goal
 
 pub invariant_of-others : goal.invariant_of-others

@@ -1,0 +1,48 @@
+#!/usr/bin/env bash
+# Counts the instructions of filling an environment, by callgrind, and prints a table. No part of the gate.
+# usage: benches/fill.sh [a folder with the crates to measure; this repository's, if left out]
+set -euo pipefail
+
+here=$(cd "$(dirname "$0")" && pwd)
+from=${1:-$here/..}
+work=$(mktemp -d)
+trap 'rm -rf "$work"' EXIT
+
+mkdir "$work/crates"
+for crate in text_model environment_model target_vars; do
+  cp -a "$from/crates/$crate" "$work/crates/"
+done
+mkdir -p "$work/crates/fill_bench/src"
+cp "$here/fill.rt.txt" "$work/crates/fill_bench/src/main.rt"
+cat > "$work/crates.txt" <<END
+text_model:
+environment_model: text_model
+target_vars: text_model environment_model thiserror
+fill_bench: target_vars
+END
+
+cd "$work/crates/fill_bench"
+if ! rt run -- nothing 1 > "$work/build.log" 2>&1; then
+  cat "$work/build.log"
+  exit 1
+fi
+
+# The instructions of one run, which fails where the environment answers wrongly.
+instructions() {
+  valgrind --tool=callgrind --callgrind-out-file=/dev/null out/fill_bench "$1" "$2" 2> "$work/count.log" ||
+    { echo "$1 $2: a wrong answer" >&2; exit 1; }
+  sed -n 's/.*Collected : //p' "$work/count.log"
+}
+
+# The instructions of filling alone, without those of making its names so many times.
+row() {
+  local all names
+  all=$(instructions "$1" "$2")
+  names=$(instructions nothing "$2")
+  echo "| $1 | $2 | $((all - names * $3)) |"
+}
+
+echo "| filled | size | instructions |"
+echo "|---|---:|---:|"
+for size in 1024 2048 4096; do row names $size 1; done
+for size in 512 1024 2048; do row lists $size 2; done

@@ -1,0 +1,116 @@
+-- What the fields of an `Env` say of what callers see of it.
+use Rattle.std.proofs.Common.{◌≡◌, ℕ, ◌+◌, ◌<◌, ◌≤◌, List, [], ◌∷◌, ◌++◌, map, take, drop, insert, IsTrue, Bool, true, false, length, slice_get, get_or, Option, Some, None, is_some, Result, Ok, Err, string_bytes, refl, sym, ap, ◌∙◌, subst, arith}
+use Rattle.std.specs.Prelude.{MatchResult}
+use Rattle.std.proofs.lemmas.Option.{slice_get-get_or, slice_get_within}
+use Rattle.text_model.specs.Texts.{Text}
+use Rattle.environment_model.specs.Environment.{is_there, is_among, text_in, text_of, byte_count, member_count}
+use Rattle.target_vars.specs.EnvValue.{EnvValue, stands_for_text, AreMembersAt}
+use Rattle.target_vars.specs.NamesValue.{NamesValue, IsGap}
+use Rattle.target_vars.specs.Layout.{at, part_text, is_one, laid_spans, meaning_in, members_in, IsLaid, IsRun, IsTextPart, IsPutLast}
+use Rattle.target_vars.specs.declared.env.Env.TheInside.{Inside}
+use Rattle.target_vars.specs.declared.env.TheConstants.{MAX_BYTES, MAX_MEMBERS}
+use Rattle.target_vars.specs.declared.place.Part.{Part}
+use Rattle.target_vars.specs.declared.place.Span.{Span}
+use Rattle.target_vars.specs.declared.place.Place.{Place}
+use Rattle.target_vars.specs.declared.place.Place.TheVariants.{One, Many}
+use Rattle.std.proofs.lemmas.List.{length-map, map-append, take-map, drop-map}
+use Rattle.target_vars.proofs.Additions.{within}
+use Rattle.target_vars.proofs.Laid.{seen, is_there-laid, look_up-lacking, look_up-laid, place_read, text_part, no_text-at, no_members-at, no_members-lacking, members_at}
+
+abbrev pub held : Inside → EnvValue
+held r = seen (string_bytes r.buffer) r.spans.items r.names.listed r.places.items
+
+abbrev pub IsHeld : Inside → Type 0
+IsHeld r = IsLaid (string_bytes r.buffer) r.spans.items r.names.listed r.places.items
+
+-- ---- a name
+
+pub lacking : (r : Inside) (v : EnvValue) (name : Text) → IsHeld r → held r ≡ v → is_among name r.names.listed ≡ false → is_there v.entries name ≡ false
+lacking r v name laid is lacks = ap (λ (x : EnvValue). is_there x.entries name) (sym is) ∙ is_there-laid (string_bytes r.buffer) r.spans.items r.names.listed r.places.items name laid ∙ lacks
+
+-- the place of a number that was found
+pub found_place : (r : Inside) (name : Text) (k : ℕ) → IsHeld r → slice_get r.names.listed k ≡ Some name → (p : Place) × (slice_get r.places.items k ≡ Some p)
+found_place r name k laid named = (get_or r.places.items k Many, (let one_each = laid.one_each in let below = slice_get_within r.names.listed k name named in slice_get-get_or r.places.items k Many (omega arith)))
+
+pub known : (r : Inside) (v : EnvValue) (name : Text) (k : ℕ) → IsHeld r → held r ≡ v → slice_get r.names.listed k ≡ Some name → is_there v.entries name ≡ true
+known r v name k laid is named =
+    let p = found_place r name k laid named in
+    ap (λ (x : EnvValue). is_there x.entries name) (sym is) ∙ ap is_some (look_up-laid (string_bytes r.buffer) r.spans.items r.names.listed r.places.items name k p.0 laid named p.1)
+
+-- ---- what it stands for
+
+-- whether what was found is a text's place
+abbrev pub Says : List Place → Result ℕ ℕ → Bool → Type 0
+Says places found text = MatchResult found (λ k. (p : Place) → slice_get places k ≡ Some p → text ≡ is_one p) (λ _. text ≡ false)
+
+-- what was found of a name
+abbrev pub IsFound : Inside → Text → Result ℕ ℕ → Type 0
+IsFound r name found = MatchResult found (λ k. slice_get r.names.listed k ≡ Some name) (IsGap r.names name)
+
+pub decided : (r : Inside) (v : EnvValue) (name : Text) (found : Result ℕ ℕ) (text : Bool) → IsHeld r → held r ≡ v → IsFound r name found
+    → Says r.places.items found text → stands_for_text v.entries name ≡ text
+decided r v name (Ok k) text laid is named says =
+    let p = found_place r name k laid named in
+    ap (λ (x : EnvValue). stands_for_text x.entries name) (sym is)
+    ∙ ap (λ o. is_some (text_in o)) (look_up-laid (string_bytes r.buffer) r.spans.items r.names.listed r.places.items name k p.0 laid named p.1)
+    ∙ by_place p.0
+    ∙ sym (says p.0 p.1)
+  where
+    by_place : (p : Place) → is_some (text_in (Some (meaning_in (string_bytes r.buffer) (members_in (string_bytes r.buffer) r.spans.items k) p))) ≡ is_one p
+    by_place (One part) = refl
+    by_place Many = refl
+decided r v name (Err gap) text laid is named says =
+    ap (λ (x : EnvValue). stands_for_text x.entries name) (sym is)
+    ∙ ap (λ o. is_some (text_in o)) (look_up-lacking (string_bytes r.buffer) r.spans.items r.names.listed r.places.items name laid named.lacks)
+    ∙ sym says
+
+-- the list of the name that was found, where it stands for no text
+pub found_list : (r : Inside) (name : Text) (found : Result ℕ ℕ) (text : Bool) → IsHeld r → IsFound r name found
+    → Says r.places.items found text → text ≡ false
+    → MatchResult found (λ k. (slice_get r.names.listed k ≡ Some name) × (slice_get r.places.items k ≡ Some Many)) (IsGap r.names name)
+found_list r name (Ok k) text laid named says none =
+    let p = found_place r name k laid named in
+    (named, p.1 ∙ ap Some (by_place p.0 (sym (says p.0 p.1) ∙ none)))
+  where
+    by_place : (p : Place) → is_one p ≡ false → p ≡ Many
+    by_place (One part) one = absurd (cc)
+    by_place Many one = refl
+found_list r name (Err gap) text laid named says none = named
+
+-- the number that was found is that of a place
+pub in_places : (r : Inside) (name : Text) (found : Result ℕ ℕ) → IsHeld r → IsFound r name found → MatchResult found (λ k. k < length r.places.items) (λ _. Unit {0})
+in_places r name (Ok k) laid named = slice_get_within r.places.items k (found_place r name k laid named).0 (found_place r name k laid named).1
+in_places r name (Err gap) laid named = tt
+
+-- ---- the limits
+
+pub fits : (r : Inside) (v : EnvValue) (t : Text) (long : Bool) → IsHeld r → held r ≡ v → (MAX_BYTES < byte_count v.entries + length t → IsTrue long) → long ≡ false → length (string_bytes r.buffer) + length t ≤ MAX_BYTES
+fits r v t long laid is says none =
+    let bytes = ap (λ (x : EnvValue). byte_count x.entries) is in
+    let filled = laid.filled in
+    let short = within long MAX_BYTES (byte_count v.entries + length t) says none in
+    omega arith
+
+pub few : (r : Inside) (v : EnvValue) (full : Bool) → IsHeld r → held r ≡ v → (MAX_MEMBERS < member_count v.entries + 1 → IsTrue full) → full ≡ false → length r.spans.items + 1 ≤ MAX_MEMBERS
+few r v full laid is says none =
+    let members = ap (λ (x : EnvValue). member_count x.entries) is in
+    let counted = laid.counted in
+    let short = within full MAX_MEMBERS (member_count v.entries + 1) says none in
+    omega arith
+
+-- ---- one more span
+
+laid_insert : (spans : List Span) (place : ℕ) (s : Span) → laid_spans (insert spans place s) ≡ insert (laid_spans spans) place (at s.part)
+laid_insert spans place s =
+    map-append (λ (x : Span). at x.part) (take place spans) (s ∷ drop place spans)
+    ∙ ap (λ xs. xs ++ at s.part ∷ laid_spans (drop place spans)) (sym (take-map (λ (x : Span). at x.part) place spans))
+    ∙ ap (λ xs. take place (laid_spans spans) ++ at s.part ∷ xs) (sym (drop-map (λ (x : Span). at x.part) place spans))
+
+pub span_put : (r : Inside) (v : EnvValue) (s : Span) (new : List Span) (n : ℕ) → held r ≡ v → IsPutLast r.spans.items s new → s.part.start ≡ length (string_bytes r.buffer) → s.part.len ≡ n
+    → (place : ℕ) × (place ≤ length v.spans) × (laid_spans new ≡ insert v.spans place (length v.buffer, n))
+span_put r v s new n is put start len =
+    let long = length-map r.spans.items (λ (x : Span). at x.part) in
+    let below : put.place ≤ length (laid_spans r.spans.items) = omega (arith, put.within) in
+    let whole : at s.part ≡ (length (string_bytes r.buffer), n) = ap (λ o. (o, s.part.len)) start ∙ ap (λ l. (length (string_bytes r.buffer), l)) len in
+    let inserted : laid_spans new ≡ insert (laid_spans r.spans.items) put.place (length (string_bytes r.buffer), n) = ap laid_spans put.is ∙ laid_insert r.spans.items put.place s ∙ ap (insert (laid_spans r.spans.items) put.place) whole in
+    subst (λ (x : EnvValue). (place : ℕ) × (place ≤ length x.spans) × (laid_spans new ≡ insert x.spans place (length x.buffer, n))) is (put.place, below, inserted)

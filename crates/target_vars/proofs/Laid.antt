@@ -1,0 +1,141 @@
+-- What a name stands for, by its number.
+use Rattle.std.proofs.Common.{◌≡◌, ℕ, ◌+◌, ◌-◌, ◌<◌, ◌≤◌, List, [], ◌∷◌, Bool, true, false, map, length, take, drop, slice_get, get_or, Bor, option_copied, Option, Some, None, is_some, All, refl, sym, ap, ◌∙◌, subst, arith, zero-add, length-drop}
+use Rattle.std.specs.Prelude.{slice_range}
+use Rattle.std.proofs.lemmas.List.{length-map, take-map, drop-map}
+use Rattle.std.proofs.lemmas.List.Elements.{All-tail, All-nil, All-map, All-get_or, All-weaker}
+use Rattle.std.proofs.lemmas.List.Sorted.{IsNonDecreasingBy-short}
+use Rattle.std.proofs.lemmas.Option.{slice_get-get_or, slice_get_within}
+use Rattle.text_model.specs.Texts.{Text}
+use Rattle.environment_model.specs.Environment.{Environment, Meaning, Single, Several, look_up, is_there, is_among, text_in, text_of, members_in as members_meant, members_of, byte_count, member_count}
+use Rattle.target_vars.specs.EnvValue.{EnvValue, EachNameOnce, piece_at, IsWithin, AreMembersAt, IsTextAt}
+use Rattle.target_vars.specs.Layout.{at, part_text, piece, members_in, meaning_in, laid_entries, laid_spans, spans_of, IsPart, IsPiece, IsPieces, IsPlace, IsRun, IsTextPart, IsLaid}
+use Rattle.target_vars.specs.declared.place.Part.{Part}
+use Rattle.target_vars.specs.declared.place.Span.{Span}
+use Rattle.target_vars.specs.declared.place.Place.{Place}
+use Rattle.target_vars.specs.declared.place.Place.TheVariants.{One, Many}
+use Rattle.target_vars.specs.declared.env.TheConstants.{MAX_BYTES, MAX_MEMBERS}
+use Rattle.target_vars.proofs.Entries.{entries_from-empty, is_there-entries, look_up-at}
+
+-- what callers see of what is laid
+abbrev pub seen : Text → List Span → List Text → List Place → EnvValue
+seen b spans names places = record { entries = laid_entries b spans names places; buffer = b; spans = laid_spans spans }
+
+pub laid_entries-empty : laid_entries [] [] [] [] ≡ []
+laid_entries-empty = entries_from-empty [] (members_in [] []) 0 []
+
+pub laid_empty : IsLaid [] [] [] []
+laid_empty = record {
+  pieces = All-nil (IsPiece []);
+  placed = All-nil (IsPlace []);
+  one_each = refl;
+  in_order = IsNonDecreasingBy-short (λ s. s.list) [] (omega arith);
+  known = All-nil (λ s. s.list < 0);
+  filled = ap byte_count laid_entries-empty;
+  counted = ap member_count laid_entries-empty;
+  once = subst EachNameOnce (sym laid_entries-empty) tt;
+  few_bytes = omega arith;
+  few_members = omega arith;
+}
+
+-- ---- look-ups
+
+absent : (o : Option Meaning) → is_some o ≡ false → o ≡ None
+absent None h = refl
+absent (Some m) h = absurd (cc)
+
+pub is_there-laid : (b : Text) (spans : List Span) (names : List Text) (places : List Place) (name : Text) → IsLaid b spans names places → is_there (laid_entries b spans names places) name ≡ is_among name names
+is_there-laid b spans names places name laid = is_there-entries b (members_in b spans) 0 names places name laid.one_each
+
+pub look_up-lacking : (b : Text) (spans : List Span) (names : List Text) (places : List Place) (name : Text) → IsLaid b spans names places → is_among name names ≡ false → look_up (laid_entries b spans names places) name ≡ None
+look_up-lacking b spans names places name laid lacks = absent (look_up (laid_entries b spans names places) name) (is_there-laid b spans names places name laid ∙ lacks)
+
+pub look_up-laid : (b : Text) (spans : List Span) (names : List Text) (places : List Place) (name : Text) (k : ℕ) (p : Place) → IsLaid b spans names places → slice_get names k ≡ Some name → slice_get places k ≡ Some p
+    → look_up (laid_entries b spans names places) name ≡ Some (meaning_in b (members_in b spans k) p)
+look_up-laid b spans names places name k p laid named placed =
+    look_up-at b (members_in b spans) 0 names places name k p laid.once named placed ∙ ap (λ j. Some (meaning_in b (members_in b spans j) p)) (zero-add k)
+
+-- the place of a name's number
+pub place_read : (names : List Text) (places : List Place) (name : Text) (k : ℕ) (p : Place) → length places ≡ length names → slice_get names k ≡ Some name → p ≡ get_or places k p → slice_get places k ≡ Some p
+place_read names places name k p long named read =
+    let below = slice_get_within names k name named in
+    slice_get-get_or places k p (omega arith) ∙ ap Some (sym read)
+
+-- ---- a text
+
+pub text_part : (b : Text) (spans : List Span) (names : List Text) (places : List Place) (name : Text) (k : ℕ) (part : Part) → IsLaid b spans names places → slice_get names k ≡ Some name → slice_get places k ≡ Some (One part)
+    → IsTextPart (seen b spans names places) name part
+text_part b spans names places name k part laid named placed =
+    let below = slice_get_within places k (One part) placed in
+    let here : get_or places k Many ≡ One part = some_is (sym (slice_get-get_or places k Many below) ∙ placed) in
+    record {
+      is_part = subst (IsPlace b) here (All-get_or (IsPlace b) places k Many below laid.placed);
+      is = ap text_in (look_up-laid b spans names places name k (One part) laid named placed);
+    }
+  where
+    some_is : {x y : Place} → Some x ≡ Some y → x ≡ y
+    some_is same = cc
+
+pub no_text-at : (b : Text) (spans : List Span) (names : List Text) (places : List Place) (name : Text) (k : ℕ) → IsLaid b spans names places → slice_get names k ≡ Some name → slice_get places k ≡ Some Many
+    → text_of (laid_entries b spans names places) name ≡ None
+no_text-at b spans names places name k laid named placed = ap text_in (look_up-laid b spans names places name k Many laid named placed)
+
+-- ---- a list
+
+-- a name with no members
+pub no_members : (env : EnvValue) (name : Text) → members_of env.entries name ≡ [] → AreMembersAt env name 0 0
+no_members env name none = record { within = omega arith; are = none }
+
+pub no_members-at : (b : Text) (spans : List Span) (names : List Text) (places : List Place) (name : Text) (k : ℕ) (part : Part) → IsLaid b spans names places → slice_get names k ≡ Some name → slice_get places k ≡ Some (One part)
+    → AreMembersAt (seen b spans names places) name 0 0
+no_members-at b spans names places name k part laid named placed =
+    no_members (seen b spans names places) name (ap members_meant (look_up-laid b spans names places name k (One part) laid named placed))
+
+pub no_members-lacking : (b : Text) (spans : List Span) (names : List Text) (places : List Place) (name : Text) → IsLaid b spans names places → is_among name names ≡ false → AreMembersAt (seen b spans names places) name 0 0
+no_members-lacking b spans names places name laid lacks = no_members (seen b spans names places) name (ap members_meant (look_up-lacking b spans names places name laid lacks))
+
+-- the pieces of spans, by their offsets and lengths
+same_texts : (b : Text) (spans : List Span) → map (piece_at b) (laid_spans spans) ≡ map (piece b) spans
+same_texts b [] = refl
+same_texts b (s ∷ ss) = ap (λ xs. piece b s ∷ xs) (same_texts b ss)
+
+laid_run : (b : Text) (spans : List Span) (first count : ℕ) → map (piece_at b) (take count (drop first (laid_spans spans))) ≡ map (piece b) (take count (drop first spans))
+laid_run b spans first count =
+    ap (λ xs. map (piece_at b) (take count xs)) (drop-map (λ (s : Span). at s.part) first spans)
+    ∙ ap (map (piece_at b)) (take-map (λ (s : Span). at s.part) count (drop first spans))
+    ∙ same_texts b (take count (drop first spans))
+
+pub members_at : (b : Text) (spans : List Span) (names : List Text) (places : List Place) (name : Text) (k first count : ℕ) → IsLaid b spans names places → slice_get names k ≡ Some name → slice_get places k ≡ Some Many → IsRun spans k first count
+    → AreMembersAt (seen b spans names places) name first count
+members_at b spans names places name k first count laid named placed run =
+    let long = length-map spans (λ (s : Span). at s.part) in
+    let within = run.within in
+    record {
+      within = omega arith;
+      are = ap members_meant (look_up-laid b spans names places name k Many laid named placed) ∙ ap (map (piece b)) (sym run.is) ∙ sym (laid_run b spans first count);
+    }
+
+-- the members that are lent
+pub members_lent : (b : Text) (spans : List Span) (env : EnvValue) (name : Text) (first count : ℕ) → env.buffer ≡ b → env.spans ≡ laid_spans spans → AreMembersAt env name first count → map (piece b) (slice_range spans first (first + count)) ≡ members_of env.entries name
+members_lent b spans env name first count buffer laid are =
+    let many : first + count - first ≡ count = omega arith in
+    ap (λ n. map (piece b) (take n (drop first spans))) many
+    ∙ sym (laid_run b spans first count)
+    ∙ ap (λ t. map (piece_at t) (take count (drop first (laid_spans spans)))) (sym buffer)
+    ∙ ap (λ xs. map (piece_at env.buffer) (take count (drop first xs))) (sym laid)
+    ∙ sym are.are
+
+pub after_first : (b : Text) (s : Span) (spans : List Span) → IsPieces b (s ∷ spans) → IsPieces b spans
+after_first b s spans h = record {
+  pieces = All-tail (IsPiece b) s spans h.pieces;
+  few_bytes = h.few_bytes;
+  few = omega (arith, h.few);
+}
+
+-- ---- all spans
+
+pub all_within : (b : Text) (spans : List Span) → All (IsPiece b) spans → All (IsWithin b) (laid_spans spans)
+all_within b spans pieces = All-map (IsWithin b) (λ (s : Span). at s.part) spans (All-weaker (IsPiece b) (λ (s : Span). IsWithin b (at s.part)) (λ s is. is.ends.0) spans pieces)
+
+pub is_some-copied : {A : Type 0} (o : Option (Bor A)) → is_some (option_copied o) ≡ is_some o
+is_some-copied None = refl
+is_some-copied (Some x) = refl
