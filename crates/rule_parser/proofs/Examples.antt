@@ -52,16 +52,16 @@ given = refl
 
 is :
     answers (
-      guard.Same (codes "x") (codes "7b") ∷ guard.Same (codes "x") (codes "7") ∷ guard.Same (codes "empty") [] ∷ guard.Same (codes "missing") []
-      ∷ guard.Same (codes "rft.au") (codes "Wu") ∷ guard.Same (codes "by") (codes "a") ∷ [])
+    guard.Same (codes "x") (codes "7b") ∷ guard.Same (codes "x") (codes "7") ∷ guard.Same (codes "empty") [] ∷ guard.Same (codes "missing") []
+    ∷ guard.Same (codes "rft.au") (codes "Wu") ∷ guard.Same (codes "by") (codes "a") ∷ [])
     ≡ true ∷ false ∷ true ∷ false ∷ false ∷ false ∷ []
 unfolding variables look_up
 is = refl
 
 holds :
     answers (
-      guard.Holds (codes "rft.au") (codes "Wu") ∷ guard.Holds (codes "rft.au") (codes "Li") ∷ guard.Holds (codes "rft.au") (codes "W")
-      ∷ guard.Holds (codes "rft_id") [] ∷ guard.Holds (codes "missing") [] ∷ guard.Holds (codes "by") (codes "a") ∷ guard.Holds (codes "other") (codes "a") ∷ [])
+    guard.Holds (codes "rft.au") (codes "Wu") ∷ guard.Holds (codes "rft.au") (codes "Li") ∷ guard.Holds (codes "rft.au") (codes "W")
+    ∷ guard.Holds (codes "rft_id") [] ∷ guard.Holds (codes "missing") [] ∷ guard.Holds (codes "by") (codes "a") ∷ guard.Holds (codes "other") (codes "a") ∷ [])
     ≡ true ∷ true ∷ false ∷ false ∷ false ∷ false ∷ false ∷ []
 unfolding variables look_up
 holds = refl
@@ -69,10 +69,10 @@ holds = refl
 -- on each bound, and next to it
 from_digits :
     answers (
-      guard.Between (codes "x") (bound.Digits (codes "7")) (bound.Digits (codes "007"))
-      ∷ guard.Between (codes "x") (bound.Digits (codes "8")) bound.Open ∷ guard.Between (codes "x") bound.Open (bound.Digits (codes "6"))
-      ∷ guard.Between (codes "x") (bound.Digits (codes "6")) (bound.Digits (codes "8")) ∷ guard.Between (codes "x") bound.Open bound.Open
-      ∷ guard.Between (codes "nine") (bound.Digits (codes "999999999")) bound.Open ∷ [])
+    guard.Between (codes "x") (bound.Digits (codes "7")) (bound.Digits (codes "007"))
+    ∷ guard.Between (codes "x") (bound.Digits (codes "8")) bound.Open ∷ guard.Between (codes "x") bound.Open (bound.Digits (codes "6"))
+    ∷ guard.Between (codes "x") (bound.Digits (codes "6")) (bound.Digits (codes "8")) ∷ guard.Between (codes "x") bound.Open bound.Open
+    ∷ guard.Between (codes "nine") (bound.Digits (codes "999999999")) bound.Open ∷ [])
     ≡ true ∷ false ∷ false ∷ true ∷ true ∷ true ∷ []
 unfolding variables look_up leading_number value_from
 from_digits = refl
@@ -80,11 +80,11 @@ from_digits = refl
 -- a text without a number, and bounds by name
 from_names :
     answers (
-      guard.Between (codes "word") bound.Open bound.Open ∷ guard.Between (codes "empty") bound.Open bound.Open ∷ guard.Between (codes "ten") bound.Open bound.Open
-      ∷ guard.Between (codes "missing") bound.Open bound.Open ∷ guard.Between (codes "rft.au") bound.Open bound.Open
-      ∷ guard.Between (codes "two") (bound.Name (codes "x")) bound.Open ∷ guard.Between (codes "two") (bound.Name (codes "two")) (bound.Name (codes "two"))
-      ∷ guard.Between (codes "x") bound.Open (bound.Name (codes "two")) ∷ guard.Between (codes "two") (bound.Name (codes "ten")) (bound.Name (codes "word"))
-      ∷ guard.Between (codes "two") (bound.Name (codes "missing")) (bound.Name (codes "empty")) ∷ [])
+    guard.Between (codes "word") bound.Open bound.Open ∷ guard.Between (codes "empty") bound.Open bound.Open ∷ guard.Between (codes "ten") bound.Open bound.Open
+    ∷ guard.Between (codes "missing") bound.Open bound.Open ∷ guard.Between (codes "rft.au") bound.Open bound.Open
+    ∷ guard.Between (codes "two") (bound.Name (codes "x")) bound.Open ∷ guard.Between (codes "two") (bound.Name (codes "two")) (bound.Name (codes "two"))
+    ∷ guard.Between (codes "x") bound.Open (bound.Name (codes "two")) ∷ guard.Between (codes "two") (bound.Name (codes "ten")) (bound.Name (codes "word"))
+    ∷ guard.Between (codes "two") (bound.Name (codes "missing")) (bound.Name (codes "empty")) ∷ [])
     ≡ false ∷ false ∷ false ∷ false ∷ false ∷ false ∷ true ∷ false ∷ true ∷ true ∷ []
 unfolding variables look_up leading_number value_from
 from_names = refl
@@ -92,11 +92,11 @@ from_names = refl
 -- two members
 counts :
     answers (
-      guard.Counts (codes "rft.au") (bound.Digits (codes "2")) (bound.Digits (codes "2"))
-      ∷ guard.Counts (codes "rft.au") (bound.Digits (codes "3")) bound.Open ∷ guard.Counts (codes "rft.au") bound.Open (bound.Digits (codes "1"))
-      ∷ guard.Counts (codes "rft.au") (bound.Digits (codes "1")) (bound.Digits (codes "3")) ∷ guard.Counts (codes "rft.au") bound.Open bound.Open
-      ∷ guard.Counts (codes "rft.au") (bound.Name (codes "two")) (bound.Name (codes "two")) ∷ guard.Counts (codes "rft.au") (bound.Name (codes "x")) bound.Open
-      ∷ guard.Counts (codes "rft.au") (bound.Name (codes "word")) (bound.Name (codes "missing")) ∷ [])
+    guard.Counts (codes "rft.au") (bound.Digits (codes "2")) (bound.Digits (codes "2"))
+    ∷ guard.Counts (codes "rft.au") (bound.Digits (codes "3")) bound.Open ∷ guard.Counts (codes "rft.au") bound.Open (bound.Digits (codes "1"))
+    ∷ guard.Counts (codes "rft.au") (bound.Digits (codes "1")) (bound.Digits (codes "3")) ∷ guard.Counts (codes "rft.au") bound.Open bound.Open
+    ∷ guard.Counts (codes "rft.au") (bound.Name (codes "two")) (bound.Name (codes "two")) ∷ guard.Counts (codes "rft.au") (bound.Name (codes "x")) bound.Open
+    ∷ guard.Counts (codes "rft.au") (bound.Name (codes "word")) (bound.Name (codes "missing")) ∷ [])
     ≡ true ∷ false ∷ false ∷ true ∷ true ∷ true ∷ false ∷ true ∷ []
 unfolding variables look_up leading_number value_from
 counts = refl
@@ -104,10 +104,10 @@ counts = refl
 -- a list that is undefined has no members
 counts_nothing :
     answers (
-      guard.Counts (codes "missing") (bound.Digits (codes "0")) (bound.Digits (codes "0")) ∷ guard.Counts (codes "missing") (bound.Digits (codes "1")) bound.Open
-      ∷ guard.Counts (codes "missing") bound.Open bound.Open ∷ guard.Counts (codes "rft_id") bound.Open (bound.Digits (codes "0"))
-      ∷ guard.Counts (codes "by") (bound.Digits (codes "1")) bound.Open ∷ guard.Counts (codes "by") (bound.Digits (codes "0")) (bound.Digits (codes "0"))
-      ∷ guard.Counts (codes "other") (bound.Digits (codes "1")) bound.Open ∷ [])
+    guard.Counts (codes "missing") (bound.Digits (codes "0")) (bound.Digits (codes "0")) ∷ guard.Counts (codes "missing") (bound.Digits (codes "1")) bound.Open
+    ∷ guard.Counts (codes "missing") bound.Open bound.Open ∷ guard.Counts (codes "rft_id") bound.Open (bound.Digits (codes "0"))
+    ∷ guard.Counts (codes "by") (bound.Digits (codes "1")) bound.Open ∷ guard.Counts (codes "by") (bound.Digits (codes "0")) (bound.Digits (codes "0"))
+    ∷ guard.Counts (codes "other") (bound.Digits (codes "1")) bound.Open ∷ [])
     ≡ true ∷ false ∷ true ∷ true ∷ false ∷ true ∷ false ∷ []
 unfolding variables look_up leading_number value_from
 counts_nothing = refl
@@ -118,8 +118,8 @@ counts_nothing = refl
 abbrev of_one_name : Text → List Bool
 of_one_name name =
     map (guard_fits declared) (
-      guard.Has name ∷ guard.Lacks name ∷ guard.Given name ∷ guard.Same name [] ∷ guard.Holds name []
-      ∷ guard.Between name bound.Open bound.Open ∷ guard.Counts name bound.Open bound.Open ∷ [])
+    guard.Has name ∷ guard.Lacks name ∷ guard.Given name ∷ guard.Same name [] ∷ guard.Holds name []
+    ∷ guard.Between name bound.Open bound.Open ∷ guard.Counts name bound.Open bound.Open ∷ [])
 
 text_fits : of_one_name (codes "x") ≡ true ∷ true ∷ true ∷ true ∷ false ∷ true ∷ false ∷ []
 text_fits = refl
@@ -135,9 +135,9 @@ identifiers_fit = refl
 
 bounds_fit :
     map (guard_fits declared) (
-      guard.Between (codes "x") (bound.Name (codes "y")) (bound.Digits (codes "1")) ∷ guard.Between (codes "x") (bound.Name (codes "by")) bound.Open
-      ∷ guard.Between (codes "x") bound.Open (bound.Name (codes "rft_id")) ∷ guard.Counts (codes "by") (bound.Digits (codes "1")) (bound.Name (codes "y"))
-      ∷ guard.Counts (codes "by") (bound.Name (codes "by")) bound.Open ∷ guard.Counts (codes "by") bound.Open (bound.Name (codes "rft.au")) ∷ [])
+    guard.Between (codes "x") (bound.Name (codes "y")) (bound.Digits (codes "1")) ∷ guard.Between (codes "x") (bound.Name (codes "by")) bound.Open
+    ∷ guard.Between (codes "x") bound.Open (bound.Name (codes "rft_id")) ∷ guard.Counts (codes "by") (bound.Digits (codes "1")) (bound.Name (codes "y"))
+    ∷ guard.Counts (codes "by") (bound.Name (codes "by")) bound.Open ∷ guard.Counts (codes "by") bound.Open (bound.Name (codes "rft.au")) ∷ [])
     ≡ true ∷ false ∷ false ∷ true ∷ false ∷ false ∷ []
 bounds_fit = refl
 
@@ -147,8 +147,8 @@ spec_of name cut explode = record { name = name; cut = cut; explode = explode }
 -- a prefix stands on texts alone, wherever its spec stands
 prefixes_fit :
     map (parts_fit declared) (
-      (Literal (codes "by") ∷ Expression operator.Simple (spec_of (codes "by") 0 true ∷ spec_of (codes "x") 3 false ∷ []) ∷ [])
-      ∷ (Expression operator.Simple (spec_of (codes "by") 1 false ∷ []) ∷ [])
-      ∷ (Literal (codes "a") ∷ Expression operator.Plus (spec_of (codes "x") 0 false ∷ spec_of (codes "rft.au") 9999 false ∷ []) ∷ []) ∷ [])
+    (Literal (codes "by") ∷ Expression operator.Simple (spec_of (codes "by") 0 true ∷ spec_of (codes "x") 3 false ∷ []) ∷ [])
+    ∷ (Expression operator.Simple (spec_of (codes "by") 1 false ∷ []) ∷ [])
+    ∷ (Literal (codes "a") ∷ Expression operator.Plus (spec_of (codes "x") 0 false ∷ spec_of (codes "rft.au") 9999 false ∷ []) ∷ []) ∷ [])
     ≡ true ∷ false ∷ false ∷ []
 prefixes_fit = refl

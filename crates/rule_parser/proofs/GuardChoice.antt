@@ -79,15 +79,21 @@ space_choice (b ∷ text) = by_case (cases_eq b 32) (space_choice text)
 
 plain_more : (b : ℕ) (t : Text) → is_special b ≡ false → (read : Option Text) × ReadsEscaped t read → (read : Option Text) × ReadsEscaped (b ∷ t) read
 plain_more b t p (Some u, e) = (Some (b ∷ u), ap (λ x. b ∷ x) e ∙ sym (escaped_plain b u p))
-plain_more b t p (None, n) = (None, λ v e.
-    let rest = escaped_rest v (b ∷ []) t (sym e ∙ sym (ap (λ x. x ++ t) (escaped_plain b [] p))) in
-    n rest.0 (sym rest.1))
+plain_more b t p (None, n) = (
+  None,
+  λ v e.
+      let rest = escaped_rest v (b ∷ []) t (sym e ∙ sym (ap (λ x. x ++ t) (escaped_plain b [] p))) in
+      n rest.0 (sym rest.1),
+)
 
 special_more : (b : ℕ) (t : Text) → is_special b ≡ true → (read : Option Text) × ReadsEscaped t read → (read : Option Text) × ReadsEscaped (92 ∷ b ∷ t) read
 special_more b t s (Some u, e) = (Some (b ∷ u), ap (λ x. 92 ∷ b ∷ x) e ∙ sym (escaped_special b u s))
-special_more b t s (None, n) = (None, λ v e.
-    let rest = escaped_rest v (b ∷ []) t (sym e ∙ sym (ap (λ x. x ++ t) (escaped_special b [] s))) in
-    n rest.0 (sym rest.1))
+special_more b t s (None, n) = (
+  None,
+  λ v e.
+      let rest = escaped_rest v (b ∷ []) t (sym e ∙ sym (ap (λ x. x ++ t) (escaped_special b [] s))) in
+      n rest.0 (sym rest.1),
+)
 
 no_special : (b : ℕ) (t : Text) → is_special b ≡ false → (v : Text) → 92 ∷ b ∷ t ≡ escaped v → ⊥
 no_special b t p v e =

@@ -41,8 +41,7 @@ ascii_parts : (front rest : Text) (b : ℕ) → b < 128 → IsUtf8 (front ++ b �
 ascii_parts front rest b small u =
     let is : get_or (front ++ b ∷ rest) (length front) 0 ≡ b = get_or-append_seam front b rest 0 in
     let ascii : get_or (front ++ b ∷ rest) (length front) 0 < 128 = omega (arith, is, small) in
-    let inside : length front < length (front ++ b ∷ rest) = omega (arith, length-append front (b ∷ rest)) in
-    (
+    let inside : length front < length (front ++ b ∷ rest) = omega (arith, length-append front (b ∷ rest)) in (
       subst IsUtf8 (take-append_seam front (b ∷ rest)) (IsUtf8-take _ (length front) u (IsCharBoundary-before_ascii _ (length front) inside ascii)),
       subst IsUtf8 (drop-append-add front (b ∷ rest) 1) (IsUtf8-drop _ (length front + 1) u (IsCharBoundary-after_ascii _ (length front) u inside ascii)),
     )

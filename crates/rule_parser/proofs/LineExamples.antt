@@ -82,17 +82,33 @@ rule_begun = record { whole = no_rules_are_sound; guards = All-nil (IsSoundGuard
 no_link : IsRefused (codes "#\nrule\n\nrule") kind.NoLink 2
 no_link =
     refused _ _ _ refl refl (inr (record {
-      before = codes "#" ∷ []; behind = [] ∷ codes "rule" ∷ []; rules = record { lists = []; rules = [] }; guards = []; rest = codes "rule" ∷ [];
-      whole = refl; counted = refl; spelled = refl; guarded = refl; ends = refl; sound = rule_begun; no_link = refl;
+      before = codes "#" ∷ [];
+      behind = [] ∷ codes "rule" ∷ [];
+      rules = record { lists = []; rules = [] };
+      guards = [];
+      rest = codes "rule" ∷ [];
+      whole = refl;
+      counted = refl;
+      spelled = refl;
+      guarded = refl;
+      ends = refl;
+      sound = rule_begun;
+      no_link = refl;
     }))
 
 -- authors are a list
 authors_as_a_text : IsRefused (codes "rule\nwhen rft.au is \"x\"\nlink http://e.org/") kind.KindMismatch 2
 authors_as_a_text =
     refused _ _ _ refl refl (inl (record {
-      before = codes "rule" ∷ []; line = codes "when rft.au is \"x\""; behind = codes "link http://e.org/" ∷ [];
+      before = codes "rule" ∷ [];
+      line = codes "when rft.au is \"x\"";
+      behind = codes "link http://e.org/" ∷ [];
       begun = record { whole = record { lists = []; rules = [] }; guards = Some [] };
-      whole = refl; counted = refl; spelled = refl; sound = rule_begun; is_no_comment = refl;
+      whole = refl;
+      counted = refl;
+      spelled = refl;
+      sound = rule_begun;
+      is_no_comment = refl;
       faulty = mismatched_guard _ (guard.Same (codes "rft.au") (codes "x")) refl (name_from (codes "rft.au") refl refl) refl;
     }))
 
@@ -100,9 +116,15 @@ authors_as_a_text =
 text_counted : IsRefused (codes "rule\nwhen x counts 1 to 2\nlink http://e.org/") kind.KindMismatch 2
 text_counted =
     refused _ _ _ refl refl (inl (record {
-      before = codes "rule" ∷ []; line = codes "when x counts 1 to 2"; behind = codes "link http://e.org/" ∷ [];
+      before = codes "rule" ∷ [];
+      line = codes "when x counts 1 to 2";
+      behind = codes "link http://e.org/" ∷ [];
       begun = record { whole = record { lists = []; rules = [] }; guards = Some [] };
-      whole = refl; counted = refl; spelled = refl; sound = rule_begun; is_no_comment = refl;
+      whole = refl;
+      counted = refl;
+      spelled = refl;
+      sound = rule_begun;
+      is_no_comment = refl;
       faulty =
           mismatched_guard _ (guard.Counts (codes "x") (bound.Digits (codes "1")) (bound.Digits (codes "2"))) refl
           (name_from (codes "x") refl refl, ((refl, leb-true 1 1 refl, leb-true 1 9 refl), (refl, leb-true 1 1 refl, leb-true 1 9 refl))) refl;
@@ -112,8 +134,15 @@ text_counted =
 guard_alone : IsRefused (codes "when has x") kind.BadLine 1
 guard_alone =
     refused _ _ _ refl refl (inl (record {
-      before = []; line = codes "when has x"; behind = []; begun = record { whole = record { lists = []; rules = [] }; guards = None };
-      whole = refl; counted = refl; spelled = refl; sound = record { whole = no_rules_are_sound; guards = tt }; is_no_comment = refl;
+      before = [];
+      line = codes "when has x";
+      behind = [];
+      begun = record { whole = record { lists = []; rules = [] }; guards = None };
+      whole = refl;
+      counted = refl;
+      spelled = refl;
+      sound = record { whole = no_rules_are_sound; guards = tt };
+      is_no_comment = refl;
       faulty = out_of_order _ (When (guard.Has (codes "x"))) (name_from (codes "x") refl refl) refl;
     }))
 
@@ -127,7 +156,14 @@ semicolon_is_no_statement (Link text) h e = cc
 semicolon : IsRefused (codes ";\nrule\nlink a") kind.BadLine 1
 semicolon =
     refused _ _ _ refl refl (inl (record {
-      before = []; line = codes ";"; behind = codes "rule" ∷ codes "link a" ∷ []; begun = record { whole = record { lists = []; rules = [] }; guards = None };
-      whole = refl; counted = refl; spelled = refl; sound = record { whole = no_rules_are_sound; guards = tt }; is_no_comment = refl;
+      before = [];
+      line = codes ";";
+      behind = codes "rule" ∷ codes "link a" ∷ [];
+      begun = record { whole = record { lists = []; rules = [] }; guards = None };
+      whole = refl;
+      counted = refl;
+      spelled = refl;
+      sound = record { whole = no_rules_are_sound; guards = tt };
+      is_no_comment = refl;
       faulty = no_statement _ (codes ";") semicolon_is_no_statement;
     }))

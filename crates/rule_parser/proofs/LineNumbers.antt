@@ -122,33 +122,55 @@ splits_at (l ∷ ls) before line behind e = by_case (is_significant l) refl befo
         let more = next front (cc) in
         let same : l ≡ x = cc in
         record {
-          front = l ∷ more.front; back = more.back; whole = ap (λ t. l ∷ t) more.whole;
+          front = l ∷ more.front;
+          back = more.back;
+          whole = ap (λ t. l ∷ t) more.whole;
           before_it = ap (λ (b : Bool). if b then (l ∷ significant more.front) else significant more.front) h ∙ ap (λ t. l ∷ t) more.before_it ∙ ap (λ y. y ∷ front) same;
-          behind_it = more.behind_it; is_no_comment = more.is_no_comment;
+          behind_it = more.behind_it;
+          is_no_comment = more.is_no_comment;
         }
     by_case false h front f next =
         let more = next front f in
         record {
-          front = l ∷ more.front; back = more.back; whole = ap (λ t. l ∷ t) more.whole;
+          front = l ∷ more.front;
+          back = more.back;
+          whole = ap (λ t. l ∷ t) more.whole;
           before_it = ap (λ (b : Bool). if b then (l ∷ significant more.front) else significant more.front) h ∙ more.before_it;
-          behind_it = more.behind_it; is_no_comment = more.is_no_comment;
+          behind_it = more.behind_it;
+          is_no_comment = more.is_no_comment;
         }
 
 pub first_fault : (ls : List Text) (k : RuleErrorKind) (at : ℕ) → IsNumberedFault ls k at → IsFirstFault ls k at
 first_fault ls k at (line_fault l b line rest k' s e f) =
     let split = splits_at l (map line_of (begun_statements b)) line rest e in
     inl (record {
-      before = split.front; line = line; behind = split.back; begun = b; whole = split.whole;
+      before = split.front;
+      line = line;
+      behind = split.back;
+      begun = b;
+      whole = split.whole;
       counted = number_behind l split.front split.back line (begun_statements b) split.whole split.is_no_comment split.before_it;
-      spelled = split.before_it; sound = s; is_no_comment = split.is_no_comment; faulty = f;
+      spelled = split.before_it;
+      sound = s;
+      is_no_comment = split.is_no_comment;
+      faulty = f;
     })
 first_fault ls k at (open_rule l whole guards rest s e r) =
     let around =
-        e ∙ ap (λ t. t ++ rest) (map-append line_of (statements whole) (statements_of_guards (Some guards)))
-        ∙ append_assoc (map line_of (statements whole)) (map line_of (statements_of_guards (Some guards))) rest in
+    e ∙ ap (λ t. t ++ rest) (map-append line_of (statements whole) (statements_of_guards (Some guards)))
+    ∙ append_assoc (map line_of (statements whole)) (map line_of (statements_of_guards (Some guards))) rest in
     let split = splits_at l (map line_of (statements whole)) (line_of Begin) (map line_of (map When guards) ++ rest) around in
     inr (record {
-      before = split.front; behind = split.back; rules = whole; guards = guards; rest = rest; whole = split.whole;
+      before = split.front;
+      behind = split.back;
+      rules = whole;
+      guards = guards;
+      rest = rest;
+      whole = split.whole;
       counted = number_behind l split.front split.back (line_of Begin) (statements whole) split.whole refl split.before_it;
-      spelled = split.before_it; guarded = split.behind_it; ends = r; sound = s; no_link = refl;
+      spelled = split.before_it;
+      guarded = split.behind_it;
+      ends = r;
+      sound = s;
+      no_link = refl;
     })

@@ -13,6 +13,6 @@ quote = 0x22
 abbrev pub number_sign : ℕ
 number_sign = 0x23
 
--- `\\`, before a quote or a backslash in a text
+-- `\`, before a quote or a backslash in a text
 abbrev pub backslash : ℕ
 backslash = 0x5C

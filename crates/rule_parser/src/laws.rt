@@ -7,7 +7,9 @@ ghost use Rattle.rule_parser.specs.Grammar.{IsRuleText};
 ghost use Rattle.rule_parser.specs.Faults.{IsRefused};
 ghost use Rattle.rule_parser.specs.declared.error.RuleErrorKind.{RuleErrorKind};
 
-use uri_grammar::laws::{one_first_fault as one_template_fault, one_tree, tree_or_fault, tree_without_fault};
+use uri_grammar::laws::{
+    one_first_fault as one_template_fault, one_tree, tree_or_fault, tree_without_fault,
+};
 
 /// A rule text spells one set of rules.
 pub fn one_rule_set()
