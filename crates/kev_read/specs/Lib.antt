@@ -2,5 +2,4 @@ pub mod Pairs
 pub mod ReadQuery
 pub mod Refusal
 pub mod Filling
-pub mod Layout
-pub mod KeyOrder
+pub mod Inner

@@ -6,7 +6,7 @@ ghost use Rattle.kev_read.specs.Pairs as spec;
 ghost use Rattle.kev_read.specs.Filling.{filled, StopsAtPair};
 ghost use Rattle.kev_read.specs.declared.read.TheConstants.{MAX_PAIRS};
 ghost use Rattle.text_model.specs.Texts.{texts_of};
-ghost use Rattle.kev_read.specs.KeyOrder.{IsKeyOrder};
+ghost use Rattle.kev_read.specs.Inner.KeyOrder.{IsKeyOrder};
 
 use crate::filling::fill;
 use crate::pairs::Pairs;
@@ -35,7 +35,7 @@ impl Model for Request {
 
     ghost view = { λ request. record { pairs = request.pairs; query_bytes = request.query_bytes } };
 
-    ghost use Rattle.kev_read.specs.KeyOrder.{IsKeyOrder};
+    ghost use Rattle.kev_read.specs.Inner.KeyOrder.{IsKeyOrder};
 
     ghost invariant = { λ request. IsBounded record { pairs = request.pairs; query_bytes = request.query_bytes }
         × IsKeyOrder request.pairs request.order.items };
@@ -83,8 +83,9 @@ impl Request {
     /// Adds each pair to the environment, in order: as a member of its key's list where the key is
     /// `rft.au`, `rft_id` or one of `lists`, and otherwise as a text, of which the first of a key stays.
     ///
-    /// `TooLarge` where a pair would pass a limit of the environment, `NoMemory` where a growth was
-    /// refused; the pairs before the refused one stay added.
+    /// `TooLarge` where a pair would pass a limit of the environment, `NoMemory` where a growth of the
+    /// environment was refused; the pairs before the refused one stay added, and the refused one is
+    /// one that would have changed the environment.
     pub fn fill(&self, lists: &[&str], env: &mut Env) -> Result<(), VarsError>
         ensures ok { OnOk result (env.new.entries ≡ filled (texts_of lists.now) env.old.entries self.now.pairs) }
         ensures err { IfErr result (StopsAtPair (texts_of lists.now) env.old.entries self.now.pairs env.new.entries) }
