@@ -41,7 +41,8 @@ impl Model for Budget {
 }
 
 impl Budget {
-    /// How many steps a run takes at most where all lists of the environment have `members` members together.
+    /// How many steps a run takes at most where all lists of the environment have `members` members together, at most
+    /// 65,535.
     pub fn steps(&self, members: u64) -> u64
         requires { members ≤ 65535 }
         ensures value { result ≡ steps_bound self.now members }
@@ -51,7 +52,7 @@ impl Budget {
     }
 
     /// How many bytes a run prints at most where all lists of the environment have `members` members together, and
-    /// all its texts and members `bytes` bytes.
+    /// all its texts and members `bytes` bytes, at most 1,048,576.
     pub fn bytes(&self, members: u64, bytes: u64) -> u64
         requires members { members ≤ 65535 }
         requires bytes { bytes ≤ 1048576 }

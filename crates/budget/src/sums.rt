@@ -9,7 +9,7 @@ ghost use Rattle.budget.specs.Private.SumsBelow.{sums_below};
 
 use crate::budget::Budget;
 use crate::running::{Running, next_running, reading};
-use crate::share::{Share, longest_compared, share_of};
+use crate::share::{longest_compared, share_of};
 use code_file::Code;
 
 /// The budget of a code. It counts every place, also one that no run reaches, and a loop's body once for each member

@@ -10,6 +10,27 @@ use std::test::Fail;
 /// The members of a list, with a comma between them.
 const LIST_CODE: [Instruction; 6] = [List(0, 0), Each(1, 0, 5), Sep(0), Put(1, 0), Next, Halt];
 
+const ISSN_LITERALS: [(bool, &str); 4] = [
+    (false, "http://e.org/"),
+    (true, ""),
+    (false, ","),
+    (true, "1"),
+];
+
+/// What a rule with the link `http://e.org/{rft.issn}` is compiled to.
+const ISSN_CODE: [Instruction; 10] = [
+    Emit(0),
+    Const(4, 1),
+    Text(0, 0),
+    Undef(0, 8),
+    Empty(4, 6),
+    Emit(2),
+    Const(4, 3),
+    Put(0, 0),
+    Halt,
+    NoLink,
+];
+
 /// The names, literals and instructions of a code; the name is one of a list.
 fn parts(
     alloc: Global,
@@ -64,24 +85,6 @@ fn sums(budget: Budget) -> [u64; 6] {
 #[test]
 fn counts_what_runs_can_take(rt: HostRuntime) -> Result<(), Fail> {
     let comma = [(false, ",")];
-    let issn = [
-        (false, "http://e.org/"),
-        (true, ""),
-        (false, ","),
-        (true, "1"),
-    ];
-    let issn_code = [
-        Emit(0),
-        Const(4, 1),
-        Text(0, 0),
-        Undef(0, 8),
-        Empty(4, 6),
-        Emit(2),
-        Const(4, 3),
-        Put(0, 0),
-        Halt,
-        NoLink,
-    ];
     let abc = [(true, "abc")];
     let written = [
         List(0, 0),
@@ -99,7 +102,7 @@ fn counts_what_runs_can_take(rt: HostRuntime) -> Result<(), Fail> {
             LIST_CODE.as_slice(),
             [3, 3, 0, 1, 3, 0],
         ),
-        ("a rule", &issn, &issn_code, [10, 0, 17, 0, 3, 0]),
+        ("a rule", &ISSN_LITERALS, &ISSN_CODE, [10, 0, 17, 0, 3, 0]),
         ("element written", &abc, &written, [3, 3, 0, 9, 0, 3]),
         ("a text", &[], &x_code, [4, 0, 0, 0, 3, 0]),
     ];
@@ -116,6 +119,9 @@ fn bounds_steps_and_bytes(rt: HostRuntime) -> Result<(), Fail> {
     assert_eq!(rt; list.steps(3), 12);
     assert_eq!(rt; list.bytes(3, 12), 39);
     assert_eq!(rt; list.bytes(20, 20_000), 60_020);
+    let issn = budget_of(&code(rt.alloc(), &ISSN_LITERALS, &ISSN_CODE)?);
+    assert_eq!(rt; issn.steps(0), 10);
+    assert_eq!(rt; issn.bytes(0, 9), 44);
     Ok(())
 }
 
