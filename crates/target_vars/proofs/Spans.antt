@@ -71,8 +71,8 @@ run_is xs n first count in_first order firsts in_count counts =
     record {
       within = omega arith;
       is = sym (ap (filter p) (sym (take-append-drop first xs)) ∙ filter-append p (take first xs) ys ∙ ap (λ zs. zs ++ filter p ys) (keeps_none p (take first xs) below)
-        ∙ ap (filter p) (sym (take-append-drop count ys)) ∙ filter-append p (take count ys) (drop count ys) ∙ ap (λ zs. zs ++ filter p (drop count ys)) (keeps_all p (take count ys) own)
-        ∙ ap (λ zs. take count ys ++ zs) (keeps_none p (drop count ys) above) ∙ append-nil (take count ys));
+          ∙ ap (filter p) (sym (take-append-drop count ys)) ∙ filter-append p (take count ys) (drop count ys) ∙ ap (λ zs. zs ++ filter p (drop count ys)) (keeps_all p (take count ys) own)
+          ∙ ap (λ zs. take count ys ++ zs) (keeps_none p (drop count ys) above) ∙ append-nil (take count ys));
     }
 
 pub put_last_is : (xs : List Span) (s : Span) (place : ℕ) → place ≤ length xs → IsNonDecreasingBy (λ x. x.list) xs → IsPartitionPoint (λ x. leb x.list s.list ≡ true) (λ x. leb x.list s.list ≡ false) xs place
@@ -89,11 +89,11 @@ put_last_is xs s place within order parted =
       is = refl;
       in_order = IsNonDecreasingBy-insert (λ x. x.list) xs place s order within (λ k d below. leb-true (get_or xs k d).list n (parted.0 k d (omega arith) below)) (λ k d from below. let gt = leb-false (get_or xs k d).list n (parted.1 k d from below) in omega arith);
       own = filter-append (λ (x : Span). x.list == n) front (s ∷ back)
-        ∙ ap (λ ys. spans_of front n ++ ys) (ap (λ v. cond v (s ∷ spans_of back n) (spans_of back n)) (is s n refl) ∙ ap (λ ys. s ∷ ys) (keeps_none (λ x. x.list == n) back above))
-        ∙ ap (λ ys. ys ++ s ∷ []) (sym (append-nil (spans_of front n)) ∙ ap (λ ys. spans_of front n ++ ys) (sym (keeps_none (λ x. x.list == n) back above)) ∙ whole n);
+          ∙ ap (λ ys. spans_of front n ++ ys) (ap (λ v. cond v (s ∷ spans_of back n) (spans_of back n)) (is s n refl) ∙ ap (λ ys. s ∷ ys) (keeps_none (λ x. x.list == n) back above))
+          ∙ ap (λ ys. ys ++ s ∷ []) (sym (append-nil (spans_of front n)) ∙ ap (λ ys. spans_of front n ++ ys) (sym (keeps_none (λ x. x.list == n) back above)) ∙ whole n);
       others = λ m differs. filter-append (λ (x : Span). x.list == m) front (s ∷ back)
-        ∙ ap (λ v. spans_of front m ++ cond v (s ∷ spans_of back m) (spans_of back m)) differs
-        ∙ whole m;
+          ∙ ap (λ v. spans_of front m ++ cond v (s ∷ spans_of back m) (spans_of back m)) differs
+          ∙ whole m;
     }
 
 -- a list whose number is past those of all spans has none

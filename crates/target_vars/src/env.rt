@@ -79,7 +79,13 @@ impl Env {
         }
         self.buffer.reserve(text.len())?;
         let part = Part::at_end(&self.buffer, text);
-        enter(&mut self.names, &mut self.places, name, gap, Place::One(part))?;
+        enter(
+            &mut self.names,
+            &mut self.places,
+            name,
+            gap,
+            Place::One(part),
+        )?;
         self.buffer.push_str(text).unwrap();
         Ok(true)
     }

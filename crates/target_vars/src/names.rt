@@ -65,11 +65,11 @@ impl Names {
         ensures { MatchResult result (λ number. slice_get self.now.listed number ≡ Some name.now) (IsGap self.now name.now) }
     {
         let name = name.as_bytes();
-        let found = self.order.binary_search_by(|&number|
-            ensures { result ≡ compared self.entry.now.listed name.entry.now number }
-        {
-            self.get(number).cmp(&name)
-        });
+        let found = self.order.binary_search_by(
+            |&number|
+                ensures { result ≡ compared self.entry.now.listed name.entry.now number }
+            { self.get(number).cmp(&name) },
+        );
         match found {
             Ok(at) => Ok(self.order[at]),
             Err(gap) => Err(gap),

@@ -42,11 +42,23 @@ fn buffer_and_spans(rt: HostRuntime) -> Result<(), Fail> {
     env.add_member("m", "r")?;
     env.add_member("l", "q")?;
     assert_eq!(rt; env.buffer(), "xpyrq".as_bytes());
-    assert_eq!(rt; (env.text_at("a"), env.text_at("b")), (Some((0, 1)), Some((2, 1))));
+    assert_eq!(rt;
+        (env.text_at("a"), env.text_at("b")),
+        (Some((0, 1)), Some((2, 1)))
+    );
     assert_eq!(rt; (env.text_at("l"), env.text_at("c")), (None, None));
-    assert_eq!(rt; (env.members_at("l"), env.members_at("m")), ((0, 2), (2, 1)));
-    assert_eq!(rt; (env.members_at("a"), env.members_at("c")), ((0, 0), (0, 0)));
-    assert_eq!(rt; (env.span(0), env.span(1), env.span(2)), ((1, 1), (4, 1), (3, 1)));
+    assert_eq!(rt;
+        (env.members_at("l"), env.members_at("m")),
+        ((0, 2), (2, 1))
+    );
+    assert_eq!(rt;
+        (env.members_at("a"), env.members_at("c")),
+        ((0, 0), (0, 0))
+    );
+    assert_eq!(rt;
+        (env.span(0), env.span(1), env.span(2)),
+        ((1, 1), (4, 1), (3, 1))
+    );
     Ok(())
 }
 
@@ -96,7 +108,16 @@ fn members_stand_in_the_order_in_which_they_came(rt: HostRuntime) -> Result<(), 
 
 #[test]
 fn names_are_found_in_whichever_order_they_came(rt: HostRuntime) -> Result<(), Fail> {
-    let names = ["rft.title", "", "rft", "rft.a", "é", "rft.titles", "a", "rft.au"];
+    let names = [
+        "rft.title",
+        "",
+        "rft",
+        "rft.a",
+        "é",
+        "rft.titles",
+        "a",
+        "rft.au",
+    ];
     let mut env = Env::new(rt.alloc());
     for name in names {
         assert_eq!(rt; env.text(name), None);

@@ -37,11 +37,16 @@ returns-then-is_too_long-clause-known c =
 pub returns-then-is_too_long-clause-too_large : goal.returns-then-is_too_long-clause-too_large
 returns-then-is_too_long-clause-too_large c =
     let says : Says c.self.inside.places.items c.find-found.result c.is_text.result = subst (λ ps. Says ps c.find-found.result c.is_text.result) c.deref.ensures.value c.is_text.ensures in
-    let text : stands_for_text c.args.self.now.entries c.args.name.now ≡ false = decided c.self.inside c.args.self.now c.args.name.now c.find-found.result c.is_text.result c.self.invariant c.self.view_is c.find-found.ensures says ∙ c.if-is_text.false in
-    (λ is. (text, elim c.then-is_too_long.branch [
-      | then-is_too_long-via-then-is_too_long w ↦ inl (c.is_too_long.ensures.0 w.if-is_too_long.true)
-      | then-is_too_long-via-else-is_too_long+then-is_full w ↦ inr (w.is_full.ensures.0 w.if-is_full.true)
-    ]), λ h. refl)
+    let text : stands_for_text c.args.self.now.entries c.args.name.now ≡ false = decided c.self.inside c.args.self.now c.args.name.now c.find-found.result c.is_text.result c.self.invariant c.self.view_is c.find-found.ensures says ∙ c.if-is_text.false in (
+      λ is. (
+        text,
+        elim c.then-is_too_long.branch [
+          | then-is_too_long-via-then-is_too_long w ↦ inl (c.is_too_long.ensures.0 w.if-is_too_long.true)
+          | then-is_too_long-via-else-is_too_long+then-is_full w ↦ inr (w.is_full.ensures.0 w.if-is_full.true)
+        ],
+      ),
+      λ h. refl,
+    )
 
 pub returns-in_err-reserve-clause-known : goal.returns-in_err-reserve-clause-known
 returns-in_err-reserve-clause-known c =
@@ -111,4 +116,3 @@ returns-clause-span c =
     let start : s.part.start ≡ length b = search rules in
     let put : IsPutLast r.spans.items s c.put_last.new.spans.items = subst (λ xs. IsPutLast xs s c.put_last.new.spans.items) c.reserve-2.ensures.items c.put_last.ensures in
     λ is. span_put r c.args.self.now s c.put_last.new.spans.items (length c.args.text.now) c.self.view_is put start c.at_end-part.ensures.len
-

@@ -5,7 +5,7 @@ use Rattle.target_vars.proofs.NameOrder.{names_in-push, are_names-push}
 use Rattle.target_vars.proofs.names.Names.add.Goals as goal
 
 pub invariant_of-self-2 : goal.invariant_of-self-2
-invariant_of-self-2 c = 
+invariant_of-self-2 c =
     let r = c.self.inside in
     let p : NamePlace = record { start = c.len-start.result; end = c.len-2.result } in
     let bytes : c.extend_from_slice.new.self.items ≡ r.bytes.items ++ c.args.name.now = search rules in
