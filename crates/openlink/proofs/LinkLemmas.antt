@@ -8,9 +8,13 @@ use Rattle.kev_read.specs.Refusal.{refusal}
 use Rattle.kev_read.specs.Filling.{filled}
 use Rattle.rule_parser.specs.Rules.{RuleSet}
 use Rattle.rule_parser.specs.Grammar.{IsRuleText}
-use Rattle.rule_parser.specs.Names.{each_once, list_names}
+use Rattle.environment_model.specs.Lists.{list_names}
+use Rattle.rule_parser.specs.Names.{each_once}
 use Rattle.rule_parser.specs.Meaning.{meaning}
-use Rattle.openlink.specs.Link.{IsMeaning}
+use Rattle.openlink.specs.declared.fault.Fault.{Fault}
+use Rattle.openlink.specs.declared.fault.Fault.TheVariants as fault
+use Rattle.openlink.specs.Faults.{IsQueryFault}
+use Rattle.openlink.specs.Link.{IsMeaning, IsLinkFault}
 
 pub means : (bytes query : Text) (rules : RuleSet) (lists : List (Bor Text)) (env : Environment) (link : Option Text)
     → IsRuleText bytes rules → texts_of lists ≡ each_once (list_names rules.lists) → refusal query ≡ None
@@ -22,3 +26,14 @@ means bytes query rules lists env link read listed accepted filled_from meant =
       request = accepted;
       meant = meant ∙ ap (meaning rules) (filled_from ∙ ap (λ names. filled names [] (pairs_of query)) listed);
     }
+
+-- a query that is refused is a fault of `link`, where the rules are good
+pub no_request : (bytes query : Text) (rules : RuleSet) → IsRuleText bytes rules → (f : Fault) → IsQueryFault query f → IsLinkFault bytes query f
+no_request bytes query rules read (fault.Query e) h = (rules, read, h)
+no_request bytes query rules read fault.Memory h = h
+no_request bytes query rules read fault.Usage h = absurd h
+no_request bytes query rules read (fault.Template e) h = absurd h
+no_request bytes query rules read (fault.Rules e) h = absurd h
+no_request bytes query rules read (fault.Code e) h = absurd h
+no_request bytes query rules read fault.NoLink h = absurd h
+no_request bytes query rules read (fault.Device path) h = absurd h

@@ -7,7 +7,8 @@ use Rattle.kev_read.specs.Filling.{filled}
 use Rattle.rule_parser.specs.Rules.{RuleSet}
 use Rattle.rule_parser.specs.Grammar.{IsRuleText}
 use Rattle.rule_parser.specs.Faults.{IsRefused}
-use Rattle.rule_parser.specs.Names.{each_once, list_names}
+use Rattle.environment_model.specs.Lists.{list_names}
+use Rattle.rule_parser.specs.Names.{each_once}
 use Rattle.rule_parser.specs.Meaning.{meaning}
 use Rattle.openlink.specs.Faults.{IsFileFault}
 use Rattle.openlink.specs.declared.fault.Fault.{Fault}
