@@ -20,4 +20,4 @@ pub returns-in_err-env-clause-err : goal.returns-in_err-env-clause-err
 returns-in_err-env-clause-err c =
     answers c.from_residual-in_err-env.result
     (λ f same. subst (λ f. IsLinkFault c.args.rules.now c.args.query.now f) (sym same)
-      (no_request _ _ _ c.in_ok-rules.ensures.ok _ c.in_err-env.ensures.err)) c.from_residual-in_err-env.ensures.1
+    (no_request _ _ _ c.in_ok-rules.ensures.ok _ c.in_err-env.ensures.err)) c.from_residual-in_err-env.ensures.1
