@@ -11,10 +11,10 @@ use Rattle.rule_parser.specs.Grammar.{IsRuleText}
 use Rattle.environment_model.specs.Lists.{list_names}
 use Rattle.rule_parser.specs.Names.{each_once}
 use Rattle.rule_parser.specs.Meaning.{meaning}
-use Rattle.openlink.specs.Faults.{IsQueryFault}
-use Rattle.openlink.specs.Link.{IsMeaning, IsLinkFault}
 use Rattle.openlink.specs.declared.fault.Fault.{Fault}
 use Rattle.openlink.specs.declared.fault.Fault.TheVariants as fault
+use Rattle.openlink.specs.Faults.{IsQueryFault}
+use Rattle.openlink.specs.Link.{IsMeaning, IsLinkFault}
 
 pub means : (bytes query : Text) (rules : RuleSet) (lists : List (Bor Text)) (env : Environment) (link : Option Text)
     → IsRuleText bytes rules → texts_of lists ≡ each_once (list_names rules.lists) → refusal query ≡ None
@@ -27,8 +27,13 @@ means bytes query rules lists env link read listed accepted filled_from meant =
       meant = meant ∙ ap (meaning rules) (filled_from ∙ ap (λ names. filled names [] (pairs_of query)) listed);
     }
 
--- behind rules that were read, the fault of the query is that of the link
-pub of_query : (bytes query : Text) (rules : RuleSet) → IsRuleText bytes rules → (f : Fault) → IsQueryFault query f → IsLinkFault bytes query f
-of_query bytes query rules read (fault.Query e) h = (rules, read, h)
-of_query bytes query rules read fault.Memory h = tt
-of_query bytes query rules read _ h = absurd h
+-- a query that is refused is a fault of `link`, where the rules are good
+pub no_request : (bytes query : Text) (rules : RuleSet) → IsRuleText bytes rules → (f : Fault) → IsQueryFault query f → IsLinkFault bytes query f
+no_request bytes query rules read (fault.Query e) h = (rules, read, h)
+no_request bytes query rules read fault.Memory h = h
+no_request bytes query rules read fault.Usage h = absurd h
+no_request bytes query rules read (fault.Template e) h = absurd h
+no_request bytes query rules read (fault.Rules e) h = absurd h
+no_request bytes query rules read (fault.Code e) h = absurd h
+no_request bytes query rules read fault.NoLink h = absurd h
+no_request bytes query rules read (fault.Device path) h = absurd h

@@ -17,7 +17,6 @@ use std::io::Read;
 use std::rt::Files;
 
 /// The link of the first rule whose guards all hold, for the request of the query.
-#[tactic(auto, using(crate::proofs::LinkLemmas::of_query))]
 pub fn link_query<'a>(alloc: Global, rules: &[u8], query: &str) -> Result<String, Fault<'a>>
     ensures ok { IfOk result (λ link. IsMeaning rules.now query.now (Some (string_bytes link))) }
     ensures err { IfErr result (IsLinkFault rules.now query.now) }

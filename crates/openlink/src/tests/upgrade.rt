@@ -1,5 +1,5 @@
 use super::show::LIST_CODE;
-use super::{done, ends, run_cases};
+use super::{done, run_cases, run_words};
 use std::fs;
 use std::test::Fail;
 
@@ -29,36 +29,17 @@ fn keeps_what_stands_there(rt: HostRuntime) -> Result<(), Fail> {
     fs::write(&rt, "no.olk", "no code")?;
     fs::write(&rt, "taken.olk.new", "another's")?;
     fs::create_dir(&rt, "folder")?;
-    run_cases(
-        &rt,
-        &[
-            ends(
-                &["upgrade", "no.olk", "kept.olk"],
-                3,
-                "openlink: code: BadMagic at 0\n",
-            ),
-            ends(
-                &["upgrade", "none.olk", "kept.olk"],
-                4,
-                "openlink: device: none.olk\n",
-            ),
-            ends(
-                &["upgrade", "kept.olk", "no/such.olk"],
-                4,
-                "openlink: device: no/such.olk\n",
-            ),
-            ends(
-                &["upgrade", "kept.olk", "folder"],
-                4,
-                "openlink: device: folder\n",
-            ),
-            ends(
-                &["upgrade", "kept.olk", "taken.olk"],
-                4,
-                "openlink: device: taken.olk\n",
-            ),
-        ],
-    )?;
+    let cases = [
+        ("no.olk", "kept.olk", 3, "code: BadMagic at 0"),
+        ("none.olk", "kept.olk", 4, "device: none.olk"),
+        ("kept.olk", "no/such.olk", 4, "device: no/such.olk"),
+        ("kept.olk", "folder", 4, "device: folder"),
+        ("kept.olk", "taken.olk", 4, "device: taken.olk"),
+    ];
+    for (old, new, status, fault) in cases {
+        let line = format!(in rt.alloc(); "openlink: {fault}\n")?;
+        run_words(&rt, &["upgrade", old, new], status, "", line.as_str())?;
+    }
     assert_eq!(rt; fs::read(&rt, "kept.olk")?.as_slice(), LIST_CODE);
     assert_eq!(rt;
         fs::read(&rt, "taken.olk.new")?.as_slice(),

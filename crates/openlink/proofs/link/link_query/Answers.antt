@@ -1,7 +1,9 @@
-use Rattle.std.proofs.Common.{string_bytes, sym, ap, ◌∙◌}
+use Rattle.std.proofs.Common.{string_bytes, sym, subst, ap, ◌∙◌}
 use Rattle.std.specs.Option.{option_map}
 use Rattle.text_model.specs.Texts.{texts_of}
-use Rattle.openlink.proofs.LinkLemmas.{means}
+use Rattle.openlink.specs.Link.{IsLinkFault}
+use Rattle.openlink.proofs.FaultLemmas.{answers}
+use Rattle.openlink.proofs.LinkLemmas.{means, no_request}
 use Rattle.openlink.proofs.link.link_query.Goals as goal
 
 pub returns-in-Some-clause-ok : goal.returns-in-Some-clause-ok
@@ -13,3 +15,9 @@ pub returns-clause-err : goal.returns-clause-err
 returns-clause-err c =
     means _ _ _ _ _ _ c.in_ok-rules.ensures.ok (ap texts_of c.deref.ensures.value ∙ c.in_ok-lists.ensures) c.in_ok-env.ensures.request c.in_ok-env.ensures.pairs
     (sym (ap (option_map string_bytes) c.in-None.is) ∙ c.in_ok-link.ensures.value)
+
+pub returns-in_err-env-clause-err : goal.returns-in_err-env-clause-err
+returns-in_err-env-clause-err c =
+    answers c.from_residual-in_err-env.result
+    (λ f same. subst (λ f. IsLinkFault c.args.rules.now c.args.query.now f) (sym same)
+    (no_request _ _ _ c.in_ok-rules.ensures.ok _ c.in_err-env.ensures.err)) c.from_residual-in_err-env.ensures.1
