@@ -1,7 +1,8 @@
 -- Expressions without a defined variable.
-use Rattle.std.proofs.Common.{◌≡◌, suc, List, [], ◌∷◌, None, refl, ap, ◌∙◌, arith}
+use Rattle.std.proofs.Common.{◌≡◌, List, [], ◌∷◌, None, refl, ap, ◌∙◌}
 use Rattle.std.specs.Prelude.{All}
 use Rattle.std.specs.List.{cons_option}
+use Rattle.std.proofs.lemmas.List.Elements.{All-head, All-tail}
 use Rattle.environment_model.specs.Environment.{LookUp}
 use Rattle.uri_grammar.specs.declared.parts.Op.{Op}
 use Rattle.uri_grammar.specs.declared.parts.Spec.{Spec}
@@ -10,8 +11,8 @@ use Rattle.uri_template.specs.Expansion.{Style, style_of, piece, pieces, led}
 undefined-pieces : (look : LookUp) (style : Style) (specs : List Spec) → All (λ spec. look spec.name ≡ None) specs → pieces look style specs ≡ []
 undefined-pieces look style [] h = refl
 undefined-pieces look style (spec ∷ specs) h =
-    let here : look spec.name ≡ None = h 0 spec (omega arith) in
-    let behind : All (λ spec. look spec.name ≡ None) specs = λ k d l. h (suc k) d (omega arith) in
+    let here = All-head (λ (s : Spec). look s.name ≡ None) spec specs h in
+    let behind = All-tail (λ (s : Spec). look s.name ≡ None) spec specs h in
     ap (λ m. cons_option (piece style spec m) (pieces look style specs)) here ∙ undefined-pieces look style specs behind
 
 pub undefined-led : (look : LookUp) (op : Op) (specs : List Spec) → All (λ spec. look spec.name ≡ None) specs → led (style_of op) (pieces look (style_of op) specs) ≡ []

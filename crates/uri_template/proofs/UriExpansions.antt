@@ -1,7 +1,8 @@
 -- What is expanded is URI text.
-use Rattle.std.proofs.Common.{ℕ, zero, suc, List, [], ◌∷◌, ◌++◌, map, Option, Some, None, Bool, true, false, refl, codes, arith}
+use Rattle.std.proofs.Common.{ℕ, zero, suc, List, [], ◌∷◌, ◌++◌, map, Option, Some, None, Bool, true, false, refl, codes}
 use Rattle.std.specs.Prelude.{if◌then◌else◌, All}
 use Rattle.std.specs.List.{flat_map, cons_option}
+use Rattle.std.proofs.lemmas.List.Elements.{All-head, All-tail}
 use Rattle.text_model.specs.Texts.{Text, is_unreserved, is_reserved}
 use Rattle.text_model.specs.Writing.{written}
 use Rattle.text_model.specs.UriText.{IsUriText, nothing}
@@ -111,8 +112,8 @@ pieces-uri : (look : LookUp) (style : Style) (specs : List Spec) → HasUriTexts
 unfolding AreUriTexts
 pieces-uri look style [] s h = tt
 pieces-uri look style (spec ∷ specs) s h =
-    let here : IsSoundSpec spec = h 0 spec (omega arith) in
-    let behind : All IsSoundSpec specs = λ k d l. h (suc k) d (omega arith) in
+    let here = All-head IsSoundSpec spec specs h in
+    let behind = All-tail IsSoundSpec spec specs h in
     cons_option-uri (piece style spec (look spec.name)) (pieces look style specs) (piece-uri style spec (look spec.name) s here.uri_text) (pieces-uri look style specs s behind)
 
 led-uri : (style : Style) (ps : List Text) → HasUriTexts style → AreUriTexts ps → IsUriText (led style ps)
@@ -127,6 +128,6 @@ part_text-uri look (Expression op specs) h = led-uri (style_of op) (pieces look 
 pub expansion-uri : (look : LookUp) (parts : List Part) → All IsSoundPart parts → IsUriText (expansion look parts)
 expansion-uri look [] h = nothing
 expansion-uri look (part ∷ parts) h =
-    let here : IsSoundPart part = h 0 part (omega arith) in
-    let behind : All IsSoundPart parts = λ k d l. h (suc k) d (omega arith) in
+    let here = All-head IsSoundPart part parts h in
+    let behind = All-tail IsSoundPart part parts h in
     IsUriText-append (part_text look part) (expansion look parts) (part_text-uri look part here) (expansion-uri look parts behind)

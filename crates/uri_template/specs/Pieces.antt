@@ -1,4 +1,4 @@
--- Pieces one after another, as they are appended.
+-- Pieces one after another, as they are appended. Private contracts cite it.
 use Rattle.std.specs.Prelude.{List, [], ◌∷◌, ◌++◌, Option, Some, None, Bool, true, false, if◌then◌else◌, codes}
 use Rattle.text_model.specs.Texts.{Text}
 use Rattle.text_model.specs.Writing.{written}
