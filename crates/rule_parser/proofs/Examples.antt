@@ -4,7 +4,6 @@ use Rattle.text_model.specs.Texts.{Text}
 use Rattle.text_model.specs.Number.{leading_number, value_from}
 use Rattle.environment_model.specs.Environment.{Environment, Single, Several, look_up}
 use Rattle.uri_grammar.specs.declared.parts.Op.TheVariants as operator
-use Rattle.uri_grammar.specs.declared.parts.Part.{Part}
 use Rattle.uri_grammar.specs.declared.parts.Part.TheVariants.{Literal, Expression}
 use Rattle.uri_grammar.specs.declared.parts.Spec.{Spec}
 use Rattle.rule_parser.specs.declared.rule.Bound.TheVariants as bound

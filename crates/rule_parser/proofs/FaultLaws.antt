@@ -1,5 +1,5 @@
 -- Lines that spell rules have no fault, and other lines have one first fault.
-use Rattle.std.proofs.Common.{◌≡◌, ℕ, List, [], ◌∷◌, ◌++◌, true, false, Some, None, ◌⊎◌, inl, inr, is_some, is_none, ◌&&◌, ◌==◌, map, length, refl, ap, subst, sym, ◌∙◌, arith, All}
+use Rattle.std.proofs.Common.{◌≡◌, ℕ, List, [], ◌∷◌, ◌++◌, true, false, Some, None, ◌⊎◌, inl, inr, is_some, is_none, ◌&&◌, ◌==◌, map, length, refl, ap, subst, sym, ◌∙◌, arith}
 use Rattle.std.specs.Str.Lines.{lines}
 use Rattle.std.proofs.lemmas.Bool.{both_ways}
 use Rattle.std.proofs.lemmas.List.{append-nil}
@@ -10,10 +10,10 @@ use Rattle.uri_grammar.specs.Texts.{IsTemplate, IsRefused as IsRefusedTemplate}
 use Rattle.rule_parser.specs.declared.error.RuleErrorKind.{RuleErrorKind}
 use Rattle.rule_parser.specs.declared.error.RuleErrorKind.TheVariants as kind
 use Rattle.rule_parser.specs.declared.rule.Guard.{Guard}
-use Rattle.rule_parser.specs.Rules.{RuleSet, IsSound, IsSoundGuard, guard_fits, parts_fit}
+use Rattle.rule_parser.specs.Rules.{RuleSet, IsSound, guard_fits, parts_fit}
 use Rattle.rule_parser.specs.Statements.{Statement, Declare, Begin, When, Link, IsStatement, line_of, statements}
 use Rattle.rule_parser.specs.Grammar.{significant, IsRuleText}
-use Rattle.rule_parser.specs.Faults.{Begun, IsSoundBegun, begun_statements, is_in_order, IsLineFault, no_statement, out_of_order, bad_template, mismatched_guard, mismatched_link, IsFirstFault, EndsRule, IsRefused}
+use Rattle.rule_parser.specs.Faults.{Begun, IsSoundBegun, begun_statements, is_in_order, IsLineFault, no_statement, out_of_order, bad_template, mismatched_guard, mismatched_link, EndsRule, IsRefused}
 use Rattle.rule_parser.specs.Progress.{no_rules}
 use Rattle.rule_parser.proofs.LineNumbers.{line_number, IsNumberedFault, line_fault, open_rule as open_fault, numbered_fault}
 use Rattle.rule_parser.proofs.LawLemmas.{OneTree, Follows, Runs, begun_runs, begun_same, goes_on}

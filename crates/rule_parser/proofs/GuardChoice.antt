@@ -1,5 +1,5 @@
 -- Words spell a guard or they spell none.
-use Rattle.std.proofs.Common.{◌≡◌, ◌≢◌, ℕ, ◌≤◌, [], ◌∷◌, ◌++◌, Bool, true, false, ◌==◌, Option, Some, None, ◌⊎◌, inl, inr, length, refl, ap, subst, sym, ◌∙◌, codes, arith}
+use Rattle.std.proofs.Common.{◌≡◌, ◌≢◌, ℕ, [], ◌∷◌, ◌++◌, true, false, Option, Some, None, ◌⊎◌, inl, inr, length, refl, ap, subst, sym, ◌∙◌, codes, arith}
 use Rattle.std.specs.Char.{is_ascii_digit}
 use Rattle.std.specs.Cmp.Lexicographic.{bytes_decides}
 use Rattle.std.specs.List.{list_all}
@@ -11,11 +11,9 @@ use Rattle.rule_parser.specs.declared.rule.Bound.{Bound}
 use Rattle.rule_parser.specs.declared.rule.Bound.TheVariants as bound
 use Rattle.rule_parser.specs.declared.rule.Guard.{Guard}
 use Rattle.rule_parser.specs.declared.rule.Guard.TheVariants as guard
-use Rattle.rule_parser.specs.Rules.{IsGuard}
-use Rattle.rule_parser.specs.Statements.{escaped, quoted, is_special, guard_text}
+use Rattle.rule_parser.specs.Statements.{escaped, is_special}
 use Rattle.rule_parser.specs.Reading.{ReadsEscaped, ReadsQuoted, ReadsBound, ReadsBounds, ReadsGuard, IsWord}
 use Rattle.rule_parser.proofs.NameChoice.{name_choice}
-use Rattle.rule_parser.proofs.WordLemmas.{name_is_word}
 use Rattle.rule_parser.proofs.EscapeLemmas.{escaped_special, escaped_plain, escaped_rest, special_is, not_quote, after_backslash}
 use Rattle.rule_parser.proofs.GuardLemmas.{quoted_reads, not_quoted, not_closed, no_bound, no_bounds_in_word, no_bounds_without_to, no_bounds_without_low, no_bounds_without_high, bounds_read, no_guard_without_name, no_guard_of_verb, no_compared_guard, no_same, no_holds, no_between, no_counts, no_guard_in_word}
 

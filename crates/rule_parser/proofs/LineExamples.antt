@@ -1,26 +1,24 @@
 -- Lines that are skipped, lines of rules, and texts with their rules or their first fault, by the definitions alone.
-use Rattle.std.proofs.Common.{◌≡◌, ◌≢◌, ℕ, ◌≤◌, List, [], ◌∷◌, ◌++◌, Bool, true, false, ◌&&◌, ◌==◌, Some, None, inl, inr, length, map, not, refl, codes, arith, All}
-use Rattle.std.specs.Prelude.{nat_le, nat_lt, zero, suc}
+use Rattle.std.proofs.Common.{◌≡◌, ℕ, ◌≤◌, [], ◌∷◌, true, false, Some, None, inl, inr, length, map, refl, codes, arith}
+use Rattle.std.specs.Prelude.{nat_le, nat_lt}
 use Rattle.std.specs.List.{list_all}
 use Rattle.std.specs.Str.{IsAscii}
 use Rattle.std.specs.Str.Lines.{lines}
 use Rattle.std.proofs.lemmas.Bool.{leb-true, ltb-true, and_parts}
-use Rattle.std.proofs.lemmas.List.Elements.{All-nil, All-cons}
+use Rattle.std.proofs.lemmas.List.Elements.{All-nil}
 use Rattle.std.proofs.lemmas.Str.{IsUtf8-nil, IsUtf8-from_ascii}
 use Rattle.std.proofs.lemmas.Str.Ascii.{IsAscii-cons}
 use Rattle.text_model.specs.Texts.{Text}
 use Rattle.uri_grammar.specs.Names.{IsName}
-use Rattle.uri_grammar.specs.Texts.{IsTemplate}
 use Rattle.rule_parser.specs.declared.rules.TheConstants.{MAX_BYTES}
 use Rattle.rule_parser.specs.declared.error.RuleErrorKind.{RuleErrorKind}
 use Rattle.rule_parser.specs.declared.error.RuleErrorKind.TheVariants as kind
 use Rattle.rule_parser.specs.declared.rule.Bound.TheVariants as bound
-use Rattle.rule_parser.specs.declared.rule.Guard.{Guard}
 use Rattle.rule_parser.specs.declared.rule.Guard.TheVariants as guard
 use Rattle.rule_parser.specs.Rules.{RuleSet, IsSound, IsSoundGuard, IsSoundRule}
 use Rattle.rule_parser.specs.Statements.{Statement, Declare, Begin, When, Link, IsStatement, line_of, statements}
-use Rattle.rule_parser.specs.Grammar.{is_significant, significant, IsRuleText}
-use Rattle.rule_parser.specs.Faults.{Begun, IsSoundBegun, IsLineFault, no_statement, out_of_order, mismatched_guard, IsFirstFault, StopsAtLine, LacksLink, IsRefused}
+use Rattle.rule_parser.specs.Grammar.{is_significant, IsRuleText}
+use Rattle.rule_parser.specs.Faults.{IsSoundBegun, no_statement, out_of_order, mismatched_guard, IsFirstFault, IsRefused}
 use Rattle.rule_parser.proofs.NameChoice.{name_from}
 
 -- ---- lines

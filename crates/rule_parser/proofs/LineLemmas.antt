@@ -1,6 +1,6 @@
 -- Lines that were read.
-use Rattle.std.proofs.Common.{◌≡◌, ℕ, ◌+◌, ◌<◌, ◌≤◌, zero, suc, List, [], ◌∷◌, ◌++◌, Bool, true, false, Option, Some, None, IfSome, Result, Ok, Err, IfOk, IfErr, Bor, ◌⊎◌, inl, inr, map, length, get_or, take, if◌then◌else◌, refl, ap, subst, sym, ◌∙◌, arith}
-use Rattle.std.proofs.lemmas.List.{append-nil, map-append, length-map, length-take, take_more, take_all}
+use Rattle.std.proofs.Common.{◌≡◌, ℕ, ◌+◌, ◌<◌, ◌≤◌, zero, suc, List, [], ◌∷◌, ◌++◌, true, false, Option, Some, None, IfSome, Result, Ok, Err, IfOk, IfErr, Bor, ◌⊎◌, inl, inr, map, length, get_or, take, refl, ap, subst, sym, ◌∙◌, arith}
+use Rattle.std.proofs.lemmas.List.{append-nil, map-append, length-map, take_more, take_all}
 use Rattle.std.proofs.lemmas.List.Elements.{All-nil}
 use Rattle.text_model.specs.Texts.{Text}
 use Rattle.rule_parser.specs.declared.error.RuleError.{RuleError}
@@ -11,7 +11,7 @@ use Rattle.rule_parser.specs.declared.reader.Reader.{Reader}
 use Rattle.rule_parser.specs.declared.rule.Guard.{Guard}
 use Rattle.uri_grammar.specs.Names.{IsName}
 use Rattle.rule_parser.specs.Rules.{RuleSet, IsSound, IsSoundRule}
-use Rattle.rule_parser.specs.Statements.{Statement, line_of, statements}
+use Rattle.rule_parser.specs.Statements.{line_of, statements}
 use Rattle.std.specs.Prelude.{IsUtf8}
 use Rattle.std.specs.Str.Lines.{lines}
 use Rattle.rule_parser.specs.declared.rules.TheConstants.{MAX_BYTES}

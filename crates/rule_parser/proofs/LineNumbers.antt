@@ -1,5 +1,5 @@
 -- The numbers of lines: the statement behind so many others has the number of its line.
-use Rattle.std.proofs.Common.{◌≡◌, ℕ, ◌+◌, ◌<◌, zero, suc, List, [], ◌∷◌, ◌++◌, Bool, true, false, Some, map, length, get_or, take, All, ◌⊎◌, inl, inr, if◌then◌else◌, refl, ap, subst, sym, ◌∙◌, arith}
+use Rattle.std.proofs.Common.{◌≡◌, ℕ, ◌+◌, ◌<◌, zero, suc, List, [], ◌∷◌, ◌++◌, Bool, true, false, Some, map, length, get_or, take, inl, inr, if◌then◌else◌, refl, ap, subst, sym, ◌∙◌, arith}
 use Rattle.std.specs.List.{slice_index}
 use Rattle.std.proofs.lemmas.List.{length-map, length-take, append_assoc, map-append}
 use Rattle.std.proofs.lemmas.List.Elements.{filter-append}
@@ -10,7 +10,7 @@ use Rattle.rule_parser.specs.declared.rule.Guard.{Guard}
 use Rattle.rule_parser.specs.Rules.{RuleSet}
 use Rattle.rule_parser.specs.Statements.{Statement, Begin, When, line_of, statements}
 use Rattle.rule_parser.specs.Grammar.{is_significant, significant}
-use Rattle.rule_parser.specs.Faults.{Begun, IsSoundBegun, begun_statements, statements_of_guards, StopsAtLine, LacksLink, EndsRule, IsLineFault, IsFirstFault}
+use Rattle.rule_parser.specs.Faults.{Begun, IsSoundBegun, begun_statements, statements_of_guards, EndsRule, IsLineFault, IsFirstFault}
 
 -- ---- significant lines
 
