@@ -1,10 +1,9 @@
 -- Whether a body writes its element, found place by place.
-use Rattle.std.proofs.Common.{◌≡◌, ℕ, zero, suc, ◌+◌, ◌-◌, ◌<◌, ◌≤◌, Bool, true, false, refl, sym, ap, ◌∙◌, subst, arith}
+use Rattle.std.proofs.Common.{◌≡◌, ℕ, zero, suc, ◌+◌, ◌-◌, ◌<◌, ◌≤◌, true, false, refl, subst, arith}
 use Rattle.std.specs.Prelude.{◌&&◌, not}
 use Rattle.std.proofs.Math.Bool.{and-false}
 use Rattle.code_model.specs.Code.{Code, reading_at}
-use Rattle.machine_model.specs.declared.form.Body.{Body}
-use Rattle.machine_model.specs.Budget.{writes, is_kept, keeps_element}
+use Rattle.machine_model.specs.Budget.{writes, is_kept}
 
 module _ (c : Code) (r p : ℕ) where
   pub kept_none : is_kept c r p 0 ≡ true

@@ -1,12 +1,11 @@
 -- The sums over one more place.
-use Rattle.std.proofs.Common.{◌≡◌, ℕ, zero, suc, ◌+◌, Option, Some, None, Bool, true, false, refl, sym, ap, ◌∙◌, arith, add-one}
-use Rattle.std.specs.Prelude.{if◌then◌else◌}
+use Rattle.std.proofs.Common.{◌≡◌, ℕ, ◌+◌, Option, Some, None, true, false, refl, ap, ◌∙◌, arith, add-one}
 use Rattle.code_model.specs.Code.{Code, reading_at}
 use Rattle.code_model.specs.declared.code.Instruction.{Instruction}
 use Rattle.code_model.specs.declared.code.Instruction.TheVariants as instruction
 use Rattle.machine_model.specs.declared.form.Body.{Body}
-use Rattle.machine_model.specs.Form.{body_at, is_in_body}
-use Rattle.machine_model.specs.Budget.{Sums, fixed_at, separator_bytes, separator_at, written_at, prints, is_of_element, of_element, of_others, total, where_outside, where_inside}
+use Rattle.machine_model.specs.Form.{body_at}
+use Rattle.machine_model.specs.Budget.{fixed_at, separator_bytes, separator_at, written_at, prints, is_of_element, of_element, of_others, total, where_outside, where_inside}
 use Rattle.budget.specs.declared.share.Share.{Share}
 use Rattle.budget.specs.Private.SumsBelow.{sums_below}
 use Rattle.budget.specs.Private.Shares.{IsShareOf, plus_outside, plus_inside, plus_element}

@@ -70,7 +70,16 @@ fn code2(
     Ok(Code::from_parts2(names, literals, instrs)?)
 }
 
-fn sums(budget: Budget) -> [u64; 6] {
+/// The six sums of a code of version 1.
+fn sums(
+    alloc: Global,
+    literals: &[(bool, &str)],
+    instructions: &[Instruction],
+) -> Result<[u64; 6], Fail> {
+    Ok(as_listed(budget_of(&code(alloc, literals, instructions)?)))
+}
+
+fn as_listed(budget: Budget) -> [u64; 6] {
     let Budget {
         s0,
         s1,
@@ -84,8 +93,15 @@ fn sums(budget: Budget) -> [u64; 6] {
 
 #[test]
 fn counts_what_runs_can_take(rt: HostRuntime) -> Result<(), Fail> {
-    let comma = [(false, ",")];
-    let abc = [(true, "abc")];
+    let alloc = rt.alloc();
+    assert_eq!(rt;
+        sums(alloc, &[(false, ",")], &LIST_CODE)?,
+        [3, 3, 0, 1, 3, 0]
+    );
+    assert_eq!(rt;
+        sums(alloc, &ISSN_LITERALS, &ISSN_CODE)?,
+        [10, 0, 17, 0, 3, 0]
+    );
     let written = [
         List(0, 0),
         Each(1, 0, 5),
@@ -94,22 +110,12 @@ fn counts_what_runs_can_take(rt: HostRuntime) -> Result<(), Fail> {
         Next,
         Halt,
     ];
+    assert_eq!(rt;
+        sums(alloc, &[(true, "abc")], &written)?,
+        [3, 3, 0, 9, 0, 3]
+    );
     let x_code = [Text(2, 0), Undef(2, 3), Put(2, 0), Halt];
-    let cases = [
-        (
-            "a list",
-            comma.as_slice(),
-            LIST_CODE.as_slice(),
-            [3, 3, 0, 1, 3, 0],
-        ),
-        ("a rule", &ISSN_LITERALS, &ISSN_CODE, [10, 0, 17, 0, 3, 0]),
-        ("element written", &abc, &written, [3, 3, 0, 9, 0, 3]),
-        ("a text", &[], &x_code, [4, 0, 0, 0, 3, 0]),
-    ];
-    for (case, literals, instructions, expected) in cases {
-        let code = code(rt.alloc(), literals, instructions)?;
-        assert_eq!(rt; sums(budget_of(&code)), expected, "{case}");
-    }
+    assert_eq!(rt; sums(alloc, &[], &x_code)?, [4, 0, 0, 0, 3, 0]);
     Ok(())
 }
 
@@ -135,9 +141,9 @@ fn count_writes_in_version_2_alone(rt: HostRuntime) -> Result<(), Fail> {
         Next,
         Halt,
     ];
-    let first = code(rt.alloc(), &[], &instructions)?;
-    assert_eq!(rt; sums(budget_of(&first)), [3, 3, 0, 0, 3, 0]);
+    let first = sums(rt.alloc(), &[], &instructions)?;
+    assert_eq!(rt; first, [3, 3, 0, 0, 3, 0]);
     let second = code2(rt.alloc(), &[], &instructions)?;
-    assert_eq!(rt; sums(budget_of(&second)), [3, 3, 0, 0, 0, 3]);
+    assert_eq!(rt; as_listed(budget_of(&second)), [3, 3, 0, 0, 0, 3]);
     Ok(())
 }

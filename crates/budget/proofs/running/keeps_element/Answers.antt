@@ -1,5 +1,5 @@
-use Rattle.std.proofs.Common.{◌≡◌, ℕ, ◌-◌, true, false, sym, ap, ◌∙◌, arith}
-use Rattle.machine_model.specs.Budget.{writes, is_kept}
+use Rattle.std.proofs.Common.{◌≡◌, ◌-◌, sym, ap, ◌∙◌, arith}
+use Rattle.machine_model.specs.Budget.{writes}
 use Rattle.budget.proofs.Kept.{kept_none, kept_more, kept_until}
 use Rattle.budget.proofs.running.keeps_element.Goals as goal
 

@@ -1,4 +1,4 @@
-use Rattle.std.proofs.Common.{◌≡◌, sym, ◌∙◌, arith}
+use Rattle.std.proofs.Common.{sym, ◌∙◌, arith}
 use Rattle.budget.proofs.Walk.{running_on, running_off, running_begun}
 use Rattle.budget.proofs.running.next_running.Goals as goal
 

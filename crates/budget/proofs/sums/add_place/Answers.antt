@@ -1,4 +1,4 @@
-use Rattle.std.proofs.Common.{◌≡◌, ◌+◌, sym, ◌∙◌, subst, arith}
+use Rattle.std.proofs.Common.{◌+◌, sym, ◌∙◌, subst, arith}
 use Rattle.budget.specs.Small.{IsSmall}
 use Rattle.budget.proofs.Steps.{after_outside, after_inside, after_element}
 use Rattle.budget.proofs.Limits.{small_below}

@@ -1,5 +1,4 @@
-use Rattle.std.proofs.Common.{◌≡◌, ℕ, ◌+◌, sym, subst, arith}
-use Rattle.machine_model.specs.Budget.{Sums}
+use Rattle.std.proofs.Common.{sym, subst, arith}
 use Rattle.budget.specs.Small.{IsSmall}
 use Rattle.budget.proofs.Walk.{running_first}
 use Rattle.budget.proofs.Totals.{no_sums}
