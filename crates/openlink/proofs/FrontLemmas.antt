@@ -1,5 +1,5 @@
 -- What the front of a file says of the file: it has one byte more than any code or rule text, so it is whole or too long.
-use Rattle.std.proofs.Common.{◌≡◌, ℕ, ◌<◌, ◌≤◌, ◌+◌, List, length, take, Option, Some, None, IfSome, sym, subst, refl, arith, inl, inr}
+use Rattle.std.proofs.Common.{◌≡◌, ℕ, ◌<◌, ◌≤◌, ◌+◌, length, take, Option, Some, None, sym, subst, refl, arith, inl, inr}
 use Rattle.std.proofs.lemmas.List.{length-take, take_all}
 use Rattle.text_model.specs.Texts.{Text}
 use Rattle.code_model.specs.Code.{Code}

@@ -4,7 +4,7 @@ use Rattle.text_model.specs.Texts.{Text}
 use Rattle.code_model.specs.Code.{Code, upgraded}
 use Rattle.code_file.specs.Grammar.{IsCodeFile}
 use Rattle.openlink.specs.declared.fault.Fault.{Fault}
-use Rattle.openlink.specs.declared.fault.Fault.TheVariants.{Usage, Memory}
+use Rattle.openlink.specs.declared.fault.Fault.TheVariants.{Usage}
 use Rattle.openlink.specs.Faults.{IsFileFault, IsCodeFault}
 use Rattle.openlink.specs.Files.{count_line}
 
