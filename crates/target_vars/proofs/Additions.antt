@@ -1,5 +1,5 @@
 -- A name that comes with a text, and a member that comes last in the list of its name.
-use Rattle.std.proofs.Common.{◌≡◌, ℕ, ◌+◌, ◌<◌, ◌≤◌, List, [], ◌∷◌, ◌++◌, Bool, true, false, map, length, insert, slice_get, Option, Some, None, is_some, IsTrue, All, IsUtf8, refl, sym, ap, ◌∙◌, subst, arith, length-append, zero-add, ⊎_elim}
+use Rattle.std.proofs.Common.{◌≡◌, ℕ, ◌+◌, ◌<◌, ◌≤◌, List, [], ◌∷◌, ◌++◌, Bool, true, false, map, length, insert, slice_get, Some, is_some, IsTrue, All, IsUtf8, refl, sym, ap, ◌∙◌, subst, arith, length-append, zero-add, ⊎_elim}
 use Rattle.std.specs.Prelude.{◌==◌}
 use Rattle.std.proofs.lemmas.List.{map-append}
 use Rattle.std.proofs.lemmas.List.Edits.{length-insert}
@@ -7,10 +7,10 @@ use Rattle.std.proofs.lemmas.List.Elements.{All-cons, All-push, All-filter, All-
 use Rattle.std.proofs.lemmas.List.Sorted.{IsPermutation-insert, All-permutation}
 use Rattle.std.proofs.lemmas.Option.{slice_get_within}
 use Rattle.text_model.specs.Texts.{Text}
-use Rattle.environment_model.specs.Environment.{Environment, Entry, Meaning, Single, Several, is_there, is_among, text_in, text_of, byte_count, member_count, with_text, with_member}
+use Rattle.environment_model.specs.Environment.{Entry, Single, Several, is_there, is_among, text_in, text_of, byte_count, member_count, with_text, with_member}
 use Rattle.environment_model.proofs.Environments.{byte_count-with_text, byte_count-with_member, member_count-with_member, member_count-push, with_text-new, with_member-new, with_member-append, with_member-same}
 use Rattle.target_vars.specs.EnvValue.{EachNameOnce}
-use Rattle.target_vars.specs.Layout.{part_text, piece, spans_of, members_in, meaning_in, entries_from, laid_entries, IsPiece, IsPlace, IsPutLast, HasList, IsLaid}
+use Rattle.target_vars.specs.Layout.{piece, spans_of, members_in, laid_entries, IsPiece, IsPlace, IsPutLast, HasList, IsLaid}
 use Rattle.target_vars.specs.declared.place.Part.{Part}
 use Rattle.target_vars.specs.declared.place.Span.{Span}
 use Rattle.target_vars.specs.declared.place.Place.{Place}

@@ -1,13 +1,13 @@
 -- The entries of names and places.
-use Rattle.std.proofs.Common.{◌≡◌, ℕ, zero, suc, ◌+◌, ◌<◌, ◌≤◌, List, [], ◌∷◌, ◌++◌, Bool, true, false, map, length, slice_get, Option, Some, None, is_some, bytes_eq, All, unwrap_or, refl, sym, ap, ◌∙◌, subst, arith, add-zero}
+use Rattle.std.proofs.Common.{◌≡◌, ℕ, zero, suc, ◌+◌, ◌≤◌, List, [], ◌∷◌, ◌++◌, Bool, true, false, length, slice_get, Some, is_some, bytes_eq, All, unwrap_or, refl, sym, ap, ◌∙◌, subst, arith, add-zero}
 use Rattle.std.specs.Prelude.{◌==◌}
 use Rattle.std.proofs.lemmas.List.Elements.{All-head, All-tail}
 use Rattle.std.proofs.lemmas.Slice.Eq.{bytes_eq-Decides}
 use Rattle.text_model.specs.Texts.{Text}
-use Rattle.environment_model.specs.Environment.{Environment, Entry, Meaning, Single, Several, look_up, is_there, is_among, more, with_member}
+use Rattle.environment_model.specs.Environment.{Environment, Entry, Single, look_up, is_there, is_among, more, with_member}
 use Rattle.environment_model.proofs.Environments.{look_up-empty, look_up-same, look_up-other, with_member-same, with_member-other}
 use Rattle.target_vars.specs.EnvValue.{EachNameOnce}
-use Rattle.target_vars.specs.Layout.{part_text, meaning_in, entries_from, IsPlace}
+use Rattle.target_vars.specs.Layout.{meaning_in, entries_from, IsPlace}
 use Rattle.target_vars.specs.declared.place.Place.{Place}
 use Rattle.target_vars.specs.declared.place.Place.TheVariants.{One, Many}
 use Rattle.target_vars.proofs.Growth.{same_part}

@@ -1,21 +1,20 @@
 -- What the fields of an `Env` say of what callers see of it.
-use Rattle.std.proofs.Common.{◌≡◌, ℕ, ◌+◌, ◌<◌, ◌≤◌, List, [], ◌∷◌, ◌++◌, map, take, drop, insert, IsTrue, Bool, true, false, length, slice_get, get_or, Option, Some, None, is_some, Result, Ok, Err, string_bytes, refl, sym, ap, ◌∙◌, subst, arith}
+use Rattle.std.proofs.Common.{◌≡◌, ℕ, ◌+◌, ◌<◌, ◌≤◌, List, ◌∷◌, ◌++◌, take, drop, insert, IsTrue, Bool, true, false, length, slice_get, get_or, Some, is_some, Result, Ok, Err, string_bytes, refl, sym, ap, ◌∙◌, subst, arith}
 use Rattle.std.specs.Prelude.{MatchResult}
 use Rattle.std.proofs.lemmas.Option.{slice_get-get_or, slice_get_within}
 use Rattle.text_model.specs.Texts.{Text}
-use Rattle.environment_model.specs.Environment.{is_there, is_among, text_in, text_of, byte_count, member_count}
-use Rattle.target_vars.specs.EnvValue.{EnvValue, stands_for_text, AreMembersAt}
-use Rattle.target_vars.specs.NamesValue.{NamesValue, IsGap}
-use Rattle.target_vars.specs.Layout.{at, part_text, is_one, laid_spans, meaning_in, members_in, IsLaid, IsRun, IsTextPart, IsPutLast}
+use Rattle.environment_model.specs.Environment.{is_there, is_among, text_in, byte_count, member_count}
+use Rattle.target_vars.specs.EnvValue.{EnvValue, stands_for_text}
+use Rattle.target_vars.specs.NamesValue.{IsGap}
+use Rattle.target_vars.specs.Layout.{at, is_one, laid_spans, meaning_in, members_in, IsLaid, IsPutLast}
 use Rattle.target_vars.specs.declared.env.Env.TheInside.{Inside}
 use Rattle.target_vars.specs.declared.env.TheConstants.{MAX_BYTES, MAX_MEMBERS}
-use Rattle.target_vars.specs.declared.place.Part.{Part}
 use Rattle.target_vars.specs.declared.place.Span.{Span}
 use Rattle.target_vars.specs.declared.place.Place.{Place}
 use Rattle.target_vars.specs.declared.place.Place.TheVariants.{One, Many}
 use Rattle.std.proofs.lemmas.List.{length-map, map-append, take-map, drop-map}
 use Rattle.target_vars.proofs.Additions.{within}
-use Rattle.target_vars.proofs.Laid.{seen, is_there-laid, look_up-lacking, look_up-laid, place_read, text_part, no_text-at, no_members-at, no_members-lacking, members_at}
+use Rattle.target_vars.proofs.Laid.{seen, is_there-laid, look_up-lacking, look_up-laid}
 
 abbrev pub held : Inside → EnvValue
 held r = seen (string_bytes r.buffer) r.spans.items r.names.listed r.places.items

@@ -1,5 +1,5 @@
 -- What is there keeps its place when a text goes to the end of the buffer.
-use Rattle.std.proofs.Common.{◌≡◌, ℕ, ◌+◌, ◌-◌, List, [], ◌∷◌, ◌++◌, map, length, take, drop, All, IsUtf8, IsCharBoundary, refl, sym, ap, ◌∙◌, subst, arith, length-append, length-drop, take_all, drop_at}
+use Rattle.std.proofs.Common.{◌≡◌, ℕ, ◌+◌, List, [], ◌∷◌, ◌++◌, map, length, take, drop, All, IsUtf8, IsCharBoundary, refl, sym, ap, ◌∙◌, subst, arith, length-append, length-drop, take_all, drop_at}
 use Rattle.std.proofs.lemmas.List.{take-append-le, drop-append-le}
 use Rattle.std.proofs.lemmas.List.Elements.{All-head, All-tail, All-weaker}
 use Rattle.std.proofs.lemmas.Str.{IsUtf8-append, IsUtf8-take, IsCharBoundary-from_take, IsCharBoundary-at_seam, IsCharBoundary-end}

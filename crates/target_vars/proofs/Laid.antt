@@ -1,19 +1,18 @@
 -- What a name stands for, by its number.
-use Rattle.std.proofs.Common.{◌≡◌, ℕ, ◌+◌, ◌-◌, ◌<◌, ◌≤◌, List, [], ◌∷◌, Bool, true, false, map, length, take, drop, slice_get, get_or, Bor, option_copied, Option, Some, None, is_some, All, refl, sym, ap, ◌∙◌, subst, arith, zero-add, length-drop}
+use Rattle.std.proofs.Common.{◌≡◌, ℕ, ◌+◌, ◌-◌, ◌<◌, List, [], ◌∷◌, false, map, length, take, drop, slice_get, get_or, Bor, option_copied, Option, Some, None, is_some, All, refl, sym, ap, ◌∙◌, subst, arith, zero-add}
 use Rattle.std.specs.Prelude.{slice_range}
 use Rattle.std.proofs.lemmas.List.{length-map, take-map, drop-map}
 use Rattle.std.proofs.lemmas.List.Elements.{All-tail, All-nil, All-map, All-get_or, All-weaker}
 use Rattle.std.proofs.lemmas.List.Sorted.{IsNonDecreasingBy-short}
 use Rattle.std.proofs.lemmas.Option.{slice_get-get_or, slice_get_within}
 use Rattle.text_model.specs.Texts.{Text}
-use Rattle.environment_model.specs.Environment.{Environment, Meaning, Single, Several, look_up, is_there, is_among, text_in, text_of, members_in as members_meant, members_of, byte_count, member_count}
-use Rattle.target_vars.specs.EnvValue.{EnvValue, EachNameOnce, piece_at, IsWithin, AreMembersAt, IsTextAt}
-use Rattle.target_vars.specs.Layout.{at, part_text, piece, members_in, meaning_in, laid_entries, laid_spans, spans_of, IsPart, IsPiece, IsPieces, IsPlace, IsRun, IsTextPart, IsLaid}
+use Rattle.environment_model.specs.Environment.{Meaning, look_up, is_there, is_among, text_in, text_of, members_in as members_meant, members_of, byte_count, member_count}
+use Rattle.target_vars.specs.EnvValue.{EnvValue, EachNameOnce, piece_at, IsWithin, AreMembersAt}
+use Rattle.target_vars.specs.Layout.{at, piece, members_in, meaning_in, laid_entries, laid_spans, IsPiece, IsPieces, IsPlace, IsRun, IsTextPart, IsLaid}
 use Rattle.target_vars.specs.declared.place.Part.{Part}
 use Rattle.target_vars.specs.declared.place.Span.{Span}
 use Rattle.target_vars.specs.declared.place.Place.{Place}
 use Rattle.target_vars.specs.declared.place.Place.TheVariants.{One, Many}
-use Rattle.target_vars.specs.declared.env.TheConstants.{MAX_BYTES, MAX_MEMBERS}
 use Rattle.target_vars.proofs.Entries.{entries_from-empty, is_there-entries, look_up-at}
 
 -- what callers see of what is laid

@@ -1,7 +1,6 @@
 -- Names, and their numbers' order by name.
-use Rattle.std.proofs.Common.{◌≡◌, ℕ, zero, suc, ◌+◌, ◌-◌, ◌<◌, ◌≤◌, List, [], ◌∷◌, ◌++◌, Bool, true, false, map, length, take, drop, get_or, insert, slice_get, Some, All, bytes_eq, refl, sym, ap, ◌∙◌, subst, arith, length-append, ⊎_elim, zero-add}
+use Rattle.std.proofs.Common.{◌≡◌, ℕ, ◌+◌, ◌-◌, ◌<◌, ◌≤◌, List, [], ◌∷◌, ◌++◌, true, false, length, take, drop, get_or, insert, slice_get, Some, All, bytes_eq, refl, sym, ap, ◌∙◌, subst, arith, length-append, ⊎_elim, zero-add}
 use Rattle.std.specs.Prelude.{slice_range}
-use Rattle.std.specs.Cmp.{IsTotalOrder}
 use Rattle.std.specs.Cmp.Lexicographic.{slice_cmp}
 use Rattle.std.specs.List.{range_with_len}
 use Rattle.std.specs.List.Sorted.{IsPermutation, IsNonDecreasingBy, IsPartitionPoint}
@@ -20,7 +19,7 @@ use Rattle.std.proofs.lemmas.Option.{slice_get-get_or}
 use Rattle.std.proofs.lemmas.Slice.Eq.{bytes_eq-Decides}
 use Rattle.text_model.specs.Texts.{Text}
 use Rattle.environment_model.specs.Environment.{is_among}
-use Rattle.target_vars.specs.NamesValue.{NamesValue, names_in, compared, IsNamePlace, AreNames, IsGap}
+use Rattle.target_vars.specs.NamesValue.{names_in, compared, IsNamePlace, AreNames, IsGap}
 use Rattle.target_vars.specs.declared.names.NamePlace.{NamePlace}
 
 -- ---- the numbers in the order are those of the names

@@ -9,6 +9,7 @@ use crate::error::VarsError;
 use crate::members::Members;
 use crate::names::Names;
 use crate::place::{Part, Place, Span, enter, is_text, list_of, put_last, run_of};
+use crate::room::reserve;
 use std::alloc::Global;
 use std::marker::Model;
 
@@ -77,7 +78,7 @@ impl Env {
         if self.is_too_long(text) {
             return Err(VarsError::TooLarge);
         }
-        self.buffer.reserve(text.len())?;
+        reserve(&mut self.buffer, text.len())?;
         let part = Part::at_end(&self.buffer, text);
         enter(
             &mut self.names,
@@ -117,7 +118,7 @@ impl Env {
         if self.is_too_long(text) || self.is_full() {
             return Err(VarsError::TooLarge);
         }
-        self.buffer.reserve(text.len())?;
+        reserve(&mut self.buffer, text.len())?;
         self.spans.reserve(1)?;
         let list = list_of(&mut self.names, &mut self.places, name, found)?;
         let part = Part::at_end(&self.buffer, text);

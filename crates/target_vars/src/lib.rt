@@ -7,6 +7,7 @@ mod members;
 mod members_iter;
 mod names;
 mod place;
+mod room;
 #[cfg(test)]
 mod tests;
 

@@ -1,6 +1,7 @@
 ghost use Rattle.std.specs.Prelude.{◌≡◌, [], ◌∷◌, ◌++◌, length, slice_get, slice_index_or, OnOk, OnErr, MatchResult};
 ghost use Rattle.target_vars.specs.NamesValue.{compared, IsGap};
 
+use crate::room::{FIRST_BYTES, FIRST_NAMES, reserve_items};
 use std::alloc::{AllocError, Global};
 use std::marker::Model;
 
@@ -82,9 +83,9 @@ impl Names {
         ensures ok { OnOk result (self.new.listed ≡ self.old.listed ++ name.now ∷ []) }
         ensures err { OnErr result (self.new.listed ≡ self.old.listed) }
     {
-        self.bytes.reserve(name.len())?;
-        self.places.reserve(1)?;
-        self.order.reserve(1)?;
+        reserve_items(&mut self.bytes, name.len(), FIRST_BYTES)?;
+        reserve_items(&mut self.places, 1, FIRST_NAMES)?;
+        reserve_items(&mut self.order, 1, FIRST_NAMES)?;
         let start = self.bytes.len();
         self.bytes.extend_from_slice(name.as_bytes()).unwrap();
         self.order.insert(gap, self.places.len()).unwrap();

@@ -7,6 +7,7 @@ ghost use Rattle.target_vars.specs.declared.place.Place.{Place as PlaceValue};
 
 use crate::env::MAX_BYTES;
 use crate::names::Names;
+use crate::room::{FIRST_NAMES, reserve_items};
 use std::alloc::AllocError;
 
 /// A part of the buffer, in bytes.
@@ -65,7 +66,7 @@ pub(crate) fn enter(
     ensures places { OnOk result (places.new.items ≡ places.old.items ++ place ∷ []) }
     ensures err { OnErr result ((names.new.listed ≡ names.old.listed) × (places.new.items ≡ places.old.items)) }
 {
-    places.reserve(1)?;
+    reserve_items(places, 1, FIRST_NAMES)?;
     names.add(name, gap)?;
     places.push_reserved(place);
     Ok(())

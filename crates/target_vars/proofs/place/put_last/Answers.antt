@@ -1,8 +1,7 @@
-use Rattle.std.proofs.Common.{rules, ◌≡◌, ◌≤◌, true, false, length, insert, leb, sym, ap, subst, ◌∙◌, arith}
+use Rattle.std.proofs.Common.{rules, ◌≡◌, ◌≤◌, true, false, length, insert, leb, sym, ap, subst, arith}
 use Rattle.std.proofs.lemmas.List.Sorted.{IsPartitionPoint-from_clause, IsPartitionedBy-leb}
 use Rattle.std.specs.List.Sorted.{IsPartitionPoint, IsPartitionedBy}
 use Rattle.target_vars.specs.declared.place.Span.{Span}
-use Rattle.target_vars.specs.Layout.{IsPutLast}
 use Rattle.target_vars.proofs.Spans.{put_last_is}
 use Rattle.target_vars.proofs.place.put_last.Goals as goal
 

@@ -1,8 +1,7 @@
-use Rattle.std.proofs.Common.{rules, ◌≡◌, ◌≤◌, ◌-◌, true, false, length, take, drop, length-drop, take_all, leb, ltb, sym, ap, subst, ◌∙◌, arith}
+use Rattle.std.proofs.Common.{rules, ◌≡◌, ◌≤◌, ◌-◌, true, false, length, take, drop, length-drop, take_all, leb, ltb, sym, subst, arith}
 use Rattle.std.proofs.lemmas.List.Sorted.{IsPartitionPoint-from_clause, IsPartitionedBy-ltb, IsPartitionedBy-leb, IsNonDecreasingBy-drop}
 use Rattle.std.specs.List.Sorted.{IsPartitionPoint, IsPartitionedBy}
 use Rattle.target_vars.specs.declared.place.Span.{Span}
-use Rattle.target_vars.specs.Layout.{IsRun}
 use Rattle.target_vars.proofs.Spans.{run_is}
 use Rattle.target_vars.proofs.place.run_of.Goals as goal
 

@@ -1,9 +1,9 @@
-use Rattle.std.proofs.Common.{rules, ◌≡◌, ◌+◌, ◌<◌, ◌≤◌, [], ◌∷◌, ◌++◌, true, false, not, length, IsTrue, string_bytes, refl, sym, ap, ◌∙◌, subst, arith, inl, inr}
+use Rattle.std.proofs.Common.{rules, ◌≡◌, ◌++◌, true, false, not, length, string_bytes, refl, sym, ap, ◌∙◌, subst, inl, inr}
 use Rattle.std.proofs.lemmas.Str.{IsUtf8-string_bytes}
 use Rattle.environment_model.specs.Environment.{with_member}
 use Rattle.environment_model.proofs.Environments.{with_member-text}
 use Rattle.target_vars.specs.EnvValue.{EnvValue, stands_for_text}
-use Rattle.target_vars.specs.Layout.{IsPutLast, HasList}
+use Rattle.target_vars.specs.Layout.{IsPutLast}
 use Rattle.target_vars.specs.declared.place.Span.{Span}
 use Rattle.target_vars.proofs.Additions.{add_is, laid_add}
 use Rattle.target_vars.proofs.Facts.{Says, decided, found_list, fits, few, span_put}

@@ -1,4 +1,4 @@
-use Rattle.std.proofs.Common.{rules, ◌≡◌, ◌+◌, map, string_bytes, sym, ap, ◌∙◌}
+use Rattle.std.proofs.Common.{◌+◌, map, string_bytes, sym, ap, ◌∙◌}
 use Rattle.std.specs.Prelude.{slice_range}
 use Rattle.target_vars.specs.EnvValue.{EnvValue}
 use Rattle.target_vars.specs.Layout.{piece}

@@ -1,10 +1,8 @@
-use Rattle.std.proofs.Common.{rules, ◌≡◌, ◌+◌, ◌<◌, ◌≤◌, [], ◌∷◌, ◌++◌, true, false, not, length, IsTrue, string_bytes, refl, sym, ap, ◌∙◌, subst, arith, inl, inr}
+use Rattle.std.proofs.Common.{rules, ◌≡◌, ◌++◌, true, not, length, string_bytes, refl, sym, ap, ◌∙◌}
 use Rattle.std.proofs.lemmas.Str.{IsUtf8-string_bytes}
 use Rattle.environment_model.specs.Environment.{is_there, with_text}
 use Rattle.environment_model.proofs.Environments.{with_text-known}
 use Rattle.target_vars.specs.EnvValue.{EnvValue}
-use Rattle.target_vars.specs.Layout.{IsLaid, laid_entries}
-use Rattle.target_vars.specs.declared.place.Place.TheVariants.{One}
 use Rattle.target_vars.proofs.Additions.{put_is, laid_put}
 use Rattle.target_vars.proofs.Facts.{known, lacking, fits}
 use Rattle.target_vars.proofs.env.Env.put_text.Goals as goal

@@ -1,5 +1,4 @@
 use Rattle.std.proofs.Common.{rules, ◌≡◌, ◌<◌, ◌≤◌, length, get_or, slice_get, Some, sym, ap, subst, ◌∙◌, arith}
-use Rattle.std.specs.List.Sorted.{IsBinarySearchResult}
 use Rattle.std.specs.declared.cmp.Ordering.TheVariants.{Equal}
 use Rattle.std.proofs.lemmas.Fn.{always_returns_same}
 use Rattle.target_vars.specs.NamesValue.{NamesValue, names_in, compared, IsGap}
