@@ -1,0 +1,5 @@
+pub mod Checks
+pub mod Faults
+pub mod Layouts
+pub mod Rows
+pub mod Walks
