@@ -46,7 +46,10 @@ pub(crate) fn edges(
             carried(next, row.with(a, Kind::Number)),
             carried(d.into(), row),
         ),
-        Instruction::Undef(a, d) => (carried(next, row.with(a, Kind::Text)), carried(d.into(), row)),
+        Instruction::Undef(a, d) => {
+            let told = row.with(a, Kind::Text);
+            (carried(next, told), carried(d.into(), row))
+        }
         Instruction::Empty(_, d)
         | Instruction::NoList(_, d)
         | Instruction::Differ(_, _, d)

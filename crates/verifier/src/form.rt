@@ -1,18 +1,17 @@
 //! The checks of form, one place at a time.
 
-ghost use Rattle.std.specs.Prelude.{◌≡◌, ◌<◌, ◌||◌, ◌&&◌, ◌-◌, not, nat_lt, length, slice_get, true, Some};
+ghost use Rattle.std.specs.Prelude.{◌≡◌, ◌<◌, ◌||◌, ◌&&◌, ◌-◌, not, nat_lt, length, true};
 ghost use Rattle.std.specs.List.{list_all};
 ghost use Rattle.code_model.specs.Operands.{operands, is_in_range, LinkText, Compared, TextName, ListName};
 ghost use Rattle.machine_model.specs.First.{Located};
 ghost use Rattle.machine_model.specs.Operands as operand;
 ghost use Rattle.machine_model.specs.Form as form;
 ghost use Rattle.machine_model.specs.Form.{is_next, is_sep, goes_to, is_same_body, is_in_body, ends_body, body_at, first_failing, fault_at, first_form_fault};
-ghost use Rattle.code_model.specs.declared.code.Instr.{Instr};
 ghost use Rattle.verifier.specs.Checks.{operand_checks, jump_checks, each_checks, order_checks, located_of};
 
 use crate::layout::Layout;
 use code_file::{Code, spelling};
-use code_model::Instruction;
+use code_model::{Instr, Instruction};
 use machine_model::{Body, FormFault};
 
 /// Whether modes and counts are what they may be.
@@ -141,13 +140,11 @@ fn ends_body(place: usize, body: Option<Body>) -> bool
 }
 
 impl<'a> Layout<'a> {
-    /// What is wrong with the fields of the instruction at a place.
-    fn operand_fault(&self, place: usize, instruction: Instruction) -> Option<FormFault>
-        requires { place < length self.now.code.now.instrs }
-        ensures { (fields : Instr) → slice_get self.now.code.now.instrs place ≡ Some fields
-            → result ≡ first_failing (operand_checks self.now.code.now fields instruction) }
+    /// What is wrong with the fields of an instruction.
+    fn operand_fault(&self, fields: Instr, instruction: Instruction) -> Option<FormFault>
+        ensures { result ≡ first_failing (operand_checks self.now.code.now fields instruction) }
     {
-        if self.code.instr(place) != spelling(instruction) || !is_in_range(instruction) {
+        if fields != spelling(instruction) || !is_in_range(instruction) {
             Some(FormFault::BadField)
         } else if !are_registers(self.code, instruction) {
             Some(FormFault::BadRegister)
@@ -217,10 +214,16 @@ impl<'a> Layout<'a> {
         let Some(instruction) = self.reading(place) else {
             return Some(FormFault::UnknownOp);
         };
-        self.operand_fault(place, instruction)
-            .or_else(|| self.jump_fault(place, instruction))
-            .or_else(|| self.each_fault(place, instruction))
-            .or_else(|| self.order_fault(place, instruction))
+        if let Some(fault) = self.operand_fault(self.code.instr(place), instruction) {
+            return Some(fault);
+        }
+        if let Some(fault) = self.jump_fault(place, instruction) {
+            return Some(fault);
+        }
+        if let Some(fault) = self.each_fault(place, instruction) {
+            return Some(fault);
+        }
+        self.order_fault(place, instruction)
     }
 
     /// The first fault of form in rising place, with its place.

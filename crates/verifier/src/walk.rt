@@ -1,49 +1,54 @@
 //! The least table of kinds: kinds are carried along the edges of each place, in rising place, and from the
 //! head of a loop again while it rises.
 
-ghost use Rattle.std.specs.Prelude.{◌≡◌, ◌<◌, ◌+◌, [], ◌∷◌, length, IfOk};
+ghost use Rattle.std.specs.Prelude.{◌≡◌, ◌<◌, ◌+◌, [], ◌∷◌, length, min, IfOk};
 ghost use Rattle.std.specs.List.{AllByRecursion};
 ghost use Rattle.machine_model.specs.Form.{HasGoodForm};
 ghost use Rattle.machine_model.specs.Typable.{IsLeast};
 ghost use Rattle.verifier.specs.Rows.{table_of, edge_of, edges_of, one_or_none};
-ghost use Rattle.verifier.specs.Walks.{Rises, table_rises, Follows, IsSameAt, IsSameBefore, GoesOn, IsClosedBefore, IsBelowClosed};
+ghost use Rattle.verifier.specs.Walks.{Follows, IsSameBefore, GoesOn, IsClosedBefore, IsBelowClosed};
 
 use crate::edges::{Edge, edges};
 use crate::layout::Layout;
 use crate::row::{Row, raise};
 use std::alloc::{AllocError, Global};
 
-/// Joins the kinds that an edge carries with those of its end, and answers whether they rose there.
-fn push(table: &mut [Option<Row>], edge: Edge) -> bool
+/// The earlier of two places.
+fn earlier(place: usize, other: usize) -> usize
+    ensures { result ≡ min place other }
+{
+    if other < place { other } else { place }
+}
+
+/// Joins the kinds that an edge carries with those of its end. The answer is the place from which the walk
+/// goes on: the edge's end where kinds rose there and it is before `next`.
+fn push(table: &mut [Option<Row>], edge: Edge, next: usize) -> usize
     requires { edge.to < length table.old }
     ensures follows { Follows (edge_of edge ∷ []) (table_of table.old) (table_of table.new) }
-    ensures same { IsSameAt edge.to (table_of table.old) (table_of table.new) }
-    ensures rises { Rises table_rises result table.old table.new }
+    ensures same { IsSameBefore result (table_of table.old) (table_of table.new) }
+    ensures on { GoesOn next result table.old table.new }
 {
     let Some(mut row) = table[edge.to] else {
         table[edge.to] = Some(edge.row);
-        return true;
+        return earlier(next, edge.to);
     };
-    let rose = raise(&mut row.kinds, &edge.row.kinds);
+    if !raise(&mut row.kinds, &edge.row.kinds) {
+        return next;
+    }
     table[edge.to] = Some(row);
-    rose
+    earlier(next, edge.to)
 }
 
-/// Follows an edge, if there is one. The answer is the place from which the walk goes on: the edge's end
-/// where kinds rose there and it is before `next`.
+/// Follows an edge, if there is one, and answers the place from which the walk goes on.
 fn follow(table: &mut [Option<Row>], edge: Option<Edge>, next: usize) -> usize
     requires { AllByRecursion (λ e. e.to < length table.old) (one_or_none edge_of edge) }
     ensures follows { Follows (one_or_none edge_of edge) (table_of table.old) (table_of table.new) }
     ensures same { IsSameBefore result (table_of table.old) (table_of table.new) }
     ensures on { GoesOn next result table.old table.new }
 {
-    let Some(edge) = edge else {
-        return next;
-    };
-    if push(table, edge) && edge.to < next {
-        edge.to
-    } else {
-        next
+    match edge {
+        None => next,
+        Some(edge) => push(table, edge, next),
     }
 }
 
@@ -62,7 +67,8 @@ fn step(layout: &Layout, table: &mut [Option<Row>], place: usize) -> usize
         return place + 1;
     };
     let instruction = layout.instruction(place);
-    let (first, second) = edges(place, row, layout.body(place), instruction);
+    let body = layout.body(place);
+    let (first, second) = edges(place, row, body, instruction);
     let next = follow(table, first, place + 1);
     follow(table, second, next)
 }
@@ -82,10 +88,7 @@ fn walk(layout: &Layout, table: &mut [Option<Row>])
 }
 
 /// The least table of a code of good form.
-pub(crate) fn least_table(
-    alloc: Global,
-    layout: &Layout,
-) -> Result<Vec<Option<Row>>, AllocError>
+pub(crate) fn least_table(alloc: Global, layout: &Layout) -> Result<Vec<Option<Row>>, AllocError>
     requires { HasGoodForm layout.now.code.now }
     ensures long { IfOk result (λ v. length v.items ≡ length layout.now.code.now.instrs) }
     ensures least { IfOk result (λ v. IsLeast layout.now.code.now (table_of v.items)) }
