@@ -4,6 +4,7 @@ pub mod Raising
 pub mod Pushes
 pub mod Following
 pub mod Listed
+pub mod Loads
 pub mod ComparedTexts
 pub mod Firsts
 pub mod GoodEdges

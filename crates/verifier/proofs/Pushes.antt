@@ -1,5 +1,6 @@
 -- A table in which an edge's end is written, or needs no writing; and the table at the start.
-use Rattle.std.proofs.Common.{◌≡◌, ◌≢◌, ℕ, zero, suc, ◌+◌, ◌*◌, ◌<◌, ◌≤◌, List, [], ◌∷◌, ◌++◌, length, get_or, set, replicate, Option, Some, None, Bool, true, false, refl, sym, ap, ◌∙◌, subst, arith, length-set}
+use Rattle.std.proofs.Common.{◌≡◌, ◌≢◌, ℕ, zero, suc, ◌+◌, ◌*◌, ◌<◌, ◌≤◌, List, [], ◌∷◌, ◌++◌, length, get_or, set, replicate, Option, Some, None, Bool, true, false, refl, sym, ap, ◌∙◌, subst, arith, length-set, ⊎_elim}
+use Rattle.std.proofs.lemmas.Bool.{cases_lt}
 use Rattle.std.specs.Prelude.{option_map}
 use Rattle.std.specs.List.{AllByRecursion}
 use Rattle.std.proofs.Math.Path.{fun_ext}
@@ -75,7 +76,7 @@ on_both from next to t u v a b = record {
   long = b.long ∙ a.long;
   on = omega (arith, a.on, b.on);
   less = omega (arith, a.less, b.less);
-  back = λ lt. omega (arith, a.less, b.less, a.back, b.back);
+  back = λ lt. ⊎_elim (λ less. omega (arith, a.back less, b.less)) (λ le. let same : next ≡ from = omega (arith, a.on) in let before : to < next = omega arith in omega (arith, a.less, b.back before)) (cases_lt next from);
 }
 
 -- ---- the edges of a place
@@ -92,7 +93,10 @@ both_within m n es fs gs e1 e2 h = within_parts m es fs (subst (λ k. AllByRecur
 
 -- ---- the table at the start
 
-none_at : (n p : ℕ) → get_or (replicate n None) p None ≡ None {A = Row}
+abbrev nothing : Option Row
+nothing = None
+
+none_at : (n p : ℕ) → get_or (replicate n nothing) p nothing ≡ nothing
 none_at zero p = refl
 none_at (suc n) zero = refl
 none_at (suc n) (suc p) = none_at n p

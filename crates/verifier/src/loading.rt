@@ -32,12 +32,12 @@ fn check(alloc: Global, code: &Code) -> Result<Vec<Instruction>, LoadError>
     form_is_decided();
     least_table_decides();
     let layout = Layout::new(alloc, code)?;
-    if let Some((fault, place)) = layout.first_fault() {
-        return Err(LoadError::of_form(fault, place));
+    if let Some(found) = layout.first_fault() {
+        return Err(LoadError::of_form(found.0, found.1));
     }
     let table = least_table(alloc, &layout)?;
-    if let Some((register, place)) = first_mismatch(&layout, &table) {
-        return Err(LoadError::KindMismatch(place, register));
+    if let Some(found) = first_mismatch(&layout, &table) {
+        return Err(LoadError::KindMismatch(found.1, found.0));
     }
     Ok(layout.instructions(alloc)?)
 }

@@ -18,7 +18,7 @@ pub returns-clause-follows : goal.returns-clause-follows
 returns-clause-follows c = more_follows c.args.table.now c.args.edge.to _ c.in-Some.row c.args.edge.row c.requires c.in-Some.is c.raise.ensures.joined
 
 pub returns-clause-same : goal.returns-clause-same
-returns-clause-same c = written_same c.args.table.now c.args.edge.to _ _ (omega (arith, c.earlier.ensures))
+returns-clause-same c = written_same c.args.table.now c.args.edge.to _ _ (omega (arith, c.earlier-2.ensures))
 
 pub returns-clause-on : goal.returns-clause-on
-returns-clause-on c = written_on c.args.table.now c.args.edge.to _ _ _ c.requires (more_rises c.args.table.now c.args.edge.to _ c.in-Some.row c.in-Some.is (risen _ _ _ c.if-not-raise.false c.raise.ensures.rises)) (omega (arith, c.earlier.ensures))
+returns-clause-on c = written_on c.args.table.now c.args.edge.to _ _ _ c.requires (more_rises c.args.table.now c.args.edge.to _ c.in-Some.row c.in-Some.is (risen _ _ _ c.if-not-raise.false c.raise.ensures.rises)) (omega (arith, c.earlier-2.ensures))
