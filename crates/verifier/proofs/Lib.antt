@@ -1,0 +1,10 @@
+pub mod KindRises
+pub mod Rowed
+pub mod Raising
+pub mod Pushes
+pub mod Following
+pub mod Listed
+pub mod Loads
+pub mod ComparedTexts
+pub mod Firsts
+pub mod GoodEdges

@@ -1,0 +1,21 @@
+//! The verifier: it reads code that comes from strangers, and accepts what is safe on every environment.
+#![tactic(auto)]
+
+mod bodies;
+mod compared;
+mod edges;
+mod error;
+mod form;
+mod layout;
+mod loading;
+mod mismatch;
+mod needs;
+mod row;
+#[cfg(test)]
+mod tests;
+mod verified;
+mod walk;
+
+pub use error::LoadError;
+pub use loading::load;
+pub use verified::Verified;

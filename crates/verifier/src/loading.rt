@@ -1,0 +1,66 @@
+//! Loading: from bytes to accepted code.
+
+ghost use Rattle.std.specs.Prelude.{◌≡◌, ℕ, length, IfOk, IfErr};
+ghost use Rattle.code_model.specs.Code.{Code};
+ghost use Rattle.code_file.specs.Grammar.{IsCodeFile};
+ghost use Rattle.machine_model.specs.First.{Located};
+ghost use Rattle.machine_model.specs.Form.{HasGoodForm};
+ghost use Rattle.machine_model.specs.Typable.{IsTypable};
+ghost use Rattle.machine_model.specs.Safe.{IsSafe};
+ghost use Rattle.verifier.specs.Faults.{IsLoadFault, IsRefusal, mismatch_error};
+ghost use Rattle.verifier.specs.Layouts.{AreInstructions};
+
+use crate::compared::join_compared;
+use crate::error::LoadError;
+use crate::layout::Layout;
+use crate::mismatch::first_mismatch;
+use crate::verified::Verified;
+use crate::walk::least_table;
+use code_file::Code;
+use code_file::laws::{file_has_no_fault, file_has_one_code};
+use code_model::Instruction;
+use machine_laws::{form_is_decided, least_table_decides, mismatch_is_exact, typable_code_is_safe};
+use std::alloc::Global;
+
+/// The instructions of a code of good form that is typable, or why it is not.
+fn check(alloc: Global, code: &Code) -> Result<Vec<Instruction>, LoadError>
+    ensures form { IfOk result (λ _. HasGoodForm code.now) }
+    ensures typable { IfOk result (λ _. IsTypable code.now) }
+    ensures instructions { IfOk result (λ v. AreInstructions code.now (length code.now.instrs) v.items) }
+    ensures refused { IfErr result (IsRefusal code.now) }
+{
+    form_is_decided();
+    least_table_decides();
+    let layout = Layout::new(alloc, code)?;
+    if let Some(found) = layout.first_fault() {
+        return Err(LoadError::of_form(found.0, found.1));
+    }
+    let table = least_table(alloc, &layout)?;
+    if let Some(found) = first_mismatch(&layout, &table) {
+        return Err(LoadError::KindMismatch(found.1, found.0));
+    }
+    Ok(layout.instructions(alloc)?)
+}
+
+/// Reads code that comes from anybody, of either version, and accepts it where it is of good form and
+/// typable. What is accepted is safe on every environment; what is refused by kinds has no table of kinds.
+///
+/// The first fault is answered: of the file with its byte, then of form in rising place, then of kinds in
+/// rising place. `NoMemory` comes only to bytes that are a code file; the refusals of others need no memory.
+/// The work is linear in the number of instructions.
+pub fn load(alloc: Global, bytes: &[u8]) -> Result<Verified, LoadError>
+    ensures code { IfOk result (IsCodeFile bytes.now) }
+    ensures form { IfOk result HasGoodForm }
+    ensures typable { IfOk result IsTypable }
+    ensures safe { IfOk result IsSafe }
+    ensures refused { IfErr result (IsLoadFault bytes.now) }
+    ensures exact { IfErr result (λ e. (m : Located ℕ) (c : Code) → e ≡ mismatch_error m → IsCodeFile bytes.now c → IsTypable c → ⊥) }
+{
+    typable_code_is_safe();
+    mismatch_is_exact();
+    file_has_one_code();
+    let code = Code::read(alloc, bytes)?;
+    let instructions = check(alloc, &code)?;
+    let compared = join_compared(alloc, &code)?;
+    Ok(Verified::new(code, instructions, compared))
+}

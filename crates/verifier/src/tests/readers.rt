@@ -1,0 +1,22 @@
+use super::{LIST_CODE, file};
+use crate::load;
+use code_model::Instruction::{Const, Halt, Put};
+use std::test::Fail;
+
+#[test]
+fn reads_what_was_loaded(rt: HostRuntime) -> Result<(), Fail> {
+    let bytes = file(rt.alloc(), 1, &[Const(0, 3), Put(0, 1), Halt])?;
+    let verified = load(rt.alloc(), &bytes)?;
+    assert_eq!(rt; verified.code().len(), 3);
+    assert_eq!(rt; verified.instruction(1), Put(0, 1));
+    assert_eq!(rt; verified.compared(), b"abcde".as_slice());
+    assert_eq!(rt; verified.compared_at(1), (0, 3));
+    assert_eq!(rt; verified.compared_at(3), (3, 2));
+    let list = load(rt.alloc(), &LIST_CODE)?;
+    assert_eq!(rt;
+        list.code().lists(rt.alloc())?.as_slice(),
+        ["list"].as_slice()
+    );
+    assert_eq!(rt; list.compared(), b"".as_slice());
+    Ok(())
+}
