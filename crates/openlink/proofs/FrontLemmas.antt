@@ -6,6 +6,10 @@ use Rattle.code_model.specs.Code.{Code}
 use Rattle.code_file.specs.Grammar.{IsCodeFile}
 use Rattle.code_file.specs.Fault.{IsRefusal, too_long, in_field}
 use Rattle.code_file.specs.declared.error.CodeError.{CodeError}
+use Rattle.code_file.specs.Fault.{fault as fault_at}
+use Rattle.code_file.specs.declared.error.CodeErrorKind.TheVariants.{TooLong}
+use Rattle.verifier.specs.Faults.{IsLoadFault, no_code as no_code_file, bad_form, mismatch, no_memory}
+use Rattle.verifier.specs.declared.error.LoadError.{LoadError}
 use Rattle.rule_parser.specs.Grammar.{IsRuleText}
 use Rattle.rule_parser.specs.Rules.{RuleSet}
 use Rattle.rule_parser.specs.Faults.{IsRefused}
@@ -17,6 +21,7 @@ use Rattle.openlink.specs.Link.{IsMeaning, IsLinkFault}
 use Rattle.openlink.specs.Faults.{IsCodeFault}
 use Rattle.openlink.specs.Show.{IsListing}
 use Rattle.openlink.specs.Upgrade.{IsUpgrade}
+use Rattle.openlink.specs.Verify.{IsVerdict, IsVerifyFault}
 
 -- what holds of the front, and so of the whole, holds of the file
 pub of_file : (limit : ℕ) (P : Text → Type 0) (told : Option Text) (front bytes : Text)
@@ -53,6 +58,19 @@ refused e all (inr (same, (code, h))) = inr (same, (code, spelled_too code all h
 pub no_code : (f : Fault) (all : Text) → IsCodeFault (take 65537 all) f → IsCodeFault all f
 no_code f all (e, h, same) = (e, refused e all h, same)
 
+pub accepted : (text all : Text) → IsVerdict (take 65537 all) text → IsVerdict all text
+accepted text all h = record { code = h.code; file = spelled_too h.code all h.file; form = h.form; typable = h.typable; safe = h.safe; printed = h.printed }
+
+not_loaded : (e : LoadError) (all : Text) → IsLoadFault (take 65537 all) e → IsLoadFault all e
+not_loaded _ all (no_code_file _ (too_long long)) = no_code_file (fault_at TooLong 65536) (too_long (too_long_too 65536 all long))
+not_loaded e all (no_code_file here (in_field _ short h)) = subst (λ bytes. IsLoadFault bytes e) (whole 65536 all short) (no_code_file here (in_field here short h))
+not_loaded _ all (bad_form c f h first) = bad_form c f (spelled_too c all h) first
+not_loaded _ all (mismatch c m h form first) = mismatch c m (spelled_too c all h) form first
+not_loaded _ all (no_memory c h) = no_memory c (spelled_too c all h)
+
+pub not_accepted : (f : Fault) (all : Text) → IsVerifyFault (take 65537 all) f → IsVerifyFault all f
+not_accepted f all (e, h, same) = (e, not_loaded e all h, same)
+
 -- ---- rules
 
 ruled : (rules : RuleSet) (all : Text) → IsRuleText (take 65537 all) rules → IsRuleText all rules
@@ -74,4 +92,5 @@ not_linked query fault.Memory all h = h
 not_linked query fault.Usage all h = h
 not_linked query (fault.Template e) all h = h
 not_linked query (fault.Code e) all h = h
+not_linked query (fault.Load e) all h = h
 not_linked query (fault.Device path) all h = h

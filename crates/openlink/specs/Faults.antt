@@ -13,6 +13,8 @@ use Rattle.code_file.specs.declared.error.CodeErrorKind.TheVariants as code
 use Rattle.rule_parser.specs.declared.error.RuleError.{RuleError}
 use Rattle.rule_parser.specs.declared.error.RuleErrorKind.{RuleErrorKind}
 use Rattle.rule_parser.specs.declared.error.RuleErrorKind.TheVariants as rules
+use Rattle.verifier.specs.declared.error.LoadError.{LoadError}
+use Rattle.verifier.specs.declared.error.LoadError.TheVariants as load
 use Rattle.kev_read.specs.Refusal.{refusal}
 use Rattle.kev_read.specs.declared.error.KevError.{KevError}
 use Rattle.kev_read.specs.declared.error.KevError.TheVariants as query
@@ -34,6 +36,10 @@ code_fault_of_kind e kind = fault.Code e
 
 abbrev pub code_fault : CodeError → Fault
 code_fault e = code_fault_of_kind e e.kind
+
+abbrev pub load_fault : LoadError → Fault
+load_fault load.NoMemory = Memory
+load_fault e = fault.Load e
 
 abbrev pub rules_fault_of_kind : RuleError → RuleErrorKind → Fault
 rules_fault_of_kind e rules.NoMemory = Memory
@@ -59,6 +65,7 @@ status_of (Template e) = 3
 status_of (Query e) = 3
 status_of (fault.Rules e) = 3
 status_of (fault.Code e) = 3
+status_of (fault.Load e) = 3
 status_of Memory = 4
 status_of (Device path) = 4
 

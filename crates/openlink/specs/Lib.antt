@@ -6,3 +6,4 @@ pub mod Show
 pub mod Link
 pub mod Upgrade
 pub mod Commands
+pub mod Verify

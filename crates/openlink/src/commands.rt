@@ -13,6 +13,7 @@ use crate::link::link_line;
 use crate::placing::write_whole;
 use crate::show::show_lines;
 use crate::upgrade::upgrade_line;
+use crate::verify::verify_lines;
 use crate::words::behind;
 use std::io::Write;
 use std::rt::Files;
@@ -74,6 +75,9 @@ fn answer<'a, R: Files + AllocGlobal>(rt: &R, words: &[&'a str]) -> Result<Strin
     }
     if let Some(rest) = behind(words, "link") {
         return link_line(rt, rest);
+    }
+    if let Some(rest) = behind(words, "verify") {
+        return verify_lines(rt, rest);
     }
     if let Some(rest) = behind(words, "show") {
         return show_lines(rt, rest);

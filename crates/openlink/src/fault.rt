@@ -13,6 +13,7 @@ use std::io::ErrorKind;
 use target_vars::VarsError;
 use thiserror::Error;
 use uri_template::{TemplateError, TemplateErrorKind};
+use verifier::LoadError;
 
 /// The exit status where no link is found.
 pub const NO_LINK: u8 = 1;
@@ -44,6 +45,10 @@ pub enum Fault<'a> {
     /// The file is no code: the kind of its first fault, and the byte at which it stands.
     #[error("code: {0}")]
     Code(CodeError),
+    /// The file's code is not accepted: the kind of its first fault, and the byte or the place of an
+    /// instruction at which it stands.
+    #[error("load: {0}")]
+    Load(LoadError),
     /// No rule's guards hold. Nothing is printed.
     #[error("no link")]
     NoLink,
@@ -73,7 +78,11 @@ impl<'a> Fault<'a> {
         match self {
             Fault::NoLink => NO_LINK,
             Fault::Usage => USAGE,
-            Fault::Template(_) | Fault::Query(_) | Fault::Rules(_) | Fault::Code(_) => REFUSED,
+            Fault::Template(_)
+            | Fault::Query(_)
+            | Fault::Rules(_)
+            | Fault::Code(_)
+            | Fault::Load(_) => REFUSED,
             Fault::Memory | Fault::Device(_) => FAILED,
         }
     }
@@ -139,6 +148,20 @@ impl<'a> From<CodeError> for Fault<'a> {
         match e.kind {
             CodeErrorKind::NoMemory => Fault::Memory,
             _ => Fault::Code(e),
+        }
+    }
+}
+
+impl<'a> From<LoadError> for Fault<'a> {
+    ghost use Rattle.openlink.specs.Faults.{load_fault};
+    ghost use Rattle.std.specs.Prelude.{◌≡◌};
+
+    ghost from_gives = { λ e fault. fault ≡ load_fault e };
+
+    fn from(e: LoadError) -> Fault<'a> {
+        match e {
+            LoadError::NoMemory => Fault::Memory,
+            _ => Fault::Load(e),
         }
     }
 }

@@ -14,6 +14,7 @@ mod show;
 #[cfg(test)]
 mod tests;
 mod upgrade;
+mod verify;
 mod words;
 
 use crate::arguments::{arguments, words};

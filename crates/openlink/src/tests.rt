@@ -4,6 +4,7 @@ mod link;
 mod output;
 mod show;
 mod upgrade;
+mod verify;
 
 use crate::commands::command;
 use std::alloc::AllocError;

@@ -47,7 +47,7 @@ fn check(alloc: Global, code: &Code) -> Result<Vec<Instruction>, LoadError>
 ///
 /// The first fault is answered: of the file with its byte, then of form in rising place, then of kinds in
 /// rising place. `NoMemory` comes only to bytes that are a code file; the refusals of others need no memory.
-/// The work is linear in the number of instructions.
+/// A loop's body is walked again only where what returns to its head raised a kind there.
 pub fn load(alloc: Global, bytes: &[u8]) -> Result<Verified, LoadError>
     ensures code { IfOk result (IsCodeFile bytes.now) }
     ensures form { IfOk result HasGoodForm }
