@@ -150,3 +150,24 @@ fn long_loop(rt: HostRuntime) -> Result<(), Fail> {
     }
     Ok(())
 }
+
+/// A value that is longer than 100,000 bytes once it is written.
+#[test]
+fn long_value(rt: HostRuntime) -> Result<(), Fail> {
+    let mut spaces = String::new(rt.alloc());
+    for _ in 0..40_000 {
+        spaces.push_str(" ")?;
+    }
+    let mut env = Env::new(rt.alloc());
+    env.put_text("x", spaces.as_str())?;
+    let optional = "TEXT r2 n0, UNDEF r2 3, PUT r2 u, HALT";
+    let code = code(rt.alloc(), 1, &NAMES, &LITERALS, optional)?;
+    match run_checked(rt.alloc(), &code, &env)? {
+        Checked::Link(link) => {
+            assert_eq!(rt; link.len(), 120_000);
+            assert!(rt; link.starts_with("%20%20"));
+        }
+        _ => assert!(rt; false),
+    }
+    Ok(())
+}
