@@ -10,8 +10,6 @@ fn reads_what_was_loaded(rt: HostRuntime) -> Result<(), Fail> {
     assert_eq!(rt; verified.code().len(), 3);
     assert_eq!(rt; verified.instruction(1), Put(0, 1));
     assert_eq!(rt; verified.compared(), b"abcde".as_slice());
-    assert_eq!(rt; verified.compared_at(1), (0, 3));
-    assert_eq!(rt; verified.compared_at(3), (3, 2));
     let list = load(rt.alloc(), &LIST_CODE)?;
     assert_eq!(rt;
         list.code().lists(rt.alloc())?.as_slice(),
