@@ -24,11 +24,22 @@ pub(crate) fn place_of(text: &[char], sought: char) -> Option<usize>
     None
 }
 
-// The characters as text.
+// The characters of a text, in one allocation.
+pub(crate) fn chars_of(alloc: Global, text: &str) -> Result<Vec<char>, AllocError>
+    ensures { IfOk result (λ chars. text.now ≡ encode_utf8_all chars.items) }
+{
+    let mut chars = Vec::with_capacity(alloc, text.len())?;
+    for c in text.chars() {
+        chars.push(c)?;
+    }
+    Ok(chars)
+}
+
+// The characters as text. ASCII takes one allocation.
 pub(crate) fn text_of(alloc: Global, chars: &[char]) -> Result<String, AllocError>
     ensures { IfOk result (λ text. string_bytes text ≡ encode_utf8_all chars.now) }
 {
-    let mut text = String::new(alloc);
+    let mut text = String::with_capacity(alloc, chars.len())?;
     for c in chars {
         text.push(*c)?;
     }

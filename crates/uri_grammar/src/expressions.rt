@@ -25,6 +25,13 @@ fn piece_len(rest: &[char]) -> usize
     }
 }
 
+// How many commas stand in the characters.
+fn comma_count(list: &[char]) -> usize
+    ensures { result ≤ length list.now }
+{
+    list.iter().filter(|c| **c == ',').count()
+}
+
 // Specs with commas between them.
 fn variable_list(alloc: Global, list: &[char]) -> Result<Vec<Spec>, TemplateError>
     requires { length list.now ≤ MAX_BYTES }
@@ -32,7 +39,7 @@ fn variable_list(alloc: Global, list: &[char]) -> Result<Vec<Spec>, TemplateErro
     ensures err { IfErr result (λ e. IsFault e (IsListFault list.now)) }
     ensures near { IfErr result (λ e. e.at ≤ 16384) }
 {
-    let mut specs = Vec::new(alloc);
+    let mut specs = Vec::with_capacity(alloc, comma_count(list) + 1)?;
     let mut done = 0;
     while done <= list.len() {
         let rest = list.split_at(done).1;

@@ -6,7 +6,7 @@ ghost use Rattle.uri_grammar.specs.Texts.{IsTemplate, IsRefused};
 ghost use Rattle.uri_grammar.specs.Promises.{IsSoundPart};
 ghost use Rattle.uri_grammar.specs.declared.error.TemplateErrorKind.TheVariants.{NoMemory, TooLong};
 
-use crate::characters::byte_len;
+use crate::characters::{byte_len, chars_of};
 use crate::error::{TemplateError, TemplateErrorKind};
 use crate::expressions::expression;
 use crate::literals::{literal, literals_len};
@@ -50,7 +50,7 @@ impl Template {
         if text.len() > MAX_BYTES {
             return Err(TemplateError::new(TemplateErrorKind::TooLong, MAX_BYTES));
         }
-        let chars: Vec<char> = text.chars().collect(alloc)?;
+        let chars = chars_of(alloc, text)?;
         match read(alloc, &chars) {
             Ok(parts) => Ok(Template {
                 text: Text::new(String::from_str(alloc, text)?),

@@ -79,7 +79,8 @@ pub fn expand_in<V: Variables>(
     ensures ok { IfOk result (λ text. string_bytes text ≡ expansion (V.look variables.now) template.now.parts) }
     ensures uri_text { IfOk result (λ text. IsUriText (string_bytes text)) }
 {
-    let mut out = String::new(alloc);
+    // A link is about as long as its template.
+    let mut out = String::with_capacity(alloc, template.text().len())?;
     for part in template.parts() {
         push_part(&mut out, part, variables)?;
     }
