@@ -4,6 +4,7 @@ pub mod Files
 pub mod Expand
 pub mod Show
 pub mod Link
+pub mod OneFile
 pub mod Upgrade
 pub mod Commands
 pub mod Verify

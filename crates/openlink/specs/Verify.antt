@@ -1,5 +1,5 @@
 -- What `verify` prints of a code file.
-use Rattle.std.specs.Prelude.{◌≡◌, ℕ, ◌≢◌, ◌⊎◌, ◌++◌, List, [], ◌∷◌, length, codes}
+use Rattle.std.specs.Prelude.{◌≡◌, ℕ, ◌++◌, List, [], ◌∷◌, codes}
 use Rattle.std.specs.Fmt.{decimal}
 use Rattle.text_model.specs.Texts.{Text}
 use Rattle.code_model.specs.Code.{Code}
@@ -11,8 +11,8 @@ use Rattle.code_file.specs.Grammar.{IsCodeFile}
 use Rattle.verifier.specs.Faults.{IsLoadFault}
 use Rattle.verifier.specs.declared.error.LoadError.{LoadError}
 use Rattle.openlink.specs.declared.fault.Fault.{Fault}
-use Rattle.openlink.specs.declared.fault.Fault.TheVariants.{Usage}
-use Rattle.openlink.specs.Faults.{IsFileFault, load_fault}
+use Rattle.openlink.specs.Faults.{load_fault}
+use Rattle.openlink.specs.OneFile.{TellsOfFile, FailsToTell}
 
 abbrev pub line_feed : Text
 line_feed = 10 ∷ []
@@ -43,19 +43,10 @@ pub record IsVerdict (bytes text : Text) : Type 0 where
 abbrev pub IsVerifyFault : Text → Fault → Type 0
 IsVerifyFault bytes fault = (e : LoadError) × IsLoadFault bytes e × (fault ≡ load_fault e)
 
--- the one word behind `verify` is the path of a file with such bytes
-pub record IsVerifyLine (words : List Text) (text : Text) : Type 0 where
-  pub path : Text
-  pub bytes : Text
-  pub one_word : words ≡ path ∷ []
-  pub verdict : IsVerdict bytes text
+-- what is printed of the words behind `verify`
+abbrev pub IsVerifyLine : List Text → Text → Type 0
+IsVerifyLine = TellsOfFile IsVerdict
 
--- the word behind `verify` is a path, and the file there is not read, or is refused
-pub record IsVerifyRefusal (words : List Text) (fault : Fault) : Type 0 where
-  pub path : Text
-  pub one_word : words ≡ path ∷ []
-  pub refused : IsFileFault path fault ⊎ ((bytes : Text) × IsVerifyFault bytes fault)
-
--- why the words behind `verify` print nothing
+-- why they print nothing
 abbrev pub FailsToVerify : List Text → Fault → Type 0
-FailsToVerify words fault = ((fault ≡ Usage) × (length words ≢ 1)) ⊎ IsVerifyRefusal words fault
+FailsToVerify = FailsToTell IsVerifyFault

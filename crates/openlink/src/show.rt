@@ -8,6 +8,7 @@ ghost use Rattle.openlink.specs.Show.{IsListing, IsShowLine, FailsToShow};
 
 use crate::fault::Fault;
 use crate::files::{open_file, read_front};
+use crate::words::one_word;
 use code_file::{Code, MAX_BYTES};
 use std::alloc::Global;
 use std::io::Read;
@@ -42,9 +43,9 @@ pub fn show_lines<'a, R: Files + AllocGlobal>(
     ensures ok { IfOk result (λ text. IsShowLine (texts_of words.now) (string_bytes text)) }
     ensures err { IfErr result (FailsToShow (texts_of words.now)) }
 {
-    if words.len() != 1 {
+    let Some(path) = one_word(words) else {
         return Err(Fault::Usage);
-    }
-    let file = open_file(rt, words[0])?;
-    show_file(rt.alloc(), file, words[0])
+    };
+    let file = open_file(rt, path)?;
+    show_file(rt.alloc(), file, path)
 }

@@ -8,6 +8,7 @@ ghost use Rattle.openlink.specs.Verify.{steps_line, bytes_line, verdict, IsVerdi
 
 use crate::fault::Fault;
 use crate::files::{open_file, read_front};
+use crate::words::one_word;
 use budget::Budget;
 use code_file::MAX_BYTES;
 use std::alloc::{AllocError, Global};
@@ -70,9 +71,9 @@ pub fn verify_lines<'a, R: Files + AllocGlobal>(
     ensures ok { IfOk result (λ text. IsVerifyLine (texts_of words.now) (string_bytes text)) }
     ensures err { IfErr result (FailsToVerify (texts_of words.now)) }
 {
-    if words.len() != 1 {
+    let Some(path) = one_word(words) else {
         return Err(Fault::Usage);
-    }
-    let file = open_file(rt, words[0])?;
-    verify_file(rt.alloc(), file, words[0])
+    };
+    let file = open_file(rt, path)?;
+    verify_file(rt.alloc(), file, path)
 }

@@ -18,6 +18,17 @@ pub fn behind<'w, 'a>(words: &'w [&'a str], name: &str) -> Option<&'w [&'a str]>
     }
 }
 
+/// The word, if there is one and no other.
+pub fn one_word<'a>(words: &[&'a str]) -> Option<&'a str>
+    ensures one { IfSome result (λ word. texts_of words.now ≡ word.now ∷ []) }
+    ensures other { IfNone result (length (texts_of words.now) ≢ 1) }
+{
+    match words {
+        [word] => Some(*word),
+        _ => None,
+    }
+}
+
 /// The two words, if there are two.
 pub fn two_words<'a>(words: &[&'a str]) -> Option<(&'a str, &'a str)>
     ensures two { IfSome result (λ pair. texts_of words.now ≡ pair.0.now ∷ pair.1.now ∷ []) }
