@@ -18,3 +18,18 @@ fn reads_what_was_loaded(rt: HostRuntime) -> Result<(), Fail> {
     assert_eq!(rt; list.compared(), b"".as_slice());
     Ok(())
 }
+
+#[test]
+fn says_where_comparison_texts_are(rt: HostRuntime) -> Result<(), Fail> {
+    let bytes = file(rt.alloc(), 1, &[Const(0, 1), Put(0, 0), Halt])?;
+    let verified = load(rt.alloc(), &bytes)?;
+    assert_eq!(rt; verified.compared(), b"abcde".as_slice());
+    for (place, want) in [(1, (0, 3)), (3, (3, 2))] {
+        let code = verified.code();
+        assert!(rt; place < code.literals().len());
+        let literal = code.literal(place);
+        assert!(rt; literal.compared);
+        assert_eq!(rt; verified.compared_at(place), want);
+    }
+    Ok(())
+}
