@@ -9,6 +9,7 @@ use Rattle.code_model.specs.Code.{Code, reading, reading_at}
 use Rattle.code_model.specs.declared.code.Instruction.{Instruction}
 use Rattle.machine_model.specs.declared.kind.Kind.{Kind}
 use Rattle.machine_model.specs.declared.kind.Kind.TheVariants.{Any}
+use Rattle.machine_model.specs.declared.form.Body.{Body}
 use Rattle.machine_model.specs.Form.{body_at}
 use Rattle.machine_model.specs.Kinds.{kind_le, Kinds, any_kinds, IsBelow, Edge, edge, edges, for_instruction, edges_at}
 use Rattle.machine_model.specs.Typable.{Table, Holds, IsClosed, TableBelow, IsLeast}
@@ -33,7 +34,7 @@ all_parts : (t : Table) (es fs : List Edge) → AllByRecursion (Holds t) (es ++ 
 all_parts t [] fs h = (tt, h)
 all_parts t (e ∷ es) fs h = let r = all_parts t es fs h.1 in ((h.0, r.0), r.1)
 
-pub follows_both : (es fs : List Edge) (t u v : Table) → Follows es t u → Follows fs u v → Follows (es ++ fs) t v
+follows_both : (es fs : List Edge) (t u v : Table) → Follows es t u → Follows fs u v → Follows (es ++ fs) t v
 follows_both es fs t u v f g =
     record {
       held = all_both v es fs (all_kept u v es g.kept f.held) g.held;
@@ -44,6 +45,12 @@ follows_both es fs t u v f g =
 -- ---- one place of a code
 
 module _ (c : Code) where
+  -- the edges of a place, followed in two parts
+  pub place_followed : (p : ℕ) (ks : Kinds) (o : Option Body) (i : Instruction) (es fs : List Edge) (t u v : Table) → reading_at c p ≡ Some i → o ≡ body_at c p → es ++ fs ≡ edges p ks o i → Follows es t u → Follows fs u v → Follows (edges_at c p ks) t v
+  place_followed p ks o i es fs t u v r b e f g =
+      let there : es ++ fs ≡ edges_at c p ks = e ∙ ap (λ x. edges p ks x i) b ∙ sym (ap (λ x. for_instruction x (edges p ks (body_at c p))) r) in
+      subst (λ x. Follows x t v) there (follows_both es fs t u v f g)
+
   holds_below : (u : Table) (es fs : List Edge) → EdgesBelow es fs → AllByRecursion (Holds u) fs → AllByRecursion (Holds u) es
   holds_below u [] [] b h = tt
   holds_below u (e ∷ es) (f ∷ fs) b h = ((h.0.0, ap u b.0 ∙ h.0.1, below_trans e.kinds f.kinds h.0.0 b.1 h.0.2), holds_below u es fs b.2 h.1)

@@ -92,18 +92,7 @@ code_refused bytes c e file IsRefusal.no_memory = IsLoadFault.no_memory c file
 
 not_of_form : (f : FormFault) (place : ℕ) (m : Located ℕ) → form_error (record { place = place; what = f }) ≡ mismatch_error m → ⊥
 not_of_form form.UnknownOp place m e = absurd (cc)
-not_of_form form.BadField place m e = absurd (cc)
-not_of_form form.BadRegister place m e = absurd (cc)
-not_of_form form.BadIndex place m e = absurd (cc)
-not_of_form form.WrongTableKind place m e = absurd (cc)
-not_of_form form.JumpNotForward place m e = absurd (cc)
-not_of_form form.JumpOut place m e = absurd (cc)
-not_of_form form.CrossesLoop place m e = absurd (cc)
-not_of_form form.NestedLoop place m e = absurd (cc)
-not_of_form form.BadLoop place m e = absurd (cc)
-not_of_form form.StrayNext place m e = absurd (cc)
-not_of_form form.StraySep place m e = absurd (cc)
-not_of_form form.FallsOff place m e = absurd (cc)
+not_of_form _ place m e = absurd (cc)
 
 -- what is refused by kinds is not typable
 pub exact : ((bytes : Text) (c d : Code) → IsCodeFile bytes c → IsCodeFile bytes d → c ≡ d) → ((c : Code) (m : Located ℕ) → IsFirstMismatch c m → IsTypable c → ⊥) → (bytes : Text) (e : LoadError) → IsLoadFault bytes e → (m : Located ℕ) (c : Code) → e ≡ mismatch_error m → IsCodeFile bytes c → IsTypable c → ⊥

@@ -79,18 +79,6 @@ on_both from next to t u v a b = record {
   back = λ lt. ⊎_elim (λ less. omega (arith, a.back less, b.less)) (λ le. let same : next ≡ from = omega (arith, a.on) in let before : to < next = omega arith in omega (arith, a.less, b.back before)) (cases_lt next from);
 }
 
--- ---- the edges of a place
-
-pub edges_there : (c : Code) (p : ℕ) (ks : Kinds) (o : Option Body) (i : Instruction) (es : List Edge) → reading_at c p ≡ Some i → o ≡ body_at c p → es ≡ edges p ks o i → es ≡ edges_at c p ks
-edges_there c p ks o i es r b e = e ∙ ap (λ x. edges p ks x i) b ∙ sym (ap (λ x. for_instruction x (edges p ks (body_at c p))) r)
-
-within_parts : (n : ℕ) (es fs : List Edge) → AllByRecursion (λ (e : Edge). e.to < n) (es ++ fs) → AllByRecursion (λ (e : Edge). e.to < n) es × AllByRecursion (λ (e : Edge). e.to < n) fs
-within_parts n [] fs h = (tt, h)
-within_parts n (e ∷ es) fs h = let r = within_parts n es fs h.1 in ((h.0, r.0), r.1)
-
-pub both_within : (m n : ℕ) (es fs gs : List Edge) → m ≡ n → es ++ fs ≡ gs → AllByRecursion (λ (e : Edge). e.to < n) gs → AllByRecursion (λ (e : Edge). e.to < m) es × AllByRecursion (λ (e : Edge). e.to < m) fs
-both_within m n es fs gs e1 e2 h = within_parts m es fs (subst (λ k. AllByRecursion (λ (e : Edge). e.to < k) (es ++ fs)) (sym e1) (subst (AllByRecursion (λ (e : Edge). e.to < n)) (sym e2) h))
-
 -- ---- the table at the start
 
 abbrev nothing : Option Row
