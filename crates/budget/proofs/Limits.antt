@@ -1,5 +1,5 @@
 -- The sums of a code are small.
-use Rattle.std.proofs.Common.{ℕ, zero, suc, ◌+◌, ◌*◌, ◌≤◌, length, Option, Some, None, Bool, true, false, arith}
+use Rattle.std.proofs.Common.{◌≡◌, ℕ, zero, suc, ◌+◌, ◌*◌, ◌<◌, ◌≤◌, length, Option, Some, None, Bool, true, false, sym, subst, arith}
 use Rattle.std.specs.Prelude.{if◌then◌else◌}
 use Rattle.std.proofs.Math.Nat.{mul-suc}
 use Rattle.code_model.specs.Code.{Code, reading_at}
@@ -7,7 +7,7 @@ use Rattle.code_model.specs.declared.code.Instruction.{Instruction}
 use Rattle.code_model.specs.declared.code.Instruction.TheVariants as instruction
 use Rattle.machine_model.specs.declared.form.Body.{Body}
 use Rattle.machine_model.specs.Form.{body_at, is_in_body}
-use Rattle.machine_model.specs.Budget.{fixed_bytes, fixed_at, separator_bytes, separator_at, written_bytes, written_at, is_of_element, of_element, of_others, total, where_outside, where_inside}
+use Rattle.machine_model.specs.Budget.{Sums, fixed_bytes, fixed_at, separator_bytes, separator_at, written_bytes, written_at, is_of_element, of_element, of_others, total, where_outside, where_inside}
 use Rattle.code_file.specs.Grammar.{IsCode}
 use Rattle.budget.specs.Small.{IsSmall}
 use Rattle.budget.specs.Private.SumsBelow.{sums_below}
@@ -77,3 +77,6 @@ module _ (c : Code) (is : IsCode c) where
         o2 = omega (arith, o2);
         o3 = omega (arith, o3);
       }
+
+  pub small_after : (place : ℕ) (sums : Sums) → place < length c.instrs → sums ≡ sums_below c (place + 1) → IsSmall sums
+  small_after place sums lt is = subst IsSmall (sym is) (small_below (place + 1) (omega arith))

@@ -1,5 +1,5 @@
 -- Tables that grow along edges: below every closed table, and closed at the end.
-use Rattle.std.proofs.Common.{◌≡◌, ℕ, suc, ◌+◌, ◌-◌, ◌*◌, ◌<◌, ◌≤◌, List, [], ◌∷◌, ◌++◌, length, Option, Some, None, Bool, true, false, refl, sym, ap, ◌∙◌, subst, arith, ⊎_elim}
+use Rattle.std.proofs.Common.{◌≡◌, ℕ, suc, ◌+◌, ◌-◌, ◌*◌, ◌<◌, ◌≤◌, List, [], ◌∷◌, ◌++◌, length, Option, Some, None, true, refl, sym, ap, ◌∙◌, subst, arith, ⊎_elim}
 use Rattle.std.specs.Prelude.{option_and_then}
 use Rattle.std.specs.List.{AllByRecursion}
 use Rattle.std.proofs.Math.Path.{fun_ext}
@@ -12,15 +12,12 @@ use Rattle.machine_model.specs.declared.kind.Kind.TheVariants.{Any}
 use Rattle.machine_model.specs.declared.form.Body.{Body}
 use Rattle.machine_model.specs.Form.{body_at}
 use Rattle.machine_model.specs.Kinds.{kind_le, Kinds, any_kinds, IsBelow, Edge, edge, edges, for_instruction, edges_at}
-use Rattle.machine_model.specs.Typable.{Table, Holds, IsClosed, TableBelow, IsLeast}
+use Rattle.machine_model.specs.Typable.{Table, Holds, IsClosed, IsLeast}
 use Rattle.machine_model.proofs.Moves.{some_one}
 use Rattle.machine_model.proofs.Orders.{below_trans, EdgesBelow, edges_below}
 use Rattle.verifier.specs.Walks.{Follows, IsSameBefore, IsClosedBefore, IsBelowClosed}
 
 -- ---- one after another
-
-pub follows_none : (t : Table) → Follows [] t t
-follows_none t = record { held = tt; kept = λ e h. h; below = λ u h b. b }
 
 all_kept : (t u : Table) (es : List Edge) → ((e : Edge) → Holds t e → Holds u e) → AllByRecursion (Holds t) es → AllByRecursion (Holds u) es
 all_kept t u [] k h = tt

@@ -1,6 +1,6 @@
 -- From refusals of reading and of a code to refusals of loading.
-use Rattle.std.proofs.Common.{◌≡◌, ℕ, ◌+◌, ◌∷◌, length, Option, Some, None, Bool, true, false, refl, sym, ap, ◌∙◌, subst, ◌⊎◌, inl, inr}
-use Rattle.std.specs.Prelude.{slice_get, nat_lt, ◌==◌, if◌then◌else◌, All, not}
+use Rattle.std.proofs.Common.{◌≡◌, ℕ, Option, Some, None, Bool, true, false, refl, sym, ap, ◌∙◌, subst, inl, inr}
+use Rattle.std.specs.Prelude.{slice_get, if◌then◌else◌, not}
 use Rattle.std.proofs.lemmas.Option.{get_or_from_slice_get, slice_get_within}
 use Rattle.std.proofs.lemmas.List.Elements.{All-get_or}
 use Rattle.text_model.specs.Texts.{Text}
@@ -11,7 +11,7 @@ use Rattle.code_file.specs.Fault.{fault, after, cut_short, IsKindFault, no_kind,
 use Rattle.code_file.specs.Fault as read
 use Rattle.code_file.specs.declared.error.CodeError.{CodeError}
 use Rattle.code_file.specs.declared.error.CodeErrorKind.{CodeErrorKind}
-use Rattle.code_file.specs.declared.error.CodeErrorKind.TheVariants.{TooLong, BadMagic, Truncated, TooMany, NoCode, BadName, BadKind, BadLiteral, Trailing, NoMemory}
+use Rattle.code_file.specs.declared.error.CodeErrorKind.TheVariants.{TooMany, NoCode, NoMemory}
 use Rattle.machine_model.specs.declared.form.FormFault.{FormFault}
 use Rattle.machine_model.specs.declared.form.FormFault.TheVariants as form
 use Rattle.machine_model.specs.First.{Located}
@@ -68,16 +68,8 @@ read_first bytes e h = by_kind e.kind refl
     here k is = subst (λ x. IsLoadFault bytes (load.Code x e.at)) is (faults.no_code e h)
 
     by_kind : (k : CodeErrorKind) → e.kind ≡ k → IsLoadFault bytes (read_error (fault k e.at))
-    by_kind TooLong is = here TooLong is
-    by_kind BadMagic is = here BadMagic is
-    by_kind Truncated is = here Truncated is
-    by_kind TooMany is = here TooMany is
-    by_kind NoCode is = here NoCode is
-    by_kind BadName is = here BadName is
-    by_kind BadKind is = here BadKind is
-    by_kind BadLiteral is = here BadLiteral is
-    by_kind Trailing is = here Trailing is
     by_kind NoMemory is = absurd (never_memory bytes e h is)
+    by_kind k is = here k is
 
 pub read_refused : (bytes : Text) (e : CodeError) → read.IsRefusal bytes e → IsLoadFault bytes (read_error e)
 read_refused bytes e (inl h) = read_first bytes e h

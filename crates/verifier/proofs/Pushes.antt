@@ -1,22 +1,15 @@
 -- A table in which an edge's end is written, or needs no writing; and the table at the start.
-use Rattle.std.proofs.Common.{◌≡◌, ◌≢◌, ℕ, zero, suc, ◌+◌, ◌*◌, ◌<◌, ◌≤◌, List, [], ◌∷◌, ◌++◌, length, get_or, set, replicate, Option, Some, None, Bool, true, false, refl, sym, ap, ◌∙◌, subst, arith, length-set, ⊎_elim}
+use Rattle.std.proofs.Common.{◌≡◌, ◌≢◌, ℕ, zero, suc, ◌<◌, ◌≤◌, List, [], ◌∷◌, length, get_or, set, replicate, Option, Some, None, Bool, true, false, refl, sym, ap, ◌∙◌, subst, arith, length-set, ⊎_elim}
 use Rattle.std.proofs.lemmas.Bool.{cases_lt}
 use Rattle.std.specs.Prelude.{option_map}
-use Rattle.std.specs.List.{AllByRecursion}
-use Rattle.std.proofs.Math.Path.{fun_ext}
-use Rattle.code_model.specs.Code.{Code, reading_at}
-use Rattle.code_model.specs.declared.code.Instruction.{Instruction}
-use Rattle.machine_model.specs.declared.form.Body.{Body}
+use Rattle.code_model.specs.Code.{Code}
 use Rattle.machine_model.specs.declared.kind.Kind.{Kind}
 use Rattle.machine_model.specs.declared.kind.Kind.TheVariants.{Any}
-use Rattle.machine_model.specs.Form.{body_at}
-use Rattle.machine_model.specs.Kinds.{Kinds, any_kinds, kind_join, IsBelow, Edge, edge, edges, for_instruction, edges_at}
-use Rattle.machine_model.specs.Typable.{Table, Holds, IsClosed, TableBelow}
-use Rattle.machine_model.proofs.Moves.{some_one}
+use Rattle.machine_model.specs.Kinds.{any_kinds, kind_join, edge}
+use Rattle.machine_model.specs.Typable.{Table}
 use Rattle.verifier.specs.declared.row.Row.{Row}
-use Rattle.verifier.specs.declared.edges.Edge as held
-use Rattle.verifier.specs.Rows.{kinds_of, table_of, edge_of, edges_of, one_or_none}
-use Rattle.verifier.specs.Walks.{Follows, IsSameAt, IsSameBefore, IsClosedBefore, IsBelowClosed, GoesOn, Rises, row_rises, place_rises, table_rises}
+use Rattle.verifier.specs.Rows.{kinds_of, table_of}
+use Rattle.verifier.specs.Walks.{Follows, IsSameBefore, IsClosedBefore, IsBelowClosed, GoesOn, Rises, row_rises, place_rises}
 use Rattle.verifier.proofs.KindRises.{row_rises_few, table_rises_set}
 use Rattle.verifier.proofs.Rowed.{Arrives, follows_one, arrives_first, arrives_joined, table_here, table_other}
 
@@ -64,9 +57,6 @@ kept_join false olds others news e h j r = sym (ap (λ ks. get_or ks r Any) h) �
 pub risen : (rose : Bool) (olds news : List Kind) → rose ≡ true → Rises row_rises rose olds news → row_rises news < row_rises olds
 risen true olds news e h = h
 risen false olds news e h = absurd (cc)
-
-pub kept_on : (next : ℕ) (rows : List (Option Row)) → GoesOn next next rows rows
-kept_on next rows = record { long = refl; on = omega arith; less = omega arith; back = λ lt. absurd (omega arith) }
 
 pub same_both : (n m : ℕ) (t u v : Table) → m ≤ n → IsSameBefore n t u → IsSameBefore m u v → IsSameBefore m t v
 same_both n m t u v le a b q lt = b q lt ∙ a q (omega arith)

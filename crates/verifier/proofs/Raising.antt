@@ -1,5 +1,5 @@
 -- A row that is raised, one register after another.
-use Rattle.std.proofs.Common.{◌≡◌, ◌≢◌, ℕ, ◌+◌, ◌<◌, ◌≤◌, List, length, get_or, set, Bool, true, false, refl, sym, ap, ◌∙◌, subst, arith, below_more, get_or-set_other, get_or-set_same}
+use Rattle.std.proofs.Common.{◌≡◌, ◌≢◌, ℕ, ◌+◌, ◌<◌, ◌≤◌, List, length, get_or, set, Bool, true, false, sym, ap, ◌∙◌, subst, arith, below_more, get_or-set_other, get_or-set_same}
 use Rattle.machine_model.specs.declared.kind.Kind.{Kind}
 use Rattle.machine_model.specs.declared.kind.Kind.TheVariants.{Any}
 use Rattle.machine_model.specs.Kinds.{kind_le, kind_join}

@@ -1,19 +1,15 @@
 -- Rows of kinds, and tables of rows, where one place is written.
-use Rattle.std.proofs.Common.{◌≡◌, ◌≢◌, ℕ, zero, suc, ◌+◌, ◌<◌, ◌≤◌, List, [], ◌∷◌, length, get_or, set, Option, Some, None, Bool, true, false, refl, sym, ap, ◌∙◌, subst, arith, ⊎_elim, length-set, get_or-set_other, get_or-set_same}
-use Rattle.std.specs.Prelude.{option_map, if◌then◌else◌, ◌==◌}
+use Rattle.std.proofs.Common.{◌≡◌, ℕ, ◌<◌, List, [], ◌∷◌, length, set, Option, Some, None, Bool, true, false, refl, sym, ap, ◌∙◌, subst, get_or-set_other, get_or-set_same}
+use Rattle.std.specs.Prelude.{◌==◌}
 use Rattle.std.specs.List.{AllByRecursion}
-use Rattle.std.proofs.lemmas.Bool.{cases_lt, eqb-true, eq-eqb, false≢true}
-use Rattle.std.proofs.lemmas.List.{get_or_past}
-use Rattle.machine_model.specs.declared.kind.Kind.{Kind}
-use Rattle.machine_model.specs.declared.kind.Kind.TheVariants.{Any}
-use Rattle.machine_model.specs.Kinds.{Kinds, kind_le, kind_join, IsBelow, Edge, edge}
+use Rattle.std.proofs.lemmas.Bool.{eqb-true, eq-eqb, false≢true}
+use Rattle.machine_model.specs.Kinds.{Kinds, kind_le, kind_join, IsBelow, Edge}
 use Rattle.machine_model.specs.Typable.{Table, Holds, TableBelow}
 use Rattle.machine_model.proofs.Moves.{some_one}
-use Rattle.machine_model.proofs.Orders.{kind_le_refl, kind_le_trans, below_trans, kind_le-join_left, kind_le-join_right, kind_join-least}
+use Rattle.machine_model.proofs.Orders.{kind_le_refl, below_trans, kind_le-join_left, kind_le-join_right, kind_join-least}
 use Rattle.verifier.specs.declared.row.Row.{Row}
 use Rattle.verifier.specs.Rows.{kinds_of, table_of}
-use Rattle.verifier.specs.Walks.{Follows, Rises, row_rises, table_rises, place_rises, IsSameAt}
-use Rattle.verifier.proofs.KindRises.{row_rises_few, table_rises_set}
+use Rattle.verifier.specs.Walks.{Follows, IsSameAt}
 
 -- ---- a table in which one place has other kinds
 
@@ -63,14 +59,3 @@ module _ (rows : List (Option Row)) (p : ℕ) (row : Row) where
 
   pub table_other : IsSameAt p (table_of rows) (table_of (set rows p (Some row)))
   table_other q ne = rw get_or-set_other refl
-
--- what is read at a place, whatever the default
-pub read_at : {X : Type 0} (xs : List X) (p : ℕ) (d e : X) → p < length xs → get_or xs p d ≡ get_or xs p e
-read_at [] p d e lt = absurd (omega arith)
-read_at (x ∷ xs) zero d e lt = refl
-read_at (x ∷ xs) (suc p) d e lt = read_at xs p d e (omega arith)
-
-pub set_itself : {X : Type 0} (xs : List X) (p : ℕ) (d : X) → set xs p (get_or xs p d) ≡ xs
-set_itself [] p d = refl
-set_itself (x ∷ xs) zero d = refl
-set_itself (x ∷ xs) (suc p) d = ap (λ t. x ∷ t) (set_itself xs p d)

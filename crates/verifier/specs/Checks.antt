@@ -1,5 +1,5 @@
 -- The checks of form, in four parts.
-use Rattle.std.specs.Prelude.{◌≡◌, ℕ, ◌+◌, ◌-◌, List, [], ◌∷◌, Option, Some, None, ◌&&◌, ◌||◌, not, nat_lt, length, option_map}
+use Rattle.std.specs.Prelude.{ℕ, ◌+◌, ◌-◌, List, [], ◌∷◌, Option, Some, ◌&&◌, ◌||◌, not, nat_lt, length, option_map}
 use Rattle.std.specs.List.{list_all}
 use Rattle.code_model.specs.Code.{Code, is_same_instr, spelling, reading_at}
 use Rattle.code_model.specs.Operands.{operands, is_in_range}

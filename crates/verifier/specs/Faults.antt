@@ -1,5 +1,5 @@
 -- Why bytes that are to be loaded are refused.
-use Rattle.std.specs.Prelude.{◌≡◌, ℕ, Option, Some}
+use Rattle.std.specs.Prelude.{◌≡◌, ℕ, Some}
 use Rattle.text_model.specs.Texts.{Text}
 use Rattle.code_model.specs.Code.{Code}
 use Rattle.code_file.specs.Grammar.{IsCodeFile}
@@ -58,6 +58,3 @@ read_error e = of_kind e.kind e.at
     of_kind : CodeErrorKind → ℕ → LoadError
     of_kind kind.NoMemory at = load.NoMemory
     of_kind k at = load.Code k at
-
-abbrev pub IsKindMismatch : LoadError → Type 0
-IsKindMismatch e = (m : Located ℕ) × (e ≡ mismatch_error m)

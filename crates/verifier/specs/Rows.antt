@@ -1,5 +1,5 @@
 -- Kinds, needs and edges as the program holds them.
-use Rattle.std.specs.Prelude.{ℕ, zero, suc, ◌<◌, List, [], ◌∷◌, ◌++◌, Option, Some, None, option_map, slice_index_or}
+use Rattle.std.specs.Prelude.{◌<◌, List, [], ◌∷◌, ◌++◌, Option, Some, None, option_map, slice_index_or}
 use Rattle.std.specs.List.{AllByRecursion}
 use Rattle.code_model.specs.Operands.{Operand, Register, TextName, ListName, LinkText, Compared, Items, Mode, operands}
 use Rattle.code_model.specs.declared.code.Instruction.{Instruction}

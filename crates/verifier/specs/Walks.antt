@@ -1,5 +1,5 @@
 -- How a table of kinds grows while edges are followed.
-use Rattle.std.specs.Prelude.{◌≡◌, ℕ, zero, suc, ◌+◌, ◌*◌, ◌-◌, ◌<◌, ◌≤◌, List, [], ◌∷◌, Option, Some, None, Bool, true, false, length}
+use Rattle.std.specs.Prelude.{◌≡◌, ℕ, ◌+◌, ◌<◌, ◌≤◌, List, [], ◌∷◌, Option, Some, None, Bool, true, false, length}
 use Rattle.std.specs.List.{AllByRecursion}
 use Rattle.code_model.specs.Code.{Code}
 use Rattle.machine_model.specs.declared.kind.Kind.{Kind}
@@ -7,7 +7,6 @@ use Rattle.machine_model.specs.declared.kind.Kind.TheVariants.{Any, OptText, Tex
 use Rattle.machine_model.specs.Kinds.{Kinds, any_kinds, Edge, edge, edges_at}
 use Rattle.machine_model.specs.Typable.{Table, Holds, IsClosed, TableBelow}
 use Rattle.verifier.specs.declared.row.Row.{Row}
-use Rattle.verifier.specs.Rows.{table_of}
 
 -- ---- how often kinds can still rise
 

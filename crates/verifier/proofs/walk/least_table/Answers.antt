@@ -1,4 +1,4 @@
-use Rattle.std.proofs.Common.{◌≡◌, ap, ◌∙◌, set, arith, rules}
+use Rattle.std.proofs.Common.{ap, ◌∙◌, set, arith, rules}
 use Rattle.std.specs.Prelude.{Some}
 use Rattle.verifier.proofs.Pushes.{start_closed, start_below}
 use Rattle.verifier.proofs.walk.least_table.Goals as goal

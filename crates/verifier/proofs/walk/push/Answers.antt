@@ -1,4 +1,4 @@
-use Rattle.std.proofs.Common.{◌≡◌, ◌≤◌, ◌<◌, length, arith, sym, ap}
+use Rattle.std.proofs.Common.{arith}
 use Rattle.verifier.proofs.Pushes.{first_follows, first_rises, more_follows, more_rises, written_same, written_on, kept_follows, kept_join, risen}
 use Rattle.verifier.proofs.walk.push.Goals as goal
 

@@ -1,4 +1,4 @@
-use Rattle.std.proofs.Common.{◌≡◌, ◌≤◌, ◌+◌, ◌*◌, ◌-◌, length}
+use Rattle.std.proofs.Common.{◌+◌, ◌*◌, ◌-◌, length}
 use Rattle.verifier.specs.Rows.{table_of}
 use Rattle.verifier.specs.Walks.{table_rises, IsClosedBefore, IsBelowClosed}
 use Rattle.verifier.proofs.walk.walk.Given as goal

@@ -1,4 +1,4 @@
-use Rattle.std.proofs.Common.{◌≡◌, length, sym, ◌∙◌, subst, arith}
+use Rattle.std.proofs.Common.{length, sym, ◌∙◌, arith}
 use Rattle.machine_model.specs.Form.{fault_at}
 use Rattle.verifier.proofs.Firsts.{first_zero, first_more, first_found}
 use Rattle.verifier.proofs.layout.Layout.first_fault.Goals as goal
