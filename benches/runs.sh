@@ -1,0 +1,35 @@
+#!/usr/bin/env bash
+# What a step of accepted code costs, run without tags and by the checked machine: instructions, by callgrind. The program
+# that does it, runs.rt.txt, checks its answers. It is no part of the gate.
+set -eu
+cd "$(dirname "$0")/.."
+scratch=$(mktemp -d)
+trap 'rm -rf "$scratch"' EXIT
+git ls-files -z --cached --others --exclude-standard crates crates.txt | tar -c --null --ignore-failed-read -T - 2> "$scratch/left-out" | tar -x -C "$scratch"
+mkdir -p "$scratch/crates/runs_bench/src"
+cp benches/runs.rt.txt "$scratch/crates/runs_bench/src/main.rt"
+echo 'runs_bench: target_vars code_file interpreter verifier runs' >> "$scratch/crates.txt"
+(cd "$scratch/crates/runs_bench" && rt run -- rule 1) > "$scratch/build.log" 2>&1 || { tail -20 "$scratch/build.log"; exit 1; }
+
+# Instructions of so many rounds of a work.
+counted() {
+    local out=$scratch/callgrind.out
+    valgrind --tool=callgrind --callgrind-out-file="$out" "$scratch/crates/runs_bench/out/runs_bench" "$1" "$2" \
+        > "$scratch/run.log" 2>&1 || { echo "$1: a wrong answer" >&2; exit 1; }
+    sed -n 's/^totals: //p' "$out"
+}
+
+# What a step takes, of so many steps a round.
+row() {
+    local none some
+    none=$(counted "$1" 0)
+    some=$(counted "$1" "$3")
+    echo "$none $some" | awk -v work="$2" -v rounds="$3" -v steps="$4" \
+        '{ printf "  %-52s %12d %8.1f\n", work, ($2 - $1) / rounds, ($2 - $1) / rounds / steps }'
+}
+
+printf '%-54s %12s %8s\n' "instructions" "a run" "a step"
+row list-checked 'members of a list, the checked machine' 2 150003
+row list 'members of a list, a run' 2 150003
+row rule-checked 'a compiled rule, the checked machine' 1000 8
+row rule 'a compiled rule, a run' 1000 8
