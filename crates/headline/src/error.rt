@@ -1,0 +1,27 @@
+//! Why the code of a file is not run.
+
+use runs::PrepareError;
+use thiserror::Error;
+use verifier::LoadError;
+
+/// Why the code of a file is not run.
+#[derive(Clone, Copy, Debug, PartialEq, Eq, Error)]
+pub enum RunError {
+    /// The file is not accepted.
+    #[error("{0}")]
+    Load(LoadError),
+    /// The run is not begun.
+    #[error("{0}")]
+    Prepare(PrepareError),
+}
+
+impl From<LoadError> for RunError {
+    ghost use Rattle.std.specs.Prelude.{◌≡◌};
+    ghost use Rattle.headline.specs.declared.error.RunError.TheVariants.{Load};
+
+    ghost from_gives = { λ error r. r ≡ Load error };
+
+    fn from(error: LoadError) -> RunError {
+        RunError::Load(error)
+    }
+}
