@@ -21,7 +21,10 @@ use Rattle.openlink.specs.Link.{IsMeaning, IsLinkFault}
 use Rattle.openlink.specs.Faults.{IsCodeFault}
 use Rattle.openlink.specs.Show.{IsListing}
 use Rattle.openlink.specs.Upgrade.{IsUpgrade}
-use Rattle.openlink.specs.Verify.{IsVerdict, IsVerifyFault}
+use Rattle.openlink.specs.Verify.{IsAcceptedFile, IsVerdict, IsVerifyFault}
+use Rattle.openlink.specs.Run.{IsReady, IsRun, IsRunFault}
+use Rattle.target_vars.specs.EnvValue.{EnvValue}
+use Rattle.machine_model.specs.Runs.{Outcome, NoLink}
 
 -- what holds of the front, and so of the whole, holds of the file
 pub of_file : (limit : ℕ) (P : Text → Type 0) (told : Option Text) (front bytes : Text)
@@ -58,8 +61,11 @@ refused e all (inr (same, (code, h))) = inr (same, (code, spelled_too code all h
 pub no_code : (f : Fault) (all : Text) → IsCodeFault (take 65537 all) f → IsCodeFault all f
 no_code f all (e, h, same) = (e, refused e all h, same)
 
+accepted_too : (code : Code) (all : Text) → IsAcceptedFile (take 65537 all) code → IsAcceptedFile all code
+accepted_too code all h = record { file = spelled_too code all h.file; form = h.form; typable = h.typable; safe = h.safe }
+
 pub accepted : (text all : Text) → IsVerdict (take 65537 all) text → IsVerdict all text
-accepted text all h = record { code = h.code; file = spelled_too h.code all h.file; form = h.form; typable = h.typable; safe = h.safe; printed = h.printed }
+accepted text all h = record { code = h.code; accepted = accepted_too h.code all h.accepted; printed = h.printed }
 
 not_loaded : (e : LoadError) (all : Text) → IsLoadFault (take 65537 all) e → IsLoadFault all e
 not_loaded _ all (no_code_file _ (too_long long)) = no_code_file (fault_at TooLong 65536) (too_long (too_long_too 65536 all long))
@@ -70,6 +76,24 @@ not_loaded _ all (no_memory c h) = no_memory c (spelled_too c all h)
 
 pub not_accepted : (f : Fault) (all : Text) → IsVerifyFault (take 65537 all) f → IsVerifyFault all f
 not_accepted f all (e, h, same) = (e, not_loaded e all h, same)
+
+ready_too : (query : Text) (code : Code) (env : EnvValue) (all : Text) → IsReady (take 65537 all) query code env → IsReady all query code env
+ready_too query code env all h = record { accepted = accepted_too code all h.accepted; request = h.request; filled = h.filled }
+
+pub ran : (query : Text) (end : Outcome) (all : Text) → IsRun (take 65537 all) query end → IsRun all query end
+ran query end all h = record { code = h.code; env = h.env; ready = ready_too query h.code h.env all h.ready; within = h.within; ends = h.ends }
+
+pub not_run : (query : Text) (f : Fault) (all : Text) → IsRunFault (take 65537 all) query f → IsRunFault all query f
+not_run query (fault.Load e) all h = not_accepted (fault.Load e) all h
+not_run query (fault.Query e) all (code, file, refused) = (code, accepted_too code all file, refused)
+not_run query (fault.OverBudget n) all h = record { code = h.code; env = h.env; ready = ready_too query h.code h.env all h.ready; bound = h.bound; over = h.over }
+not_run query fault.NoLink all h = ran query NoLink all h
+not_run query fault.Memory all (code, file) = (code, spelled_too code all file)
+not_run query fault.Usage all h = h
+not_run query (fault.Template e) all h = h
+not_run query (fault.Rules e) all h = h
+not_run query (fault.Code e) all h = h
+not_run query (fault.Device path) all h = h
 
 -- ---- rules
 
@@ -93,4 +117,5 @@ not_linked query fault.Usage all h = h
 not_linked query (fault.Template e) all h = h
 not_linked query (fault.Code e) all h = h
 not_linked query (fault.Load e) all h = h
+not_linked query (fault.OverBudget n) all h = h
 not_linked query (fault.Device path) all h = h

@@ -3,3 +3,4 @@ pub mod CommandLemmas
 pub mod LinkLemmas
 pub mod FaultLemmas
 pub mod FrontLemmas
+pub mod RunLemmas

@@ -36,5 +36,6 @@ no_request bytes query rules read (fault.Template e) h = absurd h
 no_request bytes query rules read (fault.Rules e) h = absurd h
 no_request bytes query rules read (fault.Code e) h = absurd h
 no_request bytes query rules read (fault.Load e) h = absurd h
+no_request bytes query rules read (fault.OverBudget n) h = absurd h
 no_request bytes query rules read fault.NoLink h = absurd h
 no_request bytes query rules read (fault.Device path) h = absurd h

@@ -15,6 +15,8 @@ use Rattle.rule_parser.specs.declared.error.RuleErrorKind.{RuleErrorKind}
 use Rattle.rule_parser.specs.declared.error.RuleErrorKind.TheVariants as rules
 use Rattle.verifier.specs.declared.error.LoadError.{LoadError}
 use Rattle.verifier.specs.declared.error.LoadError.TheVariants as load
+use Rattle.runs.specs.declared.error.PrepareError.{PrepareError}
+use Rattle.runs.specs.declared.error.PrepareError.TheVariants as prepare
 use Rattle.kev_read.specs.Refusal.{refusal}
 use Rattle.kev_read.specs.declared.error.KevError.{KevError}
 use Rattle.kev_read.specs.declared.error.KevError.TheVariants as query
@@ -41,6 +43,10 @@ abbrev pub load_fault : LoadError → Fault
 load_fault load.NoMemory = Memory
 load_fault e = fault.Load e
 
+abbrev pub prepare_fault : PrepareError → Fault
+prepare_fault (prepare.OverBudget n) = fault.OverBudget n
+prepare_fault prepare.NoMemory = Memory
+
 abbrev pub rules_fault_of_kind : RuleError → RuleErrorKind → Fault
 rules_fault_of_kind e rules.NoMemory = Memory
 rules_fault_of_kind e kind = fault.Rules e
@@ -66,6 +72,7 @@ status_of (Query e) = 3
 status_of (fault.Rules e) = 3
 status_of (fault.Code e) = 3
 status_of (fault.Load e) = 3
+status_of (fault.OverBudget n) = 3
 status_of Memory = 4
 status_of (Device path) = 4
 

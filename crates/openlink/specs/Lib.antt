@@ -8,3 +8,4 @@ pub mod OneFile
 pub mod Upgrade
 pub mod Commands
 pub mod Verify
+pub mod Run

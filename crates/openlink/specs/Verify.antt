@@ -30,13 +30,17 @@ bytes_line o0 o1 o2 o3 =
 abbrev pub verdict : Sums → Text
 verdict b = (codes "ok" ++ line_feed) ++ (steps_line b.s0 b.s1 ++ bytes_line b.o0 b.o1 b.o2 b.o3)
 
--- the code that the bytes spell is accepted, and safe within the bounds that are printed
-pub record IsVerdict (bytes text : Text) : Type 0 where
-  pub code : Code
+-- the bytes are the file of this code, which is accepted: of good form, typable, and safe
+pub record IsAcceptedFile (bytes : Text) (code : Code) : Type 0 where
   pub file : IsCodeFile bytes code
   pub form : HasGoodForm code
   pub typable : IsTypable code
   pub safe : IsSafe code
+
+-- the code that the bytes spell is accepted, and safe within the bounds that are printed
+pub record IsVerdict (bytes text : Text) : Type 0 where
+  pub code : Code
+  pub accepted : IsAcceptedFile bytes code
   pub printed : text ≡ verdict (sums_of code)
 
 -- why the bytes are refused; want of memory can come only where they are a code file

@@ -11,6 +11,7 @@ use crate::expand::expand_line;
 use crate::fault::Fault;
 use crate::link::link_line;
 use crate::placing::write_whole;
+use crate::run::run_line;
 use crate::show::show_lines;
 use crate::upgrade::upgrade_line;
 use crate::verify::verify_lines;
@@ -75,6 +76,9 @@ fn answer<'a, R: Files + AllocGlobal>(rt: &R, words: &[&'a str]) -> Result<Strin
     }
     if let Some(rest) = behind(words, "link") {
         return link_line(rt, rest);
+    }
+    if let Some(rest) = behind(words, "run") {
+        return run_line(rt, rest);
     }
     if let Some(rest) = behind(words, "verify") {
         return verify_lines(rt, rest);

@@ -7,6 +7,7 @@ ghost use Rattle.openlink.specs.Faults.{status_of, system_fault};
 use code_file::{CodeError, CodeErrorKind};
 use kev_read::KevError;
 use rule_parser::{RuleError, RuleErrorKind};
+use runs::PrepareError;
 use std::alloc::{AllocError, AllocFailed};
 use std::io;
 use std::io::ErrorKind;
@@ -49,6 +50,9 @@ pub enum Fault<'a> {
     /// instruction at which it stands.
     #[error("load: {0}")]
     Load(LoadError),
+    /// The code may print so many bytes for the request, more than a link may have.
+    #[error("over budget: {0}")]
+    OverBudget(u64),
     /// No rule's guards hold. Nothing is printed.
     #[error("no link")]
     NoLink,
@@ -82,7 +86,8 @@ impl<'a> Fault<'a> {
             | Fault::Query(_)
             | Fault::Rules(_)
             | Fault::Code(_)
-            | Fault::Load(_) => REFUSED,
+            | Fault::Load(_)
+            | Fault::OverBudget(_) => REFUSED,
             Fault::Memory | Fault::Device(_) => FAILED,
         }
     }
@@ -162,6 +167,20 @@ impl<'a> From<LoadError> for Fault<'a> {
         match e {
             LoadError::NoMemory => Fault::Memory,
             _ => Fault::Load(e),
+        }
+    }
+}
+
+impl<'a> From<PrepareError> for Fault<'a> {
+    ghost use Rattle.openlink.specs.Faults.{prepare_fault};
+    ghost use Rattle.std.specs.Prelude.{◌≡◌};
+
+    ghost from_gives = { λ e fault. fault ≡ prepare_fault e };
+
+    fn from(e: PrepareError) -> Fault<'a> {
+        match e {
+            PrepareError::OverBudget(bytes) => Fault::OverBudget(bytes),
+            PrepareError::NoMemory => Fault::Memory,
         }
     }
 }

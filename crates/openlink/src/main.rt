@@ -10,6 +10,7 @@ mod line;
 mod link;
 mod placing;
 mod request;
+mod run;
 mod show;
 #[cfg(test)]
 mod tests;
@@ -23,8 +24,8 @@ use crate::fault::Fault;
 use std::io::Write;
 use std::process::ExitCode;
 
-/// Runs the words after the program's name.
-fn run<E: Write>(rt: &HostRuntime, errors: &mut E) -> Result<u8, Fault<'static>> {
+/// Carries out the words after the program's name.
+fn carry_out<E: Write>(rt: &HostRuntime, errors: &mut E) -> Result<u8, Fault<'static>> {
     let arguments = arguments(rt)?;
     let words = words(rt.alloc(), &arguments)?;
     Ok(command(rt, &words, &mut rt.stdout(), errors))
@@ -32,7 +33,7 @@ fn run<E: Write>(rt: &HostRuntime, errors: &mut E) -> Result<u8, Fault<'static>>
 
 fn main(rt: HostRuntime) -> ExitCode {
     let mut errors = rt.stderr();
-    match run(&rt, &mut errors) {
+    match carry_out(&rt, &mut errors) {
         Ok(status) => ExitCode::from(status),
         Err(fault) => ExitCode::from(report(fault, &mut errors)),
     }

@@ -2,6 +2,7 @@ mod expand;
 mod files;
 mod link;
 mod output;
+mod run;
 mod show;
 mod upgrade;
 mod verify;
