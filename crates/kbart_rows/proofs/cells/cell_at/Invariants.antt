@@ -1,0 +1,9 @@
+use Rattle.std.proofs.Common.{◌≡◌, drop}
+use denote.Text.{Utf8}
+use denote.Shadow.{shadow}
+use Rattle.kbart_rows.specs.Inner.Line.{cells_in}
+use Rattle.kbart_rows.proofs.cells.cell_at.Given as goal
+
+-- so many cells were passed over
+abbrev pub invariant-loop : goal.invariant-loop
+invariant-loop l = shadow (Utf8 l.rest) × (cells_in l.rest ≡ drop l.counter (cells_in l.line))

@@ -1,0 +1,29 @@
+use Rattle.std.proofs.Common.{sym, ap, ◌∙◌, arith, rules, Some, if◌then◌else◌}
+use Rattle.std.specs.HashMap.{get_by_text}
+use Rattle.std.specs.Option.{unwrap_or}
+use Rattle.std.specs.Str.{bytes_eq}
+use Rattle.kbart_rows.specs.Cells.{column_of}
+use Rattle.kbart_rows.specs.Inner.Line.{cells_in}
+use Rattle.kbart_rows.proofs.FirstColumns.{stands_at, all_passed, column_entered}
+use Rattle.kbart_rows.proofs.columns.columns_of.Goals as goal
+
+pub loop-name-preserved : goal.loop-name-preserved
+loop-name-preserved c =
+    let header = cells_in c.args.header.now in
+    let column = c.loop-name.column in
+    let inv = c.loop-name.invariant in
+    let at = stands_at header column c.in-Some.name.now (cells_in c.in-Some.behind.now) (sym c.in-Some.ensures.cell ∙ inv.1) in
+    let inside = at.inside in
+    let shorter = c.in-Some.ensures.shorter in (
+      search rules,
+      at.behind,
+      omega arith,
+      omega (arith, inv.3),
+      λ name. c.in_ok-add_name.ensures name ∙ ap (λ (text : _). if bytes_eq name text then Some (unwrap_or (get_by_text c.loop-name.columns name) column) else get_by_text c.loop-name.columns name) c.in_ok-from_str.ensures.ok
+          ∙ column_entered header column c.in-Some.name.now name (cells_in c.in-Some.behind.now) (get_by_text c.loop-name.columns name) at (inv.4 name),
+    )
+
+pub returns : goal.returns
+returns c = λ name.
+    let inv = c.loop-name.invariant in
+    inv.4 name ∙ ap (λ names. column_of names name) (all_passed (cells_in c.args.header.now) c.loop-name.column (sym c.in_default.ensures.none ∙ inv.1))

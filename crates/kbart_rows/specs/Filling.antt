@@ -1,0 +1,29 @@
+-- What the defined cells of a row make of an environment.
+use Rattle.std.specs.Prelude.{◌≡◌, ◌↔◌, ◌+◌, ◌<◌, false, List, ◌∷◌, ◌++◌, length, fold, Option, None, Some}
+use Rattle.environment_model.specs.Environment.{Environment, is_there, byte_count, with_text}
+use Rattle.target_vars.specs.declared.env.TheConstants.{MAX_BYTES}
+use Rattle.target_vars.specs.declared.error.VarsError.{VarsError}
+use Rattle.target_vars.specs.declared.error.VarsError.TheVariants.{TooLarge}
+use Rattle.kbart_rows.specs.Cells.{NamedCell}
+
+-- the environment after a cell: the first entry of a name stays
+abbrev pub fill_one : Environment → NamedCell → Environment
+fill_one env cell = with_text env cell.name cell.text
+
+abbrev pub with_defined : Environment → Option NamedCell → Environment
+with_defined env None = env
+with_defined env (Some cell) = fill_one env cell
+
+-- the environment after each cell, in order
+abbrev pub filled : Environment → List NamedCell → Environment
+filled env cells = fold fill_one env cells
+
+-- the environment is as the cells before a refused one left it, and the refused one would have been added
+pub record StopsAtCell (old : Environment) (cells : List NamedCell) (new : Environment) (e : VarsError) : Type 0 where
+  pub before : List NamedCell
+  pub refused : NamedCell
+  pub after : List NamedCell
+  pub in_order : cells ≡ before ++ refused ∷ after
+  pub reached : new ≡ filled old before
+  pub is_new : is_there new refused.name ≡ false
+  pub too_large : (e ≡ TooLarge) ↔ (MAX_BYTES < byte_count new + length refused.text)

@@ -1,0 +1,14 @@
+-- How the keys of a table begin each hasher.
+use Rattle.std.specs.Prelude.{ℕ, fold}
+use Rattle.std.specs.Hash.{u64}
+use Rattle.std.specs.Hash.DefaultHasher.{initial, write}
+use Rattle.std.specs.declared.hash.DefaultHasher.{DefaultHasher}
+use Rattle.kbart_rows.specs.declared.keys.Keys.{Keys}
+
+-- the hasher that took the two numbers, one after the other
+abbrev pub keyed : ℕ → ℕ → DefaultHasher
+keyed first second = fold write (fold write initial (u64 first)) (u64 second)
+
+-- what each hasher goes on from
+abbrev pub begun_by : Keys → DefaultHasher
+begun_by keys = keys.begun

@@ -1,0 +1,83 @@
+-- What a table keeps, and how it is read and found.
+use Rattle.std.specs.Prelude.{◌≡◌, ℕ, ◌↔◌, ◌==◌, if◌then◌else◌, ◌+◌, ◌≤◌, ◌<◌, List, [], filter, min, drop, length, get_or, String, Vec, Bool, true, false, Option, None, Some}
+use Rattle.std.specs.Borrow.{Bor}
+use Rattle.std.specs.HashMap.{HashMap, get_by_text}
+use Rattle.std.specs.List.{range_with_len}
+use Rattle.std.specs.Option.{option_map_or}
+use Rattle.std.specs.Str.{bytes_eq}
+use Rattle.csv.specs.Reading.{Ready, source_of, strip_bom}
+use Rattle.csv.specs.declared.reader.Reader.{Reader}
+use Rattle.csv.specs.declared.reader.Trim.TheVariants as trim
+use Rattle.csv.specs.declared.parser.State.TheVariants as state
+use Rattle.text_model.specs.Texts.{Text}
+use Rattle.environment_model.specs.Environment.{Environment, is_there, byte_count}
+use Rattle.target_vars.specs.declared.env.TheConstants.{MAX_BYTES}
+use Rattle.target_vars.specs.declared.error.VarsError.{VarsError}
+use Rattle.target_vars.specs.declared.error.VarsError.TheVariants as vars_error
+use Rattle.kbart_rows.specs.Cells.{Row, Holdings, NamedCell, name_cell, column_of, row_bytes}
+use Rattle.kbart_rows.specs.Identifiers.{has_identifier, identifier_columns}
+use Rattle.kbart_rows.specs.Reading.{tab_separated, AllFit}
+use Rattle.kbart_rows.specs.declared.error.TableError.{TableError}
+use Rattle.kbart_rows.specs.declared.error.TableError.TheVariants.{TooLong, NotUtf8, NoHeader, TooManyRows, RowTooLong, NoMemory}
+use Rattle.kbart_rows.specs.declared.read.TheConstants.{MAX_ROWS, MAX_ROW_BYTES}
+
+-- ---- reading
+
+-- it reads these bytes, of which it took none yet, as a tab separated table
+pub record IsFreshReader (bytes : List ℕ) (reader : Reader (Bor (List ℕ))) : Type 0 where
+  pub config : reader.config ≡ tab_separated
+  pub trim : reader.trim ≡ trim.None
+  pub flexible : reader.flexible ≡ true
+  pub ready : Ready reader
+  pub state : reader.state ≡ state.StartRecord
+  pub source : source_of (λ (rest : Bor (List ℕ)). Some rest.now) reader ≡ Some (strip_bom bytes)
+
+-- why a line is not added behind so many others
+abbrev pub IsRefusedLine : ℕ → Row → TableError → Type 0
+IsRefusedLine before cells TooManyRows = MAX_ROWS < before
+IsRefusedLine before cells RowTooLong = (before ≤ MAX_ROWS) × (MAX_ROW_BYTES < row_bytes cells)
+IsRefusedLine before cells NoMemory = Unit {0}
+IsRefusedLine before cells TooLong = ⊥
+IsRefusedLine before cells NotUtf8 = ⊥
+IsRefusedLine before cells NoHeader = ⊥
+
+-- ---- filling
+
+-- the cell of a column under its name, where that is the first column of the name that was found
+abbrev pub cell_at_first : Option ℕ → ℕ → Text → Text → Option NamedCell
+cell_at_first found column name cell = if option_map_or (λ first. first == column) found false then name_cell name cell else None
+
+-- why a cell is not added: it is defined, its name is new, and it is too large or memory is missing
+abbrev pub IsRefusedCell : Environment → Option NamedCell → VarsError → Type 0
+IsRefusedCell env None e = ⊥
+IsRefusedCell env (Some cell) e =
+    (is_there env cell.name ≡ false) × ((e ≡ vars_error.TooLarge) ↔ (MAX_BYTES < byte_count env + length cell.text))
+
+-- ---- the index
+
+-- the text is this identifier, where there is one
+abbrev pub is_id : Text → Option Text → Bool
+is_id text id = option_map_or (bytes_eq text) id false
+
+-- the numbers of the rows that have the identifier
+abbrev pub rows_with : List (Option ℕ) → List Row → Text → List ℕ
+rows_with columns rows id = filter (λ row. has_identifier columns id (get_or rows row [])) (range_with_len 0 (length rows))
+
+-- the first line is the header
+abbrev pub holdings_of : List Row → Holdings
+holdings_of lines = record { header = get_or lines 0 []; rows = drop 1 lines }
+
+-- the names of the header lead to their first columns, and the identifiers to the rows that have them
+pub record IsIndexed {A B C D : Type 0} (lines : List Row) (columns : HashMap (String A) ℕ B) (index : HashMap (String C) (Vec ℕ D) B) : Type 0 where
+  pub header : 0 < length lines
+  pub few : length lines ≤ MAX_ROWS + 1
+  pub fit : AllFit lines
+  pub named : (name : Text) → get_by_text columns name ≡ column_of (get_or lines 0 []) name
+  pub found : (id : Text) → option_map_or (λ rows. rows.items) (get_by_text index id) []
+      ≡ rows_with (identifier_columns (get_or lines 0 [])) (drop 1 lines) id
+
+-- the lesser of two rows, each of which may be missing
+abbrev pub lesser_of : Option ℕ → Option ℕ → Option ℕ
+lesser_of None b = b
+lesser_of (Some a) None = Some a
+lesser_of (Some a) (Some b) = Some (min a b)

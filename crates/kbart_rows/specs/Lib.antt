@@ -1,0 +1,6 @@
+pub mod Cells
+pub mod Identifiers
+pub mod Reading
+pub mod Filling
+pub mod Hashing
+pub mod Inner

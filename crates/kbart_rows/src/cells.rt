@@ -1,0 +1,64 @@
+//! A row's cells as one text, in which a tab follows each.
+
+ghost use Rattle.std.specs.Prelude.{◌≡◌, ◌<◌, ◌∷◌, [], OnOk, IfSome, IfNone, drop, get_or, length, string_bytes};
+ghost use Rattle.csv.specs.Records.{fields_of};
+ghost use Rattle.std.specs.Option.{option_copied};
+ghost use Rattle.kbart_rows.specs.Cells as spec;
+ghost use Rattle.kbart_rows.specs.Inner.Line.{cells_in, line_of};
+
+use csv::StringRecord;
+use std::alloc::AllocError;
+
+/// Writes the cells of a record, in place of what the line was.
+pub(crate) fn write_line(cells: &StringRecord, line: &mut String) -> Result<(), AllocError>
+    ensures { OnOk result (string_bytes line.new ≡ line_of (fields_of cells.now)) }
+{
+    line.clear();
+    for column in 0..cells.len() {
+        line.push_str(cells.get(column).unwrap_or(""))?;
+        line.push('\t')?;
+    }
+    Ok(())
+}
+
+/// The first cell of a line, and the line of those behind it.
+pub(crate) fn next_cell(line: &str) -> Option<(&str, &str)>
+    ensures cell { IfSome result (λ parts. cells_in line.now ≡ parts.0.now ∷ cells_in parts.1.now) }
+    ensures shorter { IfSome result (λ parts. length parts.1.now < length line.now) }
+    ensures none { IfNone result (cells_in line.now ≡ []) }
+{
+    line.split_once('\t')
+}
+
+/// The first cell of a line, the empty text where it has none, and the line of those behind it.
+pub(crate) fn split_cell(line: &str) -> (&str, &str)
+    ensures cell { result.0.now ≡ get_or (cells_in line.now) 0 [] }
+    ensures rest { cells_in result.1.now ≡ drop 1 (cells_in line.now) }
+{
+    next_cell(line).unwrap_or(("", ""))
+}
+
+/// The cell of a line in a column, the empty text where it has none.
+pub(crate) fn cell_at(line: &str, column: usize) -> &str
+    ensures { result.now ≡ get_or (cells_in line.now) column [] }
+{
+    let mut rest = line;
+    for _ in 0..column {
+        rest = split_cell(rest).1;
+    }
+    split_cell(rest).0
+}
+
+/// The text of a cell that is defined.
+pub(crate) fn defined(cell: &str) -> Option<&str>
+    ensures { option_copied result ≡ spec.defined cell.now }
+{
+    if cell.is_empty() { None } else { Some(cell) }
+}
+
+/// The defined cell of a line in a column, where there is such a column.
+pub(crate) fn cell_in(line: &str, column: Option<usize>) -> Option<&str>
+    ensures { option_copied result ≡ spec.cell_in (cells_in line.now) column }
+{
+    defined(cell_at(line, column?))
+}

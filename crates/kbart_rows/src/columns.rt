@@ -1,0 +1,54 @@
+ghost use Rattle.std.specs.Prelude.{◌≡◌, ◌==◌, IfOk, OnOk, Some, false, string_bytes, if◌then◌else◌};
+ghost use Rattle.std.specs.HashMap.{get_by_text};
+ghost use Rattle.std.specs.Option.{option_map_or, unwrap_or};
+ghost use Rattle.std.specs.Str.{bytes_eq};
+ghost use Rattle.text_model.specs.Texts.{Text};
+ghost use Rattle.kbart_rows.specs.Cells.{column_of};
+ghost use Rattle.kbart_rows.specs.Inner.Line.{cells_in};
+
+use crate::cells::next_cell;
+use crate::keys::Keys;
+use std::alloc::{AllocError, Global};
+use std::collections::HashMap;
+
+/// The first column of each name in the line of a header.
+pub(crate) fn columns_of(
+    alloc: Global,
+    header: &str,
+    keys: Keys,
+) -> Result<HashMap<String, usize, Keys>, AllocError>
+    ensures { IfOk result (λ columns. (name : Text) → get_by_text columns name ≡ column_of (cells_in header.now) name) }
+{
+    let mut columns = HashMap::with_hasher(alloc, keys);
+    let mut column: usize = 0;
+    let mut rest = header;
+    while let Some((name, behind)) = next_cell(rest) {
+        add_name(&mut columns, String::from_str(alloc, name)?, column)?;
+        column += 1;
+        rest = behind;
+    }
+    Ok(columns)
+}
+
+/// Adds a column of a name that may have an earlier one.
+fn add_name(
+    columns: &mut HashMap<String, usize, Keys>,
+    name: String,
+    column: usize,
+) -> Result<(), AllocError>
+    ensures { OnOk result ((other : Text) → get_by_text columns.new other
+        ≡ (if bytes_eq other (string_bytes name) then Some (unwrap_or (get_by_text columns.old other) column) else get_by_text columns.old other)) }
+{
+    columns.entry(name)?.or_insert(column);
+    Ok(())
+}
+
+/// Whether the column is the first of the name.
+pub(crate) fn is_first(columns: &HashMap<String, usize, Keys>, name: &str, column: usize) -> bool
+    ensures { result ≡ option_map_or (λ first. first == column) (get_by_text columns.now name.now) false }
+{
+    match columns.get(name) {
+        Some(first) => *first == column,
+        None => false,
+    }
+}

@@ -1,0 +1,112 @@
+//! From each normalised identifier to the rows that have it, in rising order.
+
+ghost use Rattle.std.specs.Prelude.{◌≡◌, ◌+◌, ◌≤◌, ◌<◌, ◌||◌, ◌++◌, ◌∷◌, [], IfOk, OnOk, drop, length, string_bytes, if◌then◌else◌};
+ghost use Rattle.std.specs.HashMap.{get_by_text};
+ghost use Rattle.std.specs.List.Sorted.{IsNonDecreasing};
+ghost use Rattle.std.specs.Option.{option_map, option_map_or};
+ghost use Rattle.std.specs.Str.{bytes_eq};
+ghost use Rattle.text_model.specs.Texts.{Text};
+ghost use Rattle.kbart_rows.specs.Identifiers as spec;
+ghost use Rattle.kbart_rows.specs.Inner.Kept.{is_id, rows_with};
+ghost use Rattle.kbart_rows.specs.Inner.Line.{cells_in};
+ghost use Rattle.kbart_rows.specs.declared.read.TheConstants.{MAX_ROWS};
+
+use crate::cells::cell_in;
+use crate::identifier::normalised;
+use crate::keys::Keys;
+use crate::records::Records;
+use std::alloc::{AllocError, Global};
+use std::collections::HashMap;
+
+/// Each identifier's rows, where these are the columns of identifiers; the first line is the header.
+pub(crate) fn index_of(
+    alloc: Global,
+    lines: &Records,
+    print: Option<usize>,
+    online: Option<usize>,
+    keys: Keys,
+) -> Result<HashMap<String, Vec<u32>, Keys>, AllocError>
+    requires some { 0 < length lines.now }
+    requires few { length lines.now ≤ MAX_ROWS + 1 }
+    ensures { IfOk result (λ index. (id : Text) → option_map_or (λ g. g.items) (get_by_text index id) []
+        ≡ rows_with (print ∷ online ∷ []) (drop 1 lines.now) id) }
+{
+    let mut index = HashMap::with_hasher(alloc, keys);
+    for row in 0..lines.len() - 1 {
+        let cells = lines.line(row + 1);
+        let first = identifier(alloc, cells, print)?;
+        let second = identifier(alloc, cells, online)?;
+        add_row(&mut index, first, second, row as u32)?;
+    }
+    Ok(index)
+}
+
+/// The identifier in a column of a line, where it is defined.
+fn identifier(
+    alloc: Global,
+    line: &str,
+    column: Option<usize>,
+) -> Result<Option<String>, AllocError>
+    ensures { IfOk result (λ id. option_map string_bytes id ≡ spec.identifier_in (cells_in line.now) column) }
+{
+    match cell_in(line, column) {
+        Some(cell) => Ok(Some(normalised(alloc, cell)?)),
+        None => Ok(None),
+    }
+}
+
+/// Adds a row to those of its identifiers, to those of one that it has twice only once.
+fn add_row(
+    index: &mut HashMap<String, Vec<u32>, Keys>,
+    first: Option<String>,
+    second: Option<String>,
+    row: u32,
+) -> Result<(), AllocError>
+    ensures { OnOk result ((id : Text) → option_map_or (λ g. g.items) (get_by_text index.new id) []
+        ≡ option_map_or (λ g. g.items) (get_by_text index.old id) []
+        ++ (if (is_id id (option_map string_bytes first) || is_id id (option_map string_bytes second)) then row ∷ [] else [])) }
+{
+    let is_same = first == second;
+    add_to(index, first, row)?;
+    if !is_same {
+        add_to(index, second, row)?;
+    }
+    Ok(())
+}
+
+/// Adds a row to those of an identifier, where there is one.
+fn add_to(
+    index: &mut HashMap<String, Vec<u32>, Keys>,
+    id: Option<String>,
+    row: u32,
+) -> Result<(), AllocError>
+    ensures { OnOk result ((other : Text) → option_map_or (λ g. g.items) (get_by_text index.new other) []
+        ≡ option_map_or (λ g. g.items) (get_by_text index.old other) [] ++ (if is_id other (option_map string_bytes id) then row ∷ [] else [])) }
+{
+    if let Some(id) = id {
+        add(index, id, row)?;
+    }
+    Ok(())
+}
+
+fn add(index: &mut HashMap<String, Vec<u32>, Keys>, id: String, row: u32) -> Result<(), AllocError>
+    ensures { OnOk result ((other : Text) → option_map_or (λ g. g.items) (get_by_text index.new other) []
+        ≡ (if bytes_eq other (string_bytes id) then option_map_or (λ g. g.items) (get_by_text index.old other) [] ++ row ∷ []
+        else option_map_or (λ g. g.items) (get_by_text index.old other) [])) }
+{
+    index.entry(id)?.or_default().push(row)?;
+    Ok(())
+}
+
+/// The first of rising rows at or after one, found by halves.
+pub(crate) fn first_from(rows: &[u32], from: usize) -> Option<usize>
+    requires { IsNonDecreasing rows.now }
+    ensures { result ≡ spec.first_from from rows.now }
+{
+    let at = rows.partition_point(|row| (*row as usize) < from);
+    if at < rows.len() {
+        Some(rows[at] as usize)
+    } else {
+        None
+    }
+}

@@ -1,0 +1,33 @@
+ghost use Rattle.std.specs.Prelude.{◌≡◌};
+ghost use Rattle.kbart_rows.specs.Hashing.{begun_by, keyed};
+
+use std::hash::{BuildHasher, DefaultHasher, Hasher};
+
+/// The secret keys of a table's hashed look-ups. Of a table from a stranger, who may have chosen identifiers
+/// and column names that collide, the keys are random; no answer depends on them.
+#[derive(Clone, Copy)]
+pub struct Keys {
+    begun: DefaultHasher,
+}
+
+impl Keys {
+    /// The keys that these two numbers make; each of them counts.
+    pub fn new(first: u64, second: u64) -> Keys
+        ensures { begun_by result ≡ keyed first second }
+    {
+        let mut begun = DefaultHasher::new();
+        begun.write_u64(first);
+        begun.write_u64(second);
+        Keys { begun }
+    }
+}
+
+impl BuildHasher for Keys {
+    type Hasher = DefaultHasher;
+
+    ghost build_hasher = { λ keys. keys.begun };
+
+    fn build_hasher(&self) -> DefaultHasher {
+        self.begun
+    }
+}

@@ -1,0 +1,34 @@
+//! Holdings tables in the KBART form (NISO RP-9-2014): which rows have a cited title, and their cells.
+//!
+//! Differences from the recommended practice:
+//! - Columns may come in any order, and none has to be there; a column is found by its exact name.
+//! - Only `print_identifier` and `online_identifier` have a meaning here. Each other column, one that the
+//!   practice does not name too, is a variable like any other.
+//! - Of columns with one name the first counts, also in a row in which its cell is empty. An empty name is
+//!   a name.
+//! - Quotes are plain characters, cells are not trimmed, and `#` begins no comment.
+//! - A line ends with LF, CR LF or CR. Blank lines are no rows; a line of tabs or of a space is one.
+//! - One byte order mark at the front is dropped.
+//! - A cell that is empty or missing is undefined. Cells past the header are ignored, but their bytes count.
+//! - A table has at most 16,777,216 bytes and 200,000 rows, and a line at most 65,536 bytes of cells and tabs.
+#![tactic(auto)]
+
+mod cells;
+mod columns;
+mod error;
+mod filling;
+mod identifier;
+mod ids;
+mod index;
+mod keys;
+mod read;
+mod records;
+mod table;
+#[cfg(test)]
+mod tests;
+
+pub use error::TableError;
+pub use ids::Ids;
+pub use keys::Keys;
+pub use read::{MAX_ROW_BYTES, MAX_ROWS, MAX_TABLE_BYTES};
+pub use table::Table;

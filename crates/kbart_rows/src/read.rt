@@ -1,0 +1,91 @@
+ghost use Rattle.std.specs.Prelude.{◌≡◌, ◌≤◌, ◌<◌, ◌+◌, ◌++◌, ◌∷◌, [], All, IfOk, IfErr, OnOk, length};
+ghost use Rattle.csv.specs.Records.{fields_of};
+ghost use Rattle.kbart_rows.specs.Cells.{row_bytes};
+ghost use Rattle.kbart_rows.specs.Inner.Line.{HasNoTab};
+ghost use Rattle.kbart_rows.specs.Inner.Kept.{IsFreshReader, IsRefusedLine};
+ghost use Rattle.kbart_rows.specs.Reading.{AreLines, AllFit, IsFault, IsLineFault, IsText};
+
+use crate::cells::write_line;
+use crate::error::TableError;
+use crate::records::Records;
+use csv::{Reader, ReaderBuilder, StringRecord};
+use std::alloc::Global;
+
+/// The largest table that is read, in bytes; a byte order mark counts.
+pub const MAX_TABLE_BYTES: usize = 16_777_216;
+
+/// The largest number of rows in a table; the header is none.
+pub const MAX_ROWS: usize = 200_000;
+
+/// The most bytes that the cells of a line have together with the tabs between them, in the header too.
+/// Cells past the header count.
+pub const MAX_ROW_BYTES: usize = 65_536;
+
+/// Refuses bytes that are too long or not UTF-8.
+pub(crate) fn check_bytes(bytes: &[u8]) -> Result<(), TableError>
+    ensures text { OnOk result (IsText bytes.now) }
+    ensures refused { IfErr result (IsFault bytes.now) }
+{
+    if bytes.len() > MAX_TABLE_BYTES {
+        return Err(TableError::TooLong);
+    }
+    if str::from_utf8(bytes).is_err() {
+        return Err(TableError::NotUtf8);
+    }
+    Ok(())
+}
+
+/// The lines of a table, but for blank ones; the first is the header.
+pub(crate) fn read_lines(alloc: Global, bytes: &[u8]) -> Result<Records, TableError>
+    ensures lines { IfOk result (λ lines. AreLines bytes.now lines) }
+    ensures some { IfOk result (λ lines. 0 < length lines) }
+    ensures few { IfOk result (λ lines. length lines ≤ MAX_ROWS + 1) }
+    ensures fit { IfOk result AllFit }
+    ensures refused { IfErr result (IsLineFault bytes.now) }
+{
+    let mut lines = Records::new(alloc);
+    let mut line = String::new(alloc);
+    for record in reader(alloc, bytes).into_records() {
+        let Ok(cells) = record else {
+            return Err(TableError::NoMemory);
+        };
+        add_line(&mut lines, &cells, &mut line)?;
+    }
+    if lines.len() == 0 {
+        return Err(TableError::NoHeader);
+    }
+    Ok(lines)
+}
+
+/// The records of a tab separated table.
+fn reader(alloc: Global, bytes: &[u8]) -> Reader<&[u8]>
+    ensures fresh { IsFreshReader bytes.now result }
+{
+    ReaderBuilder::new()
+        .delimiter(b'\t')
+        .quoting(false)
+        .flexible(true)
+        .has_headers(false)
+        .from_reader(alloc, bytes)
+}
+
+/// Adds a line behind the others; `line` is room to write it.
+fn add_line(lines: &mut Records, cells: &StringRecord, line: &mut String) -> Result<(), TableError>
+    requires { All HasNoTab (fields_of cells.now) }
+    ensures added { OnOk result (lines.new ≡ lines.old ++ fields_of cells.now ∷ []) }
+    ensures few { OnOk result (length lines.old ≤ MAX_ROWS) }
+    ensures fits { OnOk result (row_bytes (fields_of cells.now) ≤ MAX_ROW_BYTES) }
+    ensures refused { IfErr result (IsRefusedLine (length lines.old) (fields_of cells.now)) }
+{
+    if lines.len() > MAX_ROWS {
+        return Err(TableError::TooManyRows);
+    }
+    write_line(cells, line)?;
+    let line = line.as_str();
+    // The line has a tab more than stand between its cells.
+    if line.len() > MAX_ROW_BYTES + 1 {
+        return Err(TableError::RowTooLong);
+    }
+    lines.push(line)?;
+    Ok(())
+}

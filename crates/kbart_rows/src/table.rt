@@ -1,0 +1,173 @@
+ghost use Rattle.std.specs.Prelude.{◌≡◌, ◌≤◌, ◌<◌, ◌+◌, ◌*◌, ◌↔◌, [], ◌∷◌, IfErr, IfOk, IfSome, OnOk, IsUtf8, Err, get_or, length};
+ghost use Rattle.std.specs.Option.{option_copied};
+ghost use Rattle.environment_model.specs.Environment.{byte_count, member_count};
+ghost use Rattle.target_vars.specs.declared.env.TheConstants.{MAX_BYTES, MAX_MEMBERS};
+ghost use Rattle.target_vars.specs.declared.error.VarsError.TheVariants as vars_error;
+ghost use Rattle.kev_read.specs.declared.read.TheConstants.{MAX_PAIRS, MAX_QUERY_BYTES};
+ghost use Rattle.kbart_rows.specs.Cells.{cell_bytes, cell_of, named_cells};
+ghost use Rattle.kbart_rows.specs.Filling.{filled, StopsAtCell};
+ghost use Rattle.kbart_rows.specs.Identifiers as spec;
+ghost use Rattle.kbart_rows.specs.Inner.Kept.{lesser_of, rows_with};
+ghost use Rattle.kbart_rows.specs.Reading.{AllFit, IsFault, IsTable};
+ghost use Rattle.kbart_rows.specs.declared.read.TheConstants.{MAX_ROW_BYTES, MAX_ROWS, MAX_TABLE_BYTES};
+
+use crate::cells::cell_in;
+use crate::columns::columns_of;
+use crate::error::TableError;
+use crate::filling::fill;
+use crate::ids::Ids;
+use crate::index::{first_from, index_of};
+use crate::keys::Keys;
+use crate::read::{check_bytes, read_lines};
+use crate::records::Records;
+use std::alloc::Global;
+use std::collections::HashMap;
+use std::marker::Model;
+use target_vars::{Env, VarsError};
+
+/// A holdings table; contracts see the cells of its header and of its rows.
+#[derive(Drop)]
+pub struct Table {
+    // The first line is the header.
+    lines: Records,
+    // From each name to the first column that has it.
+    columns: HashMap<String, usize, Keys>,
+    // From each normalised identifier to the rows that have it, in rising order.
+    index: HashMap<String, Vec<u32>, Keys>,
+}
+
+impl Model for Table {
+    ghost use Rattle.kbart_rows.specs.Cells.{Holdings};
+    ghost use Rattle.kbart_rows.specs.Inner.Kept.{IsIndexed, holdings_of};
+
+    ghost Value = { Holdings };
+
+    ghost view = { λ table. holdings_of table.lines };
+
+    ghost invariant = { λ table. IsIndexed table.lines table.columns table.index };
+}
+
+impl Table {
+    /// Reads a holdings table. Its hashed look-ups have the keys 0 and 0, which anybody knows; a table from
+    /// a stranger is better read by [`read_keyed`](Table::read_keyed).
+    ///
+    /// Refuses what is no table, by its first fault: see [`TableError`].
+    pub fn read(alloc: Global, bytes: &[u8]) -> Result<Table, TableError>
+        ensures accepted { IfOk result (IsTable bytes.now) }
+        ensures refused { IfErr result (IsFault bytes.now) }
+
+        // However little memory there is.
+        ensures too_long { (result ≡ Err TableError.TooLong) ↔ (MAX_TABLE_BYTES < length bytes.now) }
+        ensures not_utf8 { (result ≡ Err TableError.NotUtf8) ↔ ((length bytes.now ≤ MAX_TABLE_BYTES) × ¬ (IsUtf8 bytes.now)) }
+        ensures limits { (MAX_TABLE_BYTES ≡ 16777216) × (MAX_ROWS ≡ 200000) × (MAX_ROW_BYTES ≡ 65536) }
+    {
+        Table::read_keyed(alloc, bytes, Keys::new(0, 0))
+    }
+
+    /// Reads a holdings table as [`read`](Table::read) does, with secret keys for its hashed look-ups.
+    pub fn read_keyed(alloc: Global, bytes: &[u8], keys: Keys) -> Result<Table, TableError>
+        ensures accepted { IfOk result (IsTable bytes.now) }
+        ensures refused { IfErr result (IsFault bytes.now) }
+
+        // However little memory there is.
+        ensures too_long { (result ≡ Err TableError.TooLong) ↔ (MAX_TABLE_BYTES < length bytes.now) }
+        ensures not_utf8 { (result ≡ Err TableError.NotUtf8) ↔ ((length bytes.now ≤ MAX_TABLE_BYTES) × ¬ (IsUtf8 bytes.now)) }
+        ensures limits { (MAX_TABLE_BYTES ≡ 16777216) × (MAX_ROWS ≡ 200000) × (MAX_ROW_BYTES ≡ 65536) }
+    {
+        check_bytes(bytes)?;
+        let lines = read_lines(alloc, bytes)?;
+        let columns = columns_of(alloc, lines.line(0), keys)?;
+        let print = columns.get("print_identifier").copied();
+        let online = columns.get("online_identifier").copied();
+        let index = index_of(alloc, &lines, print, online, keys)?;
+        Ok(Table {
+            lines,
+            columns,
+            index,
+        })
+    }
+
+    /// How many rows there are, at most [`MAX_ROWS`](crate::MAX_ROWS); the header is none.
+    pub fn rows(&self) -> usize
+        ensures count { result ≡ length self.now.rows }
+        ensures few { result ≤ MAX_ROWS }
+        ensures fit { AllFit (self.now.header ∷ self.now.rows) }
+    {
+        self.lines.len() - 1
+    }
+
+    /// The cell of a row, counted from 0, in the first column of the name; `None` where it is empty or
+    /// missing, where no column has the name, and past the last row.
+    pub fn cell(&self, row: usize, name: &str) -> Option<&str>
+        ensures { option_copied result ≡ cell_of self.now.header (get_or self.now.rows row []) name.now }
+    {
+        if row >= self.rows() {
+            return None;
+        }
+        cell_in(self.lines.line(row + 1), self.columns.get(name).copied())
+    }
+
+    /// The first row at or after `from` whose `print_identifier` or `online_identifier` is one of the
+    /// identifiers, compared without hyphens and spaces and in capital letters.
+    pub fn next_match(&self, ids: &Ids, from: usize) -> Option<usize>
+        ensures first { result ≡ spec.first_from from (spec.matching_rows self.now ids.now) }
+        ensures within { IfSome result (λ row. row < length self.now.rows) }
+    {
+        let mut best = None;
+        for id in ids.as_slice() {
+            best = lesser(best, self.next_with(id.as_str(), from));
+        }
+        best
+    }
+
+    /// The first row at or after `from` that has the identifier.
+    fn next_with(&self, id: &str, from: usize) -> Option<usize>
+        ensures { result ≡ spec.first_from from (rows_with (spec.identifier_columns self.now.header) self.now.rows id.now) }
+    {
+        match self.index.get(id) {
+            Some(rows) => first_from(rows.as_slice(), from),
+            None => None,
+        }
+    }
+
+    /// Adds each defined cell of a row, counted from 0, to the environment under the name of its column, in
+    /// the order of the columns; of columns with one name only the first counts. A name that the environment
+    /// has stays as it is.
+    ///
+    /// `TooLarge` where a cell would pass a limit of the environment, `NoMemory` where a growth of the
+    /// environment was refused; the cells before the refused one stay added.
+    pub fn fill(&self, row: usize, env: &mut Env) -> Result<(), VarsError>
+        requires { row < length self.now.rows }
+        ensures ok { OnOk result (env.new.entries ≡ filled env.old.entries (named_cells self.now.header (get_or self.now.rows row []))) }
+        ensures err { IfErr result (StopsAtCell env.old.entries (named_cells self.now.header (get_or self.now.rows row [])) env.new.entries) }
+
+        // What the environment grows by at most, whatever the answer.
+        ensures bytes { byte_count env.new.entries ≤ byte_count env.old.entries + cell_bytes (named_cells self.now.header (get_or self.now.rows row [])) }
+        ensures small { cell_bytes (named_cells self.now.header (get_or self.now.rows row [])) ≤ MAX_ROW_BYTES }
+        ensures members { member_count env.new.entries ≡ member_count env.old.entries }
+
+        // Where that fits, only memory can be missing; an empty environment has room for a row and a request.
+        ensures room { byte_count env.old.entries + MAX_ROW_BYTES ≤ MAX_BYTES → IfErr result (λ e. e ≡ vars_error.NoMemory) }
+        ensures empty { env.old.entries ≡ [] → IfErr result (λ e. e ≡ vars_error.NoMemory) }
+        ensures request_fits { env.old.entries ≡ []
+            → (byte_count env.new.entries + 3 * MAX_QUERY_BYTES ≤ MAX_BYTES) × (member_count env.new.entries + MAX_PAIRS ≤ MAX_MEMBERS) }
+    {
+        fill(
+            self.lines.line(0),
+            &self.columns,
+            self.lines.line(row + 1),
+            env,
+        )
+    }
+}
+
+/// The lesser of two rows, each of which may be missing.
+fn lesser(a: Option<usize>, b: Option<usize>) -> Option<usize>
+    ensures { result ≡ lesser_of a b }
+{
+    match (a, b) {
+        (Some(a), Some(b)) => Some(a.min(b)),
+        (Some(row), None) | (None, Some(row)) => Some(row),
+        (None, None) => None,
+    }
+}
