@@ -1,0 +1,81 @@
+-- Each entry that lines use stands in its table, at its index.
+use Rattle.std.proofs.Common.{◌≡◌, suc, ◌+◌, List, [], ◌∷◌, ◌++◌, Some, Bool, true, false, refl, sym, ap, ◌∙◌, subst, arith}
+use Rattle.std.specs.Prelude.{◌||◌, not, if◌then◌else◌, slice_get, filter}
+use Rattle.std.specs.List.{list_any, position_or_len}
+use Rattle.std.specs.Bool.{beq, Decides}
+use Rattle.std.specs.Cmp.{booleans_Decides}
+use Rattle.std.specs.Str.{bytes_eq}
+use Rattle.std.proofs.lemmas.Bool.{and_parts, and_from, false≢true}
+use Rattle.std.proofs.lemmas.Slice.Eq.{bytes_eq-Decides}
+use Rattle.code_model.specs.Code.{Name, Literal}
+use Rattle.compiler_model.specs.Tables.{is_same_name, is_same_literal, firsts}
+
+-- ---- entries are told apart
+
+pub same_names : (n m : Name) → Decides (is_same_name n m) (n ≡ m)
+same_names n m = (
+  λ h. let both = and_parts (bytes_eq n.text m.text) (beq n.list m.list) h in
+      let text = (bytes_eq-Decides n.text m.text).0 both.0 in
+      let list = (booleans_Decides n.list m.list).0 both.1 in
+      λ t. record { list = list t; text = text t },
+  λ e. and_from (bytes_eq n.text m.text) (beq n.list m.list) ((bytes_eq-Decides n.text m.text).1 (ap (λ (x : Name). x.text) e)) ((booleans_Decides n.list m.list).1 (ap (λ (x : Name). x.list) e)),
+)
+
+pub same_literals : (l m : Literal) → Decides (is_same_literal l m) (l ≡ m)
+same_literals l m = (
+  λ h. let both = and_parts (bytes_eq l.bytes m.bytes) (beq l.compared m.compared) h in
+      let bytes = (bytes_eq-Decides l.bytes m.bytes).0 both.0 in
+      let compared = (booleans_Decides l.compared m.compared).0 both.1 in
+      λ t. record { compared = compared t; bytes = bytes t },
+  λ e. and_from (bytes_eq l.bytes m.bytes) (beq l.compared m.compared) ((bytes_eq-Decides l.bytes m.bytes).1 (ap (λ (x : Literal). x.bytes) e)) ((booleans_Decides l.compared m.compared).1 (ap (λ (x : Literal). x.compared) e)),
+)
+
+module _ {X : Type 0} (same : X → X → Bool) (decides : (x y : X) → Decides (same x y) (x ≡ y)) where
+  abbrev IsAmong : X → List X → Type 0
+  IsAmong x xs = list_any (same x) xs ≡ true
+
+  or_false : (b c : Bool) → b ≡ false → (b || c) ≡ true → c ≡ true
+  or_false true c e h = absurd (cc)
+  or_false false c e h = h
+
+  or_second : (b c : Bool) → c ≡ true → (b || c) ≡ true
+  or_second true c h = refl
+  or_second false c h = h
+
+  -- what differs from another entry stays where that one is taken out
+  kept : (x y : X) (ys : List X) → same y x ≡ false → IsAmong x ys → IsAmong x (filter (λ z. not (same y z)) ys)
+  kept x y [] d h = h
+  kept x y (z ∷ ys) d h = by_test (same x z) refl (same y z) refl h (kept x y ys d)
+    where
+      by_test : (b : Bool) → same x z ≡ b → (c : Bool) → same y z ≡ c → (b || list_any (same x) ys) ≡ true → (IsAmong x ys → IsAmong x (filter (λ z. not (same y z)) ys)) → list_any (same x) (if not c then (z ∷ filter (λ z. not (same y z)) ys) else filter (λ z. not (same y z)) ys) ≡ true
+      by_test true e true f h rest = absurd (false≢true (sym d ∙ subst (λ w. same y w ≡ true) (sym ((decides x z).0 e)) f))
+      by_test true e false f h rest = rw e refl
+      by_test false e true f h rest = rest h
+      by_test false e false f h rest = or_second (same x z) _ (rest h)
+
+  pub among_firsts : (x : X) (xs : List X) → IsAmong x xs → IsAmong x (firsts same xs)
+  among_firsts x [] h = h
+  among_firsts x (y ∷ xs) h = by_test (same x y) refl h (among_firsts x xs)
+    where
+      by_test : (b : Bool) → same x y ≡ b → (b || list_any (same x) xs) ≡ true → (IsAmong x xs → IsAmong x (firsts same xs)) → (same x y || list_any (same x) (filter (λ z. not (same y z)) (firsts same xs))) ≡ true
+      by_test true e h rest = rw e refl
+      by_test false e h rest = or_second (same x y) _ (kept x y (firsts same xs) (other (same y x) refl) (rest h))
+        where
+          other : (c : Bool) → same y x ≡ c → same y x ≡ false
+          other true f = absurd (false≢true (sym e ∙ (decides x y).1 (sym ((decides y x).0 f))))
+          other false f = f
+
+  -- an entry stands at its index
+  pub at_index : (x : X) (xs : List X) → IsAmong x xs → slice_get xs (position_or_len (same x) xs) ≡ Some x
+  at_index x [] h = absurd (cc)
+  at_index x (y ∷ xs) h = by_test (same x y) refl h (at_index x xs)
+    where
+      by_test : (b : Bool) → same x y ≡ b → (b || list_any (same x) xs) ≡ true → (IsAmong x xs → slice_get xs (position_or_len (same x) xs) ≡ Some x) → slice_get (y ∷ xs) (position_or_len (same x) (y ∷ xs)) ≡ Some x
+      by_test true e h rest = rw e (ap Some (sym ((decides x y).0 e)))
+      by_test false e h rest =
+          let next : 1 + position_or_len (same x) xs ≡ suc (position_or_len (same x) xs) = omega arith in
+          rw e (ap (slice_get (y ∷ xs)) next ∙ rest h)
+
+  pub among_itself : (pre : List X) (x : X) (post : List X) → IsAmong x (pre ++ x ∷ post)
+  among_itself [] x post = rw ((decides x x).1 refl) refl
+  among_itself (y ∷ pre) x post = or_second (same x y) _ (among_itself pre x post)

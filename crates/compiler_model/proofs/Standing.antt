@@ -1,0 +1,150 @@
+-- The code of rules: its lines are founded on its tables, and lie in it.
+use Rattle.std.proofs.Common.{◌≡◌, ℕ, ◌<◌, List, [], ◌∷◌, ◌++◌, length, Some, Bool, true, false, refl, ap, arith}
+use Rattle.std.specs.Prelude.{slice_get, if◌then◌else◌, nat_lt, nat_le, ◌==◌}
+use Rattle.std.specs.List.{AllByRecursion}
+use Rattle.std.proofs.lemmas.Bool.{lt-ltb, ltb-true, eq-eqb}
+use Rattle.std.proofs.lemmas.Option.{slice_get_within}
+use Rattle.text_model.specs.declared.writing.Writing.{Writing}
+use Rattle.text_model.specs.declared.writing.Writing.TheVariants.{U, UR}
+use Rattle.code_model.specs.Code.{Code, spelling, reading}
+use Rattle.code_model.specs.declared.code.Instruction.{Instruction}
+use Rattle.machine_model.specs.Operands.{has_right_operands, register_count, text_of_name, text_of_literal}
+use Rattle.compiler_model.specs.declared.lines.Action.{Action}
+use Rattle.compiler_model.specs.declared.lines.Action.TheVariants.{LoadText, LoadList, LoadConst, CountMembers, Emits, Separates, Puts, Cuts}
+use Rattle.compiler_model.specs.declared.lines.Test.TheVariants.{IsUndefined, IsEmpty, HasNoMember, HasNoNumber, Differs, IsLess}
+use Rattle.compiler_model.specs.declared.lines.Line.{Line}
+use Rattle.compiler_model.specs.declared.lines.Line.TheVariants.{Acts, Tests, Jumps, Begins, Turns, Halts, Fails}
+use Rattle.compiler_model.specs.Blocks.{Block, Nothing, Does, Then, Unless, Either, ForEach, LeaveIf, Leave, lines}
+use Rattle.compiler_model.specs.Tables.{name_entry, literal_entry, name_index, literal_index}
+use Rattle.compiler_model.specs.Compiled.{mode_of, line_instruction}
+use Rattle.compiler_model.proofs.Places.{HasText, IsPlaced}
+use Rattle.compiler_model.proofs.Formed.{IsRegister, IsFormedAction, IsFormedTest, IsFormed}
+
+-- ---- lines of blocks that are put together rightly
+
+-- an action's line, wherever it stands
+abbrev pub IsFormedLine : ℕ → Line → Type 0
+IsFormedLine version (Acts action) = IsFormedAction version true action
+IsFormedLine version (Tests test target) = IsFormedTest test
+IsFormedLine version (Begins a b places) = IsRegister a × IsRegister b
+IsFormedLine version line = Unit {0}
+
+pub all_append : {X : Type 0} (P : X → Type 0) (a b : List X) → AllByRecursion P a → AllByRecursion P b → AllByRecursion P (a ++ b)
+all_append P [] b h k = k
+all_append P (x ∷ a) b h k = (h.0, all_append P a b h.1 k)
+
+anywhere : (version : ℕ) (inside : Bool) (a : Action) → IsFormedAction version inside a → IsFormedAction version true a
+anywhere version inside (Separates t) h = (refl, h.1)
+anywhere version inside (LoadText a name) h = h
+anywhere version inside (LoadList a name) h = h
+anywhere version inside (LoadConst a name) h = h
+anywhere version inside (CountMembers a b) h = h
+anywhere version inside (Emits t) h = h
+anywhere version inside (Puts a w) h = h
+anywhere version inside (Cuts a n w) h = h
+
+pub lines_formed : (version : ℕ) (inside : Bool) (b : Block) → IsFormed version inside b → AllByRecursion (IsFormedLine version) (lines b)
+lines_formed version inside Nothing h = tt
+lines_formed version inside (Does a) h = (anywhere version inside a h, tt)
+lines_formed version inside (Then x y) h = all_append _ (lines x) (lines y) (lines_formed version inside x h.0) (lines_formed version inside y h.1)
+lines_formed version inside (Unless t x) h = (h.0, lines_formed version inside x h.1)
+lines_formed version inside (Either t x y) h = (h.0, all_append _ (lines x) _ (lines_formed version inside x h.1) (tt, lines_formed version inside y h.2))
+lines_formed version inside (ForEach a b x) h = ((h.1, h.2), all_append _ (lines x) _ (lines_formed version true x h.3) (tt, tt))
+lines_formed version inside (LeaveIf t) h = (h.1, tt)
+lines_formed version inside Leave h = (tt, tt)
+
+-- ---- what a line says can be read in its code
+
+-- the tables have the entries of a line
+abbrev pub HasEntries : Code → Line → Type 0
+HasEntries c (Acts (LoadText a name)) = slice_get c.names (name_index c.names false name) ≡ Some (name_entry false name)
+HasEntries c (Acts (LoadList a name)) = slice_get c.names (name_index c.names true name) ≡ Some (name_entry true name)
+HasEntries c (Acts (LoadConst a t)) = slice_get c.literals (literal_index c.literals true t) ≡ Some (literal_entry true t)
+HasEntries c (Acts (Emits t)) = slice_get c.literals (literal_index c.literals false t) ≡ Some (literal_entry false t)
+HasEntries c (Acts (Separates t)) = slice_get c.literals (literal_index c.literals false t) ≡ Some (literal_entry false t)
+HasEntries c line = Unit {0}
+
+module _ (c : Code) where
+  register_right : (r : ℕ) → IsRegister r → nat_lt r (register_count c) ≡ true
+  register_right r h = by_version (c.version == 2)
+    where
+      by_version : (b : Bool) → nat_lt r (if b then 64 else 16) ≡ true
+      by_version true = let lt : r < 16 = ltb-true r 16 h in lt-ltb r 64 (omega (arith, lt))
+      by_version false = h
+
+  within_table : {X : Type 0} (xs : List X) (n : ℕ) (x : X) → slice_get xs n ≡ Some x → nat_lt n (length xs) ≡ true
+  within_table xs n x h = lt-ltb n (length xs) (slice_get_within xs n x h)
+
+  mode_right : (w : Writing) → nat_le (mode_of w) 1 ≡ true
+  mode_right U = refl
+  mode_right UR = refl
+
+  text_meant : (line : Line) → HasEntries c line → HasText c line
+  text_meant (Acts (LoadText a name)) h = ap text_of_name h
+  text_meant (Acts (LoadList a name)) h = ap text_of_name h
+  text_meant (Acts (LoadConst a t)) h = ap text_of_literal h
+  text_meant (Acts (Emits t)) h = ap text_of_literal h
+  text_meant (Acts (Separates t)) h = ap text_of_literal h
+  text_meant (Acts (CountMembers a b)) h = tt
+  text_meant (Acts (Puts a w)) h = tt
+  text_meant (Acts (Cuts a n w)) h = tt
+  text_meant (Tests t g) h = tt
+  text_meant (Jumps g) h = tt
+  text_meant (Begins a b n) h = tt
+  text_meant Turns h = tt
+  text_meant Halts h = tt
+  text_meant Fails h = tt
+
+  abbrev said : ℕ → ℕ → Line → Instruction
+  said away place line = line_instruction c.names c.literals away place line
+
+  operands_right : (away place : ℕ) (line : Line) → IsFormedLine c.version line → HasEntries c line → has_right_operands c (said away place line) ≡ true
+  unfolding has_right_operands
+  operands_right away place (Acts (LoadText a name)) f h = rw (register_right a f, within_table c.names _ _ h, h) refl
+  operands_right away place (Acts (LoadList a name)) f h = rw (register_right a f, within_table c.names _ _ h, h) refl
+  operands_right away place (Acts (LoadConst a t)) f h = rw (register_right a f, within_table c.literals _ _ h, h) refl
+  operands_right away place (Acts (CountMembers a b)) f h = rw (register_right a f.0, register_right b f.1) refl
+  operands_right away place (Acts (Emits t)) f h = rw (within_table c.literals _ _ h, h) refl
+  operands_right away place (Acts (Separates t)) f h = rw (within_table c.literals _ _ h, h) refl
+  operands_right away place (Acts (Puts a w)) f h = rw (register_right a f, mode_right w) refl
+  operands_right away place (Acts (Cuts a n w)) f h = rw (register_right a f.0, f.1, mode_right w) refl
+  operands_right away place (Tests (IsUndefined a) g) f h = rw (register_right a f) refl
+  operands_right away place (Tests (IsEmpty a) g) f h = rw (register_right a f) refl
+  operands_right away place (Tests (HasNoMember a) g) f h = rw (register_right a f) refl
+  operands_right away place (Tests (HasNoNumber a b) g) f h = rw (register_right a f.0, register_right b f.1) refl
+  operands_right away place (Tests (Differs a b) g) f h = rw (register_right a f.0, register_right b f.1) refl
+  operands_right away place (Tests (IsLess a b) g) f h = rw (register_right a f.0, register_right b f.1) refl
+  operands_right away place (Jumps g) f h = refl
+  operands_right away place (Begins a b n) f h = rw (register_right a f.0, register_right b f.1) refl
+  operands_right away place Turns f h = refl
+  operands_right away place Halts f h = refl
+  operands_right away place Fails f h = refl
+
+  version_knows : (away place : ℕ) (line : Line) → IsFormedLine c.version line → reading c.version (spelling (said away place line)) ≡ Some (said away place line)
+  unfolding reading
+  version_knows away place (Acts (LoadText a name)) f = refl
+  version_knows away place (Acts (LoadList a name)) f = refl
+  version_knows away place (Acts (LoadConst a t)) f = refl
+  version_knows away place (Acts (CountMembers a b)) f = rw (eq-eqb c.version 2 f.2) refl
+  version_knows away place (Acts (Emits t)) f = refl
+  version_knows away place (Acts (Separates t)) f = refl
+  version_knows away place (Acts (Puts a w)) f = refl
+  version_knows away place (Acts (Cuts a n w)) f = refl
+  version_knows away place (Tests (IsUndefined a) g) f = refl
+  version_knows away place (Tests (IsEmpty a) g) f = refl
+  version_knows away place (Tests (HasNoMember a) g) f = refl
+  version_knows away place (Tests (HasNoNumber a b) g) f = refl
+  version_knows away place (Tests (Differs a b) g) f = refl
+  version_knows away place (Tests (IsLess a b) g) f = refl
+  version_knows away place (Jumps g) f = refl
+  version_knows away place (Begins a b n) f = refl
+  version_knows away place Turns f = refl
+  version_knows away place Halts f = refl
+  version_knows away place Fails f = refl
+
+  -- a line whose instruction stands at its place
+  pub placed : (away place : ℕ) (line : Line) → IsFormedLine c.version line → HasEntries c line → slice_get c.instrs place ≡ Some (spelling (said away place line)) → IsPlaced c away place line
+  placed away place line f h at = record {
+    reads = record { spelled = at; known = version_knows away place line f; right = operands_right away place line f h };
+    text = text_meant line h;
+  }

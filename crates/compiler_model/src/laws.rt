@@ -1,0 +1,37 @@
+//! What holds of the code of rules, each law as the contract of a function that does nothing.
+
+ghost use Rattle.std.specs.Prelude.{◌≡◌, ◌↔◌};
+ghost use Rattle.environment_model.specs.Environment.{Environment};
+ghost use Rattle.machine_model.specs.Form.{HasGoodForm};
+ghost use Rattle.machine_model.specs.Runs.{Outcome, HasOutcome};
+ghost use Rattle.machine_model.specs.Safe.{IsFileCode, IsSafe};
+ghost use Rattle.machine_model.specs.Typable.{IsTypable};
+ghost use Rattle.rule_parser.specs.Rules.{RuleSet, IsSound};
+ghost use Rattle.rule_parser.specs.Meaning.{meaning};
+ghost use Rattle.compiler_model.specs.Compiled.{code_of};
+ghost use Rattle.compiler_model.specs.Answer.{answer};
+
+use machine_laws::{course_is_decided, typable_code_is_safe};
+use uri_grammar::laws::trees_are_sound;
+
+/// On every environment the code of rules comes to the link of the first rule whose guards all hold, and to no
+/// link exactly where there is none; it is never stuck, and comes to nothing else.
+pub fn compiled_code_means_its_rules()
+    ensures { (rules : RuleSet) → IsSound rules → (v : Environment) (o : Outcome) →
+        HasOutcome (code_of rules) v o ↔ (answer (meaning rules v) ≡ o) }
+{
+    trees_are_sound();
+    course_is_decided();
+}
+
+/// The code of rules is what a code file may have: it has an instruction, and its link texts are URI text.
+/// It has good form, and there is a table of kinds for it. So it is accepted, and safe.
+pub fn compiled_code_is_accepted()
+    ensures file { (rules : RuleSet) → IsSound rules → IsFileCode (code_of rules) }
+    ensures form { (rules : RuleSet) → IsSound rules → HasGoodForm (code_of rules) }
+    ensures kinds { (rules : RuleSet) → IsSound rules → IsTypable (code_of rules) }
+    ensures safe { (rules : RuleSet) → IsSound rules → IsSafe (code_of rules) }
+{
+    trees_are_sound();
+    typable_code_is_safe();
+}
