@@ -1,0 +1,27 @@
+-- The front of a text and the letters that it is to be, in either case.
+use Rattle.std.proofs.Common.{◌≡◌, ◌<◌, Bool, true, false, ◌↔◌, map, length, take, refl, ap, arith}
+use Rattle.std.specs.Bool.{Decides, IsTrue}
+use Rattle.std.specs.Char.{to_ascii_lowercase}
+use Rattle.std.specs.Str.{str_eq_ignore_ascii_case}
+use Rattle.std.proofs.lemmas.Bool.Decides.{same_from_decides}
+use Rattle.std.proofs.lemmas.List.{length-map, take_all}
+use Rattle.std.proofs.lemmas.Slice.Eq.{bytes_eq-Decides}
+use Rattle.text_model.specs.Texts.{Text}
+use Rattle.menu.specs.WebLink.{begins_in_any_case}
+
+lower : Text → Text
+lower t = map to_ascii_lowercase t
+
+pub front_decides : (r : Bool) (front beginning : Text) → (IsTrue r ↔ (map to_ascii_lowercase front ≡ map to_ascii_lowercase beginning))
+    → r ≡ str_eq_ignore_ascii_case front beginning
+front_decides r front beginning h = same_from_decides r (str_eq_ignore_ascii_case front beginning) h (bytes_eq-Decides _ _)
+
+-- a text that is shorter
+pub short_differs : (text beginning : Text) → length text < length beginning → begins_in_any_case text beginning ≡ false
+short_differs text beginning short = by_test (begins_in_any_case text beginning) (bytes_eq-Decides _ _)
+  where
+    by_test : (x : Bool) → Decides x (map to_ascii_lowercase (take (length beginning) text) ≡ map to_ascii_lowercase beginning) → x ≡ false
+    by_test true d =
+        let same = ap length (d.0 refl) in
+        absurd (omega (arith, same, short, length-map (take (length beginning) text) to_ascii_lowercase, length-map beginning to_ascii_lowercase, ap length (take_all (length beginning) text (omega (arith, short)))))
+    by_test false d = refl

@@ -1,0 +1,5 @@
+pub mod Links
+pub mod Escaping
+pub mod Printed
+pub mod WebLink
+pub mod Contained

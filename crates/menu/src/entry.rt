@@ -1,0 +1,77 @@
+//! What a menu has of each target.
+
+ghost use Rattle.std.specs.Prelude.{◌≡◌, string_bytes};
+ghost use Rattle.menu.specs.Links.{has_link};
+
+use std::marker::Model;
+
+/// A text of a menu, which contracts see as its bytes.
+#[derive(Debug, Drop)]
+pub struct Text {
+    string: String,
+}
+
+impl Model for Text {
+    ghost use Rattle.std.specs.Prelude.{string_bytes};
+    ghost use Rattle.text_model.specs.Texts.{Text};
+
+    ghost Value = { Text };
+
+    ghost view = { λ text. string_bytes text.string };
+}
+
+impl Text {
+    /// A text with the bytes of the string.
+    pub fn new(string: String) -> Text
+        ensures { result ≡ string_bytes string }
+    {
+        Text { string }
+    }
+
+    /// The text, lent.
+    pub fn as_str(&self) -> &str
+        ensures { result.now ≡ self.now }
+    {
+        self.string.as_str()
+    }
+
+    /// The text, handed out.
+    pub fn into_string(self) -> String
+        ensures { string_bytes result ≡ self }
+    {
+        self.string
+    }
+}
+
+/// Why a target's entry is as it is.
+#[derive(Debug, Drop)]
+pub enum Reason {
+    /// A row of the target's table gave a link; rows count from 0.
+    Link { row: usize, link: Text },
+    /// No row has the cited title.
+    NoRow,
+    /// The target's rules gave no link.
+    NoLink,
+    /// What they gave is no web link.
+    NotAWebLink,
+    /// They did not run: they might have printed so many bytes, which is more than they may.
+    OverBudget(u64),
+}
+
+/// What a menu has of one target.
+#[derive(Debug, Drop)]
+pub struct Entry {
+    /// The target's name.
+    pub name: Text,
+    /// Its link, or why it has none.
+    pub reason: Reason,
+}
+
+impl Entry {
+    /// Whether the target has a link.
+    pub fn has_link(&self) -> bool
+        ensures { result ≡ has_link self.now }
+    {
+        matches!(self.reason, Reason::Link { .. })
+    }
+}

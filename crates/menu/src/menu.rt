@@ -1,0 +1,96 @@
+ghost use Rattle.std.specs.Prelude.{◌≡◌, IfOk, string_bytes};
+ghost use Rattle.std.specs.List.{list_any};
+ghost use Rattle.menu.specs.Links.{has_link, is_empty};
+ghost use Rattle.menu.specs.Printed.{text, html, report};
+
+use crate::entry::Entry;
+use crate::html::push_list;
+use crate::lines::{push_report_line, push_text_line};
+use std::alloc::{AllocError, Global};
+use std::marker::Model;
+
+/// A menu, which contracts see as the list of its entries, one for each target.
+#[derive(Debug, Drop)]
+pub struct Menu {
+    list: Vec<Entry>,
+}
+
+impl Model for Menu {
+    ghost use Rattle.std.specs.Prelude.{List};
+    ghost use Rattle.menu.specs.declared.entry.Entry.{Entry};
+
+    ghost Value = { List Entry };
+
+    ghost view = { λ menu. menu.list.items };
+}
+
+fn has_links(entries: &[Entry]) -> bool
+    ensures { result ≡ list_any has_link entries.now }
+{
+    entries.iter().any(|entry| entry.has_link())
+}
+
+impl Menu {
+    /// The menu of these entries, in their order.
+    pub fn new(entries: Vec<Entry>) -> Menu
+        ensures { result ≡ entries.items }
+    {
+        Menu { list: entries }
+    }
+
+    /// The entries in their order, lent.
+    pub fn entries(&self) -> &[Entry]
+        ensures { result.now ≡ self.now }
+    {
+        &self.list
+    }
+
+    /// Whether no target has a link.
+    #[tactic(auto, using(crate::proofs::LinkLemmas::no_links))]
+    pub fn is_empty(&self) -> bool
+        ensures { result ≡ is_empty self.now }
+    {
+        !has_links(&self.list)
+    }
+
+    /// The links as plain text: for each a line with its target's name, a tab and the link. Lines end with LF,
+    /// and a menu without links has none. The error is want of memory.
+    #[tactic(auto, using(crate::proofs::LinkLemmas::links_more))]
+    pub fn text(&self, alloc: Global) -> Result<String, AllocError>
+        ensures { IfOk result (λ printed. string_bytes printed ≡ text self.now) }
+    {
+        let mut out = String::new(alloc);
+        for entry in &self.list {
+            push_text_line(&mut out, entry)?;
+        }
+        Ok(out)
+    }
+
+    /// The reasons as plain text: for each target a line with its name, a tab and `link R`, where R is the row
+    /// that gave the link, from 0; or `no row`, `no link`, `not a web link`, or `over budget N`, where N is
+    /// in bytes. Lines end with LF. The error is want of memory.
+    pub fn report(&self, alloc: Global) -> Result<String, AllocError>
+        ensures { IfOk result (λ printed. string_bytes printed ≡ report self.now) }
+    {
+        let mut out = String::new(alloc);
+        for entry in &self.list {
+            push_report_line(&mut out, entry)?;
+        }
+        Ok(out)
+    }
+
+    /// The links as a page of HTML (HTML Living Standard, section 13.1): a list with an item for each link,
+    /// whose text is the target's name, or one paragraph where there is none. In a link `&` is written
+    /// `&amp;` and `'` is written `&#39;`; a name is written as it is. The error is want of memory.
+    pub fn html(&self, alloc: Global) -> Result<String, AllocError>
+        ensures { IfOk result (λ printed. string_bytes printed ≡ html self.now) }
+    {
+        let mut out = String::from_str(alloc, "<!DOCTYPE html>\n<title>Links</title>\n")?;
+        if self.is_empty() {
+            out.push_str("<p>No links</p>\n")?;
+        } else {
+            push_list(&mut out, &self.list)?;
+        }
+        Ok(out)
+    }
+}
