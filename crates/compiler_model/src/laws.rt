@@ -16,7 +16,7 @@ use uri_grammar::laws::trees_are_sound;
 
 /// On every environment the code of rules comes to the link of the first rule whose guards all hold, and to no
 /// link exactly where there is none; it is never stuck, and comes to nothing else.
-pub fn compiled_code_means_its_rules()
+pub fn code_comes_to_what_rules_mean()
     ensures { (rules : RuleSet) → IsSound rules → (v : Environment) (o : Outcome) →
         HasOutcome (code_of rules) v o ↔ (answer (meaning rules v) ≡ o) }
 {

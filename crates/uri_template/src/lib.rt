@@ -14,6 +14,7 @@ mod tests;
 mod variables;
 
 pub use crate::expansion::{expand, expand_in};
+pub use crate::style::Style;
 pub use crate::variables::Variables;
 pub use uri_grammar::{Op, Part, Spec, Specs, Template, TemplateError, TemplateErrorKind, Text};
 pub use uri_text::{cut, encode, encode_u, encode_ur};

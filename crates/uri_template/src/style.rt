@@ -9,7 +9,7 @@ use uri_grammar::Op;
 
 /// How an expression is written, by its operator.
 #[derive(Drop)]
-pub(crate) struct Style {
+pub struct Style {
     /// What stands before the first defined variable.
     pub first: &'static str,
     /// What stands before each later one, and between exploded members.
@@ -32,7 +32,7 @@ impl Model for Style {
 
 impl Style {
     /// The row of the table that belongs to the operator.
-    pub(crate) fn of(op: Op) -> Style
+    pub fn of(op: Op) -> Style
         ensures { result ≡ style_of op }
     {
         match op {

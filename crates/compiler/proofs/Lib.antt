@@ -1,0 +1,3 @@
+pub mod ShapeChoice
+pub mod TableGrowth
+pub mod ReachLemmas

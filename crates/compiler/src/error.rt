@@ -1,0 +1,44 @@
+use std::alloc::{AllocError, AllocFailed};
+use thiserror::Error;
+
+/// Why rules have no code, in the order in which it is decided.
+#[derive(Clone, Copy, Debug, PartialEq, Eq, Error)]
+pub enum CompileError {
+    /// More than 256 names.
+    #[error("TooManyNames")]
+    TooManyNames,
+    /// More than 1,024 literals.
+    #[error("TooManyLiterals")]
+    TooManyLiterals,
+    /// More than 4,096 instructions.
+    #[error("TooManyInstructions")]
+    TooManyInstructions,
+    /// A code file of more than 65,536 bytes.
+    #[error("FileTooLong")]
+    FileTooLong,
+    /// A growth was refused.
+    #[error("NoMemory")]
+    NoMemory,
+}
+
+impl From<AllocError> for CompileError {
+    ghost use Rattle.compiler.specs.declared.error.CompileError.TheVariants.{NoMemory};
+    ghost use Rattle.std.specs.Prelude.{◌≡◌};
+
+    ghost from_gives = { λ _ e. e ≡ NoMemory };
+
+    fn from(_error: AllocError) -> CompileError {
+        CompileError::NoMemory
+    }
+}
+
+impl<T: Drop> From<AllocFailed<T>> for CompileError {
+    ghost use Rattle.compiler.specs.declared.error.CompileError.TheVariants.{NoMemory};
+    ghost use Rattle.std.specs.Prelude.{◌≡◌};
+
+    ghost from_gives = { λ _ e. e ≡ NoMemory };
+
+    fn from(_failed: AllocFailed<T>) -> CompileError {
+        CompileError::NoMemory
+    }
+}

@@ -1,0 +1,13 @@
+//! The compiler: rules to code for the byte-code machine.
+#![tactic(auto)]
+
+mod error;
+mod gathering;
+mod guards;
+mod instructions;
+mod lines;
+mod pieces;
+mod rule_lines;
+mod tables;
+
+pub use error::CompileError;
