@@ -1,7 +1,7 @@
 -- What is written of a link and of a name stays where it is.
 use Rattle.std.proofs.Common.{◌≡◌, ◌≢◌, ℕ, Bool, true, false, [], ◌∷◌, ◌++◌, ◌⊎◌, inl, inr, refl, sym, ap, ◌∙◌, subst, arith, append_assoc}
 use Rattle.std.specs.Prelude.{◌==◌, if◌then◌else◌, All}
-use Rattle.std.proofs.lemmas.Bool.{eqb-true, eqb-false}
+use Rattle.std.proofs.lemmas.Bool.{eqb-false}
 use Rattle.std.proofs.lemmas.Bool.Decides.{nat_tests}
 use Rattle.std.proofs.lemmas.Grind.{flat_map-append}
 use Rattle.std.proofs.lemmas.List.Elements.{All-nil, All-cons, All-append, All-weaker}
@@ -9,7 +9,8 @@ use Rattle.text_model.specs.Texts.{Text, percent, is_unreserved, is_reserved, is
 use Rattle.text_model.specs.Writing.{is_unreserved_or_reserved}
 use Rattle.text_model.specs.UriText.{IsUriText, nothing, and_character, and_triplet}
 use Rattle.menu.specs.Contained.{is_delimiter, is_markup, BeginsWith, IsContained, is_name_character, IsTargetName}
-use Rattle.menu.specs.Escaping.{ampersand, apostrophe, ampersand_reference, apostrophe_reference, escaped_byte, escaped, IsReadAs, read_nothing, read_ampersand, read_apostrophe, read_character}
+use Rattle.menu.specs.Escaping.{ampersand, apostrophe, ampersand_reference, apostrophe_reference, escaped_byte, escaped}
+use Rattle.menu.proofs.ReadingLemmas.{head_of, rest_of}
 
 -- ---- delimiters
 
@@ -69,14 +70,6 @@ is_reference t = BeginsWith ampersand_reference t ⊎ BeginsWith apostrophe_refe
 are_references : Text → Type 0
 are_references t = (before behind : Text) → t ≡ before ++ (ampersand ∷ behind) → is_reference (ampersand ∷ behind)
 
-head_of : Text → ℕ
-head_of [] = 0
-head_of (b ∷ t) = b
-
-rest_of : Text → Text
-rest_of [] = []
-rest_of (b ∷ t) = t
-
 behind_other : (b : ℕ) (t : Text) → b ≢ ampersand → are_references t → are_references (b ∷ t)
 unfolding are_references head_of rest_of
 behind_other b t n h [] behind e = absurd (n (ap head_of e))
@@ -118,15 +111,3 @@ name_character b e = grind (arith, nat_tests)
 
 pub name-plain : (name : Text) → IsTargetName name → All (λ b. is_markup b ≡ false) name
 name-plain name h = All-weaker (λ b. is_name_character b ≡ true) (λ b. is_markup b ≡ false) name_character name h.characters
-
--- ---- reading
-
-pub escaped-read_back : (link : Text) → IsReadAs (escaped link) link
-escaped-read_back [] = read_nothing
-escaped-read_back (b ∷ t) = by_tests (b == ampersand) (b == apostrophe) refl refl (escaped-read_back t)
-  where
-    by_tests : (x y : Bool) → (b == ampersand) ≡ x → (b == apostrophe) ≡ y → IsReadAs (escaped t) t
-        → IsReadAs ((if x then ampersand_reference else (if y then apostrophe_reference else (b ∷ []))) ++ escaped t) (b ∷ t)
-    by_tests true y e f h = subst (λ c. IsReadAs (ampersand_reference ++ escaped t) (c ∷ t)) (sym (eqb-true b ampersand e)) (read_ampersand _ _ h)
-    by_tests false true e f h = subst (λ c. IsReadAs (apostrophe_reference ++ escaped t) (c ∷ t)) (sym (eqb-true b apostrophe f)) (read_apostrophe _ _ h)
-    by_tests false false e f h = read_character b _ _ (eqb-false b ampersand e) h

@@ -3,4 +3,5 @@ pub mod LinkLemmas
 pub mod Escapes
 pub mod WebLinks
 pub mod ContainedLemmas
+pub mod ReadingLemmas
 pub mod Examples

@@ -1,6 +1,6 @@
 //! What keeps the HTML of a menu whole, each law as the contract of a function that does nothing.
 
-ghost use Rattle.std.specs.Prelude.{◌≡◌, false, All};
+ghost use Rattle.std.specs.Prelude.{◌≡◌, ◌↔◌, false, All};
 ghost use Rattle.text_model.specs.Texts.{Text};
 ghost use Rattle.text_model.specs.UriText.{IsUriText};
 ghost use Rattle.menu.specs.Contained.{IsContained, IsTargetName, is_markup};
@@ -13,9 +13,9 @@ pub fn written_links_are_contained()
     ensures { (link : Text) → IsUriText link → IsContained (escaped link) }
 {}
 
-/// What is read of a link that was written so is the link, whatever its bytes.
+/// What is read of a link that was written so is the link and nothing else, whatever its bytes.
 pub fn written_links_are_read_back()
-    ensures { (link : Text) → IsReadAs (escaped link) link }
+    ensures { (link read : Text) → IsReadAs (escaped link) read ↔ (read ≡ link) }
 {}
 
 /// The name of a target, which is written as it is, cannot begin a tag or a character reference: it has no

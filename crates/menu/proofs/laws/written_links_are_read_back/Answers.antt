@@ -1,4 +1,4 @@
-use Rattle.menu.proofs.ContainedLemmas.{escaped-read_back}
+use Rattle.menu.proofs.ReadingLemmas.{escaped-read_back}
 use Rattle.menu.proofs.laws.written_links_are_read_back.Goals as goal
 
 pub returns : goal.returns
