@@ -1,0 +1,32 @@
+-- Turns of runs, and what they come to together.
+use Rattle.std.specs.Prelude.{◌≡◌, ℕ, ◌+◌, ◌==◌, if◌then◌else◌, List, [], ◌∷◌, Option, Some, None, Bool, true, false, min}
+use Rattle.std.specs.List.{sum}
+use Rattle.machine_model.specs.States.{State, Running, Ended}
+use Rattle.machine_model.specs.Runs.{EndsAfter}
+use Rattle.machine_model.specs.Next.{state_after}
+use Rattle.runs.specs.RunValue.{RunValue}
+
+-- the run has not ended
+abbrev pub goes_on : Option State → Bool
+goes_on (Some (Ended e)) = false
+goes_on s = true
+
+abbrev pub is_live : RunValue → Bool
+is_live r = goes_on (state_after r.code r.env.entries r.steps)
+
+-- a run moved on by n steps: it stays a run of its code on its environment, and its steps are n more, or those of
+-- its end
+pub record IsMoved (old : RunValue) (n : ℕ) (new : RunValue) : Type 0 where
+  pub code : new.code ≡ old.code
+  pub env : new.env ≡ old.env
+  pub steps : (k : ℕ) → EndsAfter old.code old.env.entries k → new.steps ≡ min (old.steps + n) k
+
+-- how far each turn of run i goes, of the turns of all runs
+abbrev pub own_turns : ℕ → List (ℕ × ℕ) → List ℕ
+own_turns i [] = []
+own_turns i (turn ∷ turns) = if turn.0 == i then turn.1 ∷ own_turns i turns else own_turns i turns
+
+-- a run after turns of its own: it has moved by their sum; without any it is as it was
+abbrev pub IsPlayed : RunValue → List ℕ → RunValue → Type 0
+IsPlayed old [] new = new ≡ old
+IsPlayed old (n ∷ ns) new = IsMoved old (n + sum ns) new

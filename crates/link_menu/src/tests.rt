@@ -1,0 +1,93 @@
+ghost use Rattle.std.specs.Prelude.{◌≡◌, IfOk, length};
+
+use crate::{Blind, Shown, Watch, play, turn_all, turn_until_ended};
+use runs::{Run, prepare};
+use std::alloc::Global;
+use std::test::Fail;
+use target_vars::Env;
+use verifier::{Verified, load};
+
+/// A loop over the members of `list`, with a comma between them.
+const LIST_CODE: [u8; 68] = [
+    0x4f, 0x4c, 0x4b, 0x31, 0x00, 0x01, 0x00, 0x01, 0x00, 0x06, 0x01, 0x04, 0x6c, 0x69, 0x73, 0x74,
+    0x00, 0x00, 0x01, 0x2c, 0x05, 0x00, 0x00, 0x00, 0x00, 0x00, 0x00, 0x00, 0x10, 0x01, 0x00, 0x00,
+    0x00, 0x00, 0x00, 0x05, 0x11, 0x00, 0x00, 0x00, 0x00, 0x00, 0x00, 0x00, 0x0e, 0x01, 0x00, 0x00,
+    0x00, 0x00, 0x00, 0x00, 0x12, 0x00, 0x00, 0x00, 0x00, 0x00, 0x00, 0x00, 0x01, 0x00, 0x00, 0x00,
+    0x00, 0x00, 0x00, 0x00,
+];
+
+/// The text `x`, or nothing: TEXT r2 n0, UNDEF r2 3, PUT r2 u, HALT.
+const TEXT_CODE: [u8; 45] = [
+    0x4f, 0x4c, 0x4b, 0x31, 0x00, 0x01, 0x00, 0x00, 0x00, 0x04, 0x00, 0x01, 0x78, 0x04, 0x02, 0x00,
+    0x00, 0x00, 0x00, 0x00, 0x00, 0x08, 0x02, 0x00, 0x00, 0x00, 0x00, 0x00, 0x03, 0x0e, 0x02, 0x00,
+    0x00, 0x00, 0x00, 0x00, 0x00, 0x01, 0x00, 0x00, 0x00, 0x00, 0x00, 0x00, 0x00,
+];
+
+/// Two codes, and the environments that they run on.
+#[derive(Drop)]
+struct Given {
+    list_code: Verified,
+    members: Env,
+    text_code: Verified,
+    text: Env,
+}
+
+fn set_up(alloc: Global, members: &[&str]) -> Result<Given, Fail> {
+    let mut given = Given {
+        list_code: load(alloc, &LIST_CODE)?,
+        members: Env::new(alloc),
+        text_code: load(alloc, &TEXT_CODE)?,
+        text: Env::new(alloc),
+    };
+    for member in members {
+        given.members.add_member("list", member)?;
+    }
+    given.text.put_text("x", "a")?;
+    Ok(given)
+}
+
+/// The loop over the members, and the text.
+fn two_runs<'a>(alloc: Global, given: &'a Given) -> Result<Vec<Run<'a>>, Fail>
+    ensures { IfOk result (λ runs. length runs.items ≡ 2) }
+{
+    let mut runs = Vec::new(alloc);
+    runs.push(prepare(alloc, &given.list_code, &given.members)?)?;
+    runs.push(prepare(alloc, &given.text_code, &given.text)?)?;
+    Ok(runs)
+}
+
+#[test]
+fn turns_of_all(rt: HostRuntime) -> Result<(), Fail> {
+    let given = set_up(rt.alloc(), &["red", "green", "blue"])?;
+    let mut runs = two_runs(rt.alloc(), &given)?;
+    for (n, live, first, second) in [(2, 2, 2, 2), (2, 1, 4, 4), (64, 0, 12, 4)] {
+        let left = turn_all(runs.as_mut_slice(), n);
+        assert_eq!(rt; left, live);
+        for (run, steps) in runs.iter().zip([first, second].iter()) {
+            assert_eq!(rt; run.steps(), *steps);
+        }
+    }
+    Ok(())
+}
+
+#[test]
+fn schedule(rt: HostRuntime) -> Result<(), Fail> {
+    let given = set_up(rt.alloc(), &["red", "green", "blue"])?;
+    let mut runs = two_runs(rt.alloc(), &given)?;
+    play(runs.as_mut_slice(), &[(1, 3), (0, 4)]);
+    for (run, (steps, output)) in runs.iter().zip([(4, "red"), (3, "a")].iter()) {
+        assert_eq!(rt; run.steps(), *steps);
+        assert_eq!(rt; run.output(), output.as_bytes());
+    }
+    Ok(())
+}
+
+#[test]
+fn nothing_to_show(rt: HostRuntime) -> Result<(), Fail> {
+    let mut runs: Vec<Run> = Vec::new(rt.alloc());
+    let mut shown = Shown::new(rt.alloc());
+    turn_until_ended(runs.as_mut_slice(), &mut shown)?;
+    assert_eq!(rt; shown.lists().len(), 0);
+    assert!(rt; Blind.seen(runs.as_slice()).is_ok());
+    Ok(())
+}

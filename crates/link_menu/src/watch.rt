@@ -1,0 +1,20 @@
+//! Who looks on while runs are carried on side by side.
+
+ghost use Rattle.std.specs.Prelude.{◌≡◌, ℕ, List, OnErr, OnOk, Option, map};
+ghost use Rattle.link_menu.specs.Shown.{with_list, steps_of};
+
+use runs::Run;
+use std::alloc::AllocError;
+
+/// Who looks on while runs are carried on side by side.
+pub trait Watch {
+    /// The lists that it was shown, each of the steps of all runs, where it tells them.
+    ghost lists: { Self → Option (List (List ℕ)) };
+
+    /// Looks at the runs, between two turns of all.
+    ///
+    /// `AllocError` where a growth was refused; what it was shown before stays.
+    fn seen(&mut self, runs: &[Run]) -> Result<(), AllocError>
+        ensures ok { OnOk result (lists self.new ≡ with_list (lists self.old) (steps_of runs.now)) }
+        ensures err { OnErr result (lists self.new ≡ lists self.old) };
+}
