@@ -11,7 +11,6 @@ use Rattle.code_model.specs.Code.{Code}
 use Rattle.machine_model.specs.States.{State, End, Running, Ended}
 use Rattle.machine_model.specs.Next.{state_after}
 use Rattle.machine_model.specs.Runs.{After, EndsAfter}
-use Rattle.target_vars.specs.EnvValue.{EnvValue}
 use Rattle.runs.specs.RunValue.{RunValue, HasEnded}
 use Rattle.link_menu.specs.Turns.{goes_on, is_live, IsMoved, own_turns, IsPlayed}
 

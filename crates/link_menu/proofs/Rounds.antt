@@ -1,5 +1,5 @@
 -- All runs, turn after turn of all.
-use Rattle.std.proofs.Common.{◌≡◌, ℕ, zero, suc, ◌+◌, ◌-◌, ◌*◌, ◌<◌, ◌≤◌, List, [], ◌∷◌, ◌++◌, Option, Some, None, Bool, true, false, cond, refl, sym, ap, ◌∙◌, subst, arith, rules, count_by, get_or, length, map, append-nil, append_assoc, ⊎_elim, inl, inr}
+use Rattle.std.proofs.Common.{◌≡◌, ℕ, suc, ◌+◌, ◌-◌, ◌*◌, ◌<◌, ◌≤◌, List, [], ◌∷◌, ◌++◌, Option, Some, None, Bool, true, false, cond, refl, sym, ap, ◌∙◌, subst, arith, count_by, get_or, length, map, append-nil, append_assoc, ⊎_elim, inl, inr}
 use Rattle.std.specs.Prelude.{min, max, ◌/◌, ◌⊎◌}
 use Rattle.std.proofs.lemmas.List.Sums.{sum_by-cons}
 use Rattle.std.proofs.lemmas.Bool.{cases_lt}
@@ -7,7 +7,7 @@ use Rattle.environment_model.specs.Environment.{Environment}
 use Rattle.code_model.specs.Code.{Code}
 use Rattle.machine_model.specs.Next.{state_after}
 use Rattle.machine_model.specs.Runs.{EndsAfter}
-use Rattle.runs.specs.RunValue.{RunValue, HasEnded}
+use Rattle.runs.specs.RunValue.{RunValue}
 use Rattle.link_menu.specs.Turns.{is_live, IsMoved}
 use Rattle.link_menu.specs.Shown.{steps_of, with_list, with_lists, end_of, steps_after, shown_in, turns_left, turns_to_end}
 use Rattle.link_menu.specs.Rounds.{IsFresh, AreFresh, same_but_steps, AreOfTheSame, run_after}

@@ -1,7 +1,7 @@
 -- Turns of runs, and what they come to together.
-use Rattle.std.specs.Prelude.{◌≡◌, ℕ, ◌+◌, ◌==◌, if◌then◌else◌, List, [], ◌∷◌, Option, Some, None, Bool, true, false, min}
+use Rattle.std.specs.Prelude.{◌≡◌, ℕ, ◌+◌, ◌==◌, if◌then◌else◌, List, [], ◌∷◌, Option, Some, Bool, true, false, min}
 use Rattle.std.specs.List.{sum}
-use Rattle.machine_model.specs.States.{State, Running, Ended}
+use Rattle.machine_model.specs.States.{State, Ended}
 use Rattle.machine_model.specs.Runs.{EndsAfter}
 use Rattle.machine_model.specs.Next.{state_after}
 use Rattle.runs.specs.RunValue.{RunValue}

@@ -10,7 +10,6 @@ mod turns;
 mod watch;
 
 pub use blind::Blind;
-pub use round::{TURN, turn_until_ended};
 pub use shown::Shown;
 pub use turns::{play, turn_all};
 pub use watch::Watch;

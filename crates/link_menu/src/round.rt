@@ -11,13 +11,13 @@ use runs::Run;
 use std::alloc::AllocError;
 
 /// In one turn of all, each run carries out at most so many steps.
-pub const TURN: u64 = 64;
+pub(crate) const TURN: u64 = 64;
 
 /// Carries all runs on, turn by turn of all, until each has ended, and shows them to the watch after each turn. It
 /// takes no memory, but what the watch takes. Where there is no run, nothing is shown.
 ///
 /// `AllocError` where the watch was refused memory; the runs then stand where they last were.
-pub fn turn_until_ended<W: Watch>(runs: &mut [Run], watch: &mut W) -> Result<(), AllocError>
+pub(crate) fn turn_until_ended<W: Watch>(runs: &mut [Run], watch: &mut W) -> Result<(), AllocError>
     requires { AreFresh runs.old }
     ensures same { AreOfTheSame runs.old runs.new }
     ensures ok { OnOk result (W.lists watch.new ≡ with_lists (W.lists watch.old) (shown_in (turns_to_end runs.old) runs.old)) }

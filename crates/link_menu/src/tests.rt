@@ -1,6 +1,7 @@
 ghost use Rattle.std.specs.Prelude.{◌≡◌, IfOk, length};
 
-use crate::{Blind, Shown, Watch, play, turn_all, turn_until_ended};
+use crate::round::turn_until_ended;
+use crate::{Blind, Shown, Watch, play, turn_all};
 use runs::{Run, prepare};
 use std::alloc::Global;
 use std::test::Fail;

@@ -1,4 +1,4 @@
-use Rattle.std.proofs.Common.{◌≡◌, ℕ, suc, ◌*◌, ◌<◌, ◌≤◌, subst, sym, ap, ◌∙◌, refl, arith}
+use Rattle.std.proofs.Common.{◌≡◌, suc, ◌*◌, ◌<◌, subst, sym, ap, ◌∙◌, arith}
 use Rattle.link_menu.specs.Shown.{with_list, with_lists, steps_of, shown_in, turns_to_end}
 use Rattle.link_menu.specs.Rounds.{AreOfTheSame}
 use Rattle.link_menu.proofs.Rounds.{all_after, at_start, all_live, next_turn, still_left, all_done, fewer_left, same_runs, nothing_shown, shown_next}

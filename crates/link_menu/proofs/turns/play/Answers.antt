@@ -1,4 +1,4 @@
-use Rattle.std.proofs.Common.{◌≡◌, ℕ, ◌<◌, subst, refl, arith, get_or, take, length, length-set, ◌∙◌}
+use Rattle.std.proofs.Common.{ℕ, ◌<◌, subst, refl, arith, get_or, length, length-set, ◌∙◌}
 use Rattle.std.proofs.lemmas.List.{get_or_default}
 use Rattle.runs.specs.RunValue.{RunValue}
 use Rattle.link_menu.specs.Turns.{IsMoved}
