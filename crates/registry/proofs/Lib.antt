@@ -1,0 +1,3 @@
+pub mod Adding
+pub mod Fates
+pub mod RowsInOrder

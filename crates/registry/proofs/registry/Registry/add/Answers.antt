@@ -1,0 +1,13 @@
+use Rattle.std.proofs.Common.{◌≡◌, is_ok, subst, sym}
+use Rattle.registry.specs.Refusals.{MayBeAdded}
+use Rattle.registry.proofs.Adding.{after_adding}
+use Rattle.registry.proofs.registry.Registry.add.Goals as goal
+
+pub invariant_of-self : goal.invariant_of-self
+invariant_of-self c =
+    let targets = c.self.inside.targets.items in
+    let target = c.new-target.result in
+    let seen : c.args.self.now ≡ targets = sym c.self.view_is in
+    let named : MayBeAdded c.args.self.now target.name = subst (λ name. MayBeAdded c.args.self.now name) c.name.ensures c.in_default.ensures in
+    let may : MayBeAdded targets target.name = subst (λ ts. MayBeAdded ts target.name) seen named in
+    after_adding targets target (is_ok c.push.result) c.push.new.self.items c.self.invariant may c.push.ensures.items

@@ -1,0 +1,5 @@
+pub mod Targets
+pub mod RowEnvironments
+pub mod Fates
+pub mod Entries
+pub mod Refusals

@@ -1,0 +1,42 @@
+//! What a menu by definition comes to, row after row, each law as the contract of a function that does nothing.
+
+ghost use Rattle.std.specs.Prelude.{◌≡◌, ℕ, ◌+◌, ◌<◌, ◌≤◌, List, None, Some, true, false};
+ghost use Rattle.environment_model.specs.Environment.{Environment};
+ghost use Rattle.code_model.specs.Code.{Code};
+ghost use Rattle.machine_model.specs.Runs.{HasOutcome, Outcome};
+ghost use Rattle.kev_read.specs.Pairs.{KeyValue};
+ghost use Rattle.kbart_rows.specs.Identifiers.{first_from};
+ghost use Rattle.menu.specs.Links.{is_link};
+ghost use Rattle.menu.specs.declared.entry.Reason.{Reason};
+ghost use Rattle.menu.specs.declared.entry.Reason.TheVariants.{NoRow};
+ghost use Rattle.registry.specs.Targets.{TargetValue};
+ghost use Rattle.registry.specs.Fates.{OverBudget, ended, fate_in, most_bytes_in};
+ghost use Rattle.registry.specs.Entries.{matching_rows_of, reason_from, reason_of, reason_of_row};
+
+use machine_laws::course_is_decided;
+use runs::MAX_LINK_BYTES;
+
+/// The reason of a target is found row after row: from row 0 on, with NoRow so far. Where no row matches any more,
+/// it is the reason so far. Otherwise it is that of the next matching row, where that is a link; and where it is
+/// none, it is found from behind that row, with its reason so far.
+pub fn rows_are_tried_in_order()
+    ensures start { (target : TargetValue) (pairs : List KeyValue) → reason_of target pairs ≡ reason_from target pairs 0 NoRow }
+    ensures no_more { (target : TargetValue) (pairs : List KeyValue) (from : ℕ) (so_far : Reason) →
+        first_from from (matching_rows_of target pairs) ≡ None → reason_from target pairs from so_far ≡ so_far }
+    ensures link { (target : TargetValue) (pairs : List KeyValue) (from row : ℕ) (so_far : Reason) →
+        first_from from (matching_rows_of target pairs) ≡ Some row → is_link (reason_of_row target pairs row) ≡ true
+        → reason_from target pairs from so_far ≡ reason_of_row target pairs row }
+    ensures no_link { (target : TargetValue) (pairs : List KeyValue) (from row : ℕ) (so_far : Reason) →
+        first_from from (matching_rows_of target pairs) ≡ Some row → is_link (reason_of_row target pairs row) ≡ false
+        → reason_from target pairs from so_far ≡ reason_from target pairs (row + 1) (reason_of_row target pairs row) }
+{}
+
+/// The fate of code in an environment: over budget exactly where its bound on bytes passes the limit; and otherwise
+/// what the machine comes to, whatever it comes to.
+pub fn fates_are_decided()
+    ensures over { (code : Code) (env : Environment) → MAX_LINK_BYTES < most_bytes_in code env → fate_in code env ≡ OverBudget (most_bytes_in code env) }
+    ensures ran { (code : Code) (env : Environment) (outcome : Outcome) →
+        most_bytes_in code env ≤ MAX_LINK_BYTES → HasOutcome code env outcome → fate_in code env ≡ ended outcome }
+{
+    course_is_decided();
+}

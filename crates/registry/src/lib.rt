@@ -1,0 +1,15 @@
+//! The registry of targets, and the menu that a registry and a request have by definition.
+#![tactic(auto)]
+
+mod environment;
+mod error;
+pub mod laws;
+mod name;
+mod registry;
+mod target;
+#[cfg(test)]
+mod tests;
+
+pub use error::{AddError, AddErrorKind};
+pub use registry::{MAX_TARGETS, Registry};
+pub use target::Target;
