@@ -1,13 +1,12 @@
-use Rattle.std.proofs.Common.{◌≡◌, ◌∙◌, ◌+◌, [], drop, get_or, length, ap, sym, arith, rules}
-use Rattle.std.proofs.lemmas.List.{drop-drop, get_or-drop, length-drop}
+use Rattle.std.proofs.Common.{◌≡◌, ◌∙◌, drop, length, ap, sym, arith, rules}
+use Rattle.std.proofs.lemmas.List.{drop-drop, length-drop}
 use Rattle.std.specs.HashMap.{get_by_text}
 use Rattle.std.specs.List.{filter_map, range_with_len}
 use Rattle.kbart_rows.specs.Cells.{named_cell, named_cells}
 use Rattle.kbart_rows.specs.Filling.{filled, with_defined, StopsAtCell}
 use Rattle.kbart_rows.specs.Inner.Kept.{cell_at_first}
 use Rattle.kbart_rows.specs.Inner.Line.{cells_in}
-use Rattle.kbart_rows.proofs.FillingLemmas.{cell_is, filled_more, stops_at, IfErr_passed_on}
-use Rattle.kbart_rows.proofs.FirstColumns.{stands_at}
+use Rattle.kbart_rows.proofs.FillingLemmas.{column_at, filled_more, stops_at, IfErr_passed_on}
 use Rattle.kbart_rows.proofs.filling.fill.Goals as goal
 
 pub loop-name-preserved : goal.loop-name-preserved
@@ -17,11 +16,8 @@ loop-name-preserved c =
     let column = c.loop-name.column in
     let inv = c.loop-name.invariant in
     let name = c.in-Some.name.now in
-    let at = stands_at header column name (cells_in c.in-Some.other_names.now) (sym c.in-Some.ensures.cell ∙ inv.2) in
     let cell = c.split_cell.result.0.now in
-    let here : column + 0 ≡ column = omega arith in
-    let cell_there : get_or row column [] ≡ cell = sym (c.split_cell.ensures.cell ∙ ap (λ (left : _). get_or left 0 []) inv.3 ∙ get_or-drop column row 0 [] ∙ ap (λ (place : _). get_or row place []) here) in
-    let is = cell_is header row column name cell (get_by_text c.args.columns.now name) (at.is []) cell_there (c.requires name) in
+    let at = column_at header row column name cell _ _ (get_by_text c.args.columns.now name) (sym c.in-Some.ensures.cell ∙ inv.2) inv.3 c.split_cell.ensures.cell (c.requires name) in
     let inside = at.inside in
     let shorter = c.in-Some.ensures.shorter in (
       search rules,
@@ -31,7 +27,7 @@ loop-name-preserved c =
       omega (arith, inside),
       omega (arith, shorter, inv.5),
       c.in_ok-add.ensures.ok ∙ ap (λ (env : _). with_defined env (cell_at_first (get_by_text c.args.columns.now name) column name cell)) inv.6
-          ∙ ap (with_defined (filled c.args.env.now.entries (filter_map (named_cell header row) (range_with_len 0 column)))) is ∙ filled_more c.args.env.now.entries header row column,
+          ∙ ap (with_defined (filled c.args.env.now.entries (filter_map (named_cell header row) (range_with_len 0 column)))) at.is ∙ filled_more c.args.env.now.entries header row column,
     )
 
 pub returns-in_err-add-clause-err : goal.returns-in_err-add-clause-err
@@ -41,14 +37,11 @@ returns-in_err-add-clause-err c =
     let column = c.loop-name.column in
     let inv = c.loop-name.invariant in
     let name = c.in-Some.name.now in
-    let at = stands_at header column name (cells_in c.in-Some.other_names.now) (sym c.in-Some.ensures.cell ∙ inv.2) in
     let cell = c.split_cell.result.0.now in
-    let here : column + 0 ≡ column = omega arith in
-    let cell_there : get_or row column [] ≡ cell = sym (c.split_cell.ensures.cell ∙ ap (λ (left : _). get_or left 0 []) inv.3 ∙ get_or-drop column row 0 [] ∙ ap (λ (place : _). get_or row place []) here) in
-    let is = cell_is header row column name cell (get_by_text c.args.columns.now name) (at.is []) cell_there (c.requires name) in
+    let at = column_at header row column name cell _ _ (get_by_text c.args.columns.now name) (sym c.in-Some.ensures.cell ∙ inv.2) inv.3 c.split_cell.ensures.cell (c.requires name) in
     let e = c.in_err-add.field-0.0 in
     IfErr_passed_on (StopsAtCell c.args.env.now.entries (named_cells header row) c.add.new.env.entries) c.from_residual.result e c.from_residual.ensures.1
-    (stops_at c.args.env.now.entries c.loop-name.env.entries c.add.new.env.entries header row column _ e at.inside is inv.6 c.in_err-add.ensures.kept c.in_err-add.ensures.err)
+    (stops_at c.args.env.now.entries c.loop-name.env.entries c.add.new.env.entries header row column _ e at.inside at.is inv.6 c.in_err-add.ensures.kept c.in_err-add.ensures.err)
 
 pub returns-clause-ok : goal.returns-clause-ok
 returns-clause-ok c =
