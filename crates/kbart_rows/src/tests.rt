@@ -1,6 +1,7 @@
 use crate::{Ids, Keys, MAX_ROW_BYTES, MAX_ROWS, MAX_TABLE_BYTES, Table, TableError};
 use kev_read::read_kev;
 use std::alloc::{AllocError, Global};
+use std::process::Abort;
 use std::test::Fail;
 use target_vars::{Env, MAX_BYTES, VarsError};
 
@@ -233,9 +234,17 @@ const IDENTIFIERS: &[u8] = b"online_identifier\tprint_identifier\n\
 2049 3630\t1234-567x\n\
 \xC3\xA9-1\t\n";
 
-// The first row at or after one of a table of identifiers whose identifier a query asks for.
-fn next_row(alloc: Global, query: &[u8], from: usize) -> Result<Option<usize>, Fail> {
-    Ok(Table::read(alloc, IDENTIFIERS)?.next_match(&ids_of(alloc, query)?, from))
+// Each case is a query, a row, and the first row at or after it in a table of identifiers that the query asks for.
+fn finds<R: Abort + AllocGlobal>(
+    rt: &R,
+    cases: &[(&[u8], usize, Option<usize>)],
+) -> Result<(), Fail> {
+    let table = Table::read(rt.alloc(), IDENTIFIERS)?;
+    for &(query, from, row) in cases {
+        let ids = ids_of(rt.alloc(), query)?;
+        assert_eq!(rt; table.next_match(&ids, from), row, "{query:?} from {from}");
+    }
+    Ok(())
 }
 
 #[test]
@@ -254,14 +263,7 @@ fn matches_rows_by_either_identifier(rt: HostRuntime) -> Result<(), Fail> {
         (b"", 0, None),
         (b"rft.title=2049-3630", 0, None),
     ];
-    for (query, from, row) in cases {
-        assert_eq!(rt;
-            next_row(rt.alloc(), query, from)?,
-            row,
-            "{query:?} from {from}"
-        );
-    }
-    Ok(())
+    finds(&rt, &cases)
 }
 
 #[test]
@@ -281,14 +283,7 @@ fn asks_for_normalised_first_values(rt: HostRuntime) -> Result<(), Fail> {
         // What is empty when it is normalised is no identifier.
         (b"rft.issn=-&rft.eissn=+", 0, None),
     ];
-    for (query, from, row) in cases {
-        assert_eq!(rt;
-            next_row(rt.alloc(), query, from)?,
-            row,
-            "{query:?} from {from}"
-        );
-    }
-    Ok(())
+    finds(&rt, &cases)
 }
 
 #[test]
