@@ -5,6 +5,7 @@ pub mod Expand
 pub mod Show
 pub mod Link
 pub mod OneFile
+pub mod FileAndQuery
 pub mod Upgrade
 pub mod Commands
 pub mod Verify

@@ -1,5 +1,5 @@
 -- What `link` prints for a rule file and a request.
-use Rattle.std.specs.Prelude.{◌≡◌, ◌≢◌, ◌⊎◌, List, [], ◌∷◌, ◌++◌, Option, Some, None, length}
+use Rattle.std.specs.Prelude.{◌≡◌, List, [], Option, Some, None}
 use Rattle.text_model.specs.Texts.{Text}
 use Rattle.kev_read.specs.Pairs.{pairs_of}
 use Rattle.kev_read.specs.Refusal.{refusal}
@@ -10,10 +10,10 @@ use Rattle.rule_parser.specs.Faults.{IsRefused}
 use Rattle.environment_model.specs.Lists.{list_names}
 use Rattle.rule_parser.specs.Names.{each_once}
 use Rattle.rule_parser.specs.Meaning.{meaning}
-use Rattle.openlink.specs.Faults.{IsFileFault}
+use Rattle.openlink.specs.FileAndQuery.{LinksOfFile, FailsToGive}
 use Rattle.openlink.specs.declared.fault.Fault.{Fault}
 use Rattle.openlink.specs.declared.fault.Fault.TheVariants as fault
-use Rattle.openlink.specs.declared.fault.Fault.TheVariants.{Usage, NoLink}
+use Rattle.openlink.specs.declared.fault.Fault.TheVariants.{NoLink}
 
 -- what the rules mean in the environment of the query's pairs, where the names that they declare are lists
 pub record IsMeaning (bytes query : Text) (link : Option Text) : Type 0 where
@@ -31,23 +31,10 @@ IsLinkFault bytes query fault.NoLink = IsMeaning bytes query None
 IsLinkFault bytes query fault.Memory = Unit {0}
 IsLinkFault bytes query other = ⊥
 
--- the words behind `link` are a path, where a file has such bytes, and a query
-pub record IsLinkLine (words : List Text) (line : Text) : Type 0 where
-  pub path : Text
-  pub query : Text
-  pub bytes : Text
-  pub link : Text
-  pub two_words : words ≡ path ∷ query ∷ []
-  pub meaning : IsMeaning bytes query (Some link)
-  pub whole : line ≡ link ++ 10 ∷ []
+-- the line that the words behind `link` print
+abbrev pub IsLinkLine : List Text → Text → Type 0
+IsLinkLine = LinksOfFile (λ bytes query link. IsMeaning bytes query (Some link))
 
--- the words behind `link` are a path and a query, and the file is not read, or there is no link
-pub record IsLinkRefusal (words : List Text) (fault : Fault) : Type 0 where
-  pub path : Text
-  pub query : Text
-  pub two_words : words ≡ path ∷ query ∷ []
-  pub refused : IsFileFault path fault ⊎ ((bytes : Text) × IsLinkFault bytes query fault)
-
--- why the words behind `link` print nothing
+-- why they print nothing
 abbrev pub FailsToLink : List Text → Fault → Type 0
-FailsToLink words fault = ((fault ≡ Usage) × (length words ≢ 2)) ⊎ IsLinkRefusal words fault
+FailsToLink = FailsToGive IsLinkFault

@@ -1,5 +1,5 @@
 -- What `run` prints for a code file and a request.
-use Rattle.std.specs.Prelude.{◌≡◌, ◌≢◌, ◌⊎◌, ℕ, ◌<◌, ◌≤◌, List, [], ◌∷◌, ◌++◌, Some, None, length, map, filter}
+use Rattle.std.specs.Prelude.{◌≡◌, ℕ, ◌<◌, ◌≤◌, List, [], Some, None, map, filter}
 use Rattle.text_model.specs.Texts.{Text}
 use Rattle.code_model.specs.Code.{Code}
 use Rattle.code_file.specs.Grammar.{IsCodeFile}
@@ -13,11 +13,10 @@ use Rattle.kev_read.specs.Filling.{filled}
 use Rattle.runs.specs.RunValue.{most_bytes}
 use Rattle.runs.specs.declared.run.TheConstants.{MAX_LINK_BYTES}
 use Rattle.headline.specs.Ending.{EndsSafely}
-use Rattle.openlink.specs.Faults.{IsFileFault}
+use Rattle.openlink.specs.FileAndQuery.{LinksOfFile, FailsToGive}
 use Rattle.openlink.specs.Verify.{IsAcceptedFile, IsVerifyFault}
 use Rattle.openlink.specs.declared.fault.Fault.{Fault}
 use Rattle.openlink.specs.declared.fault.Fault.TheVariants as fault
-use Rattle.openlink.specs.declared.fault.Fault.TheVariants.{Usage}
 
 -- the environment of the query's pairs, where the names that the code has as lists are lists
 abbrev pub request_of : Code → Text → Environment
@@ -55,23 +54,10 @@ IsRunFault bytes query fault.NoLink = IsRun bytes query outcome.NoLink
 IsRunFault bytes query fault.Memory = (code : Code) × IsCodeFile bytes code
 IsRunFault bytes query other = ⊥
 
--- the words behind `run` are a path, where a file has such bytes, and a query
-pub record IsRunLine (words : List Text) (line : Text) : Type 0 where
-  pub path : Text
-  pub query : Text
-  pub bytes : Text
-  pub link : Text
-  pub two_words : words ≡ path ∷ query ∷ []
-  pub run : IsRun bytes query (Link link)
-  pub whole : line ≡ link ++ 10 ∷ []
+-- the line that the words behind `run` print
+abbrev pub IsRunLine : List Text → Text → Type 0
+IsRunLine = LinksOfFile (λ bytes query link. IsRun bytes query (Link link))
 
--- the words behind `run` are a path and a query, and the file is not read, or there is no link
-pub record IsRunRefusal (words : List Text) (fault : Fault) : Type 0 where
-  pub path : Text
-  pub query : Text
-  pub two_words : words ≡ path ∷ query ∷ []
-  pub refused : IsFileFault path fault ⊎ ((bytes : Text) × IsRunFault bytes query fault)
-
--- why the words behind `run` print nothing
+-- why they print nothing
 abbrev pub FailsToRun : List Text → Fault → Type 0
-FailsToRun words fault = ((fault ≡ Usage) × (length words ≢ 2)) ⊎ IsRunRefusal words fault
+FailsToRun = FailsToGive IsRunFault
