@@ -12,5 +12,6 @@ pub mod Standing
 pub mod CodeLies
 pub mod Forming
 pub mod CodeForm
+pub mod UsedNames
 pub mod Typed
 pub mod CodeKinds

@@ -1,11 +1,13 @@
 //! What holds of the code of rules, each law as the contract of a function that does nothing.
 
-ghost use Rattle.std.specs.Prelude.{◌≡◌, ◌↔◌};
+ghost use Rattle.std.specs.Prelude.{◌≡◌, ◌↔◌, All};
 ghost use Rattle.environment_model.specs.Environment.{Environment};
+ghost use Rattle.code_model.specs.Code.{Name};
 ghost use Rattle.machine_model.specs.Form.{HasGoodForm};
 ghost use Rattle.machine_model.specs.Runs.{Outcome, HasOutcome};
 ghost use Rattle.machine_model.specs.Safe.{IsFileCode, IsSafe};
 ghost use Rattle.machine_model.specs.Typable.{IsTypable};
+ghost use Rattle.uri_grammar.specs.Names.{IsName};
 ghost use Rattle.rule_parser.specs.Rules.{RuleSet, IsSound};
 ghost use Rattle.rule_parser.specs.Meaning.{meaning};
 ghost use Rattle.compiler_model.specs.Compiled.{code_of};
@@ -24,9 +26,10 @@ pub fn code_comes_to_what_rules_mean()
     course_is_decided();
 }
 
-/// The code of rules is what a code file may have: it has an instruction, and its link texts are URI text.
-/// It has good form, and there is a table of kinds for it. So it is accepted, and safe.
+/// The code of rules is what a code file may have: it has an instruction, its names are names of the grammar, and its
+/// link texts are URI text. It has good form, and there is a table of kinds for it. So it is accepted, and safe.
 pub fn compiled_code_is_accepted()
+    ensures names { (rules : RuleSet) → IsSound rules → All (λ (name : Name). IsName name.text) (code_of rules).names }
     ensures file { (rules : RuleSet) → IsSound rules → IsFileCode (code_of rules) }
     ensures form { (rules : RuleSet) → IsSound rules → HasGoodForm (code_of rules) }
     ensures kinds { (rules : RuleSet) → IsSound rules → IsTypable (code_of rules) }
