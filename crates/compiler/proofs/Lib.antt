@@ -1,3 +1,7 @@
 pub mod ShapeChoice
 pub mod TableGrowth
 pub mod ReachLemmas
+pub mod NameBytes
+pub mod CodeParts
+pub mod RuleSteps
+pub mod LimitLemmas

@@ -1,6 +1,8 @@
 -- For private contracts. How a table grows by the entries that are used.
 use Rattle.std.specs.Prelude.{List, [], ◌∷◌, ◌++◌, Option, Some, None, Bool, if◌then◌else◌}
 use Rattle.std.specs.List.{list_any}
+use Rattle.std.specs.Str.{IsUtf8}
+use Rattle.code_model.specs.Code.{Literal}
 
 -- one more entry, if it is not there
 abbrev pub added : {X : Type 0} → (X → X → Bool) → List X → X → List X
@@ -15,3 +17,7 @@ with_entry same xs (Some x) = added same xs x
 abbrev pub gathered : {X : Type 0} → (X → X → Bool) → List X → List X → List X
 gathered same xs [] = xs
 gathered same xs (y ∷ ys) = gathered same (added same xs y) ys
+
+-- a literal is made of a text
+abbrev pub IsUtf8Literal : Literal → Type 0
+IsUtf8Literal literal = IsUtf8 literal.bytes

@@ -1,7 +1,8 @@
 //! Lines as instructions.
 
-ghost use Rattle.std.specs.Prelude.{◌≡◌, ◌+◌, ◌≤◌, ◌++◌, length, map, OnOk};
+ghost use Rattle.std.specs.Prelude.{◌≡◌, ◌+◌, ◌≤◌, ◌++◌, ◌∷◌, [], All, length, map, OnOk};
 ghost use Rattle.code_model.specs.Code.{spelling as spelled};
+ghost use Rattle.code_file.specs.Grammar.{IsInstr};
 ghost use Rattle.compiler_model.specs.Compiled.{mode_of, place_of, action_instruction, test_instruction, line_instruction, instructions_from};
 ghost use Rattle.compiler.specs.Reach.{distance, reach, StayWithin};
 
@@ -102,6 +103,16 @@ fn of_line(
     }
 }
 
+/// One more instruction; its fields fit their widths, as those of all instructions do.
+pub(crate) fn push_instr(instrs: &mut Vec<Instr>, instr: Instr) -> Result<(), AllocError>
+    requires { All IsInstr instrs.old.items }
+    ensures pushed { OnOk result (instrs.new.items ≡ instrs.old.items ++ instr ∷ []) }
+    ensures fields { OnOk result (All IsInstr instrs.new.items) }
+{
+    instrs.push(instr)?;
+    Ok(())
+}
+
 /// The instructions of a rule's lines, behind those that are there.
 pub(crate) fn push_rule(
     names: &[Name],
@@ -113,13 +124,15 @@ pub(crate) fn push_rule(
     requires literals { length literals.now ≤ 1024 }
     requires room { length instrs.old.items + length lines.now ≤ 4096 }
     requires within { StayWithin 0 lines.now }
-    ensures { OnOk result (instrs.new.items ≡ instrs.old.items
+    requires fields { All IsInstr instrs.old.items }
+    ensures pushed { OnOk result (instrs.new.items ≡ instrs.old.items
         ++ map spelled (instructions_from names.now literals.now (length instrs.old.items + length lines.now) (length instrs.old.items) lines.now)) }
+    ensures fields { OnOk result (All IsInstr instrs.new.items) }
 {
     let away = instrs.len() + lines.len();
     for line in lines {
         let place = instrs.len();
-        instrs.push(spelling(of_line(names, literals, away, place, line)))?;
+        push_instr(instrs, spelling(of_line(names, literals, away, place, line)))?;
     }
     Ok(())
 }

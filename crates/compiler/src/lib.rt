@@ -1,6 +1,7 @@
 //! The compiler: rules to code for the byte-code machine.
 #![tactic(auto)]
 
+mod code;
 mod error;
 mod gathering;
 mod guards;
@@ -10,4 +11,5 @@ mod pieces;
 mod rule_lines;
 mod tables;
 
+pub use code::compile;
 pub use error::CompileError;

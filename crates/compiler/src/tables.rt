@@ -1,9 +1,9 @@
 //! The tables of code: each name and each literal once, in the order in which lines use them.
 
-ghost use Rattle.std.specs.Prelude.{◌≡◌, ◌≤◌, length, OnOk};
+ghost use Rattle.std.specs.Prelude.{◌≡◌, ◌≤◌, All, length, OnOk};
 ghost use Rattle.std.specs.List.{list_any, filter_map, position};
 ghost use Rattle.compiler_model.specs.Tables.{name_entry, literal_entry, is_same_name, is_same_literal, name_used, literal_used, name_index as index_of_name, literal_index as index_of_literal};
-ghost use Rattle.compiler.specs.Growth.{added, with_entry, gathered};
+ghost use Rattle.compiler.specs.Growth.{added, with_entry, gathered, IsUtf8Literal};
 
 use code_file::{Literal, Name};
 use compiler_model::{Action, Line};
@@ -38,14 +38,16 @@ fn add_literal(
     alloc: Global,
     literals: &mut Vec<Literal>,
     compared: bool,
-    bytes: &[u8],
+    text: &str,
 ) -> Result<(), AllocError>
-    ensures { OnOk result (literals.new.items ≡ added is_same_literal literals.old.items (literal_entry compared bytes.now)) }
+    requires { All IsUtf8Literal literals.old.items }
+    ensures added { OnOk result (literals.new.items ≡ added is_same_literal literals.old.items (literal_entry compared text.now)) }
+    ensures utf8 { OnOk result (All IsUtf8Literal literals.new.items) }
 {
-    if has_literal(literals, compared, bytes) {
+    if has_literal(literals, compared, text.as_bytes()) {
         return Ok(());
     }
-    let bytes = bytes.to_vec(alloc)?;
+    let bytes = text.as_bytes().to_vec(alloc)?;
     literals.push(Literal { compared, bytes })?;
     Ok(())
 }
@@ -65,18 +67,14 @@ fn add_used_literal(
     literals: &mut Vec<Literal>,
     line: &Line,
 ) -> Result<(), AllocError>
-    ensures { OnOk result (literals.new.items ≡ with_entry is_same_literal literals.old.items (literal_used line.now)) }
+    requires { All IsUtf8Literal literals.old.items }
+    ensures added { OnOk result (literals.new.items ≡ with_entry is_same_literal literals.old.items (literal_used line.now)) }
+    ensures utf8 { OnOk result (All IsUtf8Literal literals.new.items) }
 {
     match line {
-        Line::Acts(Action::LoadConst(_, text)) => {
-            add_literal(alloc, literals, true, text.as_str().as_bytes())
-        }
-        Line::Acts(Action::Emits(text)) => {
-            add_literal(alloc, literals, false, text.as_str().as_bytes())
-        }
-        Line::Acts(Action::Separates(text)) => {
-            add_literal(alloc, literals, false, text.as_str().as_bytes())
-        }
+        Line::Acts(Action::LoadConst(_, text)) => add_literal(alloc, literals, true, text.as_str()),
+        Line::Acts(Action::Emits(text)) => add_literal(alloc, literals, false, text.as_str()),
+        Line::Acts(Action::Separates(text)) => add_literal(alloc, literals, false, text.as_str()),
         _ => Ok(()),
     }
 }
@@ -103,7 +101,9 @@ pub(crate) fn add_literals(
     literals: &mut Vec<Literal>,
     lines: &[Line],
 ) -> Result<(), AllocError>
-    ensures { OnOk result (literals.new.items ≡ gathered is_same_literal literals.old.items (filter_map literal_used lines.now)) }
+    requires { All IsUtf8Literal literals.old.items }
+    ensures gathered { OnOk result (literals.new.items ≡ gathered is_same_literal literals.old.items (filter_map literal_used lines.now)) }
+    ensures utf8 { OnOk result (All IsUtf8Literal literals.new.items) }
 {
     for line in lines {
         add_used_literal(alloc, literals, line)?;

@@ -1,5 +1,6 @@
-use Rattle.std.proofs.Common.{◌≡◌, ◌+◌, ◌++◌, drop, length, map}
+use Rattle.std.proofs.Common.{◌≡◌, ◌+◌, ◌++◌, All, drop, length, map}
 use Rattle.code_model.specs.Code.{spelling}
+use Rattle.code_file.specs.Grammar.{IsInstr}
 use Rattle.compiler_model.specs.Compiled.{instructions_from}
 use Rattle.compiler.specs.Reach.{StayWithin}
 use Rattle.compiler.proofs.instructions.push_rule.Given as goal
@@ -11,3 +12,4 @@ invariant-loop-line l =
     ≡ l.fn.instrs.items ++ map spelling (instructions_from l.names l.literals l.away (length l.fn.instrs.items) l.lines))
     × (length l.instrs.items ≡ length l.fn.instrs.items + l.line-index)
     × StayWithin 0 (drop l.line-index l.lines)
+    × All IsInstr l.instrs.items
