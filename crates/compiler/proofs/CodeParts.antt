@@ -1,9 +1,9 @@
 -- The parts of rules' code: the size of their file, and that within the limits a code file may have them.
-use Rattle.std.proofs.Common.{◌≡◌, ℕ, suc, ◌+◌, ◌*◌, ◌^◌, ◌<◌, ◌≤◌, List, [], ◌∷◌, ◌++◌, length, Bool, true, false, Some, None, refl, sym, ap, ◌∙◌, inl, inr, arith, length-append}
-use Rattle.std.specs.Prelude.{All, min, not, nat_lt, sum_by, slice_get, if◌then◌else◌}
+use Rattle.std.proofs.Common.{◌≡◌, ℕ, suc, ◌+◌, ◌*◌, ◌^◌, ◌<◌, ◌≤◌, List, [], ◌∷◌, ◌++◌, length, Bool, true, false, Some, None, refl, ap, inl, inr, arith, length-append}
+use Rattle.std.specs.Prelude.{All, min, not, sum_by, slice_get, if◌then◌else◌}
 use Rattle.std.specs.List.{flat_map}
 use Rattle.std.specs.Str.{IsUtf8}
-use Rattle.std.proofs.lemmas.Bool.{cases_lt, lt-ltb}
+use Rattle.std.proofs.lemmas.Bool.{cases_lt}
 use Rattle.std.proofs.lemmas.Bool.Decides.{nat_tests}
 use Rattle.std.proofs.lemmas.List.Elements.{All-nil, All-cons, All-head, All-tail, All-weaker}
 use Rattle.std.proofs.lemmas.List.Sums.{sum_by-cons}

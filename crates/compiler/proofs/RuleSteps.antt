@@ -1,11 +1,10 @@
 -- One more rule: what is counted, and what instructions there are, with it and with the rules that are left.
-use Rattle.std.proofs.Common.{◌≡◌, ℕ, ◌+◌, ◌<◌, List, [], ◌∷◌, ◌++◌, length, drop, get_or, map, refl, sym, ap, ◌∙◌, arith, append_assoc, length-append}
+use Rattle.std.proofs.Common.{◌≡◌, ℕ, ◌+◌, ◌<◌, List, [], ◌∷◌, ◌++◌, length, drop, get_or, map, sym, ap, ◌∙◌, arith, append_assoc, length-append}
 use Rattle.std.specs.List.{flat_map}
 use Rattle.std.proofs.lemmas.List.{drop_more, map-append, length-map}
 use Rattle.text_model.specs.Texts.{Text}
 use Rattle.code_model.specs.Code.{Name, Literal, spelling}
 use Rattle.code_model.specs.declared.code.Instr.{Instr}
-use Rattle.code_model.specs.declared.code.Instruction.{Instruction}
 use Rattle.rule_parser.specs.declared.rule.Rule.{Rule}
 use Rattle.rule_parser.specs.Rules.{RuleSet}
 use Rattle.compiler_model.specs.declared.lines.Line.{Line}

@@ -132,7 +132,10 @@ pub(crate) fn push_rule(
     let away = instrs.len() + lines.len();
     for line in lines {
         let place = instrs.len();
-        push_instr(instrs, spelling(of_line(names, literals, away, place, line)))?;
+        push_instr(
+            instrs,
+            spelling(of_line(names, literals, away, place, line)),
+        )?;
     }
     Ok(())
 }

@@ -1,4 +1,4 @@
-use Rattle.std.proofs.Common.{◌≡◌, ◌≤◌, length, refl, sym, ap, ◌∙◌, subst, arith}
+use Rattle.std.proofs.Common.{◌≡◌, ◌≤◌, length, refl, ◌∙◌, subst}
 use Rattle.std.specs.Prelude.{All}
 use Rattle.code_model.specs.Code.{Code}
 use Rattle.code_file.specs.Grammar.{spelled, IsInstr, IsCode}

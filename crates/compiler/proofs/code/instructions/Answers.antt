@@ -1,4 +1,4 @@
-use Rattle.std.proofs.Common.{◌≡◌, ◌≤◌, ◌+◌, ◌++◌, List, length, map, sym, ap, ◌∙◌, subst, arith}
+use Rattle.std.proofs.Common.{◌≡◌, ◌+◌, ◌++◌, List, length, map, sym, ap, ◌∙◌, subst, arith}
 use Rattle.code_model.specs.Code.{Name, Literal, spelling}
 use Rattle.compiler_model.specs.Shapes.{rule_block}
 use Rattle.compiler_model.specs.Compiled.{rule_lines, instructions_from}

@@ -10,11 +10,11 @@ use Rattle.compiler.proofs.gathering.Tables.of_rules.Given as goal
 abbrev pub invariant-loop-rule : goal.invariant-loop-rule
 invariant-loop-rule l = record {
   names : gathered is_same_name l.tables.names.items (filter_map name_used (flat_map (rule_lines l.rules.lists) (drop l.rule-index l.all)))
-  ≡ gathered is_same_name [] (filter_map name_used (flat_map (rule_lines l.rules.lists) l.rules.rules));
+      ≡ gathered is_same_name [] (filter_map name_used (flat_map (rule_lines l.rules.lists) l.rules.rules));
   literals : gathered is_same_literal l.tables.literals.items (filter_map literal_used (flat_map (rule_lines l.rules.lists) (drop l.rule-index l.all)))
-  ≡ gathered is_same_literal [] (filter_map literal_used (flat_map (rule_lines l.rules.lists) l.rules.rules));
+      ≡ gathered is_same_literal [] (filter_map literal_used (flat_map (rule_lines l.rules.lists) l.rules.rules));
   utf8 : All IsUtf8Literal l.tables.literals.items;
   lines : min (l.tables.lines + length (flat_map (rule_lines l.rules.lists) (drop l.rule-index l.all))) 18446744073709551615
-  ≡ min (1 + length (flat_map (rule_lines l.rules.lists) l.rules.rules)) 18446744073709551615;
+      ≡ min (1 + length (flat_map (rule_lines l.rules.lists) l.rules.rules)) 18446744073709551615;
   small : l.tables.lines ≤ 18446744073709551615;
 }
