@@ -1,3 +1,4 @@
 pub mod Adding
+mod Examples
 pub mod Fates
 pub mod RowsInOrder

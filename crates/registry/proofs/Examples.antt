@@ -1,0 +1,74 @@
+-- The definitions computed: small targets and requests are written out here, and the checker compares.
+use Rattle.std.proofs.Common.{◌≡◌, true, false, List, [], ◌∷◌, Some, refl, codes}
+use Rattle.text_model.specs.Texts.{Text}
+use Rattle.environment_model.specs.Environment.{byte_count, look_up, members_of, text_of, with_member}
+use Rattle.code_model.specs.Code.{Code, row}
+use Rattle.kev_read.specs.Pairs.{KeyValue}
+use Rattle.kbart_rows.specs.Cells.{Holdings}
+use Rattle.menu.specs.declared.entry.Reason.{Reason}
+use Rattle.menu.specs.declared.entry.Reason.TheVariants as reason
+use Rattle.registry.specs.Targets.{TargetValue}
+use Rattle.registry.specs.RowEnvironments.{row_entries, row_environment}
+use Rattle.registry.specs.Fates.{OverBudget, Link, NoLink}
+use Rattle.registry.specs.Entries.{chosen, reason_by}
+
+-- ---- what is chosen
+
+second_row_has_a_link : chosen reason.NoRow (reason.NoLink ∷ reason.Link 1 (codes "http://a") ∷ reason.Link 2 (codes "http://b") ∷ []) ≡ reason.Link 1 (codes "http://a")
+second_row_has_a_link = refl
+
+no_row_has_a_link : chosen reason.NoRow (reason.NoLink ∷ reason.NotAWebLink ∷ []) ≡ reason.NotAWebLink
+no_row_has_a_link = refl
+
+no_row_matches : chosen reason.NoRow [] ≡ reason.NoRow
+no_row_matches = refl
+
+reasons : List Reason
+reasons = reason_by 3 (Link (codes "HTTPS://e.org")) ∷ reason_by 3 (Link (codes "javascript:x")) ∷ reason_by 3 NoLink ∷ reason_by 3 (OverBudget 1202100) ∷ []
+
+reasons_of_fates : reasons ≡ reason.Link 3 (codes "HTTPS://e.org") ∷ reason.NotAWebLink ∷ reason.NoLink ∷ reason.OverBudget 1202100 ∷ []
+unfolding reasons
+reasons_of_fates = refl
+
+-- ---- a table with two rows
+
+abbrev table : Holdings
+table =
+    record {
+      header = codes "print_identifier" ∷ codes "title_url" ∷ codes "date_first_issue_online" ∷ codes "date_last_issue_online" ∷ [];
+      rows = (codes "1234-567X" ∷ codes "http://e.org/a" ∷ codes "1990" ∷ codes "1995" ∷ []) ∷ (codes "1234-567X" ∷ codes "http://e.org/b" ∷ codes "2000" ∷ [] ∷ []) ∷ [];
+    }
+
+-- EMIT of a text and HALT; `list` is read as a list
+abbrev printing : Text → Code
+printing text =
+    record {
+      version = 1;
+      names = record { list = true; text = codes "list" } ∷ [];
+      literals = record { compared = false; bytes = text } ∷ [];
+      instrs = row 13 0 0 0 0 ∷ row 1 0 0 0 0 ∷ [];
+    }
+
+abbrev target : Text → Code → TargetValue
+target name code = record { name = name; code = code; table = table }
+
+abbrev alpha : TargetValue
+alpha = target (codes "alpha") (printing (codes "http://e.org/"))
+
+abbrev pair : Text → Text → KeyValue
+pair key value = record { key = key; value = value }
+
+abbrev request : List KeyValue
+request = pair (codes "rft.issn") (codes "1234567x") ∷ pair (codes "title_url") (codes "http://evil.example") ∷ pair (codes "list") (codes "a") ∷ pair (codes "list") (codes "b") ∷ []
+
+bytes_of_a_row : byte_count (row_entries alpha 1) ≡ 27
+unfolding look_up
+bytes_of_a_row = refl
+
+row_before_request : text_of (row_environment alpha request 1) (codes "title_url") ≡ Some (codes "http://e.org/b")
+unfolding look_up with_member
+row_before_request = refl
+
+list_of_the_request : members_of (row_environment alpha request 1) (codes "list") ≡ codes "a" ∷ codes "b" ∷ []
+unfolding look_up with_member
+list_of_the_request = refl
