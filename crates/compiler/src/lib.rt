@@ -13,3 +13,6 @@ mod tables;
 
 pub use code::compile;
 pub use error::CompileError;
+
+#[cfg(test)]
+mod tests;
