@@ -1,0 +1,4 @@
+pub mod Streams
+pub mod Closing
+pub mod HeadRead
+pub mod Inner

@@ -1,0 +1,65 @@
+//! How far the bytes of a head have come.
+
+ghost use Rattle.std.specs.Prelude.{◌≡◌, [], ◌∷◌, ◌++◌, ℕ, List};
+ghost use Rattle.http_streams.specs.Inner.Progress.{closes_with};
+
+/// What the bytes so far leave to be seen before the head is closed.
+#[derive(Clone, Copy)]
+pub(crate) enum Progress {
+    /// Nothing but line ends has come.
+    BeforeText,
+    /// The last byte ends no line.
+    InLine,
+    /// The last byte is the LF of a line.
+    AfterLineFeed,
+    /// The last bytes are the LF of a line and a CR.
+    AfterReturn,
+    /// The empty line has come.
+    Closed,
+}
+
+impl Progress {
+    // Whether the bytes so far are closed.
+    pub(crate) fn is_done(self) -> bool
+        ensures { result ≡ closes_with self [] }
+    {
+        matches!(self, Progress::Closed)
+    }
+
+    // The progress after one byte more.
+    fn after(self, byte: u8) -> Progress
+        ensures { (more : List ℕ) → closes_with result more ≡ closes_with self (byte ∷ more) }
+    {
+        match self {
+            Progress::Closed => Progress::Closed,
+            Progress::BeforeText => match byte {
+                b'\n' | b'\r' => Progress::BeforeText,
+                _ => Progress::InLine,
+            },
+            Progress::InLine => match byte {
+                b'\n' => Progress::AfterLineFeed,
+                _ => Progress::InLine,
+            },
+            Progress::AfterLineFeed => match byte {
+                b'\n' => Progress::Closed,
+                b'\r' => Progress::AfterReturn,
+                _ => Progress::InLine,
+            },
+            Progress::AfterReturn => match byte {
+                b'\n' => Progress::Closed,
+                _ => Progress::InLine,
+            },
+        }
+    }
+
+    // The progress after these bytes more.
+    pub(crate) fn after_all(self, bytes: &[u8]) -> Progress
+        ensures { (more : List ℕ) → closes_with result more ≡ closes_with self (bytes.now ++ more) }
+    {
+        let mut progress = self;
+        for byte in bytes {
+            progress = progress.after(*byte);
+        }
+        progress
+    }
+}
