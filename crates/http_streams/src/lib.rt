@@ -20,6 +20,7 @@ mod write;
 
 pub use error::HeadError;
 pub use pieces::{PieceIn, PieceOut};
+pub use progress::is_closed;
 pub use read::{MAX_HEAD_BYTES, read_head};
 pub use stream::{Failed, Input, Output};
 pub use tape::Tape;

@@ -1,6 +1,7 @@
 //! How far the bytes of a head have come.
 
 ghost use Rattle.std.specs.Prelude.{◌≡◌, [], ◌∷◌, ◌++◌, ℕ, List};
+ghost use Rattle.http_streams.specs.Closing.{is_closed};
 ghost use Rattle.http_streams.specs.Inner.Progress.{closes_with};
 
 /// What the bytes so far leave to be seen before the head is closed.
@@ -62,4 +63,13 @@ impl Progress {
         }
         progress
     }
+}
+
+/// Whether the bytes are closed: after some byte that is neither CR nor LF, an LF is followed at once by LF or
+/// by CR LF, so that an empty line ends the head. In one pass.
+#[tactic(auto, using(crate::proofs::ClosedLemmas::appended))]
+pub fn is_closed(bytes: &[u8]) -> bool
+    ensures { result ≡ is_closed bytes.now }
+{
+    Progress::BeforeText.after_all(bytes).is_done()
 }

@@ -2,6 +2,7 @@ use crate::{
     Failed, HeadError, Input, MAX_HEAD_BYTES, Output, PieceIn, PieceOut, Tape, Wire, read_head,
     write_all,
 };
+use std::alloc::{AllocError, Global};
 use std::net::{TcpListener, TcpStream};
 use std::test::Fail;
 
@@ -51,9 +52,14 @@ fn reads_until_the_head_is_closed(rt: HostRuntime) -> Result<(), Fail> {
     Ok(())
 }
 
+// So many letters.
+fn letters(alloc: Global, count: usize) -> Result<Vec<u8>, AllocError> {
+    vec![in alloc; b'x'; count]
+}
+
 #[test]
 fn reads_so_many_bytes_at_most(rt: HostRuntime) -> Result<(), Fail> {
-    let bytes = vec![in rt.alloc(); b'x'; MAX_HEAD_BYTES + 1]?;
+    let bytes = letters(rt.alloc(), MAX_HEAD_BYTES + 1)?;
     for piece in [1000, MAX_HEAD_BYTES + 1] {
         let mut input = PieceIn::new(rt.alloc(), &bytes, piece, None)?;
         assert_eq!(rt; read_head(rt.alloc(), &mut input)?.len(), 16_384);

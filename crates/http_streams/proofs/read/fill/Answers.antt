@@ -1,7 +1,5 @@
-use Rattle.std.proofs.Common.{◌≡◌, ◌∙◌, arith, ap, sym, subst, List, ℕ, ◌+◌, ◌-◌, ◌++◌, take, drop, append_assoc}
+use Rattle.std.proofs.Common.{◌≡◌, ◌∙◌, arith, ap, sym, List, ℕ, ◌+◌, ◌-◌, ◌++◌, take, drop, append_assoc}
 use Rattle.http_streams.specs.Closing.{is_closed}
-use Rattle.http_streams.specs.Inner.Progress.{closes_with}
-use Rattle.http_streams.specs.Streams.{Reads}
 use Rattle.http_streams.proofs.StreamLemmas.{Reads-append, take-read}
 use Rattle.http_streams.proofs.read.fill.Goals as goal
 

@@ -1,0 +1,5 @@
+-- Bytes with nothing behind them.
+use Rattle.std.proofs.Common.{ℕ}
+use Rattle.std.proofs.lemmas.List.{append-nil}
+
+pub ruleset appended = append-nil
