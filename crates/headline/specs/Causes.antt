@@ -1,5 +1,5 @@
--- Why the code of a file is not run.
-use Rattle.std.specs.Prelude.{◌≡◌, ℕ, ◌<◌}
+-- Why the code of a file is not run, or that of rules.
+use Rattle.std.specs.Prelude.{◌≡◌, ℕ, ◌<◌, Some}
 use Rattle.text_model.specs.Texts.{Text}
 use Rattle.code_model.specs.Code.{Code}
 use Rattle.machine_model.specs.Form.{HasGoodForm}
@@ -10,6 +10,13 @@ use Rattle.verifier.specs.Faults.{IsLoadFault}
 use Rattle.runs.specs.RunValue.{most_bytes}
 use Rattle.runs.specs.declared.run.TheConstants.{MAX_LINK_BYTES}
 use Rattle.runs.specs.declared.error.PrepareError.TheVariants.{OverBudget, NoMemory}
+use Rattle.rule_parser.specs.Rules.{RuleSet}
+use Rattle.compiler_model.specs.Compiled.{code_of}
+use Rattle.compiler.specs.Limits.{limit_passed}
+use Rattle.compiler.specs.declared.error.CompileError.TheVariants as compile
+use Rattle.verifier.specs.declared.error.LoadError.TheVariants as load
+use Rattle.headline.specs.declared.error.RulesError.{RulesError}
+use Rattle.headline.specs.declared.error.RulesError.TheVariants as rules
 use Rattle.headline.specs.declared.error.RunError.{RunError}
 use Rattle.headline.specs.declared.error.RunError.TheVariants.{Load, Prepare}
 
@@ -26,3 +33,13 @@ abbrev pub IsCause : Text → EnvValue → RunError → Type 0
 IsCause bytes e (Load error) = IsLoadFault bytes error
 IsCause bytes e (Prepare (OverBudget n)) = IsOverBudget bytes e n
 IsCause bytes e (Prepare NoMemory) = (c : Code) × IsCodeFile bytes c
+
+-- the limit that the code of the rules passes, or the bound on its output, past the limit, or want of memory; the
+-- file that is written is refused for no other cause
+abbrev pub IsRulesCause : RuleSet → EnvValue → RulesError → Type 0
+IsRulesCause set e (rules.Compile compile.NoMemory) = Unit {0}
+IsRulesCause set e (rules.Compile error) = limit_passed set ≡ Some error
+IsRulesCause set e rules.NoMemory = Unit {0}
+IsRulesCause set e (rules.Run (Load error)) = error ≡ load.NoMemory
+IsRulesCause set e (rules.Run (Prepare (OverBudget n))) = (n ≡ most_bytes (code_of set) e) × (MAX_LINK_BYTES < n)
+IsRulesCause set e (rules.Run (Prepare NoMemory)) = Unit {0}

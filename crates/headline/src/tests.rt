@@ -1,4 +1,5 @@
 mod codes;
+mod rules;
 
 use crate::{RunError, run_file, run_verified};
 use codes::{CODES, LIST_CODE, OPTIONAL, file, variables};
@@ -26,32 +27,36 @@ fn shown(alloc: Global, outcome: Outcome) -> Result<String, AllocError> {
     }
 }
 
-/// How a run ends that takes turns of so many steps, within the steps and bytes of its budget.
-fn in_turns(alloc: Global, code: &Verified, env: &Env, n: u64) -> Result<String, Fail> {
+/// How a run ends that takes turns of so many steps, and after how many in all, within the steps and bytes of its budget.
+fn in_turns(alloc: Global, code: &Verified, env: &Env, n: u64) -> Result<(String, u64), Fail> {
     let mut run = prepare(alloc, code, env)?;
     for _turn in 0..1_000_000 {
         if run.advance(n) {
             break;
         }
     }
+    let steps = run.steps();
     let (members, bytes) = (env.members() as u64, env.bytes() as u64);
-    if run.steps() > code.budget().steps(members) {
-        return Ok(format!(in alloc; "too many steps")?);
+    if steps > code.budget().steps(members) {
+        return Ok((format!(in alloc; "too many steps")?, steps));
     }
     if run.output().len() as u64 > code.budget().bytes(members, bytes) {
-        return Ok(format!(in alloc; "too many bytes")?);
+        return Ok((format!(in alloc; "too many bytes")?, steps));
     }
-    Ok(shown(alloc, run.finish())?)
+    Ok((shown(alloc, run.finish())?, steps))
 }
 
-/// The run of accepted code comes to what the checked machine comes to, however it takes turns.
+/// The run of accepted code comes to what the checked machine comes to, and takes as many steps however long its turns are.
 fn agree<R: Abort + AllocGlobal>(rt: &R, code: &Verified, env: &Env) -> Result<(), Fail> {
     let wanted = checked(rt.alloc(), code, env)?;
-    let whole = shown(rt.alloc(), run_verified(rt.alloc(), code, env)?)?;
+    let finished = shown(rt.alloc(), run_verified(rt.alloc(), code, env)?)?;
+    assert_eq!(rt; finished.as_str(), wanted.as_str());
+    let (whole, steps) = in_turns(rt.alloc(), code, env, u64::MAX)?;
     assert_eq!(rt; whole.as_str(), wanted.as_str());
     for n in [1, 3, 64] {
-        let came = in_turns(rt.alloc(), code, env, n)?;
+        let (came, turn_steps) = in_turns(rt.alloc(), code, env, n)?;
         assert_eq!(rt; came.as_str(), wanted.as_str());
+        assert_eq!(rt; turn_steps, steps);
     }
     Ok(())
 }
@@ -60,11 +65,14 @@ fn agree<R: Abort + AllocGlobal>(rt: &R, code: &Verified, env: &Env) -> Result<(
 fn runs_as_the_checked_machine(rt: HostRuntime) -> Result<(), Fail> {
     let none = Env::new(rt.alloc());
     let full = variables(rt.alloc())?;
-    for instructions in CODES {
-        let bytes = file(rt.alloc(), instructions)?;
-        let code = load(rt.alloc(), &bytes)?;
-        agree(&rt, &code, &none)?;
-        agree(&rt, &code, &full)?;
+    for (versions, instructions) in CODES {
+        for &version in versions {
+            let bytes = file(rt.alloc(), version, instructions)?;
+            let code = load(rt.alloc(), &bytes)?;
+            assert_eq!(rt; code.code().version(), version);
+            agree(&rt, &code, &none)?;
+            agree(&rt, &code, &full)?;
+        }
     }
     Ok(())
 }
@@ -110,7 +118,7 @@ fn runs_files(rt: HostRuntime) -> Result<(), Fail> {
     }
     let mut long = Env::new(rt.alloc());
     long.put_text("x", letters.as_str())?;
-    let bytes = file(rt.alloc(), &OPTIONAL)?;
+    let bytes = file(rt.alloc(), 2, &OPTIONAL)?;
     match run_file(rt.alloc(), &bytes, &long) {
         Err(RunError::Prepare(PrepareError::OverBudget(bytes))) => assert!(rt; bytes > 1_048_576),
         _ => assert!(rt; false),

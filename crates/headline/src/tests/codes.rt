@@ -21,61 +21,99 @@ pub const LIST_CODE: [u8; 68] = [
 /// The text, if there is one.
 pub const OPTIONAL: [Instruction; 4] = [Text(2, 0), Undef(2, 3), Put(2, 0), Halt];
 
-/// Each instruction, both ways where it branches.
-pub const CODES: [&[Instruction]; 10] = [
-    &OPTIONAL,
-    &[Emit(0), End],
-    &[Text(0, 0), Undef(0, 4), Cut(0, 2, 1), Put(0, 1), Halt],
-    &[Jump(2), End, Const(0, 3), Put(0, 0), Cut(0, 1, 1), Halt],
-    &[List(0, 1), NoList(0, 3), Emit(0), Halt],
-    &[
-        Const(0, 1),
-        Const(1, 3),
-        Differ(0, 1, 4),
-        Emit(0),
-        Differ(0, 0, 6),
-        Emit(2),
-        Halt,
-    ],
-    &[
-        Const(0, 1),
-        Const(1, 5),
-        Number(0, 0, 6),
-        Number(1, 1, 6),
-        Less(0, 1, 6),
-        Emit(0),
-        Halt,
-    ],
-    &[
-        Const(0, 4),
-        Empty(0, 3),
-        Emit(0),
-        Const(1, 3),
-        Empty(1, 6),
-        Emit(2),
-        Halt,
-    ],
-    &[
-        List(0, 1),
-        Count(1, 0),
-        Const(2, 1),
-        Number(2, 2, 6),
-        Less(1, 2, 6),
-        Emit(0),
-        Halt,
-    ],
-    &[
-        List(0, 1),
-        Const(3, 1),
-        Each(1, 0, 9),
-        Sep(0),
-        Put(1, 0),
-        Differ(1, 3, 7),
-        Emit(2),
-        Const(1, 3),
-        Next,
-        Halt,
-    ],
+const BOTH: &[u8] = &[1, 2];
+
+const SECOND: &[u8] = &[2];
+
+/// Each instruction, both ways where it branches, each code with the versions that it has.
+pub const CODES: [(&[u8], &[Instruction]); 11] = [
+    (BOTH, &OPTIONAL),
+    (BOTH, &[Emit(0), End]),
+    (
+        BOTH,
+        &[
+            Text(0, 0),
+            Undef(0, 5),
+            Cut(0, 2, 1),
+            Cut(0, 3, 0),
+            Put(0, 1),
+            Halt,
+        ],
+    ),
+    (
+        BOTH,
+        &[Jump(2), End, Const(0, 3), Put(0, 0), Cut(0, 1, 1), Halt],
+    ),
+    (BOTH, &[List(0, 1), NoList(0, 3), Emit(0), Halt]),
+    (
+        BOTH,
+        &[
+            Const(0, 1),
+            Const(1, 3),
+            Differ(0, 1, 4),
+            Emit(0),
+            Differ(0, 0, 6),
+            Emit(2),
+            Halt,
+        ],
+    ),
+    // 7 is below 12, and neither 12 below 7 nor 12 below 12.
+    (
+        BOTH,
+        &[
+            Const(0, 1),
+            Const(1, 5),
+            Number(0, 0, 9),
+            Number(1, 1, 9),
+            Less(1, 0, 6),
+            Emit(2),
+            Less(0, 1, 9),
+            Less(0, 0, 9),
+            Emit(0),
+            Halt,
+        ],
+    ),
+    // No number.
+    (BOTH, &[Const(0, 3), Number(1, 0, 3), Emit(0), Halt]),
+    (
+        BOTH,
+        &[
+            Const(0, 4),
+            Empty(0, 3),
+            Emit(0),
+            Const(1, 3),
+            Empty(1, 6),
+            Emit(2),
+            Halt,
+        ],
+    ),
+    (
+        SECOND,
+        &[
+            List(0, 1),
+            Count(1, 0),
+            Const(2, 1),
+            Number(2, 2, 6),
+            Less(1, 2, 6),
+            Emit(0),
+            Halt,
+        ],
+    ),
+    (
+        BOTH,
+        &[
+            List(0, 1),
+            Const(3, 1),
+            Each(1, 0, 9),
+            Sep(0),
+            Put(1, 0),
+            Differ(1, 3, 7),
+            Emit(2),
+            Const(1, 3),
+            Next,
+            Halt,
+        ],
+    ),
 ];
 
 const NAMES: [(bool, &str); 2] = [(false, "x"), (true, "list")];
@@ -89,8 +127,8 @@ const LITERALS: [(bool, &str); 6] = [
     (true, "7"),
 ];
 
-/// The file, of version 2, of a code.
-pub fn file(alloc: Global, instructions: &[Instruction]) -> Result<Vec<u8>, Fail> {
+/// The file of a code of a version.
+pub fn file(alloc: Global, version: u8, instructions: &[Instruction]) -> Result<Vec<u8>, Fail> {
     let mut names = Vec::new(alloc);
     for (list, text) in NAMES {
         let text = String::from_str(alloc, text)?;
@@ -105,7 +143,11 @@ pub fn file(alloc: Global, instructions: &[Instruction]) -> Result<Vec<u8>, Fail
     for instruction in instructions {
         instrs.push(spelling(*instruction))?;
     }
-    Ok(Code::from_parts2(names, literals, instrs)?.write(alloc)?)
+    let code = match version {
+        1 => Code::from_parts(names, literals, instrs)?,
+        _ => Code::from_parts2(names, literals, instrs)?,
+    };
+    Ok(code.write(alloc)?)
 }
 
 /// `x` is a text, and `list` has three members.
