@@ -21,6 +21,7 @@ use Rattle.openlink.specs.Link.{IsMeaning, IsLinkFault}
 use Rattle.openlink.specs.Faults.{IsCodeFault}
 use Rattle.openlink.specs.Show.{IsListing}
 use Rattle.openlink.specs.Upgrade.{IsUpgrade}
+use Rattle.openlink.specs.Compile.{IsCompiled, IsCompileFault}
 use Rattle.openlink.specs.Verify.{IsAcceptedFile, IsVerdict, IsVerifyFault}
 use Rattle.openlink.specs.Run.{IsReady, IsRun, IsRunFault}
 use Rattle.target_vars.specs.EnvValue.{EnvValue}
@@ -92,6 +93,7 @@ not_run query fault.Memory all (code, file) = (code, spelled_too code all file)
 not_run query fault.Usage all h = h
 not_run query (fault.Template e) all h = h
 not_run query (fault.Rules e) all h = h
+not_run query (fault.Compile e) all h = h
 not_run query (fault.Code e) all h = h
 not_run query (fault.Device path) all h = h
 
@@ -115,7 +117,24 @@ not_linked query fault.NoLink all h = meant query None all h
 not_linked query fault.Memory all h = h
 not_linked query fault.Usage all h = h
 not_linked query (fault.Template e) all h = h
+not_linked query (fault.Compile e) all h = h
 not_linked query (fault.Code e) all h = h
 not_linked query (fault.Load e) all h = h
 not_linked query (fault.OverBudget n) all h = h
 not_linked query (fault.Device path) all h = h
+
+pub compiled : (new all : Text) → IsCompiled (take 65537 all) new → IsCompiled all new
+compiled new all h = record { rules = h.rules; read = ruled h.rules all h.read; within = h.within; file = h.file }
+
+pub not_compiled : (f : Fault) (all : Text) → IsCompileFault (take 65537 all) f → IsCompileFault all f
+not_compiled (fault.Rules e) all h = not_ruled e.kind e.line all h
+not_compiled (fault.Compile e) all (rules, text, passed) = (rules, ruled rules all text, passed)
+not_compiled fault.Memory all h = h
+not_compiled fault.Usage all h = h
+not_compiled fault.NoLink all h = h
+not_compiled (fault.Query e) all h = h
+not_compiled (fault.Template e) all h = h
+not_compiled (fault.Code e) all h = h
+not_compiled (fault.Load e) all h = h
+not_compiled (fault.OverBudget n) all h = h
+not_compiled (fault.Device path) all h = h

@@ -34,6 +34,7 @@ no_request bytes query rules read fault.Memory h = h
 no_request bytes query rules read fault.Usage h = absurd h
 no_request bytes query rules read (fault.Template e) h = absurd h
 no_request bytes query rules read (fault.Rules e) h = absurd h
+no_request bytes query rules read (fault.Compile e) h = absurd h
 no_request bytes query rules read (fault.Code e) h = absurd h
 no_request bytes query rules read (fault.Load e) h = absurd h
 no_request bytes query rules read (fault.OverBudget n) h = absurd h

@@ -10,6 +10,8 @@ use Rattle.code_file.specs.Fault.{IsRefusal}
 use Rattle.code_file.specs.declared.error.CodeError.{CodeError}
 use Rattle.code_file.specs.declared.error.CodeErrorKind.{CodeErrorKind}
 use Rattle.code_file.specs.declared.error.CodeErrorKind.TheVariants as code
+use Rattle.compiler.specs.declared.error.CompileError.{CompileError}
+use Rattle.compiler.specs.declared.error.CompileError.TheVariants as compile
 use Rattle.rule_parser.specs.declared.error.RuleError.{RuleError}
 use Rattle.rule_parser.specs.declared.error.RuleErrorKind.{RuleErrorKind}
 use Rattle.rule_parser.specs.declared.error.RuleErrorKind.TheVariants as rules
@@ -38,6 +40,10 @@ code_fault_of_kind e kind = fault.Code e
 
 abbrev pub code_fault : CodeError → Fault
 code_fault e = code_fault_of_kind e e.kind
+
+abbrev pub compile_fault : CompileError → Fault
+compile_fault compile.NoMemory = Memory
+compile_fault e = fault.Compile e
 
 abbrev pub load_fault : LoadError → Fault
 load_fault load.NoMemory = Memory
@@ -70,6 +76,7 @@ status_of Usage = 2
 status_of (Template e) = 3
 status_of (Query e) = 3
 status_of (fault.Rules e) = 3
+status_of (fault.Compile e) = 3
 status_of (fault.Code e) = 3
 status_of (fault.Load e) = 3
 status_of (fault.OverBudget n) = 3

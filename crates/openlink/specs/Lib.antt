@@ -6,7 +6,9 @@ pub mod Show
 pub mod Link
 pub mod OneFile
 pub mod FileAndQuery
+pub mod NewFile
 pub mod Upgrade
+pub mod Compile
 pub mod Commands
 pub mod Verify
 pub mod Run

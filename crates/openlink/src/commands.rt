@@ -7,6 +7,7 @@ ghost use Rattle.openlink.specs.Commands.{Prints, Fails, OutputFails};
 ghost use Rattle.openlink.specs.Faults.{status_of};
 ghost use Rattle.openlink.specs.declared.fault.Fault.{Fault};
 
+use crate::compile::compile_line;
 use crate::expand::expand_line;
 use crate::fault::Fault;
 use crate::link::link_line;
@@ -76,6 +77,9 @@ fn answer<'a, R: Files + AllocGlobal>(rt: &R, words: &[&'a str]) -> Result<Strin
     }
     if let Some(rest) = behind(words, "link") {
         return link_line(rt, rest);
+    }
+    if let Some(rest) = behind(words, "compile") {
+        return compile_line(rt, rest);
     }
     if let Some(rest) = behind(words, "run") {
         return run_line(rt, rest);

@@ -5,6 +5,7 @@ ghost use Rattle.std.specs.IoError.{error_kind};
 ghost use Rattle.openlink.specs.Faults.{status_of, system_fault};
 
 use code_file::{CodeError, CodeErrorKind};
+use compiler::CompileError;
 use kev_read::KevError;
 use rule_parser::{RuleError, RuleErrorKind};
 use runs::PrepareError;
@@ -43,6 +44,9 @@ pub enum Fault<'a> {
     /// The file is no rule text: the line of its first fault, and its kind.
     #[error("rules: {0}")]
     Rules(RuleError),
+    /// The rules have no code: the limit that it passes.
+    #[error("compile: {0}")]
+    Compile(CompileError),
     /// The file is no code: the kind of its first fault, and the byte at which it stands.
     #[error("code: {0}")]
     Code(CodeError),
@@ -85,6 +89,7 @@ impl<'a> Fault<'a> {
             Fault::Template(_)
             | Fault::Query(_)
             | Fault::Rules(_)
+            | Fault::Compile(_)
             | Fault::Code(_)
             | Fault::Load(_)
             | Fault::OverBudget(_) => REFUSED,
@@ -139,6 +144,20 @@ impl<'a> From<KevError> for Fault<'a> {
         match e {
             KevError::NoMemory => Fault::Memory,
             _ => Fault::Query(e),
+        }
+    }
+}
+
+impl<'a> From<CompileError> for Fault<'a> {
+    ghost use Rattle.openlink.specs.Faults.{compile_fault};
+    ghost use Rattle.std.specs.Prelude.{◌≡◌};
+
+    ghost from_gives = { λ e fault. fault ≡ compile_fault e };
+
+    fn from(e: CompileError) -> Fault<'a> {
+        match e {
+            CompileError::NoMemory => Fault::Memory,
+            _ => Fault::Compile(e),
         }
     }
 }

@@ -3,6 +3,7 @@
 
 mod arguments;
 mod commands;
+mod compile;
 mod expand;
 mod fault;
 mod files;

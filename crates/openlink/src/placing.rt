@@ -1,11 +1,13 @@
 //! Files that a command writes.
 
-ghost use Rattle.std.specs.Prelude.{OnOk, IfErr};
+ghost use Rattle.std.specs.Prelude.{◌≡◌, IfOk, OnOk, IfErr, length, string_bytes};
 ghost use Rattle.std.specs.Io.KnownBytes.{Appends};
 ghost use Rattle.openlink.specs.Faults.{IsFileFault, IsDevice};
+ghost use Rattle.openlink.specs.Files.{count_line};
 
 use crate::fault::Fault;
 use crate::files::file_fault;
+use std::alloc::{AllocError, Global};
 use std::fs::{self, File, OpenFile};
 use std::io::Write;
 use std::rt::Files;
@@ -41,6 +43,28 @@ pub fn place_file<'a, R: Files + AllocGlobal>(
         let _ = fs::remove_file(rt, beside.as_str());
     }
     placed
+}
+
+/// The line that says how many bytes a file has.
+fn bytes_line(alloc: Global, count: usize) -> Result<String, AllocError>
+    ensures { IfOk result (λ line. string_bytes line ≡ count_line count) }
+{
+    format!(in alloc; "{count} bytes\n")
+}
+
+/// Places a file of these bytes at the path, and gives the line that says how many they are.
+pub fn place_counted<'a, R: Files + AllocGlobal>(
+    rt: &R,
+    path: &'a str,
+    bytes: &[u8],
+) -> Result<String, Fault<'a>>
+    ensures counted { IfOk result (λ line. string_bytes line ≡ count_line (length bytes.now)) }
+    ensures failed { IfErr result (IsFileFault path.now) }
+{
+    // The line is made first, so that no want of memory comes once the file is placed.
+    let line = bytes_line(rt.alloc(), bytes.len())?;
+    place_file(rt, path, bytes)?;
+    Ok(line)
 }
 
 /// Fills the new file beside the path, and renames it.

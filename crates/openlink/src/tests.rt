@@ -1,3 +1,4 @@
+mod compile;
 mod expand;
 mod files;
 mod link;

@@ -1,17 +1,18 @@
 //! `upgrade OLD NEW`: the code of a file, in a file of version 2.
 
-ghost use Rattle.std.specs.Prelude.{◌≡◌, ◌⊎◌, IfOk, IfErr, string_bytes};
+ghost use Rattle.std.specs.Prelude.{◌⊎◌, IfOk, IfErr, string_bytes};
 ghost use Rattle.text_model.specs.Texts.{texts_of};
 ghost use Rattle.openlink.specs.Faults.{IsFileFault, IsCodeFault};
-ghost use Rattle.openlink.specs.Files.{OfFile, count_line};
-ghost use Rattle.openlink.specs.Upgrade.{IsUpgrade, IsUpgradeLine, FailsToUpgrade};
+ghost use Rattle.openlink.specs.Files.{OfFile};
+ghost use Rattle.openlink.specs.NewFile.{MakesFile, FailsToMake};
+ghost use Rattle.openlink.specs.Upgrade.{IsUpgrade};
 
 use crate::fault::Fault;
 use crate::files::{open_file, read_front};
-use crate::placing::place_file;
+use crate::placing::place_counted;
 use crate::words::two_words;
 use code_file::{Code, MAX_BYTES};
-use std::alloc::{AllocError, Global};
+use std::alloc::Global;
 use std::io::Read;
 use std::rt::Files;
 
@@ -36,28 +37,18 @@ pub fn upgrade_file<'a, F: Read + Drop>(
     upgrade_code(alloc, &bytes)
 }
 
-/// The line that says how many bytes a file has.
-fn bytes_line(alloc: Global, count: usize) -> Result<String, AllocError>
-    ensures { IfOk result (λ line. string_bytes line ≡ count_line count) }
-{
-    format!(in alloc; "{count} bytes\n")
-}
-
 /// The line that the words behind `upgrade` print, once the new file is in its place.
 pub fn upgrade_line<'a, R: Files + AllocGlobal>(
     rt: &R,
     words: &[&'a str],
 ) -> Result<String, Fault<'a>>
-    ensures ok { IfOk result (λ line. IsUpgradeLine (texts_of words.now) (string_bytes line)) }
-    ensures err { IfErr result (FailsToUpgrade (texts_of words.now)) }
+    ensures ok { IfOk result (λ line. MakesFile IsUpgrade (texts_of words.now) (string_bytes line)) }
+    ensures err { IfErr result (FailsToMake IsUpgrade IsCodeFault (texts_of words.now)) }
 {
     let Some((old, new)) = two_words(words) else {
         return Err(Fault::Usage);
     };
     let file = open_file(rt, old)?;
     let upgraded = upgrade_file(rt.alloc(), file, old)?;
-    // The line is made first, so that no want of memory comes once the file is placed.
-    let line = bytes_line(rt.alloc(), upgraded.len())?;
-    place_file(rt, new, &upgraded)?;
-    Ok(line)
+    place_counted(rt, new, &upgraded)
 }

@@ -1,22 +1,29 @@
-use Rattle.std.proofs.Common.{inr, subst, sym, rules}
-use Rattle.openlink.specs.Faults.{IsFileFault}
-use Rattle.openlink.proofs.FaultLemmas.{answers}
+use Rattle.std.proofs.Common.{inr, rules}
+use Rattle.std.proofs.lemmas.Result.{IfOk-weaker, IfErr-weaker}
 use Rattle.openlink.proofs.upgrade.upgrade_line.Goals as goal
 
--- the file was a code, and the new one is not placed
-pub returns-in_err-place_file-clause-err : goal.returns-in_err-place_file-clause-err
-returns-in_err-place_file-clause-err g c =
-    let upgraded = c.in_ok-upgraded.ensures.ok in
-    answers c.from_residual-in_err-place_file.result
-    (λ f same. inr (
+pub returns-clause-ok : goal.returns-clause-ok
+returns-clause-ok g c =
+    let made = c.in_ok-upgraded.ensures.ok in
+    IfOk-weaker c.place_counted.result _ _ (λ line counted.
+    record {
+      path = c.in-Some.old.now;
+      place = c.in-Some.new.now;
+      bytes = made.0;
+      new = c.in_ok-upgraded.upgraded.items;
+      two_words = search rules;
+      made = made.2;
+      counted = search rules;
+    }) c.place_counted.ensures.counted
+
+-- the file was taken, and the new one is not placed
+pub returns-clause-err : goal.returns-clause-err
+returns-clause-err g c =
+    let made = c.in_ok-upgraded.ensures.ok in
+    IfErr-weaker c.place_counted.result _ _ (λ fault failed. inr (
     record {
       path = c.in-Some.old.now;
       place = c.in-Some.new.now;
       two_words = search rules;
-      refused = inr (inr (
-        upgraded.0,
-        c.in_ok-upgraded.upgraded.items,
-        upgraded.2,
-        subst (λ f. IsFileFault c.in-Some.new.now f) (sym same) c.in_err-place_file.ensures.failed,
-      ));
-    })) c.from_residual-in_err-place_file.ensures.1
+      refused = inr (inr (made.0, c.in_ok-upgraded.upgraded.items, made.2, failed));
+    })) c.place_counted.ensures.failed
