@@ -1,2 +1,4 @@
+pub mod Beginning
+pub mod Finishing
 pub mod Moving
-pub mod Rounds
+pub mod TurnsOfAll

@@ -1,8 +1,8 @@
 -- What a watch is shown of runs that are carried on side by side.
-use Rattle.std.specs.Prelude.{ℕ, zero, suc, ◌+◌, ◌-◌, ◌*◌, ◌/◌, List, [], ◌∷◌, ◌++◌, Option, option_map, map, max, min}
+use Rattle.std.specs.Prelude.{◌≡◌, ◌≤◌, ℕ, zero, suc, ◌+◌, ◌-◌, ◌*◌, ◌/◌, List, [], ◌∷◌, ◌++◌, Option, option_map, map, max, min}
 use Rattle.machine_model.specs.Next.{course_of}
 use Rattle.runs.specs.RunValue.{RunValue}
-use Rattle.link_menu.specs.declared.round.TheConstants.{TURN}
+use Rattle.link_menu.specs.declared.rounds.TheConstants.{TURN}
 
 abbrev pub steps_of : List RunValue → List ℕ
 steps_of runs = map (λ run. run.steps) runs
@@ -35,3 +35,11 @@ turns_left steps = (steps + (TURN - 1)) / TURN
 unfoldable pub turns_to_end : List RunValue → ℕ
 turns_to_end [] = 0
 turns_to_end (run ∷ runs) = max (turns_left (end_of run - run.steps)) (turns_to_end runs)
+
+-- the lists told, and what is shown of runs until each has ended
+abbrev pub HasSeenAll : List RunValue → Option (List (List ℕ)) → Option (List (List ℕ)) → Type 0
+HasSeenAll runs told new = new ≡ with_lists told (shown_in (turns_to_end runs) runs)
+
+-- the lists told, and what is shown in some first turns
+abbrev pub HasSeenSome : List RunValue → Option (List (List ℕ)) → Option (List (List ℕ)) → Type 0
+HasSeenSome runs told new = (t : ℕ) × (t ≤ turns_to_end runs) × (new ≡ with_lists told (shown_in t runs))

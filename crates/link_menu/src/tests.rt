@@ -1,9 +1,8 @@
 ghost use Rattle.std.specs.Prelude.{◌≡◌, IfOk, length};
 
-use crate::round::turn_until_ended;
-use crate::{Blind, Shown, Watch, play, turn_all};
+use crate::{Blind, Fate, Shown, Watch, play, round, turn_all};
 use runs::{Run, prepare};
-use std::alloc::Global;
+use std::alloc::{AllocError, Global};
 use std::test::Fail;
 use target_vars::Env;
 use verifier::{Verified, load};
@@ -83,12 +82,54 @@ fn schedule(rt: HostRuntime) -> Result<(), Fail> {
     Ok(())
 }
 
+/// What a fate says.
+fn said(alloc: Global, fate: &Fate) -> Result<String, AllocError> {
+    match fate {
+        Fate::OverBudget(bytes) => format!(in alloc; "over budget {bytes}"),
+        Fate::Link(link) => format!(in alloc; "link {link}"),
+        Fate::NoLink => format!(in alloc; "no link"),
+    }
+}
+
+/// Two runs, and between them a text that may be written with more bytes than is allowed.
+#[test]
+fn round_of_all(rt: HostRuntime) -> Result<(), Fail> {
+    let given = set_up(rt.alloc(), &["red", "green", "blue"])?;
+    let mut letters = String::new(rt.alloc());
+    for _ in 0..400_000 {
+        letters.push_str("a")?;
+    }
+    let mut long = Env::new(rt.alloc());
+    long.put_text("x", letters.as_str())?;
+    let Given {
+        list_code,
+        members,
+        text_code,
+        text,
+    } = given;
+    let codes = [&list_code, &text_code, &text_code];
+    let envs = [members, long, text];
+    let mut shown = Shown::new(rt.alloc());
+    let fates = round(rt.alloc(), &codes, &envs, &mut shown)?;
+    let wanted = ["link red,green,blue", "over budget 1200000", "link a"];
+    assert_eq!(rt; fates.len(), wanted.len());
+    for (fate, wanted) in fates.iter().zip(wanted.iter()) {
+        let fate = said(rt.alloc(), fate)?;
+        assert_eq!(rt; fate.as_str(), *wanted);
+    }
+    assert_eq!(rt; shown.lists().len(), 1);
+    for list in shown.lists() {
+        assert_eq!(rt; list.as_slice(), [12, 4].as_slice());
+    }
+    Ok(())
+}
+
 #[test]
 fn nothing_to_show(rt: HostRuntime) -> Result<(), Fail> {
-    let mut runs: Vec<Run> = Vec::new(rt.alloc());
     let mut shown = Shown::new(rt.alloc());
-    turn_until_ended(runs.as_mut_slice(), &mut shown)?;
+    let fates = round(rt.alloc(), &[], &[], &mut shown)?;
+    assert_eq!(rt; fates.len(), 0);
     assert_eq!(rt; shown.lists().len(), 0);
-    assert!(rt; Blind.seen(runs.as_slice()).is_ok());
+    assert!(rt; Blind.seen(&[]).is_ok());
     Ok(())
 }

@@ -1,8 +1,8 @@
 use Rattle.std.proofs.Common.{◌≡◌, ℕ, ◌*◌, ◌≤◌, count_by}
 use Rattle.link_menu.specs.Turns.{is_live}
 use Rattle.link_menu.specs.Shown.{shown_in, turns_to_end, with_lists}
-use Rattle.link_menu.proofs.Rounds.{all_after}
-use Rattle.link_menu.proofs.round.turn_until_ended.Given as goal
+use Rattle.link_menu.proofs.TurnsOfAll.{all_after}
+use Rattle.link_menu.proofs.rounds.turn_until_ended.Given as goal
 
 -- after t turns of all
 abbrev pub invariant-loop-live : goal.invariant-loop-live

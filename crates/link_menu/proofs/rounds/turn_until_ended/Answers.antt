@@ -1,8 +1,8 @@
 use Rattle.std.proofs.Common.{◌≡◌, suc, ◌*◌, ◌<◌, subst, sym, ap, ◌∙◌, arith}
 use Rattle.link_menu.specs.Shown.{with_list, with_lists, steps_of, shown_in, turns_to_end}
 use Rattle.link_menu.specs.Rounds.{AreOfTheSame}
-use Rattle.link_menu.proofs.Rounds.{all_after, at_start, all_live, next_turn, still_left, all_done, fewer_left, same_runs, nothing_shown, shown_next}
-use Rattle.link_menu.proofs.round.turn_until_ended.Goals as goal
+use Rattle.link_menu.proofs.TurnsOfAll.{all_after, at_start, all_live, next_turn, still_left, all_done, fewer_left, same_runs, nothing_shown, shown_next}
+use Rattle.link_menu.proofs.rounds.turn_until_ended.Goals as goal
 
 pub loop-live-init : goal.loop-live-init
 loop-live-init g c =

@@ -1,0 +1,64 @@
+//! Many codes, run side by side until each has ended.
+
+ghost use Rattle.std.specs.Prelude.{◌≡◌, IfOk, OnErr, OnOk, length, map};
+ghost use Rattle.std.specs.List.{zip};
+ghost use Rattle.runs.specs.declared.run.TheConstants.{MAX_LINK_BYTES};
+ghost use Rattle.link_menu.specs.Fates.{fate_of, runs_of, said};
+ghost use Rattle.link_menu.specs.Rounds.{AreFresh, AreOfTheSame};
+ghost use Rattle.link_menu.specs.Shown.{HasSeenAll, HasSeenSome};
+
+use crate::begun::Begun;
+use crate::fate::Fate;
+use crate::turns::turn_all;
+use crate::watch::Watch;
+use machine_laws::{run_ends_once, states_after_steps_are_decided};
+use runs::Run;
+use std::alloc::{AllocError, Global};
+use target_vars::Env;
+use verifier::Verified;
+
+/// In one turn of all, each run carries out at most so many steps.
+pub(crate) const TURN: u64 = 64;
+
+/// Runs each code on its environment, all side by side, until each has ended, and answers their fates in order. What is
+/// over budget is not run. After each turn of all, of up to 64 steps of each run, the runs are shown to the watch; where
+/// there is no run, nothing is shown.
+///
+/// `AllocError` where a growth was refused; the watch then has seen what was shown until then.
+pub fn round<W: Watch>(
+    alloc: Global,
+    codes: &[&Verified],
+    envs: &[Env],
+    watch: &mut W,
+) -> Result<Vec<Fate>, AllocError>
+    requires { length codes.now ≡ length envs.now }
+    ensures fates { IfOk result (λ fates. map said fates.items ≡ map fate_of (zip (map (λ code. code.now) codes.now) envs.now)) }
+    ensures shown { OnOk result (HasSeenAll (runs_of (zip (map (λ code. code.now) codes.now) envs.now)) (W.lists watch.old) (W.lists watch.new)) }
+    ensures err { OnErr result (HasSeenSome (runs_of (zip (map (λ code. code.now) codes.now) envs.now)) (W.lists watch.old) (W.lists watch.new)) }
+    ensures turn { TURN ≡ 64 }
+    ensures limit { MAX_LINK_BYTES ≡ 1048576 }
+{
+    let mut begun = Begun::begin_all(alloc, codes, envs)?;
+    turn_until_ended(begun.runs.as_mut_slice(), watch)?;
+    begun.finish_all(alloc)
+}
+
+/// Carries all runs on, turn by turn of all, until each has ended, and shows them to the watch after each turn. It
+/// takes no memory, but what the watch takes. Where there is no run, nothing is shown.
+///
+/// `AllocError` where the watch was refused memory; the runs then stand where they last were.
+pub(crate) fn turn_until_ended<W: Watch>(runs: &mut [Run], watch: &mut W) -> Result<(), AllocError>
+    requires { AreFresh runs.old }
+    ensures same { AreOfTheSame runs.old runs.new }
+    ensures ok { OnOk result (HasSeenAll runs.old (W.lists watch.old) (W.lists watch.new)) }
+    ensures err { OnErr result (HasSeenSome runs.old (W.lists watch.old) (W.lists watch.new)) }
+{
+    states_after_steps_are_decided();
+    run_ends_once();
+    let mut live = runs.len();
+    while live > 0 {
+        live = turn_all(runs, TURN);
+        watch.seen(runs)?;
+    }
+    Ok(())
+}
