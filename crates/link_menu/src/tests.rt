@@ -3,6 +3,7 @@ ghost use Rattle.std.specs.Prelude.{◌≡◌, IfOk, length};
 use crate::{Blind, Fate, Shown, Watch, play, round, turn_all};
 use runs::{Run, prepare};
 use std::alloc::{AllocError, Global};
+use std::process::Abort;
 use std::test::Fail;
 use target_vars::Env;
 use verifier::{Verified, load};
@@ -91,32 +92,51 @@ fn said(alloc: Global, fate: &Fate) -> Result<String, AllocError> {
     }
 }
 
-/// Two runs, and between them a text that may be written with more bytes than is allowed.
-#[test]
-fn round_of_all(rt: HostRuntime) -> Result<(), Fail> {
-    let given = set_up(rt.alloc(), &["red", "green", "blue"])?;
-    let mut letters = String::new(rt.alloc());
+/// A text `x` that may be written with more bytes than is allowed.
+fn long(alloc: Global) -> Result<Env, Fail> {
+    let mut letters = String::new(alloc);
     for _ in 0..400_000 {
         letters.push_str("a")?;
     }
-    let mut long = Env::new(rt.alloc());
-    long.put_text("x", letters.as_str())?;
-    let Given {
-        list_code,
-        members,
-        text_code,
-        text,
-    } = given;
-    let codes = [&list_code, &text_code, &text_code];
-    let envs = [members, long, text];
-    let mut shown = Shown::new(rt.alloc());
-    let fates = round(rt.alloc(), &codes, &envs, &mut shown)?;
-    let wanted = ["link red,green,blue", "over budget 1200000", "link a"];
+    let mut env = Env::new(alloc);
+    env.put_text("x", letters.as_str())?;
+    Ok(env)
+}
+
+/// The members, the long text and the text.
+fn environments(alloc: Global) -> Result<Vec<Env>, Fail>
+    ensures { IfOk result (λ envs. length envs.items ≡ 3) }
+{
+    let given = set_up(alloc, &["red", "green", "blue"])?;
+    let mut envs = Vec::new(alloc);
+    envs.push(given.members)?;
+    envs.push(long(alloc)?)?;
+    envs.push(given.text)?;
+    Ok(envs)
+}
+
+fn are_said<R: Abort + AllocGlobal>(rt: &R, fates: &[Fate], wanted: &[&str]) -> Result<(), Fail> {
     assert_eq!(rt; fates.len(), wanted.len());
     for (fate, wanted) in fates.iter().zip(wanted.iter()) {
         let fate = said(rt.alloc(), fate)?;
         assert_eq!(rt; fate.as_str(), *wanted);
     }
+    Ok(())
+}
+
+/// Two runs, and between them what is over budget.
+#[test]
+fn round_of_all(rt: HostRuntime) -> Result<(), Fail> {
+    let given = set_up(rt.alloc(), &[])?;
+    let envs = environments(rt.alloc())?;
+    let codes = [&given.list_code, &given.text_code, &given.text_code];
+    let mut shown = Shown::new(rt.alloc());
+    let fates = round(rt.alloc(), &codes, &envs, &mut shown)?;
+    are_said(
+        &rt,
+        &fates,
+        &["link red,green,blue", "over budget 1200000", "link a"],
+    )?;
     assert_eq!(rt; shown.lists().len(), 1);
     for list in shown.lists() {
         assert_eq!(rt; list.as_slice(), [12, 4].as_slice());
