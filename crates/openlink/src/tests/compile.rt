@@ -9,8 +9,14 @@ fn compiles_rules(rt: HostRuntime) -> Result<(), Fail> {
     let cases = [
         done(&["compile", "issn.rules", "issn.olk"], "127 bytes\n"),
         done(&["upgrade", "issn.olk", "issn2.olk"], "127 bytes\n"),
-        done(&["run", "issn.olk", "rft.issn=1234-5678"], "http://e.org/1234-5678\n"),
-        done(&["run", "issn2.olk", "rft.issn=1234-5678"], "http://e.org/1234-5678\n"),
+        done(
+            &["run", "issn.olk", "rft.issn=1234-5678"],
+            "http://e.org/1234-5678\n",
+        ),
+        done(
+            &["run", "issn2.olk", "rft.issn=1234-5678"],
+            "http://e.org/1234-5678\n",
+        ),
     ];
     run_cases(&rt, &cases)?;
     let old = fs::read(&rt, "issn.olk")?;
@@ -42,7 +48,10 @@ fn does_not_compile(rt: HostRuntime) -> Result<(), Fail> {
         let line = format!(in rt.alloc(); "openlink: {fault}\n")?;
         run_words(&rt, &["compile", rules, code], status, "", line.as_str())?;
     }
-    run_cases(&rt, &[ends(&["compile", "good.rules"], 2, "openlink: usage\n")])?;
+    run_cases(
+        &rt,
+        &[ends(&["compile", "good.rules"], 2, "openlink: usage\n")],
+    )?;
     assert!(rt; !fs::exists(&rt, "code")?);
     for path in ["long.rules", "bad.rules", "good.rules"] {
         fs::remove_file(&rt, path)?;
