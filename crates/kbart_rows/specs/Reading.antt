@@ -1,7 +1,10 @@
 -- What the bytes of a table are read as, and why they are refused.
-use Rattle.std.specs.Prelude.{◌≡◌, ◌+◌, ◌≤◌, ◌<◌, List, [], ◌∷◌, ◌++◌, length, All, None, true, false, IsUtf8, ⊤}
+use Rattle.std.specs.Prelude.{◌≡◌, ℕ, ◌+◌, ◌≤◌, ◌<◌, List, [], ◌∷◌, ◌++◌, length, All, Some, None, true, false, IsUtf8, ⊤}
 use Rattle.text_model.specs.Texts.{Text}
-use Rattle.csv.specs.Reading.{strip_bom, AreRecords, Reached}
+use Rattle.std.specs.Borrow.{Bor}
+use Rattle.csv.specs.Reading.{strip_bom, source_of, AreRecords, Reached, Ready}
+use Rattle.csv.specs.declared.reader.Reader.{Reader}
+use Rattle.csv.specs.declared.reader.Trim.TheVariants as trim
 use Rattle.csv.specs.declared.parser.Config.{Config}
 use Rattle.csv.specs.declared.parser.State.{State}
 use Rattle.csv.specs.declared.parser.State.TheVariants as state
@@ -24,6 +27,15 @@ pub record AreFirstLines (bytes : Text) (lines : List Row) : Type 0 where
   pub after : State
   pub rest : Text
   pub reached : Reached tab_separated state.StartRecord (strip_bom bytes) lines after rest
+
+-- it reads these bytes, of which it took none yet, as a tab separated table
+pub record IsFreshReader (bytes : List ℕ) (reader : Reader (Bor (List ℕ))) : Type 0 where
+  pub config : reader.config ≡ tab_separated
+  pub trim : reader.trim ≡ trim.None
+  pub flexible : reader.flexible ≡ true
+  pub ready : Ready reader
+  pub state : reader.state ≡ state.StartRecord
+  pub source : source_of (λ (rest : Bor (List ℕ)). Some rest.now) reader ≡ Some (strip_bom bytes)
 
 -- no line is too long
 abbrev pub AllFit : List Row → Type 0

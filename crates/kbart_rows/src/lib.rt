@@ -30,5 +30,5 @@ mod tests;
 pub use error::TableError;
 pub use ids::Ids;
 pub use keys::Keys;
-pub use read::{MAX_ROW_BYTES, MAX_ROWS, MAX_TABLE_BYTES};
+pub use read::{MAX_ROW_BYTES, MAX_ROWS, MAX_TABLE_BYTES, tab_separated_reader};
 pub use table::Table;

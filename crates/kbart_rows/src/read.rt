@@ -2,8 +2,8 @@ ghost use Rattle.std.specs.Prelude.{◌≡◌, ◌≤◌, ◌<◌, ◌+◌, ◌+
 ghost use Rattle.csv.specs.Records.{fields_of};
 ghost use Rattle.kbart_rows.specs.Cells.{row_bytes};
 ghost use Rattle.kbart_rows.specs.Inner.Line.{HasNoTab};
-ghost use Rattle.kbart_rows.specs.Inner.Kept.{IsFreshReader, IsRefusedLine};
-ghost use Rattle.kbart_rows.specs.Reading.{AreLines, AllFit, IsFault, IsLineFault, IsText};
+ghost use Rattle.kbart_rows.specs.Inner.Kept.{IsRefusedLine};
+ghost use Rattle.kbart_rows.specs.Reading.{AreLines, AllFit, IsFault, IsFreshReader, IsLineFault, IsText};
 
 use crate::cells::write_line;
 use crate::error::TableError;
@@ -45,7 +45,7 @@ pub(crate) fn read_lines(alloc: Global, bytes: &[u8]) -> Result<Records, TableEr
 {
     let mut lines = Records::new(alloc);
     let mut line = String::new(alloc);
-    for record in reader(alloc, bytes).into_records() {
+    for record in tab_separated_reader(alloc, bytes).into_records() {
         let Ok(cells) = record else {
             return Err(TableError::NoMemory);
         };
@@ -57,9 +57,10 @@ pub(crate) fn read_lines(alloc: Global, bytes: &[u8]) -> Result<Records, TableEr
     Ok(lines)
 }
 
-/// The records of a tab separated table.
-fn reader(alloc: Global, bytes: &[u8]) -> Reader<&[u8]>
-    ensures fresh { IsFreshReader bytes.now result }
+/// A reader of the records of a tab separated text, as a table is read: a line ends with LF, CR LF or CR, blank lines
+/// are none, nothing quotes, and one byte order mark in front is dropped.
+pub fn tab_separated_reader(alloc: Global, bytes: &[u8]) -> Reader<&[u8]>
+    ensures { IsFreshReader bytes.now result }
 {
     ReaderBuilder::new()
         .delimiter(b'\t')

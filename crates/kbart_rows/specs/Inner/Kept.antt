@@ -1,14 +1,9 @@
 -- What a table keeps, and how it is read and found.
 use Rattle.std.specs.Prelude.{◌≡◌, ℕ, ◌↔◌, ◌==◌, if◌then◌else◌, ◌+◌, ◌≤◌, ◌<◌, List, [], filter, min, drop, length, get_or, String, Vec, Bool, true, false, Option, None, Some}
-use Rattle.std.specs.Borrow.{Bor}
 use Rattle.std.specs.HashMap.{HashMap, get_by_text}
 use Rattle.std.specs.List.{range_with_len}
 use Rattle.std.specs.Option.{option_map_or}
 use Rattle.std.specs.Str.{bytes_eq}
-use Rattle.csv.specs.Reading.{Ready, source_of, strip_bom}
-use Rattle.csv.specs.declared.reader.Reader.{Reader}
-use Rattle.csv.specs.declared.reader.Trim.TheVariants as trim
-use Rattle.csv.specs.declared.parser.State.TheVariants as state
 use Rattle.text_model.specs.Texts.{Text}
 use Rattle.environment_model.specs.Environment.{Environment, is_there, byte_count}
 use Rattle.target_vars.specs.declared.env.TheConstants.{MAX_BYTES}
@@ -16,21 +11,12 @@ use Rattle.target_vars.specs.declared.error.VarsError.{VarsError}
 use Rattle.target_vars.specs.declared.error.VarsError.TheVariants as vars_error
 use Rattle.kbart_rows.specs.Cells.{Row, Holdings, NamedCell, name_cell, column_of, row_bytes}
 use Rattle.kbart_rows.specs.Identifiers.{has_identifier, identifier_columns}
-use Rattle.kbart_rows.specs.Reading.{tab_separated, AllFit}
+use Rattle.kbart_rows.specs.Reading.{AllFit}
 use Rattle.kbart_rows.specs.declared.error.TableError.{TableError}
 use Rattle.kbart_rows.specs.declared.error.TableError.TheVariants.{TooLong, NotUtf8, NoHeader, TooManyRows, RowTooLong, NoMemory}
 use Rattle.kbart_rows.specs.declared.read.TheConstants.{MAX_ROWS, MAX_ROW_BYTES}
 
 -- ---- reading
-
--- it reads these bytes, of which it took none yet, as a tab separated table
-pub record IsFreshReader (bytes : List ℕ) (reader : Reader (Bor (List ℕ))) : Type 0 where
-  pub config : reader.config ≡ tab_separated
-  pub trim : reader.trim ≡ trim.None
-  pub flexible : reader.flexible ≡ true
-  pub ready : Ready reader
-  pub state : reader.state ≡ state.StartRecord
-  pub source : source_of (λ (rest : Bor (List ℕ)). Some rest.now) reader ≡ Some (strip_bom bytes)
 
 -- why a line is not added behind so many others
 abbrev pub IsRefusedLine : ℕ → Row → TableError → Type 0

@@ -14,7 +14,7 @@ loop-record-init c =
     let start = c.into_iter-record-iterator.ensures.into_iter_gives ∙ refl in
     let rdr = c.into_records-record-items.ensures.rdr in
     let left = c.into_records-record-items.ensures.left in
-    rw (start, rdr, c.new-lines.ensures) (reading_starts _ _ c.reader.ensures.fresh, left, search rules, omega arith)
+    rw (start, rdr, c.new-lines.ensures) (reading_starts _ _ c.tab_separated_reader.ensures, left, search rules, omega arith)
 
 pub add_line-requires : goal.add_line-requires
 add_line-requires c =
