@@ -1,0 +1,62 @@
+//! Why a registry file gives no registry.
+
+use kbart_rows::TableError;
+use registry::AddErrorKind;
+use std::alloc::AllocError;
+use thiserror::Error;
+use verifier::LoadError;
+
+/// Why a registry file gives no registry: its first fault.
+#[derive(Debug, PartialEq, Eq, Drop, Error)]
+pub enum RegistryError {
+    /// The file failed, or the system had no random keys for the tables.
+    #[error("device")]
+    Device,
+    /// The line, counted from 1 without blank ones, has not three cells of UTF-8. Line 0: the file has more than
+    /// [`MAX_REGISTRY_BYTES`](crate::MAX_REGISTRY_BYTES).
+    #[error("line {0}")]
+    Line(usize),
+    /// A target is refused.
+    #[error("target {0}")]
+    Target(TargetError),
+    /// A growth was refused.
+    #[error("NoMemory")]
+    NoMemory,
+}
+
+/// A target that is refused.
+#[derive(Debug, PartialEq, Eq, Drop, Error)]
+#[error("{name}: {fault}")]
+pub struct TargetError {
+    /// Its name, as the registry file has it.
+    pub name: String,
+    pub fault: TargetFault,
+}
+
+/// Why a target is refused, in the order in which it is decided: its code, its table, its name.
+#[derive(Debug, PartialEq, Eq, Drop, Error)]
+pub enum TargetFault {
+    /// The file at the path failed.
+    #[error("device: {0}")]
+    Device(String),
+    /// The code is not accepted.
+    #[error("load: {0}")]
+    Load(LoadError),
+    /// The table is none.
+    #[error("table: {0}")]
+    Table(TableError),
+    /// There are too many targets, or the name is not one that the target can have.
+    #[error("{0}")]
+    Add(AddErrorKind),
+}
+
+impl From<AllocError> for RegistryError {
+    ghost use Rattle.registry_file.specs.declared.error.RegistryError.TheVariants.{NoMemory};
+    ghost use Rattle.std.specs.Prelude.{◌≡◌};
+
+    ghost from_gives = { λ _ e. e ≡ NoMemory };
+
+    fn from(_e: AllocError) -> RegistryError {
+        RegistryError::NoMemory
+    }
+}

@@ -1,0 +1,146 @@
+//! What no contract says: files of the system, and examples from outside.
+
+use crate::{RegistryError, load_registry, read_registry};
+use kbart_rows::Keys;
+use registry::Registry;
+use std::alloc::AllocError;
+use std::fs;
+use std::io::{self, Error, ErrorKind};
+use std::process::Abort;
+use std::random::RandomSource;
+use std::rt::Files;
+use std::test::Fail;
+
+/// FAIL, and nothing else.
+const FAIL_CODE: &[u8] = b"OLK1\x00\x00\x00\x00\x00\x01\x02\x00\x00\x00\x00\x00\x00\x00";
+
+/// A header and one row.
+const TABLE: &[u8] = b"title_url\nhttp://e.org/a\n";
+
+/// Registry files, and the first fault of each, where it has one. `code.olk` and `table.txt` are there.
+const CASES: [(&[u8], &str); 15] = [
+    (b"", ""),
+    (b"\n\r\n", ""),
+    (b"alpha\tcode.olk\ttable.txt\n", ""),
+    (b"\xef\xbb\xbfalpha\tcode.olk\ttable.txt", ""),
+    (
+        b"a\tcode.olk\ttable.txt\r\n\r\nb\tcode.olk\ttable.txt\r\n",
+        "",
+    ),
+    (b"alpha\tcode.olk\n", "line 1"),
+    (b"alpha\tcode.olk\ttable.txt\t\n", "line 1"),
+    (b"alpha\tcode.olk\ttable.txt\n\nbeta\n", "line 2"),
+    (b"alph\xff\tcode.olk\ttable.txt\n", "line 1"),
+    // The fault of a target on an earlier line comes first.
+    (
+        b"a b\tcode.olk\ttable.txt\nbeta\n",
+        "target a b: BadTargetName",
+    ),
+    (
+        b"alpha\tcode.olk\ttable.txt\nalpha\tcode.olk\ttable.txt\n",
+        "target alpha: BadTargetName",
+    ),
+    (
+        b"alpha\ttable.txt\tcode.olk\n",
+        "target alpha: load: BadMagic at 0",
+    ),
+    (
+        b"alpha\tnone.olk\ttable.txt\n",
+        "target alpha: device: none.olk",
+    ),
+    (
+        b"alpha\tcode.olk\tnone.txt\n",
+        "target alpha: device: none.txt",
+    ),
+    (
+        b"alpha\tcode.olk\tempty.txt\n",
+        "target alpha: table: NoHeader",
+    ),
+];
+
+fn make_files<R: Files>(rt: &R) -> io::Result<()> {
+    fs::write(rt, "code.olk", FAIL_CODE)?;
+    fs::write(rt, "table.txt", TABLE)?;
+    fs::write(rt, "empty.txt", b"")
+}
+
+fn remove_files<R: Files>(rt: &R) -> io::Result<()> {
+    fs::remove_file(rt, "code.olk")?;
+    fs::remove_file(rt, "table.txt")?;
+    fs::remove_file(rt, "empty.txt")
+}
+
+/// Compares the fault, as it is printed, with the one that is wanted; none is the empty text.
+fn compare<R: Abort + AllocGlobal>(
+    rt: &R,
+    read: Result<Registry, RegistryError>,
+    wanted: &str,
+) -> Result<(), Fail> {
+    match read {
+        Ok(_) => assert!(rt; wanted.is_empty(), "{wanted}"),
+        Err(RegistryError::NoMemory) => return Err(AllocError.into()),
+        Err(e) => {
+            let printed = format!(in rt.alloc(); "{e}")?;
+            assert_eq!(rt; printed.as_str(), wanted);
+        }
+    }
+    Ok(())
+}
+
+#[test]
+fn names_the_first_fault(rt: HostRuntime) -> Result<(), Fail> {
+    make_files(&rt)?;
+    for (bytes, wanted) in CASES {
+        compare(&rt, read_registry(&rt, bytes, Keys::new(1, 2)), wanted)?;
+        fs::write(&rt, "registry.txt", bytes)?;
+        compare(&rt, load_registry(&rt, "registry.txt"), wanted)?;
+    }
+    fs::remove_file(&rt, "registry.txt")?;
+    remove_files(&rt)?;
+    Ok(())
+}
+
+#[test]
+fn counts_the_bytes_of_the_file(rt: HostRuntime) -> Result<(), Fail> {
+    let mut blank = vec![in rt.alloc(); b'\n'; 65_536]?;
+    compare(&rt, read_registry(&rt, &blank, Keys::new(1, 2)), "")?;
+    blank.push(b'\n')?;
+    compare(&rt, read_registry(&rt, &blank, Keys::new(1, 2)), "line 0")?;
+    fs::write(&rt, "blank.txt", &blank)?;
+    compare(&rt, load_registry(&rt, "blank.txt"), "line 0")?;
+    fs::remove_file(&rt, "blank.txt")?;
+    Ok(())
+}
+
+#[test]
+fn keeps_the_order_of_the_file(rt: HostRuntime) -> Result<(), Fail> {
+    make_files(&rt)?;
+    let bytes = b"b\tcode.olk\ttable.txt\na\tcode.olk\ttable.txt\n";
+    let Ok(registry) = read_registry(&rt, bytes, Keys::new(1, 2)) else {
+        return Err(AllocError.into());
+    };
+    let [first, second] = registry.targets() else {
+        return Ok(assert!(&rt; false));
+    };
+    assert_eq!(rt; (first.name(), second.name()), ("b", "a"));
+    assert_eq!(rt; (first.code().code().len(), second.table().rows()), (1, 1));
+    remove_files(&rt)?;
+    Ok(())
+}
+
+/// A system that has files, and no random numbers.
+#[derive(Drop)]
+struct NoNumbers;
+
+impl RandomSource for NoNumbers {
+    fn fill_bytes(&self, _buf: &mut [u8]) -> io::Result<()> {
+        Err(Error::from(ErrorKind::NotFound))
+    }
+}
+
+#[test]
+fn wants_the_file_and_random_keys(rt: HostRuntime) -> Result<(), Fail> {
+    compare(&rt, load_registry(&rt, "none.txt"), "device")?;
+    assert!(&rt; crate::load::random_keys(&NoNumbers).is_err());
+    Ok(())
+}
