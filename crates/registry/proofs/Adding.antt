@@ -7,6 +7,7 @@ use Rattle.std.proofs.lemmas.List.Folds.{list_any_at}
 use Rattle.std.proofs.lemmas.List.Quantifiers.{all_pairs_push}
 use Rattle.std.proofs.lemmas.Slice.Eq.{bytes_eq-Decides}
 use Rattle.std.specs.Str.{bytes_eq}
+use Rattle.machine_model.specs.Safe.{IsSafe}
 use Rattle.menu.specs.Contained.{IsTargetName}
 use Rattle.registry.specs.Targets.{TargetValue, IsRegistry, has_name}
 use Rattle.registry.specs.Refusals.{MayBeAdded}
@@ -18,19 +19,20 @@ others_differ targets target new k d within same =
     let found = list_any_at (λ other. bytes_eq other.name target.name) targets k d within ((bytes_eq-Decides (get_or targets k d).name target.name).1 same) in
     false≢true (sym new ∙ found)
 
-with_one_more : (targets : List TargetValue) (target : TargetValue) → IsRegistry targets → MayBeAdded targets target.name → IsRegistry (targets ++ target ∷ [])
-with_one_more targets target known may =
+with_one_more : (targets : List TargetValue) (target : TargetValue) → IsRegistry targets → IsSafe target.code → MayBeAdded targets target.name → IsRegistry (targets ++ target ∷ [])
+with_one_more targets target known safe may =
     let room = may.0 in
     let free = may.1 in
     let long = length_push targets target in
     record {
       few = omega (arith, room, long);
       named = All-push (λ other. IsTargetName other.name) targets target known.named free.is_name;
+      safe = All-push (λ other. IsSafe other.code) targets target known.safe safe;
       once = all_pairs_push (λ a b. a.name ≢ b.name) targets target known.once (others_differ targets target free.is_new);
     }
 
 -- a registry after a target came, or did not
-pub after_adding : (targets : List TargetValue) (target : TargetValue) (came : Bool) (now : List TargetValue) → IsRegistry targets → MayBeAdded targets target.name
+pub after_adding : (targets : List TargetValue) (target : TargetValue) (came : Bool) (now : List TargetValue) → IsRegistry targets → IsSafe target.code → MayBeAdded targets target.name
     → now ≡ (if came then targets ++ target ∷ [] else targets) → IsRegistry now
-after_adding targets target true now known may is = subst IsRegistry (sym is) (with_one_more targets target known may)
-after_adding targets target false now known may is = subst IsRegistry (sym is) known
+after_adding targets target true now known safe may is = subst IsRegistry (sym is) (with_one_more targets target known safe may)
+after_adding targets target false now known safe may is = subst IsRegistry (sym is) known

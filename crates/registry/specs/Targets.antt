@@ -4,6 +4,7 @@ use Rattle.std.specs.List.{AllPairs, list_any}
 use Rattle.std.specs.Str.{bytes_eq}
 use Rattle.text_model.specs.Texts.{Text}
 use Rattle.code_model.specs.Code.{Code}
+use Rattle.machine_model.specs.Safe.{IsSafe}
 use Rattle.kbart_rows.specs.Cells.{Holdings}
 use Rattle.menu.specs.Contained.{IsTargetName}
 use Rattle.registry.specs.declared.registry.TheConstants.{MAX_TARGETS}
@@ -18,10 +19,11 @@ pub record TargetValue : Type 0 where
 abbrev pub has_name : List TargetValue → Text → Bool
 has_name targets name = list_any (λ target. bytes_eq target.name name) targets
 
--- not too many, each with a name of a target, and no two with one name
+-- not too many, each with a name of a target and safe code, and no two with one name
 pub record IsRegistry (targets : List TargetValue) : Type 0 where
   pub few : length targets ≤ MAX_TARGETS
   pub named : All (λ target. IsTargetName target.name) targets
+  pub safe : All (λ target. IsSafe target.code) targets
   pub once : AllPairs (λ a b. a.name ≢ b.name) targets
 
 -- one more target may have the name

@@ -9,9 +9,10 @@ ghost use Rattle.kbart_rows.specs.Identifiers.{first_from};
 ghost use Rattle.menu.specs.Links.{is_link};
 ghost use Rattle.menu.specs.declared.entry.Reason.{Reason};
 ghost use Rattle.menu.specs.declared.entry.Reason.TheVariants.{NoRow};
-ghost use Rattle.registry.specs.Targets.{TargetValue};
+ghost use Rattle.registry.specs.Targets.{TargetValue, IsRegistry};
 ghost use Rattle.registry.specs.Fates.{OverBudget, ended, fate_in, most_bytes_in};
-ghost use Rattle.registry.specs.Entries.{matching_rows_of, reason_from, reason_of, reason_of_row};
+ghost use Rattle.registry.specs.Entries.{matching_rows_of, menu_of, reason_from, reason_of, reason_of_row};
+ghost use Rattle.registry.specs.MenuLinks.{IsSoundMenu};
 
 use machine_laws::course_is_decided;
 use runs::MAX_LINK_BYTES;
@@ -37,6 +38,14 @@ pub fn fates_are_decided()
     ensures over { (code : Code) (env : Environment) → MAX_LINK_BYTES < most_bytes_in code env → fate_in code env ≡ OverBudget (most_bytes_in code env) }
     ensures ran { (code : Code) (env : Environment) (outcome : Outcome) →
         most_bytes_in code env ≤ MAX_LINK_BYTES → HasOutcome code env outcome → fate_in code env ≡ ended outcome }
+{
+    course_is_decided();
+}
+
+/// A menu of a registry has the names of targets alone, and only links of the web that are URI text, whatever is asked:
+/// so what the laws of [`menu`] say of such names and links holds of all of its entries.
+pub fn menus_are_sound()
+    ensures { (targets : List TargetValue) (pairs : List KeyValue) → IsRegistry targets → IsSoundMenu (menu_of targets pairs) }
 {
     course_is_decided();
 }

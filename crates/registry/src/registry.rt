@@ -16,7 +16,7 @@ use verifier::Verified;
 /// A registry has at most so many targets.
 pub const MAX_TARGETS: usize = 256;
 
-/// Targets in the order in which they were added; no two have one name.
+/// Targets in the order in which they were added; no two have one name. Each has safe code.
 #[derive(Drop)]
 pub struct Registry {
     targets: Vec<Target>,
@@ -62,6 +62,7 @@ impl Registry {
         ensures refused { IfErr result (λ e. IsRefusal self.old (string_bytes name) e.kind) }
         ensures parts { IfErr result (λ e. (string_bytes e.name ≡ string_bytes name) × (e.code ≡ code) × (e.table ≡ table)) }
     {
+        let _accepted = code.code();
         let target = Target::new(name, code, table);
         if let Some(kind) = self.refusal(target.name()) {
             return Err(AddError::new(kind, target));

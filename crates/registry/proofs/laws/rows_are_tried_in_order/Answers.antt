@@ -1,4 +1,4 @@
-use Rattle.std.proofs.Common.{ℕ, ◌+◌, List, [], length, filter, map, get_or, ap, sym, ◌∙◌, nat_le}
+use Rattle.std.proofs.Common.{◌+◌, List, [], length, filter, map, get_or, ap, sym, ◌∙◌, nat_le}
 use Rattle.kev_read.specs.Pairs.{KeyValue}
 use Rattle.kbart_rows.specs.Identifiers.{identifier_columns, ids_of, is_match}
 use Rattle.menu.specs.declared.entry.Reason.TheVariants.{NoRow}

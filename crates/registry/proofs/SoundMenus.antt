@@ -1,0 +1,122 @@
+-- Menus of targets with names and safe code.
+use Rattle.std.proofs.Common.{◌≡◌, ℕ, Bool, true, false, cond, List, [], ◌∷◌, All, Option, Some, None, map, get_or, refl, nat_lt, if◌then◌else◌}
+use Rattle.std.specs.Prelude.{◌↔◌, find}
+use Rattle.std.specs.List.{cons_option}
+use Rattle.std.specs.Option.{unwrap_or}
+use Rattle.std.proofs.lemmas.List.Elements.{All-cons, All-head, All-map, All-nil, All-tail}
+use Rattle.text_model.specs.Texts.{Text}
+use Rattle.text_model.specs.UriText.{IsUriText}
+use Rattle.environment_model.specs.Environment.{Environment}
+use Rattle.code_model.specs.Code.{Code}
+use Rattle.machine_model.specs.Runs.{HasOutcome, Outcome}
+use Rattle.machine_model.specs.Runs as outcome
+use Rattle.machine_model.specs.States as state
+use Rattle.machine_model.specs.Next.{outcome_of}
+use Rattle.machine_model.specs.Safe.{IsSafe}
+use Rattle.kev_read.specs.Pairs.{KeyValue}
+use Rattle.runs.specs.declared.run.TheConstants.{MAX_LINK_BYTES}
+use Rattle.menu.specs.Contained.{IsTargetName}
+use Rattle.menu.specs.Links.{NamedLink, is_link, link_under, links}
+use Rattle.menu.specs.WebLink.{is_web_link}
+use Rattle.menu.specs.declared.entry.Reason.{Reason}
+use Rattle.menu.specs.declared.entry.Reason.TheVariants as reason
+use Rattle.registry.specs.Targets.{TargetValue, IsRegistry}
+use Rattle.registry.specs.RowEnvironments.{row_environment}
+use Rattle.registry.specs.Fates.{Fate, OverBudget, Link, NoLink, ended, fate_in, most_bytes_in}
+use Rattle.registry.specs.Entries.{chosen, entry_of, last_reason, matching_rows_of, menu_of, reason_by, reason_of, reason_of_row}
+use Rattle.registry.specs.MenuLinks.{IsMenuLink, IsSoundMenu}
+
+-- what the machine comes to is computed
+abbrev pub OutcomesAreDecided : Type 0
+OutcomesAreDecided = (c : Code) (v : Environment) (o : Outcome) → HasOutcome c v o ↔ (outcome_of c v ≡ o)
+
+-- ---- fates
+
+-- a link is URI text
+abbrev IsUriFate : Fate → Type 0
+IsUriFate (OverBudget bytes) = Unit {0}
+IsUriFate (Link link) = IsUriText link
+IsUriFate NoLink = Unit {0}
+
+uri_fate : OutcomesAreDecided → (code : Code) (env : Environment) → IsSafe code → IsUriFate (fate_in code env)
+unfolding fate_in
+uri_fate decided code env safe = by_test (nat_lt MAX_LINK_BYTES (most_bytes_in code env))
+  where
+    by_outcome : (o : Outcome) → outcome_of code env ≡ o → IsUriFate (ended o)
+    by_outcome (outcome.Link link) is =
+        let reached = (decided code env (outcome.Link link)).1 is in
+        safe.uri env reached.0 (state.Ended (state.Link link)) reached.1
+    by_outcome outcome.NoLink is = tt
+    by_outcome (outcome.Stuck place) is = tt
+
+    by_test : (b : Bool) → IsUriFate (if b then OverBudget (most_bytes_in code env) else ended (outcome_of code env))
+    by_test true = tt
+    by_test false = by_outcome (outcome_of code env) refl
+
+-- ---- reasons
+
+-- a link is of the web, and URI text
+abbrev IsSoundReason : Reason → Type 0
+IsSoundReason (reason.Link row link) = (is_web_link link ≡ true) × IsUriText link
+IsSoundReason reason.NoRow = Unit {0}
+IsSoundReason reason.NoLink = Unit {0}
+IsSoundReason reason.NotAWebLink = Unit {0}
+IsSoundReason (reason.OverBudget bytes) = Unit {0}
+
+sound_reason_by : (row : ℕ) (fate : Fate) → IsUriFate fate → IsSoundReason (reason_by row fate)
+sound_reason_by row (OverBudget bytes) uri = tt
+sound_reason_by row NoLink uri = tt
+sound_reason_by row (Link link) uri = by_test (is_web_link link) refl
+  where
+    by_test : (b : Bool) → is_web_link link ≡ b → IsSoundReason (if b then reason.Link row link else reason.NotAWebLink)
+    by_test true is = (is, uri)
+    by_test false is = tt
+
+sound_last : (before : Reason) (reasons : List Reason) → IsSoundReason before → All IsSoundReason reasons → IsSoundReason (last_reason before reasons)
+sound_last before [] sound all = sound
+sound_last before (next ∷ reasons) sound all = sound_last next reasons (All-head IsSoundReason next reasons all) (All-tail IsSoundReason next reasons all)
+
+sound_choice : (other : Reason) (reasons : List Reason) → IsSoundReason other → All IsSoundReason reasons → IsSoundReason (unwrap_or (find is_link reasons) other)
+sound_choice other [] sound all = sound
+sound_choice other (next ∷ reasons) sound all =
+    by_test (is_link next) (sound_choice other reasons sound (All-tail IsSoundReason next reasons all))
+  where
+    by_test : (b : Bool) → IsSoundReason (unwrap_or (find is_link reasons) other) → IsSoundReason (unwrap_or (cond b (Some next) (find is_link reasons)) other)
+    by_test true rest = All-head IsSoundReason next reasons all
+    by_test false rest = rest
+
+sound_reason : OutcomesAreDecided → (target : TargetValue) (pairs : List KeyValue) → IsSafe target.code → IsSoundReason (reason_of target pairs)
+sound_reason decided target pairs safe =
+    let rows = matching_rows_of target pairs in
+    let each : All IsSoundReason (map (reason_of_row target pairs) rows) =
+    All-map IsSoundReason (reason_of_row target pairs) rows (λ k d within. all_rows (get_or rows k d)) in
+    sound_choice (last_reason reason.NoRow (map (reason_of_row target pairs) rows)) (map (reason_of_row target pairs) rows) (sound_last reason.NoRow (map (reason_of_row target pairs) rows) tt each) each
+  where
+    all_rows : (row : ℕ) → IsSoundReason (reason_of_row target pairs row)
+    all_rows row = sound_reason_by row (fate_in target.code (row_environment target pairs row)) (uri_fate decided target.code (row_environment target pairs row) safe)
+
+-- ---- menus
+
+one_more_link : (name : Text) (why : Reason) (others : List NamedLink) → IsTargetName name → IsSoundReason why → All IsMenuLink others → All IsMenuLink (cons_option (link_under name why) others)
+one_more_link name (reason.Link row link) others named sound all =
+    All-cons IsMenuLink (record { name = name; link = link }) others (record { name = named; web = sound.0; uri = sound.1 }) all
+one_more_link name reason.NoRow others named sound all = all
+one_more_link name reason.NoLink others named sound all = all
+one_more_link name reason.NotAWebLink others named sound all = all
+one_more_link name (reason.OverBudget bytes) others named sound all = all
+
+sound_links : OutcomesAreDecided → (targets : List TargetValue) (pairs : List KeyValue) → All (λ target. IsTargetName target.name) targets → All (λ target. IsSafe target.code) targets
+    → All IsMenuLink (links (menu_of targets pairs))
+sound_links decided [] pairs named safe = All-nil IsMenuLink
+sound_links decided (target ∷ targets) pairs named safe =
+    one_more_link target.name (reason_of target pairs) (links (menu_of targets pairs))
+    (All-head (λ t. IsTargetName t.name) target targets named)
+    (sound_reason decided target pairs (All-head (λ t. IsSafe t.code) target targets safe))
+    (sound_links decided targets pairs (All-tail (λ t. IsTargetName t.name) target targets named) (All-tail (λ t. IsSafe t.code) target targets safe))
+
+pub sound_menu : OutcomesAreDecided → (targets : List TargetValue) (pairs : List KeyValue) → IsRegistry targets → IsSoundMenu (menu_of targets pairs)
+sound_menu decided targets pairs known =
+    record {
+      names = All-map (λ entry. IsTargetName entry.name) (λ target. entry_of target pairs) targets known.named;
+      links = sound_links decided targets pairs known.named known.safe;
+    }

@@ -1,0 +1,18 @@
+-- What every menu of a registry has.
+use Rattle.std.specs.Prelude.{◌≡◌, true, List, All}
+use Rattle.text_model.specs.UriText.{IsUriText}
+use Rattle.menu.specs.Contained.{IsTargetName}
+use Rattle.menu.specs.Links.{NamedLink, links}
+use Rattle.menu.specs.WebLink.{is_web_link}
+use Rattle.menu.specs.declared.entry.Entry.{Entry}
+
+-- the name of a target, and a link of the web that is URI text
+pub record IsMenuLink (l : NamedLink) : Type 0 where
+  pub name : IsTargetName l.name
+  pub web : is_web_link l.link ≡ true
+  pub uri : IsUriText l.link
+
+-- each entry has the name of a target, and each link is as said
+pub record IsSoundMenu (menu : List Entry) : Type 0 where
+  pub names : All (λ entry. IsTargetName entry.name) menu
+  pub links : All IsMenuLink (links menu)
