@@ -8,8 +8,9 @@ use Rattle.code_model.specs.Code.{Code}
 use Rattle.machine_model.specs.Runs.{Outcome}
 use Rattle.target_vars.specs.EnvValue.{EnvValue}
 use Rattle.runs.specs.RunValue.{RunValue, begun, most_bytes}
+use Rattle.registry.specs.Fates.{Fate, OverBudget, ended, fate_in}
 use Rattle.link_menu.specs.declared.fate.Fate as answer
-use Rattle.link_menu.specs.Fates.{Fate, OverBudget, ComesTo, is_over_budget, fate_of, runs_of, said}
+use Rattle.link_menu.specs.Fates.{is_over_budget, fate_of, runs_of, said}
 use Rattle.link_menu.specs.Rounds.{AreOfTheSame, same_but_steps}
 use Rattle.link_menu.specs.Private.Begun.{excess_of, fates_in, outcome_in_the_end}
 
@@ -21,11 +22,12 @@ outcomes_in_the_end runs = map outcome_in_the_end runs
 first_fate : (over : Bool) (bytes : ℕ) (run : RunValue) (over_budget : List (Option ℕ)) (runs : List RunValue) (fates : List Fate)
     → fates_in over_budget (outcomes_in_the_end runs) ≡ fates
     → fates_in ((if over then Some bytes else None) ∷ over_budget) (outcomes_in_the_end (cons_option (if over then None else Some run) runs))
-    ≡ (if over then OverBudget bytes else ComesTo (outcome_in_the_end run)) ∷ fates
+    ≡ (if over then OverBudget bytes else ended (outcome_in_the_end run)) ∷ fates
 first_fate true bytes run over_budget runs fates rest = ap (λ fs. OverBudget bytes ∷ fs) rest
-first_fate false bytes run over_budget runs fates rest = ap (λ fs. ComesTo (outcome_in_the_end run) ∷ fs) rest
+first_fate false bytes run over_budget runs fates rest = ap (λ fs. ended (outcome_in_the_end run) ∷ fs) rest
 
 pub all_fates : (pairs : List (Code × EnvValue)) → fates_in (map excess_of pairs) (outcomes_in_the_end (runs_of pairs)) ≡ map fate_of pairs
+unfolding fate_in
 all_fates [] = refl
 all_fates (p ∷ pairs) = first_fate (is_over_budget p.0 p.1) (most_bytes p.0 p.1) (begun p.0 p.1) (map excess_of pairs) (runs_of pairs) (map fate_of pairs) (all_fates pairs)
 

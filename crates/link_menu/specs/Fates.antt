@@ -1,26 +1,21 @@
 -- What becomes of codes on environments.
-use Rattle.std.specs.Prelude.{ℕ, List, Option, Some, None, Bool, nat_lt, if◌then◌else◌, string_bytes}
+use Rattle.std.specs.Prelude.{List, Option, Some, None, Bool, nat_lt, if◌then◌else◌, string_bytes}
 use Rattle.std.specs.List.{filter_map}
 use Rattle.code_model.specs.Code.{Code}
-use Rattle.machine_model.specs.Runs.{Outcome, Link, NoLink}
-use Rattle.machine_model.specs.Next.{outcome_of}
 use Rattle.target_vars.specs.EnvValue.{EnvValue}
 use Rattle.runs.specs.RunValue.{RunValue, begun, most_bytes}
 use Rattle.runs.specs.declared.run.TheConstants.{MAX_LINK_BYTES}
+use Rattle.registry.specs.Fates.{Fate, OverBudget, Link, NoLink, fate_in}
 use Rattle.link_menu.specs.declared.fate.Fate as answer
 use Rattle.link_menu.specs.declared.fate.Fate.TheVariants as variant
 
--- over budget by so many bytes, or what the machine comes to
-pub data Fate : Type 0 where
-  OverBudget : (bytes : ℕ) → Fate
-  ComesTo : (outcome : Outcome) → Fate
+-- the fate of a code on an environment
+abbrev pub fate_of : Code × EnvValue → Fate
+fate_of p = fate_in p.0 p.1.entries
 
 -- the budget of the code says that it may print more than is allowed
 abbrev pub is_over_budget : Code → EnvValue → Bool
 is_over_budget c e = nat_lt MAX_LINK_BYTES (most_bytes c e)
-
-abbrev pub fate_of : Code × EnvValue → Fate
-fate_of p = if is_over_budget p.0 p.1 then OverBudget (most_bytes p.0 p.1) else ComesTo (outcome_of p.0 p.1.entries)
 
 -- the runs that are begun: none of what is over budget
 abbrev pub run_of : Code × EnvValue → Option RunValue
@@ -32,5 +27,5 @@ runs_of pairs = filter_map run_of pairs
 -- what an answer says
 abbrev pub said : answer.Fate → Fate
 said (variant.OverBudget bytes) = OverBudget bytes
-said (variant.Link link) = ComesTo (Link (string_bytes link))
-said variant.NoLink = ComesTo NoLink
+said (variant.Link link) = Link (string_bytes link)
+said variant.NoLink = NoLink

@@ -43,3 +43,7 @@ HasSeenAll runs told new = new ≡ with_lists told (shown_in (turns_to_end runs)
 -- the lists told, and what is shown in some first turns
 abbrev pub HasSeenSome : List RunValue → Option (List (List ℕ)) → Option (List (List ℕ)) → Type 0
 HasSeenSome runs told new = (t : ℕ) × (t ≤ turns_to_end runs) × (new ≡ with_lists told (shown_in t runs))
+
+-- the lists told, and others behind them
+abbrev pub HasSeenMore : Option (List (List ℕ)) → Option (List (List ℕ)) → Type 0
+HasSeenMore told new = (more : List (List ℕ)) × (new ≡ with_lists told more)

@@ -2,8 +2,11 @@
 
 ghost use Rattle.std.specs.Prelude.{◌≡◌};
 ghost use Rattle.runs.specs.RunValue.{outcome_of};
-ghost use Rattle.link_menu.specs.Fates.{ComesTo, said};
+ghost use Rattle.registry.specs.Fates.{ended};
+ghost use Rattle.registry.specs.Entries.{reason_by};
+ghost use Rattle.link_menu.specs.Fates.{said};
 
+use menu::{Reason, Text, is_web_link};
 use runs::Outcome;
 
 /// What becomes of a code on an environment.
@@ -19,11 +22,29 @@ pub enum Fate {
 
 impl Fate {
     pub(crate) fn of(outcome: Outcome) -> Fate
-        ensures { said result ≡ ComesTo (outcome_of outcome) }
+        ensures { said result ≡ ended (outcome_of outcome) }
     {
         match outcome {
             Outcome::Link(link) => Fate::Link(link),
             Outcome::NoLink => Fate::NoLink,
+        }
+    }
+
+    /// What the fate of a row says of its target: only a link of the web counts as one.
+    pub(crate) fn into_reason(self, row: usize) -> Reason
+        ensures { result ≡ reason_by row (said self) }
+    {
+        match self {
+            Fate::OverBudget(bytes) => Reason::OverBudget(bytes),
+            Fate::Link(link) => {
+                if is_web_link(link.as_str()) {
+                    let link = Text::new(link);
+                    Reason::Link { row, link }
+                } else {
+                    Reason::NotAWebLink
+                }
+            }
+            Fate::NoLink => Reason::NoLink,
         }
     }
 }

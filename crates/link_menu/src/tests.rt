@@ -1,5 +1,9 @@
+mod codes;
+mod menus;
+
 ghost use Rattle.std.specs.Prelude.{◌≡◌, IfOk, length};
 
+use crate::tests::codes::{LIST_CODE, TEXT_CODE};
 use crate::{Blind, Fate, Shown, Watch, play, round, turn_all};
 use runs::{Run, prepare};
 use std::alloc::{AllocError, Global};
@@ -7,22 +11,6 @@ use std::process::Abort;
 use std::test::Fail;
 use target_vars::Env;
 use verifier::{Verified, load};
-
-/// A loop over the members of `list`, with a comma between them.
-const LIST_CODE: [u8; 68] = [
-    0x4f, 0x4c, 0x4b, 0x31, 0x00, 0x01, 0x00, 0x01, 0x00, 0x06, 0x01, 0x04, 0x6c, 0x69, 0x73, 0x74,
-    0x00, 0x00, 0x01, 0x2c, 0x05, 0x00, 0x00, 0x00, 0x00, 0x00, 0x00, 0x00, 0x10, 0x01, 0x00, 0x00,
-    0x00, 0x00, 0x00, 0x05, 0x11, 0x00, 0x00, 0x00, 0x00, 0x00, 0x00, 0x00, 0x0e, 0x01, 0x00, 0x00,
-    0x00, 0x00, 0x00, 0x00, 0x12, 0x00, 0x00, 0x00, 0x00, 0x00, 0x00, 0x00, 0x01, 0x00, 0x00, 0x00,
-    0x00, 0x00, 0x00, 0x00,
-];
-
-/// The text `x`, or nothing: TEXT r2 n0, UNDEF r2 3, PUT r2 u, HALT.
-const TEXT_CODE: [u8; 45] = [
-    0x4f, 0x4c, 0x4b, 0x31, 0x00, 0x01, 0x00, 0x00, 0x00, 0x04, 0x00, 0x01, 0x78, 0x04, 0x02, 0x00,
-    0x00, 0x00, 0x00, 0x00, 0x00, 0x08, 0x02, 0x00, 0x00, 0x00, 0x00, 0x00, 0x03, 0x0e, 0x02, 0x00,
-    0x00, 0x00, 0x00, 0x00, 0x00, 0x01, 0x00, 0x00, 0x00, 0x00, 0x00, 0x00, 0x00,
-];
 
 /// Two codes, and the environments that they run on.
 #[derive(Drop)]
@@ -151,5 +139,39 @@ fn nothing_to_show(rt: HostRuntime) -> Result<(), Fail> {
     assert_eq!(rt; fates.len(), 0);
     assert_eq!(rt; shown.lists().len(), 0);
     assert!(rt; Blind.seen(&[]).is_ok());
+    Ok(())
+}
+
+/// Forty members, and the text.
+fn long_and_short(alloc: Global) -> Result<Vec<Env>, Fail>
+    ensures { IfOk result (λ envs. length envs.items ≡ 2) }
+{
+    let given = set_up(alloc, &["a"; 40])?;
+    let mut envs = Vec::new(alloc);
+    envs.push(given.members)?;
+    envs.push(given.text)?;
+    Ok(envs)
+}
+
+/// A run that has ended waits for the others.
+#[test]
+fn round_of_two_turns(rt: HostRuntime) -> Result<(), Fail> {
+    let given = set_up(rt.alloc(), &[])?;
+    let envs = long_and_short(rt.alloc())?;
+    let mut shown = Shown::new(rt.alloc());
+    round(
+        rt.alloc(),
+        &[&given.list_code, &given.text_code],
+        &envs,
+        &mut shown,
+    )?;
+    are_shown(&rt, &shown, &[&[64, 4], &[123, 4]])
+}
+
+fn are_shown<R: Abort + AllocGlobal>(rt: &R, shown: &Shown, wanted: &[&[u64]]) -> Result<(), Fail> {
+    assert_eq!(rt; shown.lists().len(), wanted.len());
+    for (list, wanted) in shown.lists().iter().zip(wanted.iter()) {
+        assert_eq!(rt; list.as_slice(), *wanted);
+    }
     Ok(())
 }

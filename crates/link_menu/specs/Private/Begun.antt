@@ -5,8 +5,9 @@ use Rattle.machine_model.specs.Runs.{Outcome}
 use Rattle.machine_model.specs.Next.{outcome_of}
 use Rattle.target_vars.specs.EnvValue.{EnvValue}
 use Rattle.runs.specs.RunValue.{RunValue, most_bytes}
+use Rattle.registry.specs.Fates.{Fate, OverBudget, ended}
 use Rattle.link_menu.specs.declared.begun.Begun.{Begun}
-use Rattle.link_menu.specs.Fates.{Fate, OverBudget, ComesTo, is_over_budget, runs_of}
+use Rattle.link_menu.specs.Fates.{is_over_budget, runs_of}
 use Rattle.link_menu.specs.Rounds.{AreFresh}
 
 -- the bound on bytes, where it is over budget
@@ -28,4 +29,4 @@ abbrev pub fates_in : List (Option ℕ) → List Outcome → List Fate
 fates_in [] outcomes = []
 fates_in (Some bytes ∷ over_budget) outcomes = OverBudget bytes ∷ fates_in over_budget outcomes
 fates_in (None ∷ over_budget) [] = []
-fates_in (None ∷ over_budget) (outcome ∷ outcomes) = ComesTo outcome ∷ fates_in over_budget outcomes
+fates_in (None ∷ over_budget) (outcome ∷ outcomes) = ended outcome ∷ fates_in over_budget outcomes

@@ -1,0 +1,78 @@
+-- Searches of targets for their links, row after row.
+use Rattle.std.specs.Prelude.{◌≡◌, ℕ, ◌+◌, Bool, List, Option, Some, None, option_map, is_some, if◌then◌else◌, map, length}
+use Rattle.std.specs.List.{filter_map, zip}
+use Rattle.environment_model.specs.Environment.{Environment}
+use Rattle.code_model.specs.Code.{Code}
+use Rattle.kev_read.specs.Pairs.{KeyValue}
+use Rattle.kbart_rows.specs.Identifiers.{first_from}
+use Rattle.menu.specs.Links.{is_link}
+use Rattle.menu.specs.declared.entry.Entry.{Entry}
+use Rattle.menu.specs.declared.entry.Reason.{Reason}
+use Rattle.menu.specs.declared.entry.Reason.TheVariants.{NoRow}
+use Rattle.registry.specs.Targets.{TargetValue}
+use Rattle.registry.specs.RowEnvironments.{row_environment}
+use Rattle.registry.specs.Fates.{Fate, fate_of_row}
+use Rattle.registry.specs.Entries.{matching_rows_of, reason_by}
+use Rattle.link_menu.specs.declared.tries.Tries.{Tries}
+use Rattle.link_menu.specs.Fates.{fate_of}
+
+-- a target, the matching row that is tried next, and the reason so far
+pub record SearchValue : Type 0 where
+  pub target : TargetValue
+  pub next : Option ℕ
+  pub reason : Reason
+
+-- no row was tried
+abbrev pub started : List KeyValue → TargetValue → SearchValue
+started pairs target = record { target = target; next = first_from 0 (matching_rows_of target pairs); reason = NoRow }
+
+abbrev pub is_open : SearchValue → Bool
+is_open s = is_some s.next
+
+abbrev pub entry_so_far : SearchValue → Entry
+entry_so_far s = record { name = s.target.name; reason = s.reason }
+
+-- ---- the next rows
+
+abbrev pub code_next : SearchValue → Option Code
+code_next s = option_map (λ row. s.target.code) s.next
+
+abbrev pub env_next : List KeyValue → SearchValue → Option Environment
+env_next pairs s = option_map (λ row. row_environment s.target pairs row) s.next
+
+abbrev pub fate_next : List KeyValue → SearchValue → Option Fate
+fate_next pairs s = option_map (λ row. fate_of_row s.target pairs row) s.next
+
+abbrev pub fates_next : List KeyValue → List SearchValue → List Fate
+fates_next pairs searches = filter_map (fate_next pairs) searches
+
+-- codes on environments, whose fates are those of the next rows
+pub record AreTries (pairs : List KeyValue) (searches : List SearchValue) (tries : Tries) : Type 0 where
+  pub many : length tries.codes.items ≡ length tries.envs.items
+  pub fates : map fate_of (zip (map (λ code. code.now) tries.codes.items) tries.envs.items) ≡ fates_next pairs searches
+
+-- ---- a row after another
+
+-- the row came to the reason; behind a link there is no next one
+abbrev pub after_row : List KeyValue → TargetValue → ℕ → Reason → SearchValue
+after_row pairs target row reason =
+    record {
+      target = target;
+      next = if is_link reason then None else first_from (row + 1) (matching_rows_of target pairs);
+      reason = reason;
+    }
+
+abbrev pub after_fate_at : List KeyValue → SearchValue → Fate → Option ℕ → SearchValue
+after_fate_at pairs s fate None = s
+after_fate_at pairs s fate (Some row) = after_row pairs s.target row (reason_by row fate)
+
+abbrev pub after_fate : List KeyValue → SearchValue → Fate → SearchValue
+after_fate pairs s fate = after_fate_at pairs s fate s.next
+
+abbrev pub tried_at : List KeyValue → SearchValue → Option ℕ → SearchValue
+tried_at pairs s None = s
+tried_at pairs s (Some row) = after_row pairs s.target row (reason_by row (fate_of_row s.target pairs row))
+
+-- the next row was tried
+abbrev pub tried : List KeyValue → SearchValue → SearchValue
+tried pairs s = tried_at pairs s s.next
