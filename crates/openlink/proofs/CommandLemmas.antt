@@ -27,15 +27,16 @@ not_named name (word ∷ words) e = by_test (bytes_eq word name) refl e
     by_test false is e = is
 
 pub no_name : (words : List Text) → None ≡ behind_name (codes "expand") words → None ≡ behind_name (codes "link") words
-    → None ≡ behind_name (codes "compile") words → None ≡ behind_name (codes "run") words → None ≡ behind_name (codes "verify") words → None ≡ behind_name (codes "show") words
+    → None ≡ behind_name (codes "compile") words → None ≡ behind_name (codes "run") words → None ≡ behind_name (codes "resolve") words → None ≡ behind_name (codes "verify") words → None ≡ behind_name (codes "show") words
     → None ≡ behind_name (codes "upgrade") words → Fails words Usage
-no_name words expand link compile run verify show upgrade =
+no_name words expand link compile run resolve verify show upgrade =
     no_command words
     (rw (
       not_named (codes "expand") words expand,
       not_named (codes "link") words link,
       not_named (codes "compile") words compile,
       not_named (codes "run") words run,
+      not_named (codes "resolve") words resolve,
       not_named (codes "verify") words verify,
       not_named (codes "show") words show,
       not_named (codes "upgrade") words upgrade,

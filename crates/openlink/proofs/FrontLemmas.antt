@@ -16,7 +16,8 @@ use Rattle.rule_parser.specs.Faults.{IsRefused}
 use Rattle.rule_parser.specs.declared.error.RuleErrorKind.{RuleErrorKind}
 use Rattle.openlink.specs.declared.fault.Fault.{Fault}
 use Rattle.openlink.specs.declared.fault.Fault.TheVariants as fault
-use Rattle.openlink.specs.Files.{IsFront, OfFile}
+use Rattle.file_front.specs.Front.{IsFront}
+use Rattle.openlink.specs.Files.{OfFile}
 use Rattle.openlink.specs.Link.{IsMeaning, IsLinkFault}
 use Rattle.openlink.specs.Faults.{IsCodeFault}
 use Rattle.openlink.specs.Show.{IsListing}
@@ -96,6 +97,8 @@ not_run query (fault.Rules e) all h = h
 not_run query (fault.Compile e) all h = h
 not_run query (fault.Code e) all h = h
 not_run query (fault.Device path) all h = h
+not_run query (fault.Registry n) all h = h
+not_run query (fault.Target e) all h = h
 
 -- ---- rules
 
@@ -122,6 +125,8 @@ not_linked query (fault.Code e) all h = h
 not_linked query (fault.Load e) all h = h
 not_linked query (fault.OverBudget n) all h = h
 not_linked query (fault.Device path) all h = h
+not_linked query (fault.Registry n) all h = h
+not_linked query (fault.Target e) all h = h
 
 pub compiled : (new all : Text) → IsCompiled (take 65537 all) new → IsCompiled all new
 compiled new all h = record { rules = h.rules; read = ruled h.rules all h.read; within = h.within; file = h.file }
@@ -138,3 +143,5 @@ not_compiled (fault.Code e) all h = h
 not_compiled (fault.Load e) all h = h
 not_compiled (fault.OverBudget n) all h = h
 not_compiled (fault.Device path) all h = h
+not_compiled (fault.Registry n) all h = h
+not_compiled (fault.Target e) all h = h

@@ -40,3 +40,5 @@ no_request bytes query rules read (fault.Load e) h = absurd h
 no_request bytes query rules read (fault.OverBudget n) h = absurd h
 no_request bytes query rules read fault.NoLink h = absurd h
 no_request bytes query rules read (fault.Device path) h = absurd h
+no_request bytes query rules read (fault.Registry n) h = absurd h
+no_request bytes query rules read (fault.Target e) h = absurd h

@@ -9,6 +9,7 @@ use Rattle.openlink.specs.NewFile.{MakesFile, FailsToMake}
 use Rattle.openlink.specs.Upgrade.{IsUpgrade}
 use Rattle.openlink.specs.Compile.{IsCompiled, IsCompileFault}
 use Rattle.openlink.specs.Run.{IsRunLine, FailsToRun}
+use Rattle.openlink.specs.Resolve.{IsMenuLines, FailsToResolve}
 use Rattle.openlink.specs.Verify.{IsVerifyLine, FailsToVerify}
 use Rattle.openlink.specs.Faults.{IsDevice, IsCodeFault}
 use Rattle.openlink.specs.declared.fault.Fault.{Fault}
@@ -20,7 +21,7 @@ begins_with_word name (word ∷ words) = bytes_eq word name
 
 abbrev pub names_command : List Text → Bool
 names_command words =
-    begins_with_word (codes "expand") words || (begins_with_word (codes "link") words || (begins_with_word (codes "compile") words || (begins_with_word (codes "run") words || (begins_with_word (codes "verify") words || (begins_with_word (codes "show") words || begins_with_word (codes "upgrade") words)))))
+    begins_with_word (codes "expand") words || (begins_with_word (codes "link") words || (begins_with_word (codes "compile") words || (begins_with_word (codes "run") words || (begins_with_word (codes "resolve") words || (begins_with_word (codes "verify") words || (begins_with_word (codes "show") words || begins_with_word (codes "upgrade") words))))))
 
 -- the words of a command that is done, and what it prints
 pub data Prints : List Text → Text → Type 0 where
@@ -28,6 +29,7 @@ pub data Prints : List Text → Text → Type 0 where
   prints_link : (words : List Text) (line : Text) → IsLinkLine words line → Prints (codes "link" ∷ words) line
   prints_size : (words : List Text) (line : Text) → MakesFile IsCompiled words line → Prints (codes "compile" ∷ words) line
   prints_run : (words : List Text) (line : Text) → IsRunLine words line → Prints (codes "run" ∷ words) line
+  prints_menu : (words : List Text) (text : Text) → IsMenuLines words text → Prints (codes "resolve" ∷ words) text
   prints_verdict : (words : List Text) (text : Text) → IsVerifyLine words text → Prints (codes "verify" ∷ words) text
   prints_listing : (words : List Text) (text : Text) → IsShowLine words text → Prints (codes "show" ∷ words) text
   prints_count : (words : List Text) (line : Text) → MakesFile IsUpgrade words line → Prints (codes "upgrade" ∷ words) line
@@ -39,6 +41,7 @@ pub data Fails : List Text → Fault → Type 0 where
   no_link : (words : List Text) (fault : Fault) → FailsToLink words fault → Fails (codes "link" ∷ words) fault
   no_code : (words : List Text) (fault : Fault) → FailsToMake IsCompiled IsCompileFault words fault → Fails (codes "compile" ∷ words) fault
   no_run : (words : List Text) (fault : Fault) → FailsToRun words fault → Fails (codes "run" ∷ words) fault
+  no_menu : (words : List Text) (fault : Fault) → FailsToResolve words fault → Fails (codes "resolve" ∷ words) fault
   no_verdict : (words : List Text) (fault : Fault) → FailsToVerify words fault → Fails (codes "verify" ∷ words) fault
   no_listing : (words : List Text) (fault : Fault) → FailsToShow words fault → Fails (codes "show" ∷ words) fault
   no_upgrade : (words : List Text) (fault : Fault) → FailsToMake IsUpgrade IsCodeFault words fault → Fails (codes "upgrade" ∷ words) fault

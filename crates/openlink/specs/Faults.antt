@@ -22,6 +22,8 @@ use Rattle.runs.specs.declared.error.PrepareError.TheVariants as prepare
 use Rattle.kev_read.specs.Refusal.{refusal}
 use Rattle.kev_read.specs.declared.error.KevError.{KevError}
 use Rattle.kev_read.specs.declared.error.KevError.TheVariants as query
+use Rattle.registry_file.specs.declared.error.TargetFault.{TargetFault}
+use Rattle.registry_file.specs.declared.error.TargetFault.TheVariants as target
 use Rattle.openlink.specs.declared.fault.Fault.{Fault}
 use Rattle.openlink.specs.declared.fault.Fault.TheVariants.{Usage, Template, Query, Memory, Device}
 use Rattle.openlink.specs.declared.fault.Fault.TheVariants as fault
@@ -69,6 +71,13 @@ abbrev pub system_fault : ErrorKind → Fault → Fault
 system_fault OutOfMemory other = Memory
 system_fault kind other = other
 
+-- of the faults of a target, that of a file's device is one
+abbrev pub status_of_target : TargetFault → ℕ
+status_of_target (target.Device path) = 4
+status_of_target (target.Load e) = 3
+status_of_target (target.Table e) = 3
+status_of_target (target.Add kind) = 3
+
 -- the exit status of the program
 abbrev pub status_of : Fault → ℕ
 status_of fault.NoLink = 1
@@ -80,6 +89,8 @@ status_of (fault.Compile e) = 3
 status_of (fault.Code e) = 3
 status_of (fault.Load e) = 3
 status_of (fault.OverBudget n) = 3
+status_of (fault.Registry n) = 3
+status_of (fault.Target e) = status_of_target e.fault
 status_of Memory = 4
 status_of (Device path) = 4
 

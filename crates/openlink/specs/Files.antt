@@ -3,10 +3,6 @@ use Rattle.std.specs.Prelude.{◌≡◌, ℕ, ◌+◌, [], ◌∷◌, ◌++◌, 
 use Rattle.std.specs.Fmt.{decimal}
 use Rattle.text_model.specs.Texts.{Text}
 
--- what is read of a file: all of its bytes, or where it has more, as many as the limit and one more
-abbrev pub IsFront : ℕ → Option Text → Text → Type 0
-IsFront limit told front = IfSome told (λ all. front ≡ take (limit + 1) all)
-
 -- it holds of the file's bytes: of those that its reader tells, all of them, or where it tells none, of some
 abbrev pub OfFile : Option Text → (Text → Type 0) → Type 0
 OfFile told P = (bytes : Text) × IfSome told (λ all. bytes ≡ all) × P bytes

@@ -11,4 +11,5 @@ pub mod Upgrade
 pub mod Compile
 pub mod Commands
 pub mod Verify
+pub mod Resolve
 pub mod Run

@@ -12,18 +12,20 @@ use crate::expand::expand_line;
 use crate::fault::Fault;
 use crate::link::link_line;
 use crate::placing::write_whole;
+use crate::resolve::resolve_lines;
 use crate::run::run_line;
 use crate::show::show_lines;
 use crate::upgrade::upgrade_line;
 use crate::verify::verify_lines;
 use crate::words::behind;
 use std::io::Write;
+use std::random::RandomSource;
 use std::rt::Files;
 
 /// Runs the command that the words name, prints its result on `output`, or one line with its fault on
-/// `errors`, and gives the exit status: 0 done, 1 no link (and nothing is printed), 2 words that are no
+/// `errors`, and gives the exit status: 0 done, 1 no link, or a menu without links (and nothing is printed), 2 words that are no
 /// command, 3 refused, 4 memory or device.
-pub fn command<R: Files + AllocGlobal, O: Write, E: Write>(
+pub fn command<R: Files + RandomSource + AllocGlobal, O: Write, E: Write>(
     rt: &R,
     words: &[&str],
     output: &mut O,
@@ -53,7 +55,7 @@ pub fn report<E: Write>(fault: Fault, errors: &mut E) -> u8
 }
 
 /// Runs the command that the words name, and prints its result on `output`.
-fn run<'a, R: Files + AllocGlobal, O: Write>(
+fn run<'a, R: Files + RandomSource + AllocGlobal, O: Write>(
     rt: &R,
     words: &[&'a str],
     output: &mut O,
@@ -68,7 +70,7 @@ fn run<'a, R: Files + AllocGlobal, O: Write>(
 }
 
 /// What the command that the words name prints.
-fn answer<'a, R: Files + AllocGlobal>(rt: &R, words: &[&'a str]) -> Result<String, Fault<'a>>
+fn answer<'a, R: Files + RandomSource + AllocGlobal>(rt: &R, words: &[&'a str]) -> Result<String, Fault<'a>>
     ensures ok { IfOk result (λ text. Prints (texts_of words.now) (string_bytes text)) }
     ensures err { IfErr result (Fails (texts_of words.now)) }
 {
@@ -83,6 +85,9 @@ fn answer<'a, R: Files + AllocGlobal>(rt: &R, words: &[&'a str]) -> Result<Strin
     }
     if let Some(rest) = behind(words, "run") {
         return run_line(rt, rest);
+    }
+    if let Some(rest) = behind(words, "resolve") {
+        return resolve_lines(rt, rest);
     }
     if let Some(rest) = behind(words, "verify") {
         return verify_lines(rt, rest);

@@ -2,11 +2,12 @@
 
 ghost use Rattle.std.specs.Prelude.{◌≡◌};
 ghost use Rattle.std.specs.IoError.{error_kind};
-ghost use Rattle.openlink.specs.Faults.{status_of, system_fault};
+ghost use Rattle.openlink.specs.Faults.{status_of, status_of_target, system_fault};
 
 use code_file::{CodeError, CodeErrorKind};
 use compiler::CompileError;
 use kev_read::KevError;
+use registry_file::{TargetError, TargetFault};
 use rule_parser::{RuleError, RuleErrorKind};
 use runs::PrepareError;
 use std::alloc::{AllocError, AllocFailed};
@@ -30,7 +31,7 @@ pub const REFUSED: u8 = 3;
 pub const FAILED: u8 = 4;
 
 /// Why a command ends without its result; printed behind `openlink: `.
-#[derive(Clone, Copy, Debug, PartialEq, Eq, Error)]
+#[derive(Debug, PartialEq, Eq, Drop, Error)]
 pub enum Fault<'a> {
     /// The words are no command.
     #[error("usage")]
@@ -57,7 +58,13 @@ pub enum Fault<'a> {
     /// The code may print so many bytes for the request, more than a link may have.
     #[error("over budget: {0}")]
     OverBudget(u64),
-    /// No rule's guards hold. Nothing is printed.
+    /// A line of the registry file, counted from 1 without blank ones, is that of no target; 0: the file is too long.
+    #[error("registry: line {0}")]
+    Registry(usize),
+    /// A target of the registry is refused.
+    #[error("target {0}")]
+    Target(TargetError),
+    /// No rule's guards hold, or no target has a link. Nothing is printed.
     #[error("no link")]
     NoLink,
     /// A growth was refused.
@@ -80,8 +87,8 @@ impl<'a> Fault<'a> {
     }
 
     /// The exit status of the program.
-    pub fn status(self) -> u8
-        ensures { result ≡ status_of self.entry }
+    pub fn status(&self) -> u8
+        ensures { result ≡ status_of self.now }
     {
         match self {
             Fault::NoLink => NO_LINK,
@@ -92,9 +99,21 @@ impl<'a> Fault<'a> {
             | Fault::Compile(_)
             | Fault::Code(_)
             | Fault::Load(_)
-            | Fault::OverBudget(_) => REFUSED,
+            | Fault::OverBudget(_)
+            | Fault::Registry(_) => REFUSED,
+            Fault::Target(e) => status_of_target(&e.fault),
             Fault::Memory | Fault::Device(_) => FAILED,
         }
+    }
+}
+
+/// The exit status where a target is refused.
+fn status_of_target(fault: &TargetFault) -> u8
+    ensures { result ≡ status_of_target fault.now }
+{
+    match fault {
+        TargetFault::Device(_) => FAILED,
+        TargetFault::Load(_) | TargetFault::Table(_) | TargetFault::Add(_) => REFUSED,
     }
 }
 

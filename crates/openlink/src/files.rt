@@ -1,12 +1,9 @@
 //! Files that a command reads.
 
-#[cfg(test)]
-mod tests;
-
 ghost use Rattle.std.specs.Prelude.{◌≡◌, ◌+◌, ◌<◌, ◌^◌, IfOk, IfErr};
 ghost use Rattle.std.specs.IoError.{error_kind};
 ghost use Rattle.openlink.specs.Faults.{system_fault, IsFileFault};
-ghost use Rattle.openlink.specs.Files.{IsFront};
+ghost use Rattle.file_front.specs.Front.{IsFront};
 
 use crate::fault::Fault;
 use std::alloc::Global;
@@ -36,9 +33,8 @@ pub fn read_front<'a, F: Read + Drop>(
     ensures ok { IfOk result (λ bytes. IsFront limit (F.remaining file) bytes.items) }
     ensures err { IfErr result (IsFileFault path.now) }
 {
-    let mut bytes = Vec::new(alloc);
-    match file.take(limit as u64 + 1).read_to_end(&mut bytes) {
-        Ok(_) => Ok(bytes),
+    match file_front::read_front(alloc, file, limit) {
+        Ok(bytes) => Ok(bytes),
         Err(e) => Err(file_fault(&e, path)),
     }
 }

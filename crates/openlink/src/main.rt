@@ -11,6 +11,7 @@ mod line;
 mod link;
 mod placing;
 mod request;
+mod resolve;
 mod run;
 mod show;
 #[cfg(test)]

@@ -3,6 +3,7 @@ mod expand;
 mod files;
 mod link;
 mod output;
+mod resolve;
 mod run;
 mod show;
 mod upgrade;
@@ -11,6 +12,7 @@ mod verify;
 use crate::commands::command;
 use std::alloc::AllocError;
 use std::process::Abort;
+use std::random::RandomSource;
 use std::rt::Files;
 use std::test::Fail;
 
@@ -47,7 +49,7 @@ fn is_out_of_memory(errors: &[u8]) -> bool {
 
 /// Runs the words, and compares what they give: status, standard output and standard error. Where a growth
 /// was refused, they give that, whatever they would have given.
-pub fn run_words<R: Abort + Files + AllocGlobal>(
+pub fn run_words<R: Abort + Files + RandomSource + AllocGlobal>(
     rt: &R,
     words: &[&str],
     status: u8,
@@ -67,7 +69,7 @@ pub fn run_words<R: Abort + Files + AllocGlobal>(
     Ok(())
 }
 
-pub fn run_cases<R: Abort + Files + AllocGlobal>(rt: &R, cases: &[Case]) -> Result<(), Fail> {
+pub fn run_cases<R: Abort + Files + RandomSource + AllocGlobal>(rt: &R, cases: &[Case]) -> Result<(), Fail> {
     for case in cases {
         run_words(rt, case.words, case.status, case.printed, case.fault)?;
     }
