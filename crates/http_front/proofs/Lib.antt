@@ -1,0 +1,3 @@
+pub mod Unavailable
+pub mod Sent
+pub mod Pieces

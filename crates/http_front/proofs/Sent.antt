@@ -1,0 +1,45 @@
+-- A reply that was written, whole or in part, as the outcome of an exchange.
+use Rattle.std.proofs.Common.{◌≡◌, ℕ, Bool, false, List, Option, Result, Ok, Err, IfErr, IfOk, subst, sym}
+use Rattle.registry.specs.Targets.{TargetValue}
+use Rattle.http_head.specs.Asking.{IsAsked, Wanted}
+use Rattle.http_front.specs.Replies.{ReplyValue, printed, unavailable}
+use Rattle.http_front.specs.Front.{IsReplyTo}
+use Rattle.http_front.specs.Exchange.{IsFault, IsReply, IsReplyToInput, IsSent, IsServed, front, no_memory, no_room}
+use Rattle.http_front.specs.declared.exchange.Served.{Served}
+use Rattle.http_front.specs.declared.exchange.Served.TheVariants.{Nothing, Replied}
+use Rattle.http_front.specs.declared.exchange.ServeError.{ServeError}
+use Rattle.http_front.specs.declared.exchange.ServeError.TheVariants.{ReadFault, WriteFault}
+
+-- ---- which reply
+
+pub reply-front : (targets : List TargetValue) (bytes : List ℕ) (wanted : Wanted) (head_only : Bool) (reply : ReplyValue) (status : ℕ) (text : List ℕ)
+    → IsAsked bytes wanted head_only → IsReplyTo targets wanted reply → status ≡ reply.status → text ≡ printed reply head_only
+    → IsReply targets bytes status text
+reply-front targets bytes wanted head_only reply status text asked is e f =
+    subst (λ (s : ℕ). IsReply targets bytes s text) (sym e)
+    (subst (λ (t : List ℕ). IsReply targets bytes reply.status t) (sym f) (front wanted head_only reply asked is))
+
+pub reply-no_memory : (targets : List TargetValue) (bytes : List ℕ) (wanted : Wanted) (head_only : Bool) (text : List ℕ)
+    → IsAsked bytes wanted head_only → text ≡ printed unavailable head_only → IsReply targets bytes 503 text
+reply-no_memory targets bytes wanted head_only text asked f =
+    subst (λ (t : List ℕ). IsReply targets bytes 503 t) (sym f) (no_memory wanted head_only asked)
+
+pub reply-no_room : (targets : List TargetValue) (old new : Option (List ℕ)) (text : List ℕ)
+    → new ≡ old → text ≡ printed unavailable false → IsReplyToInput targets old new 503 text
+reply-no_room targets old new text unread f =
+    subst (λ (t : List ℕ). IsReplyToInput targets old new 503 t) (sym f) (no_room unread)
+
+-- ---- how far it went
+
+pub served-by_sent : (targets : List TargetValue) (old new before after : Option (List ℕ)) (status : ℕ) (reply : List ℕ) (result : Result Served ServeError)
+    → IsReplyToInput targets old new status reply → IsSent before after status reply result → IfOk result (IsServed targets old new before after)
+served-by_sent targets old new before after status reply (Ok Nothing) to sent = absurd sent
+served-by_sent targets old new before after status reply (Ok (Replied named)) to sent =
+    (reply, subst (λ (s : ℕ). IsReplyToInput targets old new s reply) (sym sent.0) to, sent.1)
+served-by_sent targets old new before after status reply (Err e) to sent = tt
+
+pub fault-by_sent : (targets : List TargetValue) (old new before after : Option (List ℕ)) (status : ℕ) (reply : List ℕ) (result : Result Served ServeError)
+    → IsReplyToInput targets old new status reply → IsSent before after status reply result → IfErr result (IsFault targets old new before after)
+fault-by_sent targets old new before after status reply (Ok served) to sent = tt
+fault-by_sent targets old new before after status reply (Err ReadFault) to sent = absurd sent
+fault-by_sent targets old new before after status reply (Err (WriteFault n)) to sent = (status, reply, to, sent.0, sent.1)

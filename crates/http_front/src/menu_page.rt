@@ -1,0 +1,108 @@
+//! What is replied to what is asked for.
+
+ghost use Rattle.std.specs.Prelude.{◌≡◌, ◌≤◌, IfOk, length, string_bytes};
+ghost use Rattle.kev_read.specs.Refusal.{refusal};
+ghost use Rattle.kev_read.specs.declared.read.TheConstants.{MAX_QUERY_BYTES};
+ghost use Rattle.http_head.specs.Asking.{query_length, wanted_by};
+ghost use Rattle.http_front.specs.Replies.{ReplyValue, printed};
+ghost use Rattle.http_front.specs.Front as spec;
+
+use crate::reply::Reply;
+use http::StatusCode;
+use http_head::{Asked, HeadRead, Page};
+use kev_read::{KevError, Request, read_kev};
+use link_menu::resolve;
+use menu::Menu;
+use registry::Registry;
+use std::alloc::{AllocError, Global};
+
+// The text of a page.
+fn page_text(alloc: Global, page: Page, menu: &Menu) -> Result<String, AllocError>
+    ensures { IfOk result (λ text. string_bytes text ≡ spec.page_text page menu.now) }
+{
+    match page {
+        Page::Html => menu.html(alloc),
+        Page::Text => menu.text(alloc),
+        Page::Report => menu.report(alloc),
+    }
+}
+
+// The page of the menu that a request has.
+fn menu_reply(
+    alloc: Global,
+    registry: &Registry,
+    page: Page,
+    request: &Request,
+) -> Result<Reply, AllocError>
+    ensures { IfOk result (λ reply. reply ≡ spec.menu_reply registry.now page request.now.pairs) }
+{
+    let menu = resolve(alloc, registry, request)?;
+    let text = page_text(alloc, page, &menu)?;
+    Ok(Reply::new(StatusCode::OK, page == Page::Html, text))
+}
+
+// The page for a query, or why it is none.
+fn query_reply(
+    alloc: Global,
+    registry: &Registry,
+    page: Page,
+    query: &[u8],
+) -> Result<Reply, AllocError>
+    requires { length query.now ≤ MAX_QUERY_BYTES }
+    ensures { IfOk result (spec.IsQueryReply registry.now page query.now (refusal query.now)) }
+{
+    match read_kev(alloc, query) {
+        Ok(request) => menu_reply(alloc, registry, page, &request),
+        Err(KevError::TooManyPairs) => {
+            Reply::plain(alloc, StatusCode::BAD_REQUEST, "query: too many pairs\n")
+        }
+        Err(KevError::WrongVersion) => {
+            Reply::plain(alloc, StatusCode::BAD_REQUEST, "query: wrong version\n")
+        }
+        Err(KevError::NoMemory) => Err(AllocError),
+        Err(KevError::TooLong) => unreachable!(),
+    }
+}
+
+/// The reply to what is asked for.
+pub(crate) fn reply_for(
+    alloc: Global,
+    registry: &Registry,
+    asked: Asked<'_>,
+) -> Result<Reply, AllocError>
+    requires { query_length (wanted_by asked) ≤ MAX_QUERY_BYTES }
+    ensures { IfOk result (spec.IsReplyTo registry.now (wanted_by asked.entry)) }
+{
+    match asked {
+        Asked::Menu { page, query } => query_reply(alloc, registry, page, query),
+        Asked::NotFound => Reply::plain(alloc, StatusCode::NOT_FOUND, "not found\n"),
+        Asked::MethodNotAllowed => {
+            Reply::plain(
+                alloc,
+                StatusCode::METHOD_NOT_ALLOWED,
+                "method not allowed\n",
+            )
+        }
+        Asked::BadRequest => Reply::plain(alloc, StatusCode::BAD_REQUEST, "bad request\n"),
+        Asked::HeadTooLarge => Reply::plain(
+            alloc,
+            StatusCode::REQUEST_HEADER_FIELDS_TOO_LARGE,
+            "head too large\n",
+        ),
+    }
+}
+
+/// The status and the bytes of the reply to a request.
+pub(crate) fn print_reply(
+    alloc: Global,
+    registry: &Registry,
+    read: HeadRead<'_>,
+) -> Result<(u16, String), AllocError>
+    requires { query_length (wanted_by read.asked) ≤ MAX_QUERY_BYTES }
+    ensures { IfOk result (λ made. (reply : ReplyValue) × spec.IsReplyTo registry.now (wanted_by read.entry.asked) reply
+        × (made.0 ≡ reply.status) × (string_bytes made.1 ≡ printed reply read.entry.head_only)) }
+{
+    let reply = reply_for(alloc, registry, read.asked)?;
+    let text = reply.print(alloc, read.head_only)?;
+    Ok((reply.status(), text))
+}

@@ -1,0 +1,128 @@
+//! Replies, and how they are printed.
+
+ghost use Rattle.std.specs.Prelude.{◌≡◌, ◌++◌, IfOk, OnOk, false, length, string_bytes};
+ghost use Rattle.http_front.specs.Replies as spec;
+
+use http::StatusCode;
+use std::alloc::{AllocError, Global};
+use std::marker::Model;
+
+/// A reply: its status, whether its body is HTML or plain text, and the body.
+#[derive(Drop)]
+pub(crate) struct Reply {
+    status: StatusCode,
+    html: bool,
+    body: String,
+}
+
+impl Model for Reply {
+    ghost use Rattle.std.specs.Prelude.{string_bytes};
+    ghost use Rattle.http_front.specs.Replies.{ReplyValue};
+
+    ghost Value = { ReplyValue };
+
+    ghost view = { λ reply. record { status = reply.status; html = reply.html; body = string_bytes reply.body } };
+}
+
+impl Reply {
+    pub(crate) fn new(status: StatusCode, html: bool, body: String) -> Reply
+        ensures { result ≡ record { status = status; html = html; body = string_bytes body } }
+    {
+        Reply { status, html, body }
+    }
+
+    /// A reply with a line of plain text.
+    pub(crate) fn plain(alloc: Global, status: StatusCode, body: &str) -> Result<Reply, AllocError>
+        ensures { IfOk result (λ reply. reply ≡ spec.plain status body.now) }
+    {
+        Ok(Reply::new(status, false, String::from_str(alloc, body)?))
+    }
+
+    pub(crate) fn status(&self) -> u16
+        ensures { result ≡ self.now.status }
+    {
+        self.status.as_u16()
+    }
+
+    // The line of the status (RFC 9112, section 4).
+    fn push_status_line(&self, out: &mut String) -> Result<(), AllocError>
+        ensures { OnOk result (string_bytes out.new ≡ string_bytes out.old ++ spec.status_line self.now.status) }
+    {
+        let status = self.status;
+        write!(out, "HTTP/1.1 {status}\r\n")
+    }
+
+    fn type_line(&self) -> &'static str
+        ensures { result.now ≡ spec.type_line self.now.html }
+    {
+        if self.html {
+            "Content-Type: text/html; charset=utf-8\r\n"
+        } else {
+            "Content-Type: text/plain; charset=utf-8\r\n"
+        }
+    }
+
+    fn push_length_line(&self, out: &mut String) -> Result<(), AllocError>
+        ensures { OnOk result (string_bytes out.new ≡ string_bytes out.old ++ spec.length_line (length self.now.body)) }
+    {
+        let length = self.body.len();
+        write!(out, "Content-Length: {length}\r\n")
+    }
+
+    // The line of the methods that are answered, in a reply to another one (RFC 9110, section 15.5.6).
+    fn allow_line(&self) -> &'static str
+        ensures { result.now ≡ spec.allow_line self.now.status }
+    {
+        if self.status == StatusCode::METHOD_NOT_ALLOWED {
+            "Allow: GET, HEAD\r\n"
+        } else {
+            ""
+        }
+    }
+
+    // The body that is sent.
+    fn sent_body(&self, head_only: bool) -> &str
+        ensures { result.now ≡ spec.sent_body self.now head_only }
+    {
+        if head_only { "" } else { self.body.as_str() }
+    }
+
+    /// The bytes of the reply (RFC 9112, section 2.1), without the body where only the head was asked for.
+    pub(crate) fn print(&self, alloc: Global, head_only: bool) -> Result<String, AllocError>
+        ensures { IfOk result (λ text. string_bytes text ≡ spec.printed self.now head_only) }
+    {
+        let mut text = String::new(alloc);
+        self.push_status_line(&mut text)?;
+        text.push_str(self.type_line())?;
+        self.push_length_line(&mut text)?;
+        text.push_str("Connection: close\r\n")?;
+        text.push_str(self.allow_line())?;
+        text.push_str("\r\n")?;
+        text.push_str(self.sent_body(head_only))?;
+        Ok(text)
+    }
+}
+
+// The reply for want of memory, which takes none, and its head alone.
+const UNAVAILABLE: &[u8] =
+    b"HTTP/1.1 503 Service Unavailable\r\nContent-Type: text/plain; charset=utf-8\r\n\
+    Content-Length: 14\r\nConnection: close\r\n\r\nout of memory\n";
+
+const UNAVAILABLE_HEAD: &[u8] =
+    b"HTTP/1.1 503 Service Unavailable\r\nContent-Type: text/plain; charset=utf-8\r\n\
+    Content-Length: 14\r\nConnection: close\r\n\r\n";
+
+/// The status of that reply.
+pub(crate) const NO_MEMORY: u16 = 503;
+
+/// The bytes of the reply for want of memory.
+pub(crate) fn unavailable(head_only: bool) -> &'static [u8]
+    ensures bytes { result.now ≡ spec.printed spec.unavailable head_only }
+    ensures status { NO_MEMORY ≡ spec.unavailable.status }
+{
+    if head_only {
+        UNAVAILABLE_HEAD
+    } else {
+        UNAVAILABLE
+    }
+}
