@@ -1,0 +1,42 @@
+//! How connections went.
+
+ghost use Rattle.std.specs.Prelude.{◌≡◌, ◌+◌, ◌<◌};
+ghost use Rattle.http_service.specs.Counting.{counted};
+
+use http_front::{ServeError, Served};
+
+/// How many connections went how.
+#[derive(Clone, Copy, Debug, PartialEq, Eq)]
+pub struct Counts {
+    /// A reply went out whole.
+    pub replied: u32,
+    /// The peer sent nothing, and nothing was written.
+    pub nothing: u32,
+    /// A read or a write failed, or took too long.
+    pub faults: u32,
+}
+
+impl Counts {
+    /// No connection yet.
+    pub(crate) fn new() -> Counts
+        ensures { result ≡ record { replied = 0; nothing = 0; faults = 0 } }
+    {
+        Counts {
+            replied: 0,
+            nothing: 0,
+            faults: 0,
+        }
+    }
+
+    /// One connection more.
+    pub(crate) fn add(&mut self, exchange: Result<Served, ServeError>)
+        requires { self.old.replied + self.old.nothing + self.old.faults < u32.MAX }
+        ensures { self.new ≡ counted self.old exchange }
+    {
+        match exchange {
+            Ok(Served::Replied(_)) => self.replied += 1,
+            Ok(Served::Nothing) => self.nothing += 1,
+            Err(_) => self.faults += 1,
+        }
+    }
+}
