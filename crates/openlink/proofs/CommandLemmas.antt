@@ -5,7 +5,7 @@ use Rattle.std.specs.Str.{bytes_eq}
 use Rattle.std.proofs.lemmas.Slice.Eq.{bytes_eq-Decides}
 use Rattle.text_model.specs.Texts.{Text}
 use Rattle.openlink.specs.Words.{behind_name}
-use Rattle.openlink.specs.Commands.{Prints, Fails, begins_with_word, no_command}
+use Rattle.openlink.specs.Commands.{Prints, Fails, Stops, begins_with_word, no_command}
 use Rattle.openlink.specs.declared.fault.Fault.{Fault}
 use Rattle.openlink.specs.declared.fault.Fault.TheVariants.{Usage}
 
@@ -18,7 +18,7 @@ named name (word ∷ words) rest e = by_test (bytes_eq word name) refl e
     by_test true is e = let same : word ≡ name = (bytes_eq-Decides word name).0 is in cc (same, e)
     by_test false is e = cc (e)
 
-not_named : (name : Text) (words : List Text) → None ≡ behind_name name words → begins_with_word name words ≡ false
+pub not_named : (name : Text) (words : List Text) → None ≡ behind_name name words → begins_with_word name words ≡ false
 not_named name [] e = refl
 not_named name (word ∷ words) e = by_test (bytes_eq word name) refl e
   where
@@ -28,8 +28,8 @@ not_named name (word ∷ words) e = by_test (bytes_eq word name) refl e
 
 pub no_name : (words : List Text) → None ≡ behind_name (codes "expand") words → None ≡ behind_name (codes "link") words
     → None ≡ behind_name (codes "compile") words → None ≡ behind_name (codes "run") words → None ≡ behind_name (codes "resolve") words → None ≡ behind_name (codes "verify") words → None ≡ behind_name (codes "show") words
-    → None ≡ behind_name (codes "upgrade") words → Fails words Usage
-no_name words expand link compile run resolve verify show upgrade =
+    → None ≡ behind_name (codes "upgrade") words → begins_with_word (codes "serve") words ≡ false → Fails words Usage
+no_name words expand link compile run resolve verify show upgrade serve =
     no_command words
     (rw (
       not_named (codes "expand") words expand,
@@ -40,6 +40,7 @@ no_name words expand link compile run resolve verify show upgrade =
       not_named (codes "verify") words verify,
       not_named (codes "show") words show,
       not_named (codes "upgrade") words upgrade,
+      serve,
     )
     refl)
 
@@ -49,3 +50,6 @@ prints_behind name words rest text e p = subst (λ ws. Prints ws text) (sym (nam
 
 pub fails_behind : (name : Text) (words rest : List Text) (fault : Fault) → Some rest ≡ behind_name name words → Fails (name ∷ rest) fault → Fails words fault
 fails_behind name words rest fault e f = subst (λ ws. Fails ws fault) (sym (named name words rest e)) f
+
+pub stops_behind : (name : Text) (words rest : List Text) (line : Text) (fault : Fault) → Some rest ≡ behind_name name words → Stops (name ∷ rest) line fault → Stops words line fault
+stops_behind name words rest line fault e s = subst (λ ws. Stops ws line fault) (sym (named name words rest e)) s

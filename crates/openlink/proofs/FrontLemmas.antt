@@ -98,6 +98,7 @@ not_run query (fault.Compile e) all h = h
 not_run query (fault.Code e) all h = h
 not_run query (fault.Device path) all h = h
 not_run query (fault.Registry n) all h = h
+not_run query (fault.Port word) all h = h
 not_run query (fault.Target e) all h = h
 
 -- ---- rules
@@ -126,6 +127,7 @@ not_linked query (fault.Load e) all h = h
 not_linked query (fault.OverBudget n) all h = h
 not_linked query (fault.Device path) all h = h
 not_linked query (fault.Registry n) all h = h
+not_linked query (fault.Port word) all h = h
 not_linked query (fault.Target e) all h = h
 
 pub compiled : (new all : Text) → IsCompiled (take 65537 all) new → IsCompiled all new
@@ -144,4 +146,5 @@ not_compiled (fault.Load e) all h = h
 not_compiled (fault.OverBudget n) all h = h
 not_compiled (fault.Device path) all h = h
 not_compiled (fault.Registry n) all h = h
+not_compiled (fault.Port word) all h = h
 not_compiled (fault.Target e) all h = h

@@ -41,4 +41,5 @@ no_request bytes query rules read (fault.OverBudget n) h = absurd h
 no_request bytes query rules read fault.NoLink h = absurd h
 no_request bytes query rules read (fault.Device path) h = absurd h
 no_request bytes query rules read (fault.Registry n) h = absurd h
+no_request bytes query rules read (fault.Port word) h = absurd h
 no_request bytes query rules read (fault.Target e) h = absurd h

@@ -10,6 +10,7 @@ use Rattle.openlink.specs.Upgrade.{IsUpgrade}
 use Rattle.openlink.specs.Compile.{IsCompiled, IsCompileFault}
 use Rattle.openlink.specs.Run.{IsRunLine, FailsToRun}
 use Rattle.openlink.specs.Resolve.{IsMenuLines, FailsToResolve}
+use Rattle.openlink.specs.Serve.{IsServing, FailsToServe, StopsServing}
 use Rattle.openlink.specs.Verify.{IsVerifyLine, FailsToVerify}
 use Rattle.openlink.specs.Faults.{IsDevice, IsCodeFault}
 use Rattle.openlink.specs.declared.fault.Fault.{Fault}
@@ -21,7 +22,7 @@ begins_with_word name (word ∷ words) = bytes_eq word name
 
 abbrev pub names_command : List Text → Bool
 names_command words =
-    begins_with_word (codes "expand") words || (begins_with_word (codes "link") words || (begins_with_word (codes "compile") words || (begins_with_word (codes "run") words || (begins_with_word (codes "resolve") words || (begins_with_word (codes "verify") words || (begins_with_word (codes "show") words || begins_with_word (codes "upgrade") words))))))
+    begins_with_word (codes "expand") words || (begins_with_word (codes "link") words || (begins_with_word (codes "compile") words || (begins_with_word (codes "run") words || (begins_with_word (codes "resolve") words || (begins_with_word (codes "verify") words || (begins_with_word (codes "show") words || (begins_with_word (codes "upgrade") words || begins_with_word (codes "serve") words)))))))
 
 -- the words of a command that is done, and what it prints
 pub data Prints : List Text → Text → Type 0 where
@@ -33,6 +34,7 @@ pub data Prints : List Text → Text → Type 0 where
   prints_verdict : (words : List Text) (text : Text) → IsVerifyLine words text → Prints (codes "verify" ∷ words) text
   prints_listing : (words : List Text) (text : Text) → IsShowLine words text → Prints (codes "show" ∷ words) text
   prints_count : (words : List Text) (line : Text) → MakesFile IsUpgrade words line → Prints (codes "upgrade" ∷ words) line
+  prints_place : (words : List Text) (line : Text) → IsServing words line → Prints (codes "serve" ∷ words) line
 
 -- the words of a command that is not done, and why
 pub data Fails : List Text → Fault → Type 0 where
@@ -45,6 +47,11 @@ pub data Fails : List Text → Fault → Type 0 where
   no_verdict : (words : List Text) (fault : Fault) → FailsToVerify words fault → Fails (codes "verify" ∷ words) fault
   no_listing : (words : List Text) (fault : Fault) → FailsToShow words fault → Fails (codes "show" ∷ words) fault
   no_upgrade : (words : List Text) (fault : Fault) → FailsToMake IsUpgrade IsCodeFault words fault → Fails (codes "upgrade" ∷ words) fault
+  no_service : (words : List Text) (fault : Fault) → FailsToServe words fault → Fails (codes "serve" ∷ words) fault
+
+-- the words of a service that has printed its line, and why it stops before it is done
+pub data Stops : List Text → Text → Fault → Type 0 where
+  no_more : (words : List Text) (line : Text) (fault : Fault) → StopsServing words line fault → Stops (codes "serve" ∷ words) line fault
 
 -- the words print something, and the output does not take it
 pub record OutputFails (words : List Text) (fault : Fault) : Type 0 where

@@ -93,6 +93,7 @@ status_of (fault.Registry n) = 3
 status_of (fault.Target e) = status_of_target e.fault
 status_of Memory = 4
 status_of (Device path) = 4
+status_of (fault.Port word) = 4
 
 -- the bytes are no code file, and this is their first fault; want of memory can come only where they are one
 abbrev pub IsCodeFault : Text → Fault → Type 0

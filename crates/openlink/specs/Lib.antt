@@ -13,3 +13,4 @@ pub mod Commands
 pub mod Verify
 pub mod Resolve
 pub mod Run
+pub mod Serve

@@ -1,9 +1,9 @@
 //! The commands: which words run what, and what is printed.
 
-ghost use Rattle.std.specs.Prelude.{◌≡◌, ◌≢◌, ◌⊎◌, string_bytes, IfOk, IfErr, OnOk};
+ghost use Rattle.std.specs.Prelude.{◌≡◌, ◌≢◌, ◌⊎◌, codes, false, string_bytes, IfOk, IfErr, OnOk};
 ghost use Rattle.std.specs.Io.KnownBytes.{Appends};
 ghost use Rattle.text_model.specs.Texts.{Text, texts_of};
-ghost use Rattle.openlink.specs.Commands.{Prints, Fails, OutputFails};
+ghost use Rattle.openlink.specs.Commands.{Prints, Fails, OutputFails, Stops, begins_with_word};
 ghost use Rattle.openlink.specs.Faults.{status_of};
 ghost use Rattle.openlink.specs.declared.fault.Fault.{Fault};
 
@@ -14,27 +14,29 @@ use crate::link::link_line;
 use crate::placing::write_whole;
 use crate::resolve::resolve_lines;
 use crate::run::run_line;
+use crate::serve::serve;
 use crate::show::show_lines;
 use crate::upgrade::upgrade_line;
 use crate::verify::verify_lines;
 use crate::words::behind;
 use std::io::Write;
+use std::net::{Net, TcpListener, TcpStream};
 use std::random::RandomSource;
 use std::rt::Files;
 
 /// Runs the command that the words name, prints its result on `output`, or one line with its fault on
 /// `errors`, and gives the exit status: 0 done, 1 no link, or a menu without links (and nothing is printed), 2 words that are no
 /// command, 3 refused, 4 memory or device.
-pub fn command<R: Files + RandomSource + AllocGlobal, O: Write, E: Write>(
-    rt: &R,
-    words: &[&str],
-    output: &mut O,
-    errors: &mut E,
-) -> u8
+pub fn command<
+    R: Files + RandomSource + Net<Listener = TcpListener, Stream = TcpStream> + AllocGlobal,
+    O: Write,
+    E: Write,
+>(rt: &R, words: &[&str], output: &mut O, errors: &mut E) -> u8
     ensures done { result ≡ 0 → (line : Text) × Prints (texts_of words.now) line
         × Appends (O.contents output.old) (O.contents output.new) line }
     ensures not_done { result ≢ 0 → (fault : Fault) × (result ≡ status_of fault)
-        × ((Fails (texts_of words.now) fault × (output.new ≡ output.old)) ⊎ OutputFails (texts_of words.now) fault) }
+        × ((Fails (texts_of words.now) fault × (output.new ≡ output.old)) ⊎ OutputFails (texts_of words.now) fault
+        ⊎ ((line : Text) × Stops (texts_of words.now) line fault × Appends (O.contents output.old) (O.contents output.new) line)) }
     ensures no_fault { (result ≡ 0) ⊎ (result ≡ 1) → errors.new ≡ errors.old }
 {
     match run(rt, words, output) {
@@ -55,22 +57,32 @@ pub fn report<E: Write>(fault: Fault, errors: &mut E) -> u8
 }
 
 /// Runs the command that the words name, and prints its result on `output`.
-fn run<'a, R: Files + RandomSource + AllocGlobal, O: Write>(
-    rt: &R,
-    words: &[&'a str],
-    output: &mut O,
-) -> Result<(), Fault<'a>>
+fn run<
+    'a,
+    R: Files + RandomSource + Net<Listener = TcpListener, Stream = TcpStream> + AllocGlobal,
+    O: Write,
+>(rt: &R, words: &[&'a str], output: &mut O) -> Result<(), Fault<'a>>
     ensures printed { OnOk result ((line : Text) × Prints (texts_of words.now) line
         × Appends (O.contents output.old) (O.contents output.new) line) }
     ensures failed { IfErr result (λ fault. (Fails (texts_of words.now) fault × (output.new ≡ output.old))
-        ⊎ OutputFails (texts_of words.now) fault) }
+        ⊎ OutputFails (texts_of words.now) fault
+        ⊎ ((line : Text) × Stops (texts_of words.now) line fault × Appends (O.contents output.old) (O.contents output.new) line)) }
 {
-    let text = answer(rt, words)?;
-    write_whole(output, "-", text.as_bytes())
+    match behind(words, "serve") {
+        Some(rest) => serve(rt, rest, output),
+        None => {
+            let text = answer(rt, words)?;
+            write_whole(output, "-", text.as_bytes())
+        }
+    }
 }
 
-/// What the command that the words name prints.
-fn answer<'a, R: Files + RandomSource + AllocGlobal>(rt: &R, words: &[&'a str]) -> Result<String, Fault<'a>>
+/// What the command that the words name prints, which is none that prints before it is done.
+fn answer<'a, R: Files + RandomSource + AllocGlobal>(
+    rt: &R,
+    words: &[&'a str],
+) -> Result<String, Fault<'a>>
+    requires { begins_with_word (codes "serve") (texts_of words.now) ≡ false }
     ensures ok { IfOk result (λ text. Prints (texts_of words.now) (string_bytes text)) }
     ensures err { IfErr result (Fails (texts_of words.now)) }
 {

@@ -73,6 +73,9 @@ pub enum Fault<'a> {
     /// The file at the path failed; `-` is standard output.
     #[error("device: {0}")]
     Device(&'a str),
+    /// Nothing can listen at the port of this machine, or no more connections come from it.
+    #[error("device: 127.0.0.1:{0}")]
+    Port(&'a str),
 }
 
 impl<'a> Fault<'a> {
@@ -102,7 +105,7 @@ impl<'a> Fault<'a> {
             | Fault::OverBudget(_)
             | Fault::Registry(_) => REFUSED,
             Fault::Target(e) => status_of_target(&e.fault),
-            Fault::Memory | Fault::Device(_) => FAILED,
+            Fault::Memory | Fault::Device(_) | Fault::Port(_) => FAILED,
         }
     }
 }

@@ -13,6 +13,7 @@ mod placing;
 mod request;
 mod resolve;
 mod run;
+mod serve;
 mod show;
 #[cfg(test)]
 mod tests;

@@ -11,6 +11,7 @@ mod verify;
 
 use crate::commands::command;
 use std::alloc::AllocError;
+use std::net::{Net, TcpListener, TcpStream};
 use std::process::Abort;
 use std::random::RandomSource;
 use std::rt::Files;
@@ -49,13 +50,9 @@ fn is_out_of_memory(errors: &[u8]) -> bool {
 
 /// Runs the words, and compares what they give: status, standard output and standard error. Where a growth
 /// was refused, they give that, whatever they would have given.
-pub fn run_words<R: Abort + Files + RandomSource + AllocGlobal>(
-    rt: &R,
-    words: &[&str],
-    status: u8,
-    printed: &str,
-    fault: &str,
-) -> Result<(), Fail> {
+pub fn run_words<
+    R: Abort + Files + RandomSource + Net<Listener = TcpListener, Stream = TcpStream> + AllocGlobal,
+>(rt: &R, words: &[&str], status: u8, printed: &str, fault: &str) -> Result<(), Fail> {
     let mut output = Vec::with_capacity(rt.alloc(), printed.len())?;
     let mut errors = Vec::with_capacity(rt.alloc(), 64 + fault.len())?;
     let answer = command(rt, words, &mut output, &mut errors);
@@ -69,7 +66,9 @@ pub fn run_words<R: Abort + Files + RandomSource + AllocGlobal>(
     Ok(())
 }
 
-pub fn run_cases<R: Abort + Files + RandomSource + AllocGlobal>(rt: &R, cases: &[Case]) -> Result<(), Fail> {
+pub fn run_cases<
+    R: Abort + Files + RandomSource + Net<Listener = TcpListener, Stream = TcpStream> + AllocGlobal,
+>(rt: &R, cases: &[Case]) -> Result<(), Fail> {
     for case in cases {
         run_words(rt, case.words, case.status, case.printed, case.fault)?;
     }

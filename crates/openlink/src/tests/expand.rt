@@ -1,5 +1,7 @@
 use super::run_words;
+use std::net::{Net, TcpListener, TcpStream};
 use std::process::Abort;
+use std::random::RandomSource;
 use std::rt::Files;
 use std::test::Fail;
 
@@ -15,11 +17,10 @@ const AUTHORS: &str = "rft.au=Smith%2C+J&rft.au=Li";
 type Row<'a> = (&'a str, &'a str, &'a str);
 
 /// Runs `expand` with the options in front.
-fn expands<'a, R: Abort + Files + AllocGlobal>(
-    rt: &R,
-    options: &[&'a str],
-    rows: &[Row<'a>],
-) -> Result<(), Fail> {
+fn expands<
+    'a,
+    R: Abort + Files + RandomSource + Net<Listener = TcpListener, Stream = TcpStream> + AllocGlobal,
+>(rt: &R, options: &[&'a str], rows: &[Row<'a>]) -> Result<(), Fail> {
     for row in rows {
         let (template, query, expansion) = *row;
         let mut words = vec![in rt.alloc(); "expand"]?;

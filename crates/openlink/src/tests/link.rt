@@ -1,16 +1,15 @@
 use super::{Case, done, ends, run_cases};
 use std::fs;
+use std::net::{Net, TcpListener, TcpStream};
 use std::process::Abort;
+use std::random::RandomSource;
 use std::rt::Files;
 use std::test::Fail;
 
 /// Runs the cases with the rules in a file at the path, which is there for as long.
-fn run_with<R: Abort + Files + AllocGlobal>(
-    rt: &R,
-    path: &str,
-    rules: &[u8],
-    cases: &[Case],
-) -> Result<(), Fail> {
+fn run_with<
+    R: Abort + Files + RandomSource + Net<Listener = TcpListener, Stream = TcpStream> + AllocGlobal,
+>(rt: &R, path: &str, rules: &[u8], cases: &[Case]) -> Result<(), Fail> {
     fs::write(rt, path, rules)?;
     run_cases(rt, cases)?;
     fs::remove_file(rt, path)?;

@@ -4,7 +4,8 @@ use std::fs;
 use std::rt::Files;
 use std::test::Fail;
 
-const ALPHA: &[u8] = b"rule\nwhen rft.date from date_first_issue_online to date_last_issue_online\nlink {+title_url}\n";
+const ALPHA: &[u8] =
+    b"rule\nwhen rft.date from date_first_issue_online to date_last_issue_online\nlink {+title_url}\n";
 
 const BETA: &[u8] = b"rule\nlink javascript:x\n";
 
