@@ -20,9 +20,9 @@ pub record IsNumber (word : Text) (n : ℕ) : Type 0 where
 pub record AreServeWords (words : List Text) (path port_word : Text) (port count : ℕ) : Type 0 where
   pub count_word : Text
   pub three_words : words ≡ path ∷ port_word ∷ count_word ∷ []
-  pub port : IsNumber port_word port
+  pub port_number : IsNumber port_word port
   pub port_limit : port ≤ 65535
-  pub count : IsNumber count_word count
+  pub count_number : IsNumber count_word count
   pub one : 1 ≤ count
   pub count_limit : count ≤ 1000000
 
