@@ -142,6 +142,8 @@ fn nothing_to_show(rt: HostRuntime) -> Result<(), Fail> {
     Ok(())
 }
 
+const TWO_TURNS: &[&[u64]] = &[&[64, 4], &[123, 4]];
+
 /// Forty members, and the text.
 fn long_and_short(alloc: Global) -> Result<Vec<Env>, Fail>
     ensures { IfOk result (λ envs. length envs.items ≡ 2) }
