@@ -2,3 +2,4 @@ pub mod Places
 pub mod Hosts
 pub mod Schemes
 pub mod Answers
+pub mod Unique

@@ -10,6 +10,7 @@
 
 mod asked;
 mod host;
+pub mod laws;
 mod request;
 mod target;
 #[cfg(test)]
