@@ -18,7 +18,7 @@ use Rattle.menu.specs.declared.entry.Reason.TheVariants.{NoRow}
 use Rattle.registry.specs.Targets.{TargetValue}
 use Rattle.registry.specs.Entries.{entry_of, matching_rows_of, menu_of, reason_from, reason_of, reason_of_row}
 use Rattle.link_menu.specs.Shown.{HasSeenMore, with_lists}
-use Rattle.link_menu.specs.Private.Searches.{SearchValue, after_row, entry_so_far, is_open, started, tried, tried_at}
+use Rattle.link_menu.specs.Private.Searches.{SearchValue, entry_so_far, is_open, started, tried, tried_at}
 
 -- ---- the reason that a search comes to
 

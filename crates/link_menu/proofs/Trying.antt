@@ -1,6 +1,6 @@
 -- The next rows of searches, and what becomes of them.
 use Rattle.std.proofs.Common.{◌≡◌, ℕ, suc, ◌+◌, ◌<◌, List, [], ◌∷◌, ◌++◌, Option, Some, None, refl, sym, ap, ◌∙◌, arith, length, map, get_or, set, take, drop}
-use Rattle.std.specs.Prelude.{Bool, true, false, is_some, option_map}
+use Rattle.std.specs.Prelude.{true, false, is_some, option_map}
 use Rattle.std.specs.List.{cons_option, filter_map, zip}
 use Rattle.std.proofs.lemmas.Bool.{false≢true}
 use Rattle.std.proofs.lemmas.List.{at_drop_more, drop-drop, drop-set-lt, get_or-drop, length-drop, length-map, map_more, take_more, take_more_set}

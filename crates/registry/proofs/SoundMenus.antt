@@ -1,5 +1,5 @@
 -- Menus of targets with names and safe code.
-use Rattle.std.proofs.Common.{◌≡◌, ℕ, Bool, true, false, cond, List, [], ◌∷◌, All, Option, Some, None, map, get_or, refl, nat_lt, if◌then◌else◌}
+use Rattle.std.proofs.Common.{◌≡◌, ℕ, Bool, true, false, cond, List, [], ◌∷◌, All, Some, map, get_or, refl, nat_lt, if◌then◌else◌}
 use Rattle.std.specs.Prelude.{◌↔◌, find}
 use Rattle.std.specs.List.{cons_option}
 use Rattle.std.specs.Option.{unwrap_or}
@@ -23,7 +23,7 @@ use Rattle.menu.specs.declared.entry.Reason.TheVariants as reason
 use Rattle.registry.specs.Targets.{TargetValue, IsRegistry}
 use Rattle.registry.specs.RowEnvironments.{row_environment}
 use Rattle.registry.specs.Fates.{Fate, OverBudget, Link, NoLink, ended, fate_in, most_bytes_in}
-use Rattle.registry.specs.Entries.{chosen, entry_of, last_reason, matching_rows_of, menu_of, reason_by, reason_of, reason_of_row}
+use Rattle.registry.specs.Entries.{entry_of, last_reason, matching_rows_of, menu_of, reason_by, reason_of, reason_of_row}
 use Rattle.registry.specs.MenuLinks.{IsMenuLink, IsSoundMenu}
 
 -- what the machine comes to is computed

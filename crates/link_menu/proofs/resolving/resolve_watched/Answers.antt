@@ -1,8 +1,8 @@
-use Rattle.std.proofs.Common.{◌≡◌, ◌<◌, ap, ◌∙◌, sym, subst, length, map, true, false, List, take, drop, ◌++◌}
+use Rattle.std.proofs.Common.{◌≡◌, ◌<◌, ap, ◌∙◌, sym, subst, length, map, true, false, take, drop, ◌++◌}
 use Rattle.std.specs.Prelude.{IfOk}
 use Rattle.std.specs.List.{list_any, sum_by}
 use Rattle.std.proofs.lemmas.List.{length-map}
-use Rattle.link_menu.specs.Private.Searches.{SearchValue, is_open, started, tried}
+use Rattle.link_menu.specs.Private.Searches.{is_open, started, tried}
 use Rattle.link_menu.proofs.Searching.{entry_in_the_end, fewer_rows_left, menu_after_round, menu_at_end, menu_at_start, more_seen, nothing_more, rows_left, written_back}
 use Rattle.link_menu.proofs.resolving.resolve_watched.Goals as goal
 
