@@ -1,5 +1,5 @@
 -- The pieces of a reply, appended one after another.
-use Rattle.std.proofs.Common.{◌≡◌, ◌∙◌, [], ◌++◌, ap}
+use Rattle.std.proofs.Common.{◌≡◌, ◌∙◌, ◌++◌, ap}
 use Rattle.text_model.specs.Texts.{Text}
 
 -- one piece more behind what is there

@@ -1,5 +1,5 @@
 -- Replies, and their bytes (RFC 9112, section 4).
-use Rattle.std.specs.Prelude.{ℕ, ◌==◌, Bool, false, List, [], ◌++◌, codes, length, if◌then◌else◌}
+use Rattle.std.specs.Prelude.{ℕ, ◌==◌, Bool, false, [], ◌++◌, codes, length, if◌then◌else◌}
 use Rattle.std.specs.Fmt.{decimal}
 use Rattle.text_model.specs.Texts.{Text}
 use Rattle.http.specs.StatusCode.{status_text}

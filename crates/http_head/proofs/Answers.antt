@@ -1,5 +1,5 @@
 -- What bytes ask for, by the head that was found or by none.
-use Rattle.std.proofs.Common.{◌≡◌, ◌∙◌, ℕ, ◌<◌, ◌≤◌, Bool, false, List, length, subst, sym, ap, arith}
+use Rattle.std.proofs.Common.{◌≡◌, ◌∙◌, ℕ, ◌<◌, Bool, false, List, length, subst, sym, ap, arith}
 use Rattle.httparse.specs.Grammar.{ReadsRequest, RequestHead}
 use Rattle.http_head.specs.declared.request.TheConstants.{MAX_FIELDS}
 use Rattle.http_head.specs.Asking.{IsAsked, IsHeadOf, Wanted, by_head, is_head_method, wanted_of, wanted_of_head, wanted_without_head, without_head}

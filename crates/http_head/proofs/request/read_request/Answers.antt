@@ -1,4 +1,4 @@
-use Rattle.std.proofs.Common.{◌≡◌, ◌∙◌, arith}
+use Rattle.std.proofs.Common.{◌∙◌}
 use Rattle.http_head.proofs.Answers.{asked-by_head, asked-without_head}
 use Rattle.http_head.proofs.Hosts.{hosts-of_spans}
 use Rattle.http_head.proofs.request.read_request.Goals as goal

@@ -1,4 +1,4 @@
-use Rattle.std.proofs.Common.{◌≡◌, ◌+◌, ap, ◌∙◌, drop, take, sym}
+use Rattle.std.proofs.Common.{◌+◌, ap, ◌∙◌, drop, take, sym}
 use Rattle.std.proofs.lemmas.List.{take_rest}
 use Rattle.http_head.specs.Target.{is_question_mark}
 use Rattle.http_head.proofs.Places.{after-none, before-none, place-some}
