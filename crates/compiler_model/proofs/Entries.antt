@@ -1,34 +1,31 @@
 -- Each entry that lines use stands in its table, at its index.
 use Rattle.std.proofs.Common.{◌≡◌, suc, ◌+◌, List, [], ◌∷◌, ◌++◌, Some, Bool, true, false, refl, sym, ap, ◌∙◌, subst, arith}
-use Rattle.std.specs.Prelude.{◌||◌, not, if◌then◌else◌, slice_get, filter}
+use Rattle.std.specs.Prelude.{◌||◌, ◌&&◌, not, if◌then◌else◌, slice_get, filter}
 use Rattle.std.specs.List.{list_any, position_or_len}
 use Rattle.std.specs.Bool.{beq, Decides}
 use Rattle.std.specs.Cmp.{booleans_Decides}
 use Rattle.std.specs.Str.{bytes_eq}
 use Rattle.std.proofs.lemmas.Bool.{and_parts, and_from, false≢true}
 use Rattle.std.proofs.lemmas.Slice.Eq.{bytes_eq-Decides}
+use Rattle.text_model.specs.Texts.{Text}
 use Rattle.code_model.specs.Code.{Name, Literal}
 use Rattle.compiler_model.specs.Tables.{is_same_name, is_same_literal, firsts}
 
 -- ---- entries are told apart
 
-pub same_names : (n m : Name) → Decides (is_same_name n m) (n ≡ m)
-same_names n m = (
-  λ h. let both = and_parts (bytes_eq n.text m.text) (beq n.list m.list) h in
-      let text = (bytes_eq-Decides n.text m.text).0 both.0 in
-      let list = (booleans_Decides n.list m.list).0 both.1 in
-      λ t. record { list = list t; text = text t },
-  λ e. and_from (bytes_eq n.text m.text) (beq n.list m.list) ((bytes_eq-Decides n.text m.text).1 (ap (λ (x : Name). x.text) e)) ((booleans_Decides n.list m.list).1 (ap (λ (x : Name). x.list) e)),
+-- a text and a flag, where these two are all of an entry
+decides_both : {X : Type 0} (text : X → Text) (flag : X → Bool) → ((x y : X) → text x ≡ text y → flag x ≡ flag y → x ≡ y) → (x y : X) → Decides (bytes_eq (text x) (text y) && beq (flag x) (flag y)) (x ≡ y)
+decides_both text flag whole x y = (
+  λ h. let both = and_parts (bytes_eq (text x) (text y)) (beq (flag x) (flag y)) h in
+      whole x y ((bytes_eq-Decides (text x) (text y)).0 both.0) ((booleans_Decides (flag x) (flag y)).0 both.1),
+  λ e. and_from (bytes_eq (text x) (text y)) (beq (flag x) (flag y)) ((bytes_eq-Decides (text x) (text y)).1 (ap text e)) ((booleans_Decides (flag x) (flag y)).1 (ap flag e)),
 )
 
+pub same_names : (n m : Name) → Decides (is_same_name n m) (n ≡ m)
+same_names = decides_both (λ (n : Name). n.text) (λ n. n.list) (λ n m text list t. record { list = list t; text = text t })
+
 pub same_literals : (l m : Literal) → Decides (is_same_literal l m) (l ≡ m)
-same_literals l m = (
-  λ h. let both = and_parts (bytes_eq l.bytes m.bytes) (beq l.compared m.compared) h in
-      let bytes = (bytes_eq-Decides l.bytes m.bytes).0 both.0 in
-      let compared = (booleans_Decides l.compared m.compared).0 both.1 in
-      λ t. record { compared = compared t; bytes = bytes t },
-  λ e. and_from (bytes_eq l.bytes m.bytes) (beq l.compared m.compared) ((bytes_eq-Decides l.bytes m.bytes).1 (ap (λ (x : Literal). x.bytes) e)) ((booleans_Decides l.compared m.compared).1 (ap (λ (x : Literal). x.compared) e)),
-)
+same_literals = decides_both (λ (l : Literal). l.bytes) (λ l. l.compared) (λ l m bytes compared t. record { compared = compared t; bytes = bytes t })
 
 module _ {X : Type 0} (same : X → X → Bool) (decides : (x y : X) → Decides (same x y) (x ≡ y)) where
   abbrev IsAmong : X → List X → Type 0
