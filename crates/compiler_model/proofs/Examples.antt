@@ -1,5 +1,5 @@
 -- The code of small rule sets, line by line.
-use Rattle.std.proofs.Common.{◌≡◌, List, [], ◌∷◌, true, false, refl}
+use Rattle.std.proofs.Common.{◌≡◌, ℕ, List, [], ◌∷◌, true, false, refl}
 use Rattle.std.specs.Prelude.{codes}
 use Rattle.text_model.specs.Texts.{Text}
 use Rattle.code_model.specs.Code.{upgraded}
@@ -16,7 +16,9 @@ use Rattle.rule_parser.specs.Rules.{RuleSet}
 use Rattle.machine_model.proofs.Listings.{list_name, link_text, compared_text, code, issn_code}
 use Rattle.text_model.specs.declared.writing.Writing.TheVariants.{U}
 use Rattle.uri_template.specs.Expansion.{style_of}
+use Rattle.compiler_model.specs.declared.lines.Action.{Action}
 use Rattle.compiler_model.specs.declared.lines.Action.TheVariants.{LoadText, LoadList, LoadConst, Emits, Separates, Puts, Cuts}
+use Rattle.compiler_model.specs.declared.lines.Test.{Test}
 use Rattle.compiler_model.specs.declared.lines.Test.TheVariants.{IsUndefined, IsEmpty, HasNoMember, HasNoNumber, Differs, IsLess}
 use Rattle.compiler_model.specs.declared.lines.Target.TheVariants.{Ahead, Away}
 use Rattle.compiler_model.specs.declared.lines.Line.{Line}
@@ -146,48 +148,35 @@ between_lines = refl
 abbrev specified : Op → Spec → List Line
 specified op spec = lines (spec_block [] (style_of op) spec)
 
-path_lines : specified operator.Slash (record { name = x; cut = 3; explode = false }) ≡
-    Acts (LoadText 0 x)
-    ∷ Tests (IsUndefined 0) (Ahead 7)
+-- a variable is loaded; where it is defined, `sep` or `first` comes, and then its own lines
+abbrev shown : Action → Test → ℕ → Text → Text → List Line → List Line
+shown load missing past sep first own =
+    Acts load
+    ∷ Tests missing (Ahead past)
     ∷ Tests (IsEmpty 4) (Ahead 3)
-    ∷ Acts (Emits (codes "/"))
+    ∷ Acts (Emits sep)
     ∷ Jumps (Ahead 2)
-    ∷ Acts (Emits (codes "/"))
+    ∷ Acts (Emits first)
     ∷ Acts (LoadConst 4 (codes "1"))
-    ∷ Acts (Cuts 0 3 U)
-    ∷ []
+    ∷ own
+
+path_lines : specified operator.Slash (record { name = x; cut = 3; explode = false }) ≡
+    shown (LoadText 0 x) (IsUndefined 0) 7 (codes "/") (codes "/") (Acts (Cuts 0 3 U) ∷ [])
 path_lines = refl
 
 parameter_lines : specified operator.Semicolon (exploded authors) ≡
-    Acts (LoadList 0 authors)
-    ∷ Tests (HasNoMember 0) (Ahead 13)
-    ∷ Tests (IsEmpty 4) (Ahead 3)
-    ∷ Acts (Emits (codes ";"))
-    ∷ Jumps (Ahead 2)
-    ∷ Acts (Emits (codes ";"))
-    ∷ Acts (LoadConst 4 (codes "1"))
-    ∷ Begins 5 0 7
+    shown (LoadList 0 authors) (HasNoMember 0) 13 (codes ";") (codes ";")
+    (Begins 5 0 7
     ∷ Acts (Separates (codes ";"))
     ∷ Acts (Emits authors)
     ∷ Tests (IsEmpty 5) (Ahead 3)
     ∷ Acts (Emits (codes "="))
     ∷ Acts (Puts 5 U)
     ∷ Turns
-    ∷ []
+    ∷ [])
 parameter_lines = refl
 
 query_lines : specified operator.Question (plain authors) ≡
-    Acts (LoadList 0 authors)
-    ∷ Tests (HasNoMember 0) (Ahead 11)
-    ∷ Tests (IsEmpty 4) (Ahead 3)
-    ∷ Acts (Emits (codes "&"))
-    ∷ Jumps (Ahead 2)
-    ∷ Acts (Emits (codes "?"))
-    ∷ Acts (LoadConst 4 (codes "1"))
-    ∷ Acts (Emits (codes "rft.au="))
-    ∷ Begins 5 0 4
-    ∷ Acts (Separates (codes ","))
-    ∷ Acts (Puts 5 U)
-    ∷ Turns
-    ∷ []
+    shown (LoadList 0 authors) (HasNoMember 0) 11 (codes "&") (codes "?")
+    (Acts (Emits (codes "rft.au=")) ∷ Begins 5 0 4 ∷ Acts (Separates (codes ",")) ∷ Acts (Puts 5 U) ∷ Turns ∷ [])
 query_lines = refl
