@@ -7,7 +7,7 @@ use Rattle.std.proofs.lemmas.Bool.{false≢true, ltb-false}
 use Rattle.std.proofs.lemmas.List.{append_assoc, append-nil, drop_more}
 use Rattle.text_model.specs.Texts.{Text}
 use Rattle.rule_parser.specs.declared.rule.Rule.{Rule}
-use Rattle.std.proofs.lemmas.List.Elements.{filter_map-append}
+use Rattle.std.proofs.lemmas.List.Elements.{filter-append, filter_map-append}
 use Rattle.rule_parser.specs.Rules.{RuleSet}
 use Rattle.compiler_model.specs.declared.lines.Line.{Line}
 use Rattle.compiler_model.specs.declared.lines.Line.TheVariants.{Fails}
@@ -31,14 +31,6 @@ index_or_len p xs = by_test (nat_lt (position_or_len p xs) (length xs)) refl
     by_test : (b : Bool) → nat_lt (position_or_len p xs) (length xs) ≡ b → unwrap_or (if b then Some (position_or_len p xs) else None) (length xs) ≡ position_or_len p xs
     by_test true e = refl
     by_test false e = omega (arith, ltb-false (position_or_len p xs) (length xs) e, first_within p xs)
-
-filter-append : {X : Type 0} (test : X → Bool) (xs ys : List X) → filter test (xs ++ ys) ≡ filter test xs ++ filter test ys
-filter-append test [] ys = refl
-filter-append test (x ∷ xs) ys = by_test (test x) (filter-append test xs ys)
-  where
-    by_test : (b : Bool) → filter test (xs ++ ys) ≡ filter test xs ++ filter test ys → (if b then (x ∷ filter test (xs ++ ys)) else filter test (xs ++ ys)) ≡ (if b then (x ∷ filter test xs) else filter test xs) ++ filter test ys
-    by_test true e = ap (λ zs. x ∷ zs) e
-    by_test false e = e
 
 pub gathered_entry : {X : Type 0} (same : X → X → Bool) (xs : List X) (o : Option X) (ys : List X) → gathered same xs (cons_option o ys) ≡ gathered same (with_entry same xs o) ys
 gathered_entry same xs None ys = refl
