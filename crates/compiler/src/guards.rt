@@ -1,6 +1,6 @@
 //! The lines of guards.
 
-ghost use Rattle.std.specs.Prelude.{◌≡◌, ◌++◌, [], false, OnOk, codes};
+ghost use Rattle.std.specs.Prelude.{◌≡◌, ◌++◌, [], false, true, OnOk, codes};
 ghost use Rattle.compiler_model.specs.declared.lines.Action.TheVariants as actions;
 ghost use Rattle.compiler_model.specs.declared.lines.Test.TheVariants as tests;
 ghost use Rattle.compiler_model.specs.Blocks.{Does, Then, Unless, ForEach, LeaveIf, Leave, lines};
@@ -156,32 +156,22 @@ fn push_holds(alloc: Global, out: &mut Vec<Line>, name: &str, text: &str) -> Res
     push_leave_if(out, Test::IsEmpty(2))
 }
 
-fn push_between(
-    alloc: Global,
-    out: &mut Vec<Line>,
-    name: &str,
-    low: &Bound,
-    high: &Bound,
-) -> Result<(), AllocError>
-    ensures { OnOk result (out.new.items ≡ out.old.items ++ lines (guard_block [] (guards.Between name.now low.now high.now))) }
+// The number that a text begins with into r1; the rule is left where there is none.
+fn push_leading_number(alloc: Global, out: &mut Vec<Line>, name: &str) -> Result<(), AllocError>
+    ensures { OnOk result (out.new.items ≡ out.old.items
+        ++ lines (Then (Then (Does (loading false name.now)) (LeaveIf (tests.IsUndefined 0))) (LeaveIf (tests.HasNoNumber 1 0)))) }
 {
     push_text(alloc, out, name)?;
-    push_leave_if(out, Test::HasNoNumber(1, 0))?;
-    push_bounds(alloc, out, low, high)
+    push_leave_if(out, Test::HasNoNumber(1, 0))
 }
 
-fn push_counts(
-    alloc: Global,
-    out: &mut Vec<Line>,
-    name: &str,
-    low: &Bound,
-    high: &Bound,
-) -> Result<(), AllocError>
-    ensures { OnOk result (out.new.items ≡ out.old.items ++ lines (guard_block [] (guards.Counts name.now low.now high.now))) }
+// How many members a list has, into r1.
+fn push_count(alloc: Global, out: &mut Vec<Line>, name: &str) -> Result<(), AllocError>
+    ensures { OnOk result (out.new.items ≡ out.old.items ++ lines (Then (Does (loading true name.now)) (Does (actions.CountMembers 1 0)))) }
 {
     push_load_list(alloc, out, 0, name)?;
     out.push(Line::Acts(Action::CountMembers(1, 0)))?;
-    push_bounds(alloc, out, low, high)
+    Ok(())
 }
 
 fn push_guard(
@@ -198,8 +188,14 @@ fn push_guard(
         Guard::Given(name) => push_given(alloc, out, name.as_str()),
         Guard::Same(name, text) => push_same(alloc, out, name.as_str(), text.as_str()),
         Guard::Holds(name, text) => push_holds(alloc, out, name.as_str(), text.as_str()),
-        Guard::Between(name, low, high) => push_between(alloc, out, name.as_str(), low, high),
-        Guard::Counts(name, low, high) => push_counts(alloc, out, name.as_str(), low, high),
+        Guard::Between(name, low, high) => {
+            push_leading_number(alloc, out, name.as_str())?;
+            push_bounds(alloc, out, low, high)
+        }
+        Guard::Counts(name, low, high) => {
+            push_count(alloc, out, name.as_str())?;
+            push_bounds(alloc, out, low, high)
+        }
     }
 }
 
