@@ -163,37 +163,7 @@ fn push_head(alloc: Global, out: &mut Vec<Line>, named: bool, name: &str) -> Res
     }
 }
 
-// The members of the list in r0, joined by commas.
-fn push_joined(
-    alloc: Global,
-    out: &mut Vec<Line>,
-    style: &Style,
-    name: &str,
-) -> Result<(), AllocError>
-    ensures { OnOk result (out.new.items ≡ out.old.items ++ lines (members_block style.now name.now false)) }
-{
-    let mut body = Vec::new(alloc);
-    push_separator(alloc, &mut body, ",")?;
-    body.push(Line::Acts(Action::Puts(5, style.writing)))?;
-    push_head(alloc, out, style.named, name)?;
-    push_each(out, 5, 0, body)
-}
-
-// The members of the list in r0, each as an item of its own.
-fn push_exploded(
-    alloc: Global,
-    out: &mut Vec<Line>,
-    style: &Style,
-    name: &str,
-) -> Result<(), AllocError>
-    ensures { OnOk result (out.new.items ≡ out.old.items ++ lines (members_block style.now name.now true)) }
-{
-    let mut body = Vec::new(alloc);
-    push_separator(alloc, &mut body, style.sep)?;
-    push_item(alloc, &mut body, style, 5, name, 0)?;
-    push_each(out, 5, 0, body)
-}
-
+// The members of the list in r0, each as an item of its own or joined by commas.
 fn push_members(
     alloc: Global,
     out: &mut Vec<Line>,
@@ -202,11 +172,16 @@ fn push_members(
 ) -> Result<(), AllocError>
     ensures { OnOk result (out.new.items ≡ out.old.items ++ lines (shown_block true style.now spec.now)) }
 {
+    let mut body = Vec::new(alloc);
     if spec.explode {
-        push_exploded(alloc, out, style, spec.name.as_str())
+        push_separator(alloc, &mut body, style.sep)?;
+        push_item(alloc, &mut body, style, 5, spec.name.as_str(), 0)?;
     } else {
-        push_joined(alloc, out, style, spec.name.as_str())
+        push_separator(alloc, &mut body, ",")?;
+        push_value(&mut body, 5, style.writing, 0)?;
+        push_head(alloc, out, style.named, spec.name.as_str())?;
     }
+    push_each(out, 5, 0, body)
 }
 
 fn push_shown(
