@@ -5,6 +5,7 @@ mod link;
 mod output;
 mod resolve;
 mod run;
+mod serve;
 mod show;
 mod upgrade;
 mod verify;
