@@ -24,8 +24,6 @@ mod keys;
 mod read;
 mod records;
 mod table;
-#[cfg(test)]
-mod tests;
 
 pub use error::TableError;
 pub use ids::Ids;

@@ -18,8 +18,6 @@ mod list_keys;
 mod pairs;
 mod read;
 mod request;
-#[cfg(test)]
-mod tests;
 mod values;
 mod version;
 

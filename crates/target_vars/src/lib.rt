@@ -8,8 +8,6 @@ mod members_iter;
 mod names;
 mod place;
 mod room;
-#[cfg(test)]
-mod tests;
 
 pub use env::{Env, MAX_BYTES, MAX_MEMBERS};
 pub use error::VarsError;
