@@ -1,6 +1,7 @@
 //! The listing of a code.
 
-ghost use Rattle.std.specs.Prelude.{◌≡◌, ◌++◌, OnOk, string_bytes};
+ghost use Rattle.std.specs.Prelude.{◌≡◌, ◌++◌, OnOk, codes, string_bytes};
+ghost use Rattle.std.specs.Fmt.{decimal};
 ghost use Rattle.std.specs.List.{flat_map};
 ghost use Rattle.code_model.specs.declared.code.Instruction.TheVariants as variant;
 ghost use Rattle.code_file.specs.Grammar.{IsVersion};
@@ -22,26 +23,54 @@ fn push_known(out: &mut String, known: Instruction) -> Result<(), AllocError>
     ensures { OnOk result (string_bytes out.new ≡ string_bytes out.old ++ instruction_text known) }
 {
     match known {
-        Instruction::Halt => write!(out, "HALT"),
-        Instruction::Fail => write!(out, "FAIL"),
-        Instruction::Jump(d) => write!(out, "JUMP {d}"),
-        Instruction::Text(a, b) => write!(out, "TEXT r{a} n{b}"),
-        Instruction::List(a, b) => write!(out, "LIST r{a} n{b}"),
-        Instruction::Const(a, b) => write!(out, "CONST r{a} l{b}"),
-        Instruction::Number(a, b, d) => write!(out, "NUMBER r{a} r{b} {d}"),
-        Instruction::Undef(a, d) => write!(out, "UNDEF r{a} {d}"),
-        Instruction::Empty(a, d) => write!(out, "EMPTY r{a} {d}"),
-        Instruction::NoList(a, d) => write!(out, "NOLIST r{a} {d}"),
-        Instruction::Differ(a, b, d) => write!(out, "DIFFER r{a} r{b} {d}"),
-        Instruction::Less(a, b, d) => write!(out, "LESS r{a} r{b} {d}"),
-        Instruction::Emit(b) => write!(out, "EMIT l{b}"),
+        Instruction::Halt => out.push_str("HALT"),
+        Instruction::Fail => out.push_str("FAIL"),
+        Instruction::Jump(d) => push_one(out, "JUMP ", d),
+        Instruction::Text(a, b) => push_two(out, "TEXT r", a, " n", b),
+        Instruction::List(a, b) => push_two(out, "LIST r", a, " n", b),
+        Instruction::Const(a, b) => push_two(out, "CONST r", a, " l", b),
+        Instruction::Number(a, b, d) => push_three(out, "NUMBER r", a, b, d),
+        Instruction::Undef(a, d) => push_two(out, "UNDEF r", a, " ", d),
+        Instruction::Empty(a, d) => push_two(out, "EMPTY r", a, " ", d),
+        Instruction::NoList(a, d) => push_two(out, "NOLIST r", a, " ", d),
+        Instruction::Differ(a, b, d) => push_three(out, "DIFFER r", a, b, d),
+        Instruction::Less(a, b, d) => push_three(out, "LESS r", a, b, d),
+        Instruction::Emit(b) => push_one(out, "EMIT l", b),
         Instruction::Put(a, c) => push_put(out, a, c),
         Instruction::Cut(a, b, c) => push_cut(out, a, b, c),
-        Instruction::Each(a, b, d) => write!(out, "EACH r{a} r{b} {d}"),
-        Instruction::Sep(b) => write!(out, "SEP l{b}"),
-        Instruction::Next => write!(out, "NEXT"),
-        Instruction::Count(a, b) => write!(out, "COUNT r{a} r{b}"),
+        Instruction::Each(a, b, d) => push_three(out, "EACH r", a, b, d),
+        Instruction::Sep(b) => push_one(out, "SEP l", b),
+        Instruction::Next => out.push_str("NEXT"),
+        Instruction::Count(a, b) => push_two(out, "COUNT r", a, " r", b),
     }
+}
+
+// A number behind a text.
+fn push_one(out: &mut String, before: &str, number: u16) -> Result<(), AllocError>
+    ensures { OnOk result (string_bytes out.new ≡ string_bytes out.old ++ (before.now ++ decimal number)) }
+{
+    write!(out, "{before}{number}")
+}
+
+// Two numbers, each behind a text.
+fn push_two(
+    out: &mut String,
+    before: &str,
+    first: u8,
+    between: &str,
+    second: u16,
+) -> Result<(), AllocError>
+    ensures { OnOk result (string_bytes out.new ≡ string_bytes out.old ++ (before.now ++ (decimal first ++ (between.now ++ decimal second)))) }
+{
+    write!(out, "{before}{first}{between}{second}")
+}
+
+// A register behind a text, another one, and a place.
+fn push_three(out: &mut String, before: &str, a: u8, b: u16, d: u16) -> Result<(), AllocError>
+    ensures { OnOk result (string_bytes out.new ≡ string_bytes out.old
+        ++ (before.now ++ (decimal a ++ (codes " r" ++ (decimal b ++ (codes " " ++ decimal d)))))) }
+{
+    write!(out, "{before}{a} r{b} {d}")
 }
 
 fn push_put(out: &mut String, a: u8, c: u16) -> Result<(), AllocError>
