@@ -8,9 +8,9 @@ ghost use Rattle.file_front.specs.Front.{IsFront};
 mod tests;
 
 use std::alloc::Global;
+use std::fs;
 use std::io::{self, Read};
 use std::rt::Files;
-use std::fs;
 
 /// All bytes of the file, or where it has more than `limit`, as many as `limit` and one more. The limit is in bytes,
 /// and a file of any length takes no more memory than that.

@@ -1,7 +1,6 @@
 //! What no contract says: examples from outside, with ample memory.
 
 mod hostile;
-mod menus;
 mod replies;
 
 use crate::{Served, serve_one};

@@ -53,7 +53,8 @@ fn exchange(
     registry: &Registry,
     wait: Duration,
 ) -> Result<Served, ServeError> {
-    let limited = stream.set_read_timeout(Some(wait)).is_ok() && stream.set_write_timeout(Some(wait)).is_ok();
+    let limited = stream.set_read_timeout(Some(wait)).is_ok()
+        && stream.set_write_timeout(Some(wait)).is_ok();
     if !limited {
         return Err(ServeError::ReadFault);
     }

@@ -4,3 +4,4 @@ pub mod LinkLemmas
 pub mod FaultLemmas
 pub mod FrontLemmas
 pub mod RunLemmas
+pub mod ServeLemmas

@@ -1,7 +1,8 @@
 -- What `serve` prints, and why it does not serve.
 use Rattle.std.specs.Prelude.{◌≡◌, ◌≢◌, ◌≤◌, ◌<◌, ◌⊎◌, ℕ, List, [], ◌∷◌, ◌++◌, true, length, codes}
 use Rattle.std.specs.Fmt.{decimal}
-use Rattle.std.specs.Str.{all_ascii_digits}
+use Rattle.std.specs.Char.{is_ascii_digit}
+use Rattle.std.specs.List.{list_all}
 use Rattle.std.specs.Str.Parse.{digits_value}
 use Rattle.text_model.specs.Texts.{Text}
 use Rattle.registry.specs.Targets.{TargetValue}
@@ -13,7 +14,7 @@ use Rattle.openlink.specs.declared.fault.Fault.TheVariants as fault
 -- the word is ASCII digits alone, and this is their value
 pub record IsNumber (word : Text) (n : ℕ) : Type 0 where
   pub some : 0 < length word
-  pub digits : all_ascii_digits word ≡ true
+  pub digits : list_all is_ascii_digit word ≡ true
   pub value : n ≡ digits_value 10 word
 
 -- the words are the path of a registry file, a port, and how many connections are served

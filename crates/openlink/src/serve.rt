@@ -1,6 +1,8 @@
 //! `serve REGISTRY PORT COUNT`: menus over HTTP, for programs of this machine.
 
 ghost use Rattle.std.specs.Prelude.{◌≡◌, ◌≢◌, ◌≤◌, ◌<◌, ◌⊎◌, ℕ, IfErr, IfNone, IfOk, IfSome, OnOk, codes, string_bytes};
+ghost use Rattle.std.specs.Char.{is_ascii_digit};
+ghost use Rattle.std.specs.List.{list_all};
 ghost use Rattle.std.specs.Io.KnownBytes.{Appends};
 ghost use Rattle.text_model.specs.Texts.{Text, texts_of};
 ghost use Rattle.openlink.specs.Faults.{IsDevice};
@@ -57,13 +59,19 @@ fn number(word: &str, most: u32) -> Option<u32>
     ensures some { IfSome result (λ n. IsNumber word.now n × (n ≤ most)) }
     ensures none { IfNone result ((n : ℕ) → IsNumber word.now n → most < n) }
 {
-    if !word.bytes().all(|byte| byte.is_ascii_digit()) {
+    if !is_digits(word) {
         return None;
     }
     match word.parse() {
         Ok(n) if n <= most => Some(n),
         _ => None,
     }
+}
+
+fn is_digits(word: &str) -> bool
+    ensures { result ≡ list_all is_ascii_digit word.now }
+{
+    word.as_bytes().iter().all(|byte| byte.is_ascii_digit())
 }
 
 /// The line that says where the service listens.

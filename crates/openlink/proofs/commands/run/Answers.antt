@@ -1,0 +1,14 @@
+use Rattle.std.specs.Prelude.{codes}
+use Rattle.std.proofs.lemmas.Result.{on_ok_weaker, IfErr-weaker}
+use Rattle.openlink.specs.Commands.{prints_place}
+use Rattle.openlink.proofs.CommandLemmas.{prints_behind}
+use Rattle.openlink.proofs.ServeLemmas.{serve_fails}
+use Rattle.openlink.proofs.commands.run.Goals as goal
+
+pub returns-in-Some-clause-printed : goal.returns-in-Some-clause-printed
+returns-in-Some-clause-printed g c =
+    on_ok_weaker c.serve.result (λ p. (p.0, prints_behind (codes "serve") _ _ p.0 c.in-Some.ensures (prints_place _ _ p.1), p.2)) c.serve.ensures.printed
+
+pub returns-in-Some-clause-failed : goal.returns-in-Some-clause-failed
+returns-in-Some-clause-failed g c =
+    IfErr-weaker c.serve.result _ _ (λ f h. serve_fails _ _ f _ _ c.in-Some.ensures h) c.serve.ensures.failed
