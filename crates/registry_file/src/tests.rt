@@ -76,14 +76,14 @@ fn compare<R: Abort + AllocGlobal>(
     read: Result<Registry, RegistryError>,
     wanted: &str,
 ) -> Result<(), Fail> {
-    match read {
-        Ok(_) => assert!(rt; wanted.is_empty(), "{wanted}"),
-        Err(RegistryError::NoMemory) => return Err(AllocError.into()),
-        Err(e) => {
-            let printed = format!(in rt.alloc(); "{e}")?;
-            assert_eq!(rt; printed.as_str(), wanted);
-        }
+    let Err(fault) = read else {
+        return Ok(assert!(rt; wanted.is_empty(), "{wanted}"));
+    };
+    if fault == RegistryError::NoMemory {
+        return Err(AllocError.into());
     }
+    let printed = format!(in rt.alloc(); "{fault}")?;
+    assert_eq!(rt; printed.as_str(), wanted);
     Ok(())
 }
 

@@ -2,24 +2,34 @@ mod codes;
 
 use crate::{Outcome, PrepareError, Step, Words, prepare, step};
 use code_model::Instruction::{self, Emit, Fail as End};
-use codes::{COUNTS, LIST_CODE, LITERALS, OPTIONAL, RULE, accepted, letters, listed, text};
+use codes::{
+    COUNTS, Given, LIST_CODE, LITERALS, OPTIONAL, RULE, accepted, environment, long_members,
+    long_text,
+};
 use std::alloc::Global;
 use std::process::Abort;
 use std::test::Fail;
 use target_vars::Env;
 use verifier::Verified;
 
-const COLOURS: [&str; 3] = ["red", "green", "blue"];
+const COLOURS: Given = Given::Members(&["red", "green", "blue"]);
 
-/// How a run ends, and after how many steps.
-fn ending(alloc: Global, code: &Verified, env: &Env) -> Result<String, Fail> {
+const ISSN: Given = Given::Text("rft.issn", "1234-5678");
+
+const FAILS: [Instruction; 2] = [Emit(0), End];
+
+/// The link of a run of many steps, if it has one, and how many steps it took.
+fn ending(alloc: Global, code: &Verified, env: &Env) -> Result<(u64, Option<String>), Fail> {
     let mut run = prepare(alloc, code, env)?;
     run.advance(u64::MAX);
     let steps = run.steps();
-    Ok(match run.finish() {
-        Outcome::Link(link) => format!(in alloc; "link {link}, {steps} steps")?,
-        Outcome::NoLink => format!(in alloc; "no link, {steps} steps")?,
-    })
+    Ok((
+        steps,
+        match run.finish() {
+            Outcome::Link(link) => Some(link),
+            Outcome::NoLink => None,
+        },
+    ))
 }
 
 /// A code of a version ends so.
@@ -27,103 +37,134 @@ fn ends<R: Abort + AllocGlobal>(
     rt: &R,
     version: u8,
     instructions: &[Instruction],
-    env: &Env,
-    wanted: &str,
+    given: Given,
+    wanted: (u64, Option<&str>),
 ) -> Result<(), Fail> {
     let code = accepted(rt.alloc(), version, &LITERALS, instructions)?;
-    let came = ending(rt.alloc(), &code, env)?;
-    assert_eq!(rt; came.as_str(), wanted);
+    let env = environment(rt.alloc(), given)?;
+    let (steps, link) = ending(rt.alloc(), &code, &env)?;
+    assert_eq!(rt; (steps, link.as_deref()), wanted);
     Ok(())
 }
 
+/// Versions, codes and environments, and the ends of their runs.
+const ENDINGS: [(u8, &[Instruction], Given, (u64, Option<&str>)); 10] = [
+    (1, &LIST_CODE, COLOURS, (12, Some("red,green,blue"))),
+    (2, &LIST_CODE, COLOURS, (12, Some("red,green,blue"))),
+    (2, &COUNTS, COLOURS, (5, Some(""))),
+    (1, &LIST_CODE, Given::Text("list", "red"), (3, Some(""))),
+    (1, &OPTIONAL, Given::Text("x", "a"), (4, Some("a"))),
+    (1, &LIST_CODE, Given::Nothing, (3, Some(""))),
+    (1, &OPTIONAL, Given::Nothing, (3, Some(""))),
+    (1, &RULE, Given::Nothing, (5, Some("http://e.org/"))),
+    (1, &FAILS, Given::Nothing, (2, None)),
+    (1, &RULE, ISSN, (8, Some("http://e.org/1234-5678"))),
+];
+
 #[test]
 fn ends_with_a_link_or_without(rt: HostRuntime) -> Result<(), Fail> {
-    let alloc = rt.alloc();
-    let colours = listed(alloc, &COLOURS)?;
-    ends(
-        &rt,
-        1,
-        &LIST_CODE,
-        &colours,
-        "link red,green,blue, 12 steps",
-    )?;
-    ends(
-        &rt,
-        2,
-        &LIST_CODE,
-        &colours,
-        "link red,green,blue, 12 steps",
-    )?;
-    ends(&rt, 2, &COUNTS, &colours, "link , 5 steps")?;
-    let as_text = text(alloc, "list", "red")?;
-    ends(&rt, 1, &LIST_CODE, &as_text, "link , 3 steps")?;
-    let x = text(alloc, "x", "a")?;
-    ends(&rt, 1, &OPTIONAL, &x, "link a, 4 steps")
+    for (version, instructions, given, wanted) in ENDINGS {
+        ends(&rt, version, instructions, given, wanted)?;
+    }
+    Ok(())
 }
 
-#[test]
-fn ends_on_other_environments(rt: HostRuntime) -> Result<(), Fail> {
-    let none = Env::new(rt.alloc());
-    ends(&rt, 1, &LIST_CODE, &none, "link , 3 steps")?;
-    ends(&rt, 1, &OPTIONAL, &none, "link , 3 steps")?;
-    ends(&rt, 1, &RULE, &none, "link http://e.org/, 5 steps")?;
-    ends(&rt, 1, &[Emit(0), End], &none, "no link, 2 steps")?;
-    let issn = text(rt.alloc(), "rft.issn", "1234-5678")?;
-    ends(&rt, 1, &RULE, &issn, "link http://e.org/1234-5678, 8 steps")
-}
+/// Codes and environments, and of each turn of a run its steps, whether it has ended then, and how many steps it has
+/// carried out.
+const TURNS: [(&[Instruction], Given, &[(u64, bool, u64)]); 2] = [
+    (
+        &LIST_CODE,
+        COLOURS,
+        &[(1, false, 1), (100, true, 12), (1, true, 12)],
+    ),
+    (
+        &OPTIONAL,
+        Given::Text("x", "a"),
+        &[(5, true, 4), (100, true, 4)],
+    ),
+];
 
-#[test]
-fn takes_turns(rt: HostRuntime) -> Result<(), Fail> {
-    let alloc = rt.alloc();
-    let (list_code, optional) = (
-        accepted(alloc, 1, &LITERALS, &LIST_CODE)?,
-        accepted(alloc, 1, &LITERALS, &OPTIONAL)?,
-    );
-    let (colours, x) = (listed(alloc, &COLOURS)?, text(alloc, "x", "a")?);
-    let mut first = prepare(alloc, &list_code, &colours)?;
-    let mut second = prepare(alloc, &optional, &x)?;
-    assert_eq!(rt; (first.advance(1), first.steps()), (false, 1));
-    assert_eq!(rt; (second.advance(5), second.steps()), (true, 4));
-    assert_eq!(rt; (first.advance(100), first.steps()), (true, 12));
-    assert_eq!(rt; (second.advance(100), second.steps()), (true, 4));
-    match (first.finish(), second.finish()) {
-        (Outcome::Link(first), Outcome::Link(second)) => {
-            assert_eq!(rt; first.as_str(), "red,green,blue");
-            assert_eq!(rt; second.as_str(), "a");
-        }
-        _ => assert!(rt; false),
+fn takes<R: Abort + AllocGlobal>(
+    rt: &R,
+    code: &Verified,
+    env: &Env,
+    turns: &[(u64, bool, u64)],
+) -> Result<(), Fail> {
+    let mut run = prepare(rt.alloc(), code, env)?;
+    for &(n, ended, steps) in turns {
+        assert_eq!(rt; (run.advance(n), run.steps()), (ended, steps));
     }
     Ok(())
 }
 
 #[test]
-fn shows_its_output_and_words(rt: HostRuntime) -> Result<(), Fail> {
-    let alloc = rt.alloc();
-    let code = accepted(alloc, 1, &LITERALS, &LIST_CODE)?;
-    let colours = listed(alloc, &COLOURS)?;
-    let mut run = prepare(alloc, &code, &colours)?;
-    run.advance(2);
-    let Some(words) = run.words() else {
-        return Ok(assert!(rt; false));
-    };
-    assert_eq!(rt; (words.place, words.regs[0], words.regs[1]), (2, 3, 3));
-    run.advance(2);
-    assert_eq!(rt; run.output(), b"red".as_slice());
-    run.advance(1);
-    let Some(words) = run.words() else {
-        return Ok(assert!(rt; false));
-    };
-    assert_eq!(rt; (words.place, words.regs[1]), (2, 12_884_901_893));
-    assert!(rt; words.turn.is_some());
-    run.advance(100);
-    assert!(rt; run.words().is_none());
-    assert_eq!(rt; run.output(), b"red,green,blue".as_slice());
-    let fails = accepted(alloc, 1, &LITERALS, &[Emit(0), End])?;
-    let mut run = prepare(alloc, &fails, &colours)?;
-    run.advance(1);
-    assert_eq!(rt; run.output(), b",".as_slice());
-    run.advance(1);
-    assert_eq!(rt; run.output(), b"".as_slice());
+fn takes_turns(rt: HostRuntime) -> Result<(), Fail> {
+    for (instructions, given, turns) in TURNS {
+        let code = accepted(rt.alloc(), 1, &LITERALS, instructions)?;
+        let env = environment(rt.alloc(), given)?;
+        takes(&rt, &code, &env, turns)?;
+    }
+    Ok(())
+}
+
+/// The output of a run after so many steps.
+fn output_after(alloc: Global, code: &Verified, env: &Env, n: u64) -> Result<Vec<u8>, Fail> {
+    let mut run = prepare(alloc, code, env)?;
+    run.advance(n);
+    Ok(Vec::from_slice(alloc, run.output())?)
+}
+
+/// Codes, and what they have printed for the three colours after so many steps.
+const OUTPUTS: [(&[Instruction], u64, &[u8]); 5] = [
+    (&LIST_CODE, 2, b""),
+    (&LIST_CODE, 4, b"red"),
+    (&LIST_CODE, 100, b"red,green,blue"),
+    (&FAILS, 1, b","),
+    (&FAILS, 2, b""),
+];
+
+#[test]
+fn shows_its_output(rt: HostRuntime) -> Result<(), Fail> {
+    for (instructions, n, wanted) in OUTPUTS {
+        let code = accepted(rt.alloc(), 1, &LITERALS, instructions)?;
+        let env = environment(rt.alloc(), COLOURS)?;
+        let output = output_after(rt.alloc(), &code, &env, n)?;
+        assert_eq!(rt; output.as_slice(), wanted);
+    }
+    Ok(())
+}
+
+/// The words of a run after so many steps.
+fn words_after(alloc: Global, code: &Verified, env: &Env, n: u64) -> Result<Option<Words>, Fail> {
+    let mut run = prepare(alloc, code, env)?;
+    run.advance(n);
+    Ok(run.words())
+}
+
+/// Of the loop over the three colours: after so many steps the place, the first two registers, and whether it is in a
+/// turn.
+fn stands_at(words: Option<Words>) -> Option<(usize, u64, u64, bool)> {
+    let words = words?;
+    Some((
+        words.place,
+        words.regs[0],
+        words.regs[1],
+        words.turn.is_some(),
+    ))
+}
+
+#[test]
+fn shows_its_words(rt: HostRuntime) -> Result<(), Fail> {
+    let code = accepted(rt.alloc(), 1, &LITERALS, &LIST_CODE)?;
+    let env = environment(rt.alloc(), COLOURS)?;
+    for (n, wanted) in [
+        (2, Some((2, 3, 3, true))),
+        (5, Some((2, 3, 12_884_901_893, true))),
+        (100, None),
+    ] {
+        let words = words_after(rt.alloc(), &code, &env, n)?;
+        assert_eq!(rt; stands_at(words), wanted);
+    }
     Ok(())
 }
 
@@ -133,7 +174,7 @@ fn stepped(
     code: &Verified,
     env: &Env,
     n: u64,
-) -> Result<Option<(Step, Words)>, Fail> {
+) -> Result<(Step, Option<usize>), Fail> {
     let mut run = prepare(alloc, code, env)?;
     run.advance(n);
     let bytes = code
@@ -141,51 +182,47 @@ fn stepped(
         .bytes(env.members() as u64, env.bytes() as u64);
     let mut out = String::with_capacity(alloc, bytes as usize)?;
     let Some(mut words) = run.words() else {
-        return Ok(None);
+        return Ok((Step::NoLink, None));
     };
     let Ok(output) = str::from_utf8(run.output()) else {
-        return Ok(None);
+        return Ok((Step::NoLink, None));
     };
     out.push_str(output)?;
     let answer = step(code, env, &mut words, &mut out);
-    Ok(Some((answer, words)))
+    Ok((answer, Some(words.place)))
 }
 
 #[test]
 fn steps_on_its_words(rt: HostRuntime) -> Result<(), Fail> {
-    let alloc = rt.alloc();
-    let code = accepted(alloc, 1, &LITERALS, &LIST_CODE)?;
-    let colours = listed(alloc, &COLOURS)?;
-    for (n, wanted, place) in [(5, Step::More, 3), (11, Step::Link, 5)] {
-        match stepped(alloc, &code, &colours, n)? {
-            Some((answer, words)) => assert_eq!(rt; (answer, words.place), (wanted, place)),
-            None => assert!(rt; false),
-        }
+    let code = accepted(rt.alloc(), 1, &LITERALS, &LIST_CODE)?;
+    let env = environment(rt.alloc(), COLOURS)?;
+    for (n, wanted) in [(5, (Step::More, Some(3))), (11, (Step::Link, Some(5)))] {
+        assert_eq!(rt; stepped(rt.alloc(), &code, &env, n)?, wanted);
     }
     Ok(())
 }
 
 #[test]
+fn takes_a_long_link(rt: HostRuntime) -> Result<(), Fail> {
+    let code = accepted(rt.alloc(), 1, &LITERALS, &LIST_CODE)?;
+    let many = long_members(rt.alloc(), 20)?;
+    let (_, link) = ending(rt.alloc(), &code, &many)?;
+    assert_eq!(rt; link.map(|link| link.len()), Some(20_019));
+    Ok(())
+}
+
+#[test]
 fn keeps_to_its_budget(rt: HostRuntime) -> Result<(), Fail> {
-    let alloc = rt.alloc();
-    let member = letters(alloc, 1_000)?;
-    let many = listed(alloc, &[member.as_str(); 20])?;
-    let code = accepted(alloc, 1, &LITERALS, &LIST_CODE)?;
-    match prepare(alloc, &code, &many)?.finish() {
-        Outcome::Link(link) => assert_eq!(rt; link.len(), 20_019),
-        Outcome::NoLink => assert!(rt; false),
-    }
-    let long = text(alloc, "x", letters(alloc, 400_000)?.as_str())?;
-    let code = accepted(alloc, 1, &[], &OPTIONAL)?;
-    match prepare(alloc, &code, &long) {
-        Ok(_) => assert!(rt; false),
-        Err(error) => {
-            assert_eq!(rt; error, PrepareError::OverBudget(1_200_000));
-            assert_eq!(rt;
-                format!(in alloc; "{error}")?.as_str(),
-                "over budget: 1200000"
-            );
-        }
-    }
+    let code = accepted(rt.alloc(), 1, &[], &OPTIONAL)?;
+    let long = long_text(rt.alloc(), 400_000)?;
+    let error = prepare(rt.alloc(), &code, &long).err();
+    assert_eq!(rt; error, Some(PrepareError::OverBudget(1_200_000)));
+    Ok(())
+}
+
+#[test]
+fn errors_print_their_kind(rt: HostRuntime) -> Result<(), Fail> {
+    let printed = format!(in rt.alloc(); "{}", PrepareError::OverBudget(1_200_000))?;
+    assert_eq!(rt; printed.as_str(), "over budget: 1200000");
     Ok(())
 }

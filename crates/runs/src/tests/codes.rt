@@ -50,53 +50,112 @@ pub const LITERALS: [(bool, &str); 5] = [
     (false, "http://e.org/"),
 ];
 
-/// Accepted code of a version, with these literals, each with whether it is a comparison text.
-pub fn accepted(
-    alloc: Global,
-    version: u8,
-    literals: &[(bool, &str)],
-    instructions: &[Instruction],
-) -> Result<Verified, Fail> {
+/// What an environment has.
+#[derive(Clone, Copy)]
+pub enum Given {
+    Nothing,
+    Text(&'static str, &'static str),
+    /// The members of `list`.
+    Members(&'static [&'static str]),
+}
+
+pub fn environment(alloc: Global, given: Given) -> Result<Env, Fail> {
+    let mut env = Env::new(alloc);
+    match given {
+        Given::Nothing => {}
+        Given::Text(name, text) => {
+            env.put_text(name, text)?;
+        }
+        Given::Members(members) => {
+            for &member in members {
+                env.add_member("list", member)?;
+            }
+        }
+    }
+    Ok(env)
+}
+
+fn name(alloc: Global, list: bool, text: &str) -> Result<Name, Fail> {
+    let text = String::from_str(alloc, text)?;
+    Ok(Name { list, text })
+}
+
+fn names(alloc: Global) -> Result<Vec<Name>, Fail> {
     let mut names = Vec::new(alloc);
     for (list, text) in NAMES {
-        let text = String::from_str(alloc, text)?;
-        names.push(Name { list, text })?;
+        names.push(name(alloc, list, text)?)?;
     }
-    let mut literal_table = Vec::new(alloc);
-    for &(compared, text) in literals {
-        let bytes = Vec::from_slice(alloc, text.as_bytes())?;
-        literal_table.push(Literal { compared, bytes })?;
+    Ok(names)
+}
+
+fn literal(alloc: Global, compared: bool, text: &str) -> Result<Literal, Fail> {
+    let bytes = Vec::from_slice(alloc, text.as_bytes())?;
+    Ok(Literal { compared, bytes })
+}
+
+fn literals(alloc: Global, texts: &[(bool, &str)]) -> Result<Vec<Literal>, Fail> {
+    let mut literals = Vec::new(alloc);
+    for &(compared, text) in texts {
+        literals.push(literal(alloc, compared, text)?)?;
     }
+    Ok(literals)
+}
+
+fn instrs(alloc: Global, instructions: &[Instruction]) -> Result<Vec<Instr>, Fail> {
     let mut instrs: Vec<Instr> = Vec::new(alloc);
     for instruction in instructions {
         instrs.push(spelling(*instruction))?;
     }
+    Ok(instrs)
+}
+
+/// The file of a code of a version.
+fn file(
+    alloc: Global,
+    version: u8,
+    texts: &[(bool, &str)],
+    instructions: &[Instruction],
+) -> Result<Vec<u8>, Fail> {
+    let instrs = instrs(alloc, instructions)?;
+    let literals = literals(alloc, texts)?;
     let code = match version {
-        1 => Code::from_parts(names, literal_table, instrs)?,
-        _ => Code::from_parts2(names, literal_table, instrs)?,
+        1 => Code::from_parts(names(alloc)?, literals, instrs)?,
+        _ => Code::from_parts2(names(alloc)?, literals, instrs)?,
     };
-    let file = code.write(alloc)?;
+    Ok(code.write(alloc)?)
+}
+
+/// Accepted code of a version, with these literals, each with whether it is a comparison text.
+pub fn accepted(
+    alloc: Global,
+    version: u8,
+    texts: &[(bool, &str)],
+    instructions: &[Instruction],
+) -> Result<Verified, Fail> {
+    let file = file(alloc, version, texts, instructions)?;
     Ok(load(alloc, &file)?)
 }
 
-/// `list` has these members.
-pub fn listed(alloc: Global, members: &[&str]) -> Result<Env, Fail> {
+/// `list` has so many members of a thousand letters.
+pub fn long_members(alloc: Global, count: usize) -> Result<Env, Fail> {
+    let member = letters(alloc, 1_000)?;
     let mut env = Env::new(alloc);
-    for &member in members {
-        env.add_member("list", member)?;
+    for _ in 0..count {
+        env.add_member("list", member.as_str())?;
     }
     Ok(env)
 }
 
-/// A name has this text.
-pub fn text(alloc: Global, name: &str, text: &str) -> Result<Env, Fail> {
+/// `x` has a text of so many letters.
+pub fn long_text(alloc: Global, count: usize) -> Result<Env, Fail> {
+    let text = letters(alloc, count)?;
     let mut env = Env::new(alloc);
-    env.put_text(name, text)?;
+    env.put_text("x", text.as_str())?;
     Ok(env)
 }
 
 /// So many letters.
-pub fn letters(alloc: Global, count: usize) -> Result<String, Fail> {
+fn letters(alloc: Global, count: usize) -> Result<String, Fail> {
     let mut letters = String::new(alloc);
     for _ in 0..count {
         letters.push_str("a")?;
