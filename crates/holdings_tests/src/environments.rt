@@ -1,40 +1,12 @@
+use crate::{has_counts, has_members, has_texts, nearly_full};
 use std::alloc::Global;
 use std::process::Abort;
 use std::test::Fail;
 use target_vars::{Env, MAX_BYTES, Members, VarsError};
 
-/// Each case is a name, and the text that it has.
-pub(crate) fn has_texts<R: Abort>(rt: &R, env: &Env, cases: &[(&str, Option<&str>)]) {
-    for &(name, text) in cases {
-        assert_eq!(rt; (name, env.text(name)), (name, text));
-    }
-}
-
-/// Each case is the name of a list, a place, and the member there.
-pub(crate) fn has_members<R: Abort>(rt: &R, env: &Env, cases: &[(&str, usize, Option<&str>)]) {
-    for &(name, place, member) in cases {
-        assert_eq!(rt; (name, env.member(name, place)), (name, member));
-    }
-}
-
-/// Each case is a name, and how many members its list has.
-pub(crate) fn has_counts<R: Abort>(rt: &R, env: &Env, cases: &[(&str, usize)]) {
-    for &(name, count) in cases {
-        assert_eq!(rt; (name, env.count(name)), (name, count));
-    }
-}
-
 /// How many bytes and members there are.
 fn has_size<R: Abort>(rt: &R, env: &Env, bytes: usize, members: usize) {
     assert_eq!(rt; (env.bytes(), env.members()), (bytes, members));
-}
-
-/// An environment with room for two bytes.
-pub(crate) fn nearly_full(alloc: Global) -> Result<Env, Fail> {
-    let mut env = Env::new(alloc);
-    let text = "x".repeat(alloc, MAX_BYTES - 2)?;
-    env.put_text("filler", &text)?;
-    Ok(env)
 }
 
 /// A text of so many letters is put, or refused.

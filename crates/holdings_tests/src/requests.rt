@@ -1,4 +1,4 @@
-use crate::environments::{has_counts, has_members, has_texts, nearly_full};
+use crate::{has_counts, has_members, has_texts, nearly_full};
 use kev_read::{KevError, MAX_PAIRS, MAX_QUERY_BYTES, read_kev};
 use std::alloc::{AllocError, Global};
 use std::test::Fail;

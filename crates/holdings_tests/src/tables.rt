@@ -1,4 +1,4 @@
-use crate::environments::{has_texts, nearly_full};
+use crate::{has_texts, nearly_full};
 use kbart_rows::{Ids, Keys, MAX_ROW_BYTES, MAX_ROWS, MAX_TABLE_BYTES, Table, TableError};
 use kev_read::read_kev;
 use std::alloc::{AllocError, Global};
