@@ -4,10 +4,10 @@ use Rattle.std.specs.Prelude.{codes, if◌then◌else◌}
 use Rattle.std.specs.Str.{bytes_eq}
 use Rattle.std.proofs.lemmas.Slice.Eq.{bytes_eq-Decides}
 use Rattle.text_model.specs.Texts.{Text}
-use Rattle.openlink.specs.Words.{behind_name}
+use Rattle.command_words.specs.Words.{behind_name}
 use Rattle.openlink.specs.Commands.{Prints, Fails, Stops, begins_with_word, no_command}
-use Rattle.openlink.specs.declared.fault.Fault.{Fault}
-use Rattle.openlink.specs.declared.fault.Fault.TheVariants.{Usage}
+use Rattle.command_faults.specs.declared.fault.Fault.{Fault}
+use Rattle.command_faults.specs.declared.fault.Fault.TheVariants.{Usage}
 
 -- the words begin with the name
 named : (name : Text) (words rest : List Text) → Some rest ≡ behind_name name words → words ≡ name ∷ rest

@@ -2,19 +2,19 @@
 use Rattle.std.specs.Prelude.{◌≡◌, List, [], ◌∷◌, Bool, false, ◌||◌, codes}
 use Rattle.std.specs.Str.{bytes_eq}
 use Rattle.text_model.specs.Texts.{Text}
-use Rattle.openlink.specs.Expand.{IsExpandLine, FailsToExpand}
-use Rattle.openlink.specs.Show.{IsShowLine, FailsToShow}
-use Rattle.openlink.specs.Link.{IsLinkLine, FailsToLink}
-use Rattle.openlink.specs.NewFile.{MakesFile, FailsToMake}
-use Rattle.openlink.specs.Upgrade.{IsUpgrade}
-use Rattle.openlink.specs.Compile.{IsCompiled, IsCompileFault}
-use Rattle.openlink.specs.Run.{IsRunLine, FailsToRun}
-use Rattle.openlink.specs.Resolve.{IsMenuLines, FailsToResolve}
-use Rattle.openlink.specs.Serve.{IsServing, FailsToServe, StopsServing}
-use Rattle.openlink.specs.Verify.{IsVerifyLine, FailsToVerify}
-use Rattle.openlink.specs.Faults.{IsDevice, IsCodeFault}
-use Rattle.openlink.specs.declared.fault.Fault.{Fault}
-use Rattle.openlink.specs.declared.fault.Fault.TheVariants.{Usage}
+use Rattle.rule_commands.specs.Expand.{IsExpandLine, FailsToExpand}
+use Rattle.code_commands.specs.Show.{IsShowLine, FailsToShow}
+use Rattle.rule_commands.specs.Link.{IsLinkLine, FailsToLink}
+use Rattle.command_files.specs.NewFile.{MakesFile, FailsToMake}
+use Rattle.code_commands.specs.Upgrade.{IsUpgrade}
+use Rattle.rule_commands.specs.Compile.{IsCompiled, IsCompileFault}
+use Rattle.code_commands.specs.Run.{IsRunLine, FailsToRun}
+use Rattle.menu_commands.specs.Resolve.{IsMenuLines, FailsToResolve}
+use Rattle.menu_commands.specs.Serve.{IsServing, FailsToServe, StopsServing}
+use Rattle.code_commands.specs.Verify.{IsVerifyLine, FailsToVerify}
+use Rattle.command_faults.specs.Faults.{IsDevice, IsCodeFault}
+use Rattle.command_faults.specs.declared.fault.Fault.{Fault}
+use Rattle.command_faults.specs.declared.fault.Fault.TheVariants.{Usage}
 
 abbrev pub begins_with_word : Text → List Text → Bool
 begins_with_word name [] = false

@@ -1,16 +1,1 @@
-pub mod Words
-pub mod Faults
-pub mod Files
-pub mod Expand
-pub mod Show
-pub mod Link
-pub mod OneFile
-pub mod FileAndQuery
-pub mod NewFile
-pub mod Upgrade
-pub mod Compile
 pub mod Commands
-pub mod Verify
-pub mod Resolve
-pub mod Run
-pub mod Serve

@@ -2,9 +2,9 @@
 
 ghost use Rattle.std.specs.Prelude.{◌≡◌, ◌⊎◌, map, string_bytes, IfOk, IfErr};
 ghost use Rattle.text_model.specs.Texts.{texts_of};
-ghost use Rattle.openlink.specs.declared.fault.Fault.TheVariants.{Usage, Memory};
+ghost use Rattle.command_faults.specs.declared.fault.Fault.TheVariants.{Usage, Memory};
 
-use crate::fault::Fault;
+use command_faults::Fault;
 use std::alloc::{AllocError, Global};
 use std::env::{self, Env};
 

@@ -3,27 +3,12 @@
 
 mod arguments;
 mod commands;
-mod compile;
-mod expand;
-mod fault;
-mod files;
-mod line;
-mod link;
-mod placing;
-mod request;
-mod resolve;
-mod run;
-mod serve;
-mod show;
 #[cfg(test)]
 mod tests;
-mod upgrade;
-mod verify;
-mod words;
 
 use crate::arguments::{arguments, words};
 use crate::commands::{command, report};
-use crate::fault::Fault;
+use command_faults::Fault;
 use std::io::Write;
 use std::process::ExitCode;
 

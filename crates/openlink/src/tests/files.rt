@@ -1,9 +1,9 @@
 //! Files in memory, which tell their bytes.
 
-use crate::fault::Fault;
-use crate::link::link_file;
-use crate::show::show_file;
+use code_commands::show_file;
 use code_file::{Code, CodeError, CodeErrorKind};
+use command_faults::Fault;
+use rule_commands::link_file;
 use rule_parser::{RuleError, RuleErrorKind};
 use std::alloc::{AllocError, Global};
 use std::test::Fail;

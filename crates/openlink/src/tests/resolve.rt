@@ -1,5 +1,5 @@
 use super::{done, ends, run_cases};
-use crate::compile::compile_rules;
+use rule_commands::compile_rules;
 use std::fs;
 use std::rt::Files;
 use std::test::Fail;

@@ -1,0 +1,4 @@
+pub mod Show
+pub mod Upgrade
+pub mod Verify
+pub mod Run

@@ -1,0 +1,18 @@
+-- What the front of a file says of the file: it has one byte more than the limit, so it is whole or too long.
+use Rattle.std.proofs.Common.{◌≡◌, ℕ, ◌<◌, ◌≤◌, ◌+◌, ◌⊎◌, length, take, Option, Some, None, sym, subst, refl, arith, inl, inr, ◌∙◌}
+use Rattle.std.proofs.Math.Decide.{dec_le}
+use Rattle.std.proofs.lemmas.List.{length-take, take_all}
+use Rattle.text_model.specs.Texts.{Text}
+use Rattle.file_front.specs.Front.{IsFront}
+use Rattle.command_files.specs.Files.{OfFile, IsWholeOrLong}
+
+whole_or_long : (limit : ℕ) (all : Text) → IsWholeOrLong limit (take (limit + 1) all) all
+whole_or_long limit all =
+    elim (dec_le (length all) limit) [
+      yes short ↦ inl (take_all (limit + 1) all (omega (arith, short)))
+      | no long ↦ inr (omega (arith, length-take (limit + 1) all, long), omega (arith, long))
+    ]
+
+pub of_front : (limit : ℕ) (told : Option Text) (front : Text) → IsFront limit told front → OfFile told (IsWholeOrLong limit front)
+of_front limit None front is_front = (front, tt, inl refl)
+of_front limit (Some all) front is_front = (all, refl, subst (λ bytes. IsWholeOrLong limit bytes all) (sym is_front) (whole_or_long limit all))

@@ -1,0 +1,2 @@
+pub mod Resolve
+pub mod Serve

@@ -1,0 +1,4 @@
+pub mod Words
+pub mod Expand
+pub mod Link
+pub mod Compile

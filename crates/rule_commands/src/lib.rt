@@ -1,0 +1,11 @@
+//! The commands whose words are a template or name a rule file: `expand`, `link` and `compile`.
+#![tactic(auto)]
+
+mod compile;
+mod expand;
+mod link;
+mod words;
+
+pub use compile::{compile_file, compile_line, compile_rules};
+pub use expand::expand_line;
+pub use link::{link_file, link_line};
