@@ -1,5 +1,6 @@
 -- What was read of a code file says what the file is: it is the whole file, or longer than any code file, as the file is.
-use Rattle.std.proofs.Common.{◌≡◌, ◌≤◌, length, Option, sym, subst, arith, inl, inr}
+use Rattle.std.proofs.Common.{◌≡◌, ◌≤◌, length, Option, sym, subst, inl, inr}
+use Rattle.std.proofs.Math.Nat.{not-le_of_lt}
 use Rattle.text_model.specs.Texts.{Text}
 use Rattle.code_model.specs.Code.{Code}
 use Rattle.code_file.specs.Grammar.{IsCodeFile}
@@ -29,7 +30,7 @@ spelled_too : (code : Code) (front all : Text) → IsWholeOrLong 65536 front all
 spelled_too code front all (inl same) h = subst (λ bytes. IsCodeFile bytes code) same h
 spelled_too code front all (inr long) h =
     let short : length front ≤ 65536 = subst (λ bytes. length bytes ≤ 65536) (sym h.spells) h.is_code.short in
-    absurd (omega (arith, short, long.0))
+    absurd (not-le_of_lt long.0 short)
 
 pub listed : (text front all : Text) → IsWholeOrLong 65536 front all → IsListing front text → IsListing all text
 listed text front all read h = record { code = h.code; file = spelled_too h.code front all read h.file; listed = h.listed }
@@ -40,7 +41,7 @@ upgraded new front all read h = record { code = h.code; old = spelled_too h.code
 refused : (e : CodeError) (front all : Text) → IsWholeOrLong 65536 front all → IsRefusal front e → IsRefusal all e
 refused e front all (inl same) h = subst (λ bytes. IsRefusal bytes e) same h
 refused _ front all (inr long) (inl (too_long _)) = inl (too_long long.1)
-refused _ front all (inr long) (inl (in_field e short h)) = absurd (omega (arith, short, long.0))
+refused _ front all (inr long) (inl (in_field e short h)) = absurd (not-le_of_lt long.0 short)
 refused e front all (inr long) (inr (same, (code, h))) = inr (same, (code, spelled_too code front all (inr long) h))
 
 pub no_code : (f : Fault) (front all : Text) → IsWholeOrLong 65536 front all → IsCodeFault front f → IsCodeFault all f
@@ -55,7 +56,7 @@ accepted text front all read h = record { code = h.code; accepted = accepted_too
 not_loaded : (e : LoadError) (front all : Text) → IsWholeOrLong 65536 front all → IsLoadFault front e → IsLoadFault all e
 not_loaded e front all (inl same) h = subst (λ bytes. IsLoadFault bytes e) same h
 not_loaded _ front all (inr long) (no_code_file _ (too_long _)) = no_code_file (fault_at TooLong 65536) (too_long long.1)
-not_loaded _ front all (inr long) (no_code_file _ (in_field _ short h)) = absurd (omega (arith, short, long.0))
+not_loaded _ front all (inr long) (no_code_file _ (in_field _ short h)) = absurd (not-le_of_lt long.0 short)
 not_loaded _ front all (inr long) (bad_form c f h first) = bad_form c f (spelled_too c front all (inr long) h) first
 not_loaded _ front all (inr long) (mismatch c m h form first) = mismatch c m (spelled_too c front all (inr long) h) form first
 not_loaded _ front all (inr long) (no_memory c h) = no_memory c (spelled_too c front all (inr long) h)

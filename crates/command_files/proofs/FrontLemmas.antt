@@ -1,5 +1,5 @@
 -- What the front of a file says of the file: it has one byte more than the limit, so it is whole or too long.
-use Rattle.std.proofs.Common.{◌≡◌, ℕ, ◌<◌, ◌≤◌, ◌+◌, ◌⊎◌, length, take, Option, Some, None, sym, subst, refl, arith, inl, inr, ◌∙◌}
+use Rattle.std.proofs.Common.{ℕ, ◌+◌, length, take, Option, Some, None, sym, subst, refl, arith, inl, inr}
 use Rattle.std.proofs.Math.Decide.{dec_le}
 use Rattle.std.proofs.lemmas.List.{length-take, take_all}
 use Rattle.text_model.specs.Texts.{Text}
@@ -9,7 +9,7 @@ use Rattle.command_files.specs.Files.{OfFile, IsWholeOrLong}
 whole_or_long : (limit : ℕ) (all : Text) → IsWholeOrLong limit (take (limit + 1) all) all
 whole_or_long limit all =
     elim (dec_le (length all) limit) [
-      yes short ↦ inl (take_all (limit + 1) all (omega (arith, short)))
+      | yes short ↦ inl (take_all (limit + 1) all (omega (arith, short)))
       | no long ↦ inr (omega (arith, length-take (limit + 1) all, long), omega (arith, long))
     ]
 

@@ -27,7 +27,7 @@ pub fn write_whole<'a, W: Write>(file: &mut W, path: &'a str, bytes: &[u8]) -> R
 /// Places a file of these bytes at the path: writes it beside, and renames it. So the path has the file that
 /// it had or the new one, whole. What is written beside is `PATH.new`, which must not be there; it is removed
 /// where the file cannot be placed.
-pub fn place_file<'a, R: Files + AllocGlobal>(
+fn place_file<'a, R: Files + AllocGlobal>(
     rt: &R,
     path: &'a str,
     bytes: &[u8],
@@ -35,13 +35,25 @@ pub fn place_file<'a, R: Files + AllocGlobal>(
     ensures failed { IfErr result (IsFileFault path.now) }
 {
     let beside = format!(in rt.alloc(); "{path}.new")?;
-    let file = match File::create_new(rt, beside.as_str()) {
+    place_by(rt, beside.as_str(), path, bytes)
+}
+
+/// Places the file by way of a new one at `beside`, which is removed where it cannot be placed.
+fn place_by<'a, R: Files>(
+    rt: &R,
+    beside: &str,
+    path: &'a str,
+    bytes: &[u8],
+) -> Result<(), Fault<'a>>
+    ensures failed { IfErr result (IsFileFault path.now) }
+{
+    let file = match File::create_new(rt, beside) {
         Ok(file) => file,
         Err(e) => return Err(file_fault(&e, path)),
     };
-    let placed = move_whole(rt, file, beside.as_str(), path, bytes);
+    let placed = move_whole(rt, file, beside, path, bytes);
     if placed.is_err() {
-        let _ = fs::remove_file(rt, beside.as_str());
+        let _ = fs::remove_file(rt, beside);
     }
     placed
 }
@@ -81,9 +93,24 @@ fn move_whole<'a, R: Files>(
 ) -> Result<(), Fault<'a>>
     ensures failed { IfErr result (IsFileFault path.now) }
 {
+    fill(file, path, bytes)?;
+    match fs::rename(rt, beside, path) {
+        Ok(()) => Ok(()),
+        Err(e) => Err(file_fault(&e, path)),
+    }
+}
+
+/// Writes all of the bytes to the new file, and has the system keep them.
+fn fill<'a, F: Write + OpenFile + Drop>(
+    file: F,
+    path: &'a str,
+    bytes: &[u8],
+) -> Result<(), Fault<'a>>
+    ensures failed { IfErr result (IsFileFault path.now) }
+{
     let mut file = file;
     write_whole(&mut file, path, bytes)?;
-    match file.sync_all().and_then(|()| fs::rename(rt, beside, path)) {
+    match file.sync_all() {
         Ok(()) => Ok(()),
         Err(e) => Err(file_fault(&e, path)),
     }

@@ -1,5 +1,6 @@
 -- What was read of a rule file says what the file is: it is the whole file, or longer than any rule text, as the file is.
-use Rattle.std.proofs.Common.{◌≡◌, ℕ, length, Option, None, subst, arith, inl, inr}
+use Rattle.std.proofs.Common.{◌≡◌, ℕ, length, Option, None, subst, inl, inr}
+use Rattle.std.proofs.Math.Nat.{not-le_of_lt}
 use Rattle.text_model.specs.Texts.{Text}
 use Rattle.rule_parser.specs.Grammar.{IsRuleText}
 use Rattle.rule_parser.specs.Rules.{RuleSet}
@@ -18,13 +19,13 @@ of_file P told front bytes too read same holds = (read.0, read.1, too read.0 rea
 
 ruled : (rules : RuleSet) (front all : Text) → IsWholeOrLong 65536 front all → IsRuleText front rules → IsRuleText all rules
 ruled rules front all (inl same) h = subst (λ bytes. IsRuleText bytes rules) same h
-ruled rules front all (inr long) h = absurd (omega (arith, h.short, long.0))
+ruled rules front all (inr long) h = absurd (not-le_of_lt long.0 h.short)
 
 not_ruled : (k : RuleErrorKind) (line : ℕ) (front all : Text) → IsWholeOrLong 65536 front all → IsRefused front k line → IsRefused all k line
 not_ruled k line front all (inl same) h = subst (λ bytes. IsRefused bytes k line) same h
 not_ruled k line front all (inr long) (inl (_, kind, at)) = inl (long.1, kind, at)
-not_ruled k line front all (inr long) (inr (inl h)) = absurd (omega (arith, h.0, long.0))
-not_ruled k line front all (inr long) (inr (inr h)) = absurd (omega (arith, h.0, long.0))
+not_ruled k line front all (inr long) (inr (inl h)) = absurd (not-le_of_lt long.0 h.0)
+not_ruled k line front all (inr long) (inr (inr h)) = absurd (not-le_of_lt long.0 h.0)
 
 pub meant : (query : Text) (link : Option Text) (front all : Text) → IsWholeOrLong 65536 front all → IsMeaning front query link → IsMeaning all query link
 meant query link front all read h = record { rules = h.rules; read = ruled h.rules front all read h.read; request = h.request; meant = h.meant }

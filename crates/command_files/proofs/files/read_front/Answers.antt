@@ -1,4 +1,3 @@
-use Rattle.std.proofs.lemmas.Result.{IfOk-weaker}
 use Rattle.command_files.proofs.FrontLemmas.{of_front}
 use Rattle.command_files.proofs.files.read_front.Goals as goal
 
