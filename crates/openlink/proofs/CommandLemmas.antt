@@ -5,6 +5,7 @@ use Rattle.std.specs.Str.{bytes_eq}
 use Rattle.std.proofs.lemmas.Slice.Eq.{bytes_eq-Decides}
 use Rattle.text_model.specs.Texts.{Text}
 use Rattle.command_words.specs.Words.{behind_name}
+use Rattle.openlink.specs.Help.{about}
 use Rattle.openlink.specs.Commands.{Prints, Fails, Stops, begins_with_word, no_command}
 use Rattle.command_faults.specs.declared.fault.Fault.{Fault}
 use Rattle.command_faults.specs.declared.fault.Fault.TheVariants.{Usage}
@@ -28,8 +29,8 @@ not_named name (word ∷ words) e = by_test (bytes_eq word name) refl e
 
 pub no_name : (words : List Text) → None ≡ behind_name (codes "expand") words → None ≡ behind_name (codes "link") words
     → None ≡ behind_name (codes "compile") words → None ≡ behind_name (codes "run") words → None ≡ behind_name (codes "resolve") words → None ≡ behind_name (codes "verify") words → None ≡ behind_name (codes "show") words
-    → None ≡ behind_name (codes "upgrade") words → begins_with_word (codes "serve") words ≡ false → Fails words Usage
-no_name words expand link compile run resolve verify show upgrade serve =
+    → None ≡ behind_name (codes "upgrade") words → begins_with_word (codes "serve") words ≡ false → about words ≡ None → Fails words Usage
+no_name words expand link compile run resolve verify show upgrade serve told =
     no_command words
     (rw (
       not_named (codes "expand") words expand,
@@ -43,6 +44,7 @@ no_name words expand link compile run resolve verify show upgrade serve =
       serve,
     )
     refl)
+    told
 
 -- what holds of a name and the words behind it holds of the words
 pub prints_behind : (name : Text) (words rest : List Text) (text : Text) → Some rest ≡ behind_name name words → Prints (name ∷ rest) text → Prints words text

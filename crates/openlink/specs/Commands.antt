@@ -1,7 +1,8 @@
 -- What each command prints, and why it prints nothing.
-use Rattle.std.specs.Prelude.{◌≡◌, List, [], ◌∷◌, Bool, false, ◌||◌, codes}
+use Rattle.std.specs.Prelude.{◌≡◌, List, [], ◌∷◌, Bool, false, ◌||◌, codes, Some, None}
 use Rattle.std.specs.Str.{bytes_eq}
 use Rattle.text_model.specs.Texts.{Text}
+use Rattle.openlink.specs.Help.{about}
 use Rattle.rule_commands.specs.Expand.{IsExpandLine, FailsToExpand}
 use Rattle.code_commands.specs.Show.{IsShowLine, FailsToShow}
 use Rattle.rule_commands.specs.Link.{IsLinkLine, FailsToLink}
@@ -34,11 +35,12 @@ pub data Prints : List Text → Text → Type 0 where
   prints_verdict : (words : List Text) (text : Text) → IsVerifyLine words text → Prints (codes "verify" ∷ words) text
   prints_listing : (words : List Text) (text : Text) → IsShowLine words text → Prints (codes "show" ∷ words) text
   prints_count : (words : List Text) (line : Text) → MakesFile IsUpgrade words line → Prints (codes "upgrade" ∷ words) line
+  prints_about : (words : List Text) (text : Text) → about words ≡ Some text → Prints words text
   prints_place : (words : List Text) (line : Text) → IsServing words line → Prints (codes "serve" ∷ words) line
 
 -- the words of a command that is not done, and why
 pub data Fails : List Text → Fault → Type 0 where
-  no_command : (words : List Text) → names_command words ≡ false → Fails words Usage
+  no_command : (words : List Text) → names_command words ≡ false → about words ≡ None → Fails words Usage
   no_expansion : (words : List Text) (fault : Fault) → FailsToExpand words fault → Fails (codes "expand" ∷ words) fault
   no_link : (words : List Text) (fault : Fault) → FailsToLink words fault → Fails (codes "link" ∷ words) fault
   no_code : (words : List Text) (fault : Fault) → FailsToMake IsCompiled IsCompileFault words fault → Fails (codes "compile" ∷ words) fault

@@ -1,12 +1,14 @@
 //! The commands: which words run what, and what is printed.
 
-ghost use Rattle.std.specs.Prelude.{◌≡◌, ◌≢◌, ◌⊎◌, codes, false, string_bytes, IfOk, IfErr, OnOk};
+ghost use Rattle.std.specs.Prelude.{◌≡◌, ◌≢◌, ◌⊎◌, codes, false, None, string_bytes, IfOk, IfErr, OnOk};
 ghost use Rattle.std.specs.Io.KnownBytes.{Appends};
 ghost use Rattle.text_model.specs.Texts.{Text, texts_of};
+ghost use Rattle.openlink.specs.Help as help;
 ghost use Rattle.openlink.specs.Commands.{Prints, Fails, OutputFails, Stops, begins_with_word};
 ghost use Rattle.command_faults.specs.Faults.{status_of};
 ghost use Rattle.command_faults.specs.declared.fault.Fault.{Fault};
 
+use crate::help::about;
 use code_commands::{run_line, show_lines, upgrade_line, verify_lines};
 use command_faults::Fault;
 use command_files::write_whole;
@@ -62,6 +64,9 @@ fn run<
         ⊎ OutputFails (texts_of words.now) fault
         ⊎ ((line : Text) × Stops (texts_of words.now) line fault × Appends (O.contents output.old) (O.contents output.new) line)) }
 {
+    if let Some(text) = about(words) {
+        return write_whole(output, "-", text.as_bytes());
+    }
     match behind(words, "serve") {
         Some(rest) => serve(rt, rest, output),
         None => {
@@ -76,7 +81,8 @@ fn answer<'a, R: Files + RandomSource + AllocGlobal>(
     rt: &R,
     words: &[&'a str],
 ) -> Result<String, Fault<'a>>
-    requires { begins_with_word (codes "serve") (texts_of words.now) ≡ false }
+    requires serve { begins_with_word (codes "serve") (texts_of words.now) ≡ false }
+    requires about { help.about (texts_of words.now) ≡ None }
     ensures ok { IfOk result (λ text. Prints (texts_of words.now) (string_bytes text)) }
     ensures err { IfErr result (Fails (texts_of words.now)) }
 {

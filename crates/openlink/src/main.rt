@@ -3,6 +3,7 @@
 
 mod arguments;
 mod commands;
+mod help;
 #[cfg(test)]
 mod tests;
 

@@ -1,6 +1,7 @@
 mod compile;
 mod expand;
 mod files;
+mod help;
 mod link;
 mod output;
 mod resolve;

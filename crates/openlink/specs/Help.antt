@@ -1,0 +1,14 @@
+-- What the program says of itself.
+use Rattle.std.specs.Prelude.{List, [], ◌∷◌, Bool, ◌||◌, codes, Option, Some, None, if◌then◌else◌}
+use Rattle.std.specs.Str.{bytes_eq}
+use Rattle.text_model.specs.Texts.{Text}
+use Rattle.openlink.specs.declared.help.TheConstants.{HELP, VERSION}
+
+-- one of the three words that ask for the commands
+abbrev pub asks_for_help : Text → Bool
+asks_for_help word = bytes_eq word (codes "--help") || (bytes_eq word (codes "-h") || bytes_eq word (codes "help"))
+
+-- what is said where the words ask for it, alone
+abbrev pub about : List Text → Option Text
+about (word ∷ []) = if asks_for_help word then Some HELP.now else if bytes_eq word (codes "--version") then Some VERSION.now else None
+about words = None
