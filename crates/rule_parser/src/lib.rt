@@ -19,6 +19,3 @@ pub use first_link::meaning;
 pub use guard::MAX_DIGITS;
 pub use rule::{Bound, Guard, Guards, Rule};
 pub use rules::{MAX_BYTES, Rules};
-
-#[cfg(test)]
-mod tests;

@@ -19,6 +19,4 @@ mod literals;
 mod names;
 mod parts;
 mod template;
-#[cfg(test)]
-mod tests;
 mod variables;

@@ -9,8 +9,6 @@ mod expansion;
 pub mod laws;
 mod pieces;
 mod style;
-#[cfg(test)]
-mod tests;
 mod variables;
 
 pub use crate::expansion::{expand, expand_in};

@@ -5,8 +5,6 @@
 mod items;
 pub mod laws;
 mod number;
-#[cfg(test)]
-mod tests;
 mod triplet;
 mod writing;
 

@@ -1,8 +1,5 @@
 //! The number that a text begins with.
 
-#[cfg(test)]
-mod tests;
-
 ghost use Rattle.std.specs.Prelude.{◌≡◌, ◌<◌, ◌^◌, IfSome};
 ghost use Rattle.text_model.specs.Number.{leading_number};
 

@@ -2,32 +2,28 @@ mod rfc6570;
 
 ghost use Rattle.std.specs.Prelude.{None};
 
-use crate::{Template, Variables, expand, expand_in};
+use crate::{Pairs, environment};
 use std::alloc::Global;
+use std::process::Abort;
 use std::test::Fail;
 use target_vars::{Env, Members};
+use uri_grammar::Template;
+use uri_template::{Variables, expand, expand_in};
 
 fn expanded(alloc: Global, template: &str, env: &Env) -> Result<String, Fail> {
     let template = Template::parse(alloc, template)?;
     Ok(expand(alloc, &template, env)?)
 }
 
-fn environment(
-    alloc: Global,
-    texts: &[(&str, &str)],
-    members: &[(&str, &str)],
-) -> Result<Env, Fail> {
-    let mut env = Env::new(alloc);
-    for (name, text) in texts {
-        env.put_text(name, text)?;
+/// Each case is a template and its expansion.
+fn expands<R: Abort + AllocGlobal>(rt: &R, env: &Env, cases: Pairs<'_>) -> Result<(), Fail> {
+    for &(template, wanted) in cases {
+        let text = expanded(rt.alloc(), template, env)?;
+        assert_eq!(rt; text.as_str(), wanted, "{template}");
     }
-    for (name, text) in members {
-        env.add_member(name, text)?;
-    }
-    Ok(env)
+    Ok(())
 }
 
-// Variables that stand for texts.
 const TEXTS: [(&str, &str); 11] = [
     ("hello", "Hello World!"),
     ("path", "/foo/bar"),
@@ -42,8 +38,7 @@ const TEXTS: [(&str, &str); 11] = [
     ("%41", "named by a triplet"),
 ];
 
-// A template over them and its expansion.
-const EXPANSIONS: [(&str, &str); 23] = [
+const OF_TEXTS: [(&str, &str); 23] = [
     ("", ""),
     ("{hello}", "Hello%20World%21"),
     ("a{y}b", "ab"),
@@ -72,45 +67,40 @@ const EXPANSIONS: [(&str, &str); 23] = [
 #[test]
 fn texts_expand(rt: HostRuntime) -> Result<(), Fail> {
     let env = environment(rt.alloc(), &TEXTS, &[])?;
-    for (template, wanted) in EXPANSIONS {
-        let text = expanded(rt.alloc(), template, &env)?;
-        assert_eq!(rt; text.as_str(), wanted);
-    }
-    Ok(())
+    expands(&rt, &env, &OF_TEXTS)
 }
+
+const MEMBERS: [(&str, &str); 6] = [
+    ("list", "red"),
+    ("list", "green"),
+    ("list", "blue"),
+    ("rft.au", "Smith, J"),
+    ("rft.au", "Li"),
+    ("none", ""),
+];
+
+const OF_LISTS: [(&str, &str); 11] = [
+    ("{/list*,path:4}", "/red/green/blue/%2Ffoo"),
+    ("{?rft.au*}", "?rft.au=Smith%2C%20J&rft.au=Li"),
+    ("{rft.au*}/{id}", "Smith%2C%20J,Li/b"),
+    ("{;none}", ";none="),
+    ("{;none*}", ";none"),
+    ("{?none*}", "?none="),
+    ("{none}", ""),
+    ("X{.none}", "X."),
+    ("{;list*}", ";list=red;list=green;list=blue"),
+    ("{list:3}", ""),
+    ("{?list:3,id}", "?id=b"),
+];
 
 #[test]
 fn lists_expand(rt: HostRuntime) -> Result<(), Fail> {
-    let members = [
-        ("list", "red"),
-        ("list", "green"),
-        ("list", "blue"),
-        ("rft.au", "Smith, J"),
-        ("rft.au", "Li"),
-        ("none", ""),
-    ];
-    let env = environment(rt.alloc(), &[("path", "/foo/bar"), ("id", "b")], &members)?;
-    let cases = [
-        ("{/list*,path:4}", "/red/green/blue/%2Ffoo"),
-        ("{?rft.au*}", "?rft.au=Smith%2C%20J&rft.au=Li"),
-        ("{rft.au*}/{id}", "Smith%2C%20J,Li/b"),
-        ("{;none}", ";none="),
-        ("{;none*}", ";none"),
-        ("{?none*}", "?none="),
-        ("{none}", ""),
-        ("X{.none}", "X."),
-        ("{;list*}", ";list=red;list=green;list=blue"),
-        ("{list:3}", ""),
-        ("{?list:3,id}", "?id=b"),
-    ];
-    for (template, wanted) in cases {
-        let text = expanded(rt.alloc(), template, &env)?;
-        assert_eq!(rt; text.as_str(), wanted);
-    }
-    Ok(())
+    let texts = [("path", "/foo/bar"), ("id", "b")];
+    let env = environment(rt.alloc(), &texts, &MEMBERS)?;
+    expands(&rt, &env, &OF_LISTS)
 }
 
-// Every name stands for nothing.
+/// Every name stands for nothing.
 struct Nothing;
 
 impl Variables for Nothing {

@@ -1,6 +1,7 @@
 //! The examples of RFC 6570 but those with associative arrays.
 
-use super::{environment, expanded};
+use super::expands;
+use crate::environment;
 use std::test::Fail;
 
 // Section 3.2; `semi` and `year` are of section 2.4. `undef` and `empty_keys` stand for nothing.
@@ -206,9 +207,5 @@ const EXAMPLES: [(&str, &str); 156] = [
 #[test]
 fn examples_of_the_standard(rt: HostRuntime) -> Result<(), Fail> {
     let env = environment(rt.alloc(), &TEXTS, &MEMBERS)?;
-    for (template, wanted) in &EXAMPLES {
-        let text = expanded(rt.alloc(), template, &env)?;
-        assert_eq!(rt; text.as_str(), *wanted);
-    }
-    Ok(())
+    expands(&rt, &env, &EXAMPLES)
 }
