@@ -8,6 +8,3 @@ mod sums;
 
 pub use budget::Budget;
 pub use sums::budget_of;
-
-#[cfg(test)]
-mod tests;

@@ -23,6 +23,3 @@ pub use decode::{instruction, spelling};
 pub use entry::{Literal, Name};
 pub use error::{CodeError, CodeErrorKind};
 pub use limits::{MAX_BYTES, MAX_INSTRS, MAX_LITERALS, MAX_NAME_BYTES, MAX_NAMES};
-
-#[cfg(test)]
-mod tests;

@@ -13,6 +13,3 @@ mod tables;
 
 pub use code::compile;
 pub use error::CompileError;
-
-#[cfg(test)]
-mod tests;

@@ -5,8 +5,6 @@ mod compiled;
 mod ending;
 mod error;
 pub mod laws;
-#[cfg(test)]
-mod tests;
 
 pub use compiled::run_rules;
 pub use ending::{run_file, run_verified};

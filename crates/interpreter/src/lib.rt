@@ -13,8 +13,6 @@ mod register;
 mod registers;
 mod run;
 mod step;
-#[cfg(test)]
-mod tests;
 mod value;
 
 pub use run::{Checked, run_checked};

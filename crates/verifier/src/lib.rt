@@ -11,8 +11,6 @@ mod loading;
 mod mismatch;
 mod needs;
 mod row;
-#[cfg(test)]
-mod tests;
 mod verified;
 mod walk;
 

@@ -1,6 +1,7 @@
-//! Code written as a listing has it, with commas between the instructions.
+//! Code as a listing has it, with commas between the instructions.
 
-use code_file::{Code, Instr, Literal, Name};
+use crate::codes::{Tables, of_instrs};
+use code_file::{Code, Instr};
 use std::alloc::{AllocError, Global};
 use std::test::Fail;
 
@@ -74,29 +75,8 @@ fn instrs(alloc: Global, text: &str) -> Result<Vec<Instr>, AllocError> {
     Ok(instrs)
 }
 
-/// The code of a version, of these names, each with whether it is a list's, of these literals, each
-/// with whether it is a comparison text, and of these instructions.
-pub(crate) fn code(
-    alloc: Global,
-    version: u8,
-    names: &[(bool, &str)],
-    literals: &[(bool, &str)],
-    text: &str,
-) -> Result<Code, Fail> {
-    let mut name_table = Vec::new(alloc);
-    for &(list, text) in names {
-        let text = String::from_str(alloc, text)?;
-        name_table.push(Name { list, text })?;
-    }
-    let mut literal_table = Vec::new(alloc);
-    for &(compared, text) in literals {
-        let bytes = Vec::from_slice(alloc, text.as_bytes())?;
-        literal_table.push(Literal { compared, bytes })?;
-    }
+/// The code of a version, of these tables and instructions.
+pub fn assembled(alloc: Global, version: u8, tables: Tables<'_>, text: &str) -> Result<Code, Fail> {
     let instrs = instrs(alloc, text)?;
-    let code = match version {
-        1 => Code::from_parts(name_table, literal_table, instrs)?,
-        _ => Code::from_parts2(name_table, literal_table, instrs)?,
-    };
-    Ok(code)
+    of_instrs(alloc, version, tables, instrs)
 }

@@ -1,5 +1,5 @@
-use super::instr;
-use crate::{instruction, spelling};
+use crate::codes::instr;
+use code_file::{instruction, spelling};
 use code_model::Instruction;
 
 #[test]

@@ -1,10 +1,10 @@
 //! Codes, each with what comes of it where `x` is a text and `list` has three members.
 
 /// A loop over the members of `list`, with a comma between them.
-pub(crate) const LIST_CODE: &str = "LIST r0 n1, EACH r1 r0 5, SEP l0, PUT r1 u, NEXT, HALT";
+pub const LIST_CODE: &str = "LIST r0 n1, EACH r1 r0 5, SEP l0, PUT r1 u, NEXT, HALT";
 
 /// What each instruction does, in code of version 1, and in code of version 2 too.
-pub(crate) const EFFECTS: [(&str, &str); 36] = [
+pub const EFFECTS: [(&str, &str); 36] = [
     ("HALT", "link "),
     ("FAIL", "no link"),
     ("EMIT l0, FAIL", "no link"),
@@ -80,7 +80,7 @@ pub(crate) const EFFECTS: [(&str, &str); 36] = [
 ];
 
 /// Where no step leads on, in code of version 1.
-pub(crate) const STUCK: [(&str, &str); 41] = [
+pub const STUCK: [(&str, &str); 41] = [
     ("? 0 0 0 0 0", "stuck at 0"),
     ("? 19 1 2 3 4", "stuck at 0"),
     ("? 1 1 0 0 0", "stuck at 0"),
@@ -143,7 +143,7 @@ pub(crate) const STUCK: [(&str, &str); 41] = [
 ];
 
 /// What code of version 2 alone has: 64 registers, and COUNT.
-pub(crate) const SECOND: [(&str, &str); 14] = [
+pub const SECOND: [(&str, &str); 14] = [
     (
         "LIST r0 n1, COUNT r1 r0, COUNT r63 r0, LESS r1 r63 5, HALT, FAIL",
         "link ",
@@ -171,7 +171,7 @@ pub(crate) const SECOND: [(&str, &str); 14] = [
 ];
 
 /// The same in code of version 1.
-pub(crate) const FIRST: [(&str, &str); 2] = [
+pub const FIRST: [(&str, &str); 2] = [
     (
         "LIST r0 n1, COUNT r1 r0, COUNT r63 r0, LESS r1 r63 5, HALT, FAIL",
         "stuck at 1",

@@ -1,7 +1,8 @@
 //! Rules by their code.
 
-use super::shown;
-use crate::{RulesError, RunError, run_rules};
+use crate::endings::shown;
+use crate::environments::{Given, environment, long_text};
+use headline::{RulesError, RunError, run_rules};
 use rule_parser::Rules;
 use runs::PrepareError;
 use std::alloc::Global;
@@ -22,8 +23,8 @@ const COUNTS: &str = "rule\nwhen rft.au counts 2 to *\nlink http://e.org/{rft.au
 
 const QUOTED: &str = "rule\nwhen x is \"a\\\"b\"\nlink http://e.org/\n";
 
-// Rules, the texts and the authors of an environment, and what the rules come to there.
-const CASES: [(&str, &[(&str, &str)], &[&str], &str); 11] = [
+/// Rules, the texts and the members of an environment, and what the rules come to there.
+const CASES: [(&str, &[(&str, &str)], &[(&str, &str)], &str); 11] = [
     (
         COVERAGE,
         &[
@@ -61,26 +62,19 @@ const CASES: [(&str, &[(&str, &str)], &[&str], &str); 11] = [
     (
         HOLDS,
         &[],
-        &["Wu", "Li"],
+        &[("rft.au", "Wu"), ("rft.au", "Li")],
         "link http://e.org/?rft.au=Wu&rft.au=Li",
     ),
-    (HOLDS, &[], &["Wu"], "no link"),
-    (COUNTS, &[], &["A", "B"], "link http://e.org/A,B"),
-    (COUNTS, &[], &["A"], "no link"),
+    (HOLDS, &[], &[("rft.au", "Wu")], "no link"),
+    (
+        COUNTS,
+        &[],
+        &[("rft.au", "A"), ("rft.au", "B")],
+        "link http://e.org/A,B",
+    ),
+    (COUNTS, &[], &[("rft.au", "A")], "no link"),
     (QUOTED, &[("x", "a\"b")], &[], "link http://e.org/"),
 ];
-
-/// An environment of these texts, and of these authors.
-fn environment(alloc: Global, texts: &[(&str, &str)], authors: &[&str]) -> Result<Env, Fail> {
-    let mut env = Env::new(alloc);
-    for (name, text) in texts {
-        env.put_text(name, text)?;
-    }
-    for author in authors {
-        env.add_member("rft.au", author)?;
-    }
-    Ok(env)
-}
 
 fn by_code(alloc: Global, rules: &str, env: &Env) -> Result<String, Fail> {
     let rules = Rules::parse(alloc, rules.as_bytes())?;
@@ -89,8 +83,8 @@ fn by_code(alloc: Global, rules: &str, env: &Env) -> Result<String, Fail> {
 
 #[test]
 fn rules_link_what_they_mean(rt: HostRuntime) -> Result<(), Fail> {
-    for (rules, texts, authors, wanted) in CASES {
-        let env = environment(rt.alloc(), texts, authors)?;
+    for (rules, texts, members, wanted) in CASES {
+        let env = environment(rt.alloc(), Given { texts, members })?;
         let came = by_code(rt.alloc(), rules, &env)?;
         assert_eq!(rt; came.as_str(), wanted);
     }
@@ -99,11 +93,7 @@ fn rules_link_what_they_mean(rt: HostRuntime) -> Result<(), Fail> {
 
 #[test]
 fn rules_may_be_over_budget(rt: HostRuntime) -> Result<(), Fail> {
-    let mut letters = String::new(rt.alloc());
-    for _ in 0..400_000 {
-        letters.push_str("a")?;
-    }
-    let env = environment(rt.alloc(), &[("x", letters.as_str())], &[])?;
+    let env = long_text(rt.alloc(), "a", 400_000)?;
     let rules = Rules::parse(rt.alloc(), b"rule\nlink {x}\n")?;
     // Three bytes for each byte of the environment and of the longest text that is compared, `1`; and the comma that
     // would stand before another variable.

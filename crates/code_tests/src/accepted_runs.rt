@@ -1,22 +1,69 @@
-mod codes;
+//! Runs of accepted code, without tests.
 
-use crate::{Outcome, PrepareError, Step, Words, prepare, step};
-use code_model::Instruction::{self, Emit, Fail as End};
-use codes::{
-    COUNTS, Given, LIST_CODE, LITERALS, OPTIONAL, RULE, accepted, environment, long_members,
-    long_text,
+use crate::codes::{OPTIONAL, Tables, accepted};
+use crate::environments::{
+    COLOURS, Given, NOTHING, WITH_ISSN, environment, letters, long_list, long_text,
 };
+use code_model::Instruction::{
+    self, Const, Count, Each, Emit, Empty, Fail as End, Halt, Less, List, Next, Put, Sep, Text,
+    Undef,
+};
+use runs::{Outcome, PrepareError, Step, Words, prepare, step};
 use std::alloc::Global;
 use std::process::Abort;
 use std::test::Fail;
 use target_vars::Env;
 use verifier::Verified;
 
-const COLOURS: Given = Given::Members(&["red", "green", "blue"]);
+const TABLES: Tables<'static> = Tables {
+    names: &[(false, "x"), (true, "list"), (false, "rft.issn")],
+    literals: &[
+        (false, ","),
+        (true, ""),
+        (false, ";"),
+        (true, "1"),
+        (false, "http://e.org/"),
+    ],
+};
 
-const ISSN: Given = Given::Text("rft.issn", "1234-5678");
+/// The members of the list, with commas between them.
+const LIST_CODE: [Instruction; 6] = [List(0, 1), Each(1, 0, 5), Sep(0), Put(1, 0), Next, Halt];
+
+/// The code of a rule that links by the ISSN.
+const RULE: [Instruction; 10] = [
+    Emit(4),
+    Const(4, 1),
+    Text(0, 2),
+    Undef(0, 8),
+    Empty(4, 6),
+    Emit(0),
+    Const(4, 3),
+    Put(0, 0),
+    Halt,
+    End,
+];
+
+/// Counts of one list, compared.
+const COUNTS: [Instruction; 6] = [
+    List(0, 1),
+    Count(1, 0),
+    Count(63, 0),
+    Less(1, 63, 5),
+    Halt,
+    End,
+];
 
 const FAILS: [Instruction; 2] = [Emit(0), End];
+
+const RED: Given<'static> = Given {
+    texts: &[("list", "red")],
+    members: &[],
+};
+
+const X: Given<'static> = Given {
+    texts: &[("x", "a")],
+    members: &[],
+};
 
 /// The link of a run of many steps, if it has one, and how many steps it took.
 fn ending(alloc: Global, code: &Verified, env: &Env) -> Result<(u64, Option<String>), Fail> {
@@ -37,10 +84,10 @@ fn ends<R: Abort + AllocGlobal>(
     rt: &R,
     version: u8,
     instructions: &[Instruction],
-    given: Given,
+    given: Given<'_>,
     wanted: (u64, Option<&str>),
 ) -> Result<(), Fail> {
-    let code = accepted(rt.alloc(), version, &LITERALS, instructions)?;
+    let code = accepted(rt.alloc(), version, TABLES, instructions)?;
     let env = environment(rt.alloc(), given)?;
     let (steps, link) = ending(rt.alloc(), &code, &env)?;
     assert_eq!(rt; (steps, link.as_deref()), wanted);
@@ -48,17 +95,17 @@ fn ends<R: Abort + AllocGlobal>(
 }
 
 /// Versions, codes and environments, and the ends of their runs.
-const ENDINGS: [(u8, &[Instruction], Given, (u64, Option<&str>)); 10] = [
+const ENDINGS: [(u8, &[Instruction], Given<'static>, (u64, Option<&str>)); 10] = [
     (1, &LIST_CODE, COLOURS, (12, Some("red,green,blue"))),
     (2, &LIST_CODE, COLOURS, (12, Some("red,green,blue"))),
     (2, &COUNTS, COLOURS, (5, Some(""))),
-    (1, &LIST_CODE, Given::Text("list", "red"), (3, Some(""))),
-    (1, &OPTIONAL, Given::Text("x", "a"), (4, Some("a"))),
-    (1, &LIST_CODE, Given::Nothing, (3, Some(""))),
-    (1, &OPTIONAL, Given::Nothing, (3, Some(""))),
-    (1, &RULE, Given::Nothing, (5, Some("http://e.org/"))),
-    (1, &FAILS, Given::Nothing, (2, None)),
-    (1, &RULE, ISSN, (8, Some("http://e.org/1234-5678"))),
+    (1, &LIST_CODE, RED, (3, Some(""))),
+    (1, &OPTIONAL, X, (4, Some("a"))),
+    (1, &LIST_CODE, NOTHING, (3, Some(""))),
+    (1, &OPTIONAL, NOTHING, (3, Some(""))),
+    (1, &RULE, NOTHING, (5, Some("http://e.org/"))),
+    (1, &FAILS, NOTHING, (2, None)),
+    (1, &RULE, WITH_ISSN, (8, Some("http://e.org/1234-5678"))),
 ];
 
 #[test]
@@ -71,17 +118,13 @@ fn ends_with_a_link_or_without(rt: HostRuntime) -> Result<(), Fail> {
 
 /// Codes and environments, and of each turn of a run its steps, whether it has ended then, and how many steps it has
 /// carried out.
-const TURNS: [(&[Instruction], Given, &[(u64, bool, u64)]); 2] = [
+const TURNS: [(&[Instruction], Given<'static>, &[(u64, bool, u64)]); 2] = [
     (
         &LIST_CODE,
         COLOURS,
         &[(1, false, 1), (100, true, 12), (1, true, 12)],
     ),
-    (
-        &OPTIONAL,
-        Given::Text("x", "a"),
-        &[(5, true, 4), (100, true, 4)],
-    ),
+    (&OPTIONAL, X, &[(5, true, 4), (100, true, 4)]),
 ];
 
 fn takes<R: Abort + AllocGlobal>(
@@ -100,7 +143,7 @@ fn takes<R: Abort + AllocGlobal>(
 #[test]
 fn takes_turns(rt: HostRuntime) -> Result<(), Fail> {
     for (instructions, given, turns) in TURNS {
-        let code = accepted(rt.alloc(), 1, &LITERALS, instructions)?;
+        let code = accepted(rt.alloc(), 1, TABLES, instructions)?;
         let env = environment(rt.alloc(), given)?;
         takes(&rt, &code, &env, turns)?;
     }
@@ -126,7 +169,7 @@ const OUTPUTS: [(&[Instruction], u64, &[u8]); 5] = [
 #[test]
 fn shows_its_output(rt: HostRuntime) -> Result<(), Fail> {
     for (instructions, n, wanted) in OUTPUTS {
-        let code = accepted(rt.alloc(), 1, &LITERALS, instructions)?;
+        let code = accepted(rt.alloc(), 1, TABLES, instructions)?;
         let env = environment(rt.alloc(), COLOURS)?;
         let output = output_after(rt.alloc(), &code, &env, n)?;
         assert_eq!(rt; output.as_slice(), wanted);
@@ -155,7 +198,7 @@ fn stands_at(words: Option<Words>) -> Option<(usize, u64, u64, bool)> {
 
 #[test]
 fn shows_its_words(rt: HostRuntime) -> Result<(), Fail> {
-    let code = accepted(rt.alloc(), 1, &LITERALS, &LIST_CODE)?;
+    let code = accepted(rt.alloc(), 1, TABLES, &LIST_CODE)?;
     let env = environment(rt.alloc(), COLOURS)?;
     for (n, wanted) in [
         (2, Some((2, 3, 3, true))),
@@ -194,7 +237,7 @@ fn stepped(
 
 #[test]
 fn steps_on_its_words(rt: HostRuntime) -> Result<(), Fail> {
-    let code = accepted(rt.alloc(), 1, &LITERALS, &LIST_CODE)?;
+    let code = accepted(rt.alloc(), 1, TABLES, &LIST_CODE)?;
     let env = environment(rt.alloc(), COLOURS)?;
     for (n, wanted) in [(5, (Step::More, Some(3))), (11, (Step::Link, Some(5)))] {
         assert_eq!(rt; stepped(rt.alloc(), &code, &env, n)?, wanted);
@@ -204,17 +247,23 @@ fn steps_on_its_words(rt: HostRuntime) -> Result<(), Fail> {
 
 #[test]
 fn takes_a_long_link(rt: HostRuntime) -> Result<(), Fail> {
-    let code = accepted(rt.alloc(), 1, &LITERALS, &LIST_CODE)?;
-    let many = long_members(rt.alloc(), 20)?;
+    let code = accepted(rt.alloc(), 1, TABLES, &LIST_CODE)?;
+    let member = letters(rt.alloc(), "a", 1_000)?;
+    let many = long_list(rt.alloc(), &member, 20)?;
     let (_, link) = ending(rt.alloc(), &code, &many)?;
     assert_eq!(rt; link.map(|link| link.len()), Some(20_019));
     Ok(())
 }
 
+const ONE_NAME: Tables<'static> = Tables {
+    names: &[(false, "x")],
+    literals: &[],
+};
+
 #[test]
 fn keeps_to_its_budget(rt: HostRuntime) -> Result<(), Fail> {
-    let code = accepted(rt.alloc(), 1, &[], &OPTIONAL)?;
-    let long = long_text(rt.alloc(), 400_000)?;
+    let code = accepted(rt.alloc(), 1, ONE_NAME, &OPTIONAL)?;
+    let long = long_text(rt.alloc(), "a", 400_000)?;
     let error = prepare(rt.alloc(), &code, &long).err();
     assert_eq!(rt; error, Some(PrepareError::OverBudget(1_200_000)));
     Ok(())
