@@ -1,5 +1,5 @@
 -- What was read of a rule file says what the file is: it is the whole file, or longer than any rule text, as the file is.
-use Rattle.std.proofs.Common.{◌≡◌, ℕ, length, Option, None, subst, inl, inr}
+use Rattle.std.proofs.Common.{◌≡◌, ℕ, Option, None, subst, inl, inr}
 use Rattle.std.proofs.Math.Nat.{not-le_of_lt}
 use Rattle.text_model.specs.Texts.{Text}
 use Rattle.rule_parser.specs.Grammar.{IsRuleText}
