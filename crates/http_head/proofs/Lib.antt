@@ -3,3 +3,4 @@ pub mod Hosts
 pub mod Schemes
 pub mod Answers
 pub mod Unique
+pub mod HeadEnd

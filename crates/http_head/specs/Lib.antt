@@ -1,3 +1,4 @@
 pub mod Host
 pub mod Target
 pub mod Asking
+pub mod HeadEnd
