@@ -18,7 +18,7 @@ pub fn what_follows_a_head_is_ignored()
 {}
 
 /// A head of the grammar ends exactly where the bytes are first closed: at the empty line with which the reading of a
-/// head stops. So the head is read whole when reading stops there, and open bytes have none.
+/// head stops. So the head has been read whole when reading stops there.
 pub fn a_head_ends_where_it_is_closed()
     ensures { (bytes rest : List ℕ) (head : RequestHead) → ReadsRequest bytes head rest → IsFirstClosedAt bytes (length (print_request head)) }
 {}
