@@ -1,15 +1,17 @@
 -- Matching rows one after another, and what is chosen of their reasons.
-use Rattle.std.proofs.Common.{◌≡◌, ℕ, ◌+◌, ◌≤◌, ◌<◌, Bool, true, false, cond, suc, List, [], ◌∷◌, All, Some, None, filter, refl, sym, ap, ◌∙◌, arith, nat_le}
+use Rattle.std.proofs.Common.{◌≡◌, ℕ, ◌+◌, ◌≤◌, ◌<◌, Bool, true, false, cond, suc, List, [], ◌∷◌, All, Some, None, filter, refl, sym, ap, ◌∙◌, arith, nat_le, get_or, length}
 use Rattle.std.proofs.lemmas.Bool.Decides.{nat_tests}
 use Rattle.std.proofs.lemmas.List.FromFn.{length-range_with_len, get_or-range_with_len}
 use Rattle.std.proofs.lemmas.List.Kept.{AllPairs-filter}
 use Rattle.std.proofs.lemmas.List.Elements.{All-head, All-tail}
 use Rattle.std.proofs.lemmas.Option.{none-some, same_Some}
 use Rattle.std.specs.List.{AllPairs, range_with_len}
-use Rattle.kbart_rows.specs.Identifiers.{first_from}
+use Rattle.kev_read.specs.Pairs.{KeyValue}
+use Rattle.kbart_rows.specs.Identifiers.{first_from, identifier_columns, ids_of, is_match}
 use Rattle.menu.specs.Links.{is_link}
 use Rattle.menu.specs.declared.entry.Reason.{Reason}
-use Rattle.registry.specs.Entries.{chosen}
+use Rattle.registry.specs.Targets.{TargetValue}
+use Rattle.registry.specs.Entries.{chosen, matching_rows_of}
 
 -- ---- rows that rise
 
@@ -23,8 +25,12 @@ range_rises first n i j d before within =
     let at_j = get_or-range_with_len first n j d (omega (arith, within, long)) in
     omega (arith, at_i, at_j, before)
 
-pub filtered_rise : (test : ℕ → Bool) (first n : ℕ) → Rise (filter test (range_with_len first n))
+filtered_rise : (test : ℕ → Bool) (first n : ℕ) → Rise (filter test (range_with_len first n))
 filtered_rise test first n = AllPairs-filter (λ x y. x < y) test (range_with_len first n) (range_rises first n)
+
+pub matching_rows_are_in_order : (target : TargetValue) (pairs : List KeyValue) → Rise (matching_rows_of target pairs)
+matching_rows_are_in_order target pairs =
+    filtered_rise (λ row. is_match (identifier_columns target.table.header) (ids_of pairs) (get_or target.table.rows row [])) 0 (length target.table.rows)
 
 rest_rises : (row : ℕ) (rows : List ℕ) → Rise (row ∷ rows) → Rise rows
 rest_rises row rows rise i j d before within = rise (suc i) (suc j) d (omega (arith, before)) (omega (arith, within))

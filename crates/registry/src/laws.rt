@@ -1,6 +1,6 @@
 //! What a menu by definition comes to, row after row, each law as the contract of a function that does nothing.
 
-ghost use Rattle.std.specs.Prelude.{◌≡◌, ℕ, ◌+◌, ◌<◌, ◌≤◌, List, None, Some, true, false};
+ghost use Rattle.std.specs.Prelude.{◌≡◌, ℕ, ◌+◌, ◌<◌, ◌≤◌, List, [], ◌∷◌, None, Some, true, false, filter, nat_le};
 ghost use Rattle.environment_model.specs.Environment.{Environment};
 ghost use Rattle.code_model.specs.Code.{Code};
 ghost use Rattle.machine_model.specs.Runs.{HasOutcome, Outcome};
@@ -30,6 +30,17 @@ pub fn rows_are_tried_in_order()
     ensures no_link { (target : TargetValue) (pairs : List KeyValue) (from row : ℕ) (so_far : Reason) →
         first_from from (matching_rows_of target pairs) ≡ Some row → is_link (reason_of_row target pairs row) ≡ false
         → reason_from target pairs from so_far ≡ reason_from target pairs (row + 1) (reason_of_row target pairs row) }
+{}
+
+/// The matching rows of a target stand in rising order: those at or after row 0 are all of them. Where none is at or
+/// after a row, there are none there; otherwise they are the first one, and those behind it.
+pub fn matching_rows_rise()
+    ensures start { (target : TargetValue) (pairs : List KeyValue) → filter (nat_le 0) (matching_rows_of target pairs) ≡ matching_rows_of target pairs }
+    ensures no_more { (target : TargetValue) (pairs : List KeyValue) (from : ℕ) →
+        first_from from (matching_rows_of target pairs) ≡ None → filter (nat_le from) (matching_rows_of target pairs) ≡ [] }
+    ensures next { (target : TargetValue) (pairs : List KeyValue) (from row : ℕ) →
+        first_from from (matching_rows_of target pairs) ≡ Some row
+        → filter (nat_le from) (matching_rows_of target pairs) ≡ row ∷ filter (nat_le (row + 1)) (matching_rows_of target pairs) }
 {}
 
 /// The fate of code in an environment: over budget exactly where its bound on bytes passes the limit; and otherwise
