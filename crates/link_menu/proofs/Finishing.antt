@@ -1,6 +1,6 @@
 -- The fates of what was begun.
 use Rattle.std.proofs.Common.{◌≡◌, ℕ, List, [], ◌∷◌, ◌++◌, Option, Some, None, Bool, true, false, cond, refl, sym, ap, ◌∙◌, arith, length, map, count_by}
-use Rattle.std.specs.Prelude.{if◌then◌else◌, is_none, drop, take, Result, Ok, Err, OnErr}
+use Rattle.std.specs.Prelude.{if◌then◌else◌, is_none, drop, take}
 use Rattle.std.proofs.lemmas.List.{append-nil, drop_all, length-map, take_all}
 use Rattle.std.proofs.lemmas.List.Sums.{sum_by-cons}
 use Rattle.std.specs.List.{cons_option}
@@ -74,11 +74,6 @@ module _ (pairs : List (Code × EnvValue)) (over_budget : List (Option ℕ)) (ol
   runs_after_turns =
       ap (λ os. count_by is_none os) excess ∙ as_many_runs pairs
       ∙ sym (ap length (after_turns new old len long same) ∙ as_many old new same ∙ ap length runs)
-
--- what holds anyway holds after an error
-pub on_err : {T E : Type 0} (r : Result T E) (P : Type 0) → P → OnErr r P
-on_err (Ok x) P p = tt
-on_err (Err e) P p = p
 
 -- the fates so far, and those of the places and the runs that are left, are all
 abbrev pub AddUp : List answer.Fate → List (Option ℕ) → List RunValue → List Fate → Type 0

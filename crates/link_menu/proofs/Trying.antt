@@ -1,6 +1,6 @@
 -- The next rows of searches, and what becomes of them.
 use Rattle.std.proofs.Common.{◌≡◌, ℕ, suc, ◌+◌, ◌<◌, List, [], ◌∷◌, ◌++◌, Option, Some, None, refl, sym, ap, ◌∙◌, arith, length, map, get_or, set, take, drop}
-use Rattle.std.specs.Prelude.{true, false, is_some, option_map}
+use Rattle.std.specs.Prelude.{Bool, true, false, if◌then◌else◌, is_some, option_and_then, option_map}
 use Rattle.std.specs.List.{cons_option, filter_map, zip}
 use Rattle.std.proofs.lemmas.Bool.{false≢true}
 use Rattle.std.proofs.lemmas.List.{at_drop_more, drop-drop, drop-set-lt, get_or-drop, length-drop, length-map, map_more, take_more, take_more_set}
@@ -9,13 +9,16 @@ use Rattle.environment_model.specs.Environment.{Environment}
 use Rattle.code_model.specs.Code.{Code}
 use Rattle.kev_read.specs.Pairs.{KeyValue}
 use Rattle.target_vars.specs.EnvValue.{EnvValue}
+use Rattle.runs.specs.RunValue.{RunValue, begun}
 use Rattle.registry.specs.Fates.{Fate, fate_in, fate_of_row}
 use Rattle.registry.specs.RowEnvironments.{row_environment}
 use Rattle.registry.specs.Entries.{reason_by}
 use Rattle.link_menu.specs.declared.fate.Fate as answer
 use Rattle.link_menu.specs.declared.tries.Tries.{Tries}
-use Rattle.link_menu.specs.Fates.{fate_of, said}
-use Rattle.link_menu.specs.Private.Searches.{SearchValue, AreTries, after_fate, after_fate_at, after_row, code_next, env_next, fate_next, fates_next, is_open, tried, tried_at}
+use Rattle.link_menu.specs.Fates.{fate_of, is_over_budget, runs_of, said}
+use Rattle.link_menu.specs.Shown.{end_of, ends_of}
+use Rattle.link_menu.specs.Tried.{steps_in, steps_of_row}
+use Rattle.link_menu.specs.Private.Searches.{SearchValue, AreTries, after_fate, after_fate_at, after_row, code_next, ends_next, env_next, fate_next, fates_next, is_open, tried, tried_at}
 
 abbrev entries_of : EnvValue → Environment
 entries_of env = env.entries
@@ -38,6 +41,33 @@ side_by_side pairs (s ∷ searches) = by_next s.next (side_by_side pairs searche
         ≡ cons_option (option_map (λ row. fate_of_row s.target pairs row) next) (fates_next pairs searches)
     by_next None rest = rest
     by_next (Some row) rest = ap (λ fates. fate_of_row s.target pairs row ∷ fates) rest
+
+-- the steps of a code in an environment, where it has a run
+abbrev steps_at : Code × Environment → Option ℕ
+steps_at p = steps_in p.0 p.1
+
+one_end : (over : Bool) (run : RunValue) (runs : List RunValue) (ends : List ℕ) → ends_of runs ≡ ends
+    → ends_of (cons_option (if over then None else Some run) runs) ≡ cons_option (if over then None else Some (end_of run)) ends
+one_end true run runs ends rest = rest
+one_end false run runs ends rest = ap (λ all. end_of run ∷ all) rest
+
+-- runs have the steps of the entries
+ends_by_entries : (codes : List Code) (envs : List EnvValue) → ends_of (runs_of (zip codes envs)) ≡ filter_map steps_at (zip codes (map entries_of envs))
+ends_by_entries [] envs = refl
+ends_by_entries (code ∷ codes) [] = refl
+ends_by_entries (code ∷ codes) (env ∷ envs) =
+    one_end (is_over_budget code env) (begun code env) (runs_of (zip codes envs)) (filter_map steps_at (zip codes (map entries_of envs))) (ends_by_entries codes envs)
+
+ends_side_by_side : (pairs : List KeyValue) (searches : List SearchValue)
+    → filter_map steps_at (zip (filter_map code_next searches) (filter_map (env_next pairs) searches)) ≡ ends_next pairs searches
+ends_side_by_side pairs [] = refl
+ends_side_by_side pairs (s ∷ searches) = by_next s.next (ends_side_by_side pairs searches)
+  where
+    by_next : (next : Option ℕ) → filter_map steps_at (zip (filter_map code_next searches) (filter_map (env_next pairs) searches)) ≡ ends_next pairs searches
+        → filter_map steps_at (zip (cons_option (option_map (λ row. s.target.code) next) (filter_map code_next searches)) (cons_option (option_map (λ row. row_environment s.target pairs row) next) (filter_map (env_next pairs) searches)))
+        ≡ cons_option (option_and_then (steps_of_row s.target pairs) next) (ends_next pairs searches)
+    by_next None rest = rest
+    by_next (Some row) rest = ap (cons_option (steps_of_row s.target pairs row)) rest
 
 as_many : (pairs : List KeyValue) (searches : List SearchValue) → length (filter_map code_next searches) ≡ length (filter_map (env_next pairs) searches)
 as_many pairs [] = refl
@@ -63,6 +93,11 @@ all_tries pairs searches tries codes envs =
           ∙ ap (λ es. map fate_at (zip (map (λ code. code.now) tries.codes.items) es)) envs
           ∙ ap (λ cs. map fate_at (zip cs (filter_map (env_next pairs) searches))) codes
           ∙ side_by_side pairs searches;
+      ends =
+          ends_by_entries (map (λ code. code.now) tries.codes.items) tries.envs.items
+          ∙ ap (λ es. filter_map steps_at (zip (map (λ code. code.now) tries.codes.items) es)) envs
+          ∙ ap (λ cs. filter_map steps_at (zip cs (filter_map (env_next pairs) searches))) codes
+          ∙ ends_side_by_side pairs searches;
     }
 
 -- one more search

@@ -1,5 +1,5 @@
 -- All runs, turn after turn of all.
-use Rattle.std.proofs.Common.{◌≡◌, ℕ, suc, ◌+◌, ◌-◌, ◌*◌, ◌<◌, ◌≤◌, List, [], ◌∷◌, ◌++◌, Option, Some, None, Bool, true, false, cond, refl, sym, ap, ◌∙◌, subst, arith, count_by, get_or, length, map, append-nil, append_assoc, ⊎_elim, inl, inr}
+use Rattle.std.proofs.Common.{◌≡◌, ℕ, suc, ◌+◌, ◌-◌, ◌*◌, ◌<◌, ◌≤◌, List, [], ◌∷◌, Option, Bool, true, false, cond, refl, sym, ap, ◌∙◌, subst, arith, count_by, get_or, length, map, ⊎_elim, inl, inr}
 use Rattle.std.specs.Prelude.{min, max, ◌/◌, ◌⊎◌}
 use Rattle.std.proofs.lemmas.List.Sums.{sum_by-cons}
 use Rattle.std.proofs.lemmas.Bool.{cases_lt}
@@ -9,8 +9,9 @@ use Rattle.machine_model.specs.Next.{state_after}
 use Rattle.machine_model.specs.Runs.{EndsAfter}
 use Rattle.runs.specs.RunValue.{RunValue}
 use Rattle.link_menu.specs.Turns.{is_live, IsMoved}
-use Rattle.link_menu.specs.Shown.{steps_of, with_list, with_lists, end_of, steps_after, shown_in, turns_left, turns_to_end}
+use Rattle.link_menu.specs.Shown.{steps_of, with_list, with_lists, end_of, ends_of, steps_after, HasSeenSome, shown_in, shown_to_end, turns_left, turns_to_end}
 use Rattle.link_menu.specs.Rounds.{IsFresh, AreFresh, same_but_steps, AreOfTheSame, run_after}
+use Rattle.link_menu.proofs.Seeing.{first_of, with_more, with_none}
 use Rattle.link_menu.proofs.Moving.{AreDecided, ended_is_over, others_go_on}
 
 -- a run ends once
@@ -88,25 +89,42 @@ pub same_runs : (n : ℕ) (runs : List RunValue) → AreOfTheSame runs (all_afte
 same_runs n [] = refl
 same_runs n (run ∷ runs) = ap (λ rs. same_but_steps run ∷ rs) (same_runs n runs)
 
-pub steps_then : (n : ℕ) (runs : List RunValue) → steps_of (all_after n runs) ≡ steps_after n runs
+pub steps_then : (n : ℕ) (runs : List RunValue) → steps_of (all_after n runs) ≡ steps_after n (ends_of runs)
 steps_then n [] = refl
 steps_then n (run ∷ runs) = ap (λ ks. min n (end_of run) ∷ ks) (steps_then n runs)
 
 -- ---- how many turns are left
 
+abbrev pub steps_left : RunValue → ℕ
+steps_left run = end_of run - run.steps
+
+abbrev pub turns_of : List RunValue → ℕ
+turns_of runs = turns_to_end (map steps_left runs)
+
+none_done : (steps end : ℕ) → steps ≡ 0 → end - steps ≡ end
+none_done steps end is = omega (arith, is)
+
+all_left : (runs : List RunValue) → AreFresh runs → map steps_left runs ≡ ends_of runs
+all_left [] fresh = refl
+all_left (run ∷ runs) fresh =
+    ap (λ n. n ∷ map steps_left runs) (none_done run.steps (end_of run) fresh.0.start) ∙ ap (λ ns. end_of run ∷ ns) (all_left runs fresh.1)
+
+pub turns_at_start : (runs : List RunValue) → AreFresh runs → turns_of runs ≡ turns_to_end (ends_of runs)
+turns_at_start runs fresh = ap turns_to_end (all_left runs fresh)
+
 turns_less : (t end : ℕ) → (end - min (64 * t) end + 63) / 64 ≡ (end - 0 + 63) / 64 - t
 turns_less t end = omega arith
 
-max_less : (a b c d t : ℕ) → a ≡ c - t → b ≡ d - t → max a b ≡ max c d - t
+pub max_less : (a b c d t : ℕ) → a ≡ c - t → b ≡ d - t → max a b ≡ max c d - t
 max_less a b c d t one other = omega (arith, one, other)
 
-pub turns_after : (t : ℕ) (runs : List RunValue) → AreFresh runs → turns_to_end (all_after (64 * t) runs) ≡ turns_to_end runs - t
+pub turns_after : (t : ℕ) (runs : List RunValue) → AreFresh runs → turns_of (all_after (64 * t) runs) ≡ turns_of runs - t
 unfolding turns_to_end
 turns_after t [] fresh = omega arith
 turns_after t (run ∷ runs) fresh =
     let here : turns_left (end_of run - min (64 * t) (end_of run)) ≡ turns_left (end_of run - run.steps) - t =
     turns_less t (end_of run) ∙ ap (λ k. turns_left (end_of run - k) - t) (sym fresh.0.start) in
-    max_less (turns_left (end_of run - min (64 * t) (end_of run))) (turns_to_end (all_after (64 * t) runs)) (turns_left (end_of run - run.steps)) (turns_to_end runs) t here (turns_after t runs fresh.1)
+    max_less (turns_left (end_of run - min (64 * t) (end_of run))) (turns_of (all_after (64 * t) runs)) (turns_left (end_of run - run.steps)) (turns_of runs) t here (turns_after t runs fresh.1)
 
 -- either all have ended, or one has not
 abbrev pub DoneOrLeft : ℕ → ℕ → ℕ → Type 0
@@ -124,7 +142,7 @@ join_done live here rest t turn turns sum none le = ⊎_elim (λ done. inl (omeg
 join_left : (live here rest t turn turns : ℕ) → live ≡ here + rest → here ≡ 1 → t < turn → DoneOrLeft live t (max turn turns)
 join_left live here rest t turn turns sum one lt = inr (omega (arith, sum, one), omega (arith, lt))
 
-pub done_or_left : AreDecided → EndsOnce → (t : ℕ) (runs : List RunValue) → AreFresh runs → DoneOrLeft (count_by is_live (all_after (64 * t) runs)) t (turns_to_end runs)
+pub done_or_left : AreDecided → EndsOnce → (t : ℕ) (runs : List RunValue) → AreFresh runs → DoneOrLeft (count_by is_live (all_after (64 * t) runs)) t (turns_of runs)
 unfolding turns_to_end
 done_or_left decided once t [] fresh = inl (refl, omega arith)
 done_or_left decided once t (run ∷ runs) fresh =
@@ -133,20 +151,20 @@ done_or_left decided once t (run ∷ runs) fresh =
     let all : count_by is_live (all_after m (run ∷ runs)) ≡ one_if (is_live (run_after m run)) + count_by is_live (all_after m runs) = sum_by-cons live (run_after m run) (all_after m runs) in
     let rest = done_or_left decided once t runs fresh.1 in
     ⊎_elim
-    (λ lt. join_left (count_by is_live (all_after m (run ∷ runs))) (one_if (is_live (run_after m run))) (count_by is_live (all_after m runs)) t (turns_left (end_of run - run.steps)) (turns_to_end runs) all
+    (λ lt. join_left (count_by is_live (all_after m (run ∷ runs))) (one_if (is_live (run_after m run))) (count_by is_live (all_after m runs)) t (turns_left (end_of run - run.steps)) (turns_of runs) all
     (ap one_if (live_before_end decided once m run fresh.0 lt)) (turns_short t (end_of run) run.steps fresh.0.start lt))
-    (λ le. join_done (count_by is_live (all_after m (run ∷ runs))) (one_if (is_live (run_after m run))) (count_by is_live (all_after m runs)) t (turns_left (end_of run - run.steps)) (turns_to_end runs) all
+    (λ le. join_done (count_by is_live (all_after m (run ∷ runs))) (one_if (is_live (run_after m run))) (count_by is_live (all_after m runs)) t (turns_left (end_of run - run.steps)) (turns_of runs) all
     (ap one_if (over_at_end decided m run fresh.0 le)) (turns_enough t (end_of run) run.steps fresh.0.start le) rest)
     (cases_lt m (end_of run))
 
-still_or_done : AreDecided → EndsOnce → (t : ℕ) (runs now : List RunValue) (live : ℕ) → AreFresh runs → now ≡ all_after (64 * t) runs → live ≡ count_by is_live now → DoneOrLeft live t (turns_to_end runs)
+still_or_done : AreDecided → EndsOnce → (t : ℕ) (runs now : List RunValue) (live : ℕ) → AreFresh runs → now ≡ all_after (64 * t) runs → live ≡ count_by is_live now → DoneOrLeft live t (turns_of runs)
 still_or_done decided once t runs now live fresh is counted =
-    subst (λ n. DoneOrLeft n t (turns_to_end runs)) (sym (counted ∙ ap (count_by is_live) is)) (done_or_left decided once t runs fresh)
+    subst (λ n. DoneOrLeft n t (turns_of runs)) (sym (counted ∙ ap (count_by is_live) is)) (done_or_left decided once t runs fresh)
 
-pub still_left : AreDecided → EndsOnce → (t : ℕ) (runs now : List RunValue) (live : ℕ) → AreFresh runs → now ≡ all_after (64 * t) runs → live ≡ count_by is_live now → 0 < live → t < turns_to_end runs
+pub still_left : AreDecided → EndsOnce → (t : ℕ) (runs now : List RunValue) (live : ℕ) → AreFresh runs → now ≡ all_after (64 * t) runs → live ≡ count_by is_live now → 0 < live → t < turns_of runs
 still_left decided once t runs now live fresh is counted lt = ⊎_elim (λ done. absurd (omega (arith, done.0, lt))) (λ left. left.1) (still_or_done decided once t runs now live fresh is counted)
 
-pub all_done : AreDecided → EndsOnce → (t : ℕ) (runs now : List RunValue) (live : ℕ) → AreFresh runs → now ≡ all_after (64 * t) runs → live ≡ count_by is_live now → live ≤ 0 → t ≤ turns_to_end runs → t ≡ turns_to_end runs
+pub all_done : AreDecided → EndsOnce → (t : ℕ) (runs now : List RunValue) (live : ℕ) → AreFresh runs → now ≡ all_after (64 * t) runs → live ≡ count_by is_live now → live ≤ 0 → t ≤ turns_of runs → t ≡ turns_of runs
 all_done decided once t runs now live fresh is counted none le = ⊎_elim (λ done. omega (arith, done.1, le)) (λ left. absurd (omega (arith, left.0, none))) (still_or_done decided once t runs now live fresh is counted)
 
 turn_more : (t : ℕ) → 64 * t + 64 ≡ 64 * suc t
@@ -162,24 +180,27 @@ next_turn t runs now new fresh is count moved =
 one_fewer : (t turns old new : ℕ) → old ≡ turns - t → new ≡ turns - suc t → t < turns → new < old
 one_fewer t turns old new before after lt = omega (arith, before, after, lt)
 
-pub fewer_left : (t : ℕ) (runs now new : List RunValue) → AreFresh runs → now ≡ all_after (64 * t) runs → new ≡ all_after (64 * suc t) runs → t < turns_to_end runs → turns_to_end new < turns_to_end now
+pub fewer_left : (t : ℕ) (runs now new : List RunValue) → AreFresh runs → now ≡ all_after (64 * t) runs → new ≡ all_after (64 * suc t) runs → t < turns_of runs → turns_of new < turns_of now
 fewer_left t runs now new fresh was is lt =
-    one_fewer t (turns_to_end runs) (turns_to_end now) (turns_to_end new) (ap turns_to_end was ∙ turns_after t runs fresh) (ap turns_to_end is ∙ turns_after (suc t) runs fresh) lt
+    one_fewer t (turns_of runs) (turns_of now) (turns_of new) (ap turns_of was ∙ turns_after t runs fresh) (ap turns_of is ∙ turns_after (suc t) runs fresh) lt
 
 -- ---- what is shown
 
-with_one_more : (told : Option (List (List ℕ))) (lists : List (List ℕ)) (list : List ℕ) → with_list (with_lists told lists) list ≡ with_lists told (lists ++ list ∷ [])
-with_one_more None lists list = refl
-with_one_more (Some first) lists list = ap (λ all. Some all) (append_assoc first lists (list ∷ []))
-
-pub nothing_shown : (told : Option (List (List ℕ))) (runs : List RunValue) → told ≡ with_lists told (shown_in 0 runs)
+pub nothing_shown : (told : Option (List (List ℕ))) (ends : List ℕ) → told ≡ with_lists told (shown_in 0 ends)
 unfolding shown_in
-nothing_shown None runs = refl
-nothing_shown (Some first) runs = ap (λ all. Some all) (sym (append-nil first))
+nothing_shown told ends = with_none told
 
-pub shown_next : (told now new : Option (List (List ℕ))) (t : ℕ) (runs : List RunValue) → now ≡ with_lists told (shown_in t runs)
-    → new ≡ with_list now (steps_of (all_after (64 * suc t) runs)) → new ≡ with_lists told (shown_in (suc t) runs)
+pub shown_next : (told now new : Option (List (List ℕ))) (t : ℕ) (runs : List RunValue) → now ≡ with_lists told (shown_in t (ends_of runs))
+    → new ≡ with_list now (steps_of (all_after (64 * suc t) runs)) → new ≡ with_lists told (shown_in (suc t) (ends_of runs))
 unfolding shown_in
 shown_next told now new t runs before seen =
-    seen ∙ ap (λ list. with_list now list) (steps_then (64 * suc t) runs) ∙ ap (λ lists. with_list lists (steps_after (64 * suc t) runs)) before
-    ∙ with_one_more told (shown_in t runs) (steps_after (64 * suc t) runs)
+    let more = steps_after (64 * suc t) (ends_of runs) in
+    seen ∙ ap (λ list. with_list now list) (steps_then (64 * suc t) runs) ∙ ap (λ lists. with_list lists more) before
+    ∙ with_more told (shown_in t (ends_of runs)) (more ∷ [])
+
+-- some first turns show the first of all lists
+pub shown_at_first : (t : ℕ) (ends : List ℕ) (told now : Option (List (List ℕ))) → t ≤ turns_to_end ends → now ≡ with_lists told (shown_in t ends)
+    → HasSeenSome (shown_to_end ends) told now
+unfolding shown_in
+shown_at_first t ends told now few seen =
+    first_of (λ n. shown_in n ends) (λ n. steps_after (64 * suc n) ends ∷ []) (λ n. refl) t (turns_to_end ends) told now few seen

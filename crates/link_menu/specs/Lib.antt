@@ -1,5 +1,6 @@
 pub mod Turns
 pub mod Shown
 pub mod Rounds
+pub mod Tried
 pub mod Fates
 pub mod Private

@@ -1,7 +1,10 @@
 -- What a watch is shown of runs that are carried on side by side.
-use Rattle.std.specs.Prelude.{◌≡◌, ◌≤◌, ℕ, zero, suc, ◌+◌, ◌-◌, ◌*◌, ◌/◌, List, [], ◌∷◌, ◌++◌, Option, option_map, map, max, min}
+use Rattle.std.specs.Prelude.{◌≡◌, ℕ, zero, suc, ◌+◌, ◌-◌, ◌*◌, ◌/◌, List, [], ◌∷◌, ◌++◌, Option, option_map, map, max, min}
+use Rattle.code_model.specs.Code.{Code}
 use Rattle.machine_model.specs.Next.{course_of}
+use Rattle.target_vars.specs.EnvValue.{EnvValue}
 use Rattle.runs.specs.RunValue.{RunValue}
+use Rattle.link_menu.specs.Fates.{runs_of}
 use Rattle.link_menu.specs.declared.rounds.TheConstants.{TURN}
 
 abbrev pub steps_of : List RunValue → List ℕ
@@ -15,35 +18,47 @@ with_list told list = option_map (λ lists. lists ++ list ∷ []) told
 abbrev pub with_lists : Option (List (List ℕ)) → List (List ℕ) → Option (List (List ℕ))
 with_lists told more = option_map (λ lists. lists ++ more) told
 
+-- ---- runs by their steps
+
 -- the steps of a run to its end
 abbrev pub end_of : RunValue → ℕ
 end_of run = (course_of run.code run.env.entries).steps
 
--- where each run stands after n steps, or at its end
-abbrev pub steps_after : ℕ → List RunValue → List ℕ
-steps_after n runs = map (λ run. min n (end_of run)) runs
+abbrev pub ends_of : List RunValue → List ℕ
+ends_of runs = map end_of runs
 
--- what is shown in the first t turns of all
-unfoldable pub shown_in : ℕ → List RunValue → List (List ℕ)
-shown_in zero runs = []
-shown_in (suc t) runs = shown_in t runs ++ steps_after (TURN * suc t) runs ∷ []
+-- where runs of so many steps stand after n, or at their ends
+abbrev pub steps_after : ℕ → List ℕ → List ℕ
+steps_after n ends = map (λ end. min n end) ends
+
+-- what is shown of them in the first t turns of all
+unfoldable pub shown_in : ℕ → List ℕ → List (List ℕ)
+shown_in zero ends = []
+shown_in (suc t) ends = shown_in t ends ++ steps_after (TURN * suc t) ends ∷ []
 
 -- so many turns of all, until each run has ended
 abbrev pub turns_left : ℕ → ℕ
 turns_left steps = (steps + (TURN - 1)) / TURN
 
-unfoldable pub turns_to_end : List RunValue → ℕ
+unfoldable pub turns_to_end : List ℕ → ℕ
 turns_to_end [] = 0
-turns_to_end (run ∷ runs) = max (turns_left (end_of run - run.steps)) (turns_to_end runs)
+turns_to_end (end ∷ ends) = max (turns_left end) (turns_to_end ends)
 
--- the lists told, and what is shown of runs until each has ended
-abbrev pub HasSeenAll : List RunValue → Option (List (List ℕ)) → Option (List (List ℕ)) → Type 0
-HasSeenAll runs told new = new ≡ with_lists told (shown_in (turns_to_end runs) runs)
+-- what is shown of them until each has ended
+abbrev pub shown_to_end : List ℕ → List (List ℕ)
+shown_to_end ends = shown_in (turns_to_end ends) ends
 
--- the lists told, and what is shown in some first turns
-abbrev pub HasSeenSome : List RunValue → Option (List (List ℕ)) → Option (List (List ℕ)) → Type 0
-HasSeenSome runs told new = (t : ℕ) × (t ≤ turns_to_end runs) × (new ≡ with_lists told (shown_in t runs))
+-- what is shown of codes on environments
+abbrev pub shown_of : List (Code × EnvValue) → List (List ℕ)
+shown_of pairs = shown_to_end (ends_of (runs_of pairs))
 
--- the lists told, and others behind them
-abbrev pub HasSeenMore : Option (List (List ℕ)) → Option (List (List ℕ)) → Type 0
-HasSeenMore told new = (more : List (List ℕ)) × (new ≡ with_lists told more)
+-- ---- what a watch tells
+
+-- the lists told, and all of these
+abbrev pub HasSeenAll : List (List ℕ) → Option (List (List ℕ)) → Option (List (List ℕ)) → Type 0
+HasSeenAll lists told new = new ≡ with_lists told lists
+
+-- the lists told, and the first of these
+abbrev pub HasSeenSome : List (List ℕ) → Option (List (List ℕ)) → Option (List (List ℕ)) → Type 0
+HasSeenSome lists told new =
+    (some : List (List ℕ)) × (rest : List (List ℕ)) × (lists ≡ some ++ rest) × (new ≡ with_lists told some)

@@ -1,10 +1,11 @@
 //! The menu of a registry and a request.
 
-ghost use Rattle.std.specs.Prelude.{◌≡◌, IfOk, map};
+ghost use Rattle.std.specs.Prelude.{◌≡◌, IfOk, OnErr, OnOk, map};
 ghost use Rattle.std.specs.List.{list_any};
 ghost use Rattle.registry.specs.Entries.{menu_of};
 ghost use Rattle.link_menu.specs.Fates.{said};
-ghost use Rattle.link_menu.specs.Shown.{HasSeenMore};
+ghost use Rattle.link_menu.specs.Shown.{HasSeenAll, HasSeenSome};
+ghost use Rattle.link_menu.specs.Tried.{shown_in_all_rounds};
 ghost use Rattle.link_menu.specs.Private.Searches as spec;
 
 use crate::asked::Asked;
@@ -16,7 +17,7 @@ use crate::tries::Tries;
 use crate::watch::Watch;
 use kev_read::Request;
 use menu::Menu;
-use registry::laws::rows_are_tried_in_order;
+use registry::laws::{matching_rows_rise, rows_are_tried_in_order};
 use registry::{Registry, Target};
 use std::alloc::{AllocError, Global};
 
@@ -31,7 +32,8 @@ pub fn resolve(alloc: Global, registry: &Registry, request: &Request) -> Result<
 }
 
 /// The menu of a request, with a watch that is shown the runs. It comes in rounds: in each, every target that has no web
-/// link yet tries its next matching row, all of them side by side, as [`round`] runs them.
+/// link yet tries its next matching row, all of them side by side, as [`round`] runs them. The watch is shown what each
+/// round shows, one round after another.
 ///
 /// `AllocError` where a growth was refused; the watch then has seen what was shown until then.
 pub fn resolve_watched<W: Watch>(
@@ -41,9 +43,11 @@ pub fn resolve_watched<W: Watch>(
     watch: &mut W,
 ) -> Result<Menu, AllocError>
     ensures menu { IfOk result (λ menu. menu ≡ menu_of registry.now request.now.pairs) }
-    ensures shown { HasSeenMore (W.lists watch.old) (W.lists watch.new) }
+    ensures shown { OnOk result (HasSeenAll (shown_in_all_rounds registry.now request.now.pairs) (W.lists watch.old) (W.lists watch.new)) }
+    ensures err { OnErr result (HasSeenSome (shown_in_all_rounds registry.now request.now.pairs) (W.lists watch.old) (W.lists watch.new)) }
 {
     rows_are_tried_in_order();
+    matching_rows_rise();
     let asked = Asked::new(alloc, request)?;
     let mut searches = begin_all(alloc, registry.targets(), &asked)?;
     while is_any_open(&searches) {

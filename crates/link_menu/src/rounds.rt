@@ -3,9 +3,9 @@
 ghost use Rattle.std.specs.Prelude.{◌≡◌, IfOk, OnErr, OnOk, length, map};
 ghost use Rattle.std.specs.List.{zip};
 ghost use Rattle.runs.specs.declared.run.TheConstants.{MAX_LINK_BYTES};
-ghost use Rattle.link_menu.specs.Fates.{fate_of, runs_of, said};
+ghost use Rattle.link_menu.specs.Fates.{fate_of, said};
 ghost use Rattle.link_menu.specs.Rounds.{AreFresh, AreOfTheSame};
-ghost use Rattle.link_menu.specs.Shown.{HasSeenAll, HasSeenSome};
+ghost use Rattle.link_menu.specs.Shown.{HasSeenAll, HasSeenSome, ends_of, shown_of, shown_to_end};
 
 use crate::begun::Begun;
 use crate::fate::Fate;
@@ -33,8 +33,8 @@ pub fn round<W: Watch>(
 ) -> Result<Vec<Fate>, AllocError>
     requires { length codes.now ≡ length envs.now }
     ensures fates { IfOk result (λ fates. map said fates.items ≡ map fate_of (zip (map (λ code. code.now) codes.now) envs.now)) }
-    ensures shown { OnOk result (HasSeenAll (runs_of (zip (map (λ code. code.now) codes.now) envs.now)) (W.lists watch.old) (W.lists watch.new)) }
-    ensures err { OnErr result (HasSeenSome (runs_of (zip (map (λ code. code.now) codes.now) envs.now)) (W.lists watch.old) (W.lists watch.new)) }
+    ensures shown { OnOk result (HasSeenAll (shown_of (zip (map (λ code. code.now) codes.now) envs.now)) (W.lists watch.old) (W.lists watch.new)) }
+    ensures err { OnErr result (HasSeenSome (shown_of (zip (map (λ code. code.now) codes.now) envs.now)) (W.lists watch.old) (W.lists watch.new)) }
     ensures turn { TURN ≡ 64 }
     ensures limit { MAX_LINK_BYTES ≡ 1048576 }
 {
@@ -50,8 +50,8 @@ pub fn round<W: Watch>(
 pub(crate) fn turn_until_ended<W: Watch>(runs: &mut [Run], watch: &mut W) -> Result<(), AllocError>
     requires { AreFresh runs.old }
     ensures same { AreOfTheSame runs.old runs.new }
-    ensures ok { OnOk result (HasSeenAll runs.old (W.lists watch.old) (W.lists watch.new)) }
-    ensures err { OnErr result (HasSeenSome runs.old (W.lists watch.old) (W.lists watch.new)) }
+    ensures ok { OnOk result (HasSeenAll (shown_to_end (ends_of runs.old)) (W.lists watch.old) (W.lists watch.new)) }
+    ensures err { OnErr result (HasSeenSome (shown_to_end (ends_of runs.old)) (W.lists watch.old) (W.lists watch.new)) }
 {
     states_after_steps_are_decided();
     run_ends_once();

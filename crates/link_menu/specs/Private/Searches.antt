@@ -1,5 +1,5 @@
 -- Searches of targets for their links, row after row.
-use Rattle.std.specs.Prelude.{◌≡◌, ℕ, ◌+◌, Bool, List, Option, Some, None, option_map, is_some, if◌then◌else◌, map, length}
+use Rattle.std.specs.Prelude.{◌≡◌, ℕ, ◌+◌, Bool, List, Option, Some, None, option_and_then, option_map, is_some, if◌then◌else◌, map, length}
 use Rattle.std.specs.List.{filter_map, zip}
 use Rattle.environment_model.specs.Environment.{Environment}
 use Rattle.code_model.specs.Code.{Code}
@@ -14,7 +14,9 @@ use Rattle.registry.specs.RowEnvironments.{row_environment}
 use Rattle.registry.specs.Fates.{Fate, fate_of_row}
 use Rattle.registry.specs.Entries.{matching_rows_of, reason_by}
 use Rattle.link_menu.specs.declared.tries.Tries.{Tries}
-use Rattle.link_menu.specs.Fates.{fate_of}
+use Rattle.link_menu.specs.Fates.{fate_of, runs_of}
+use Rattle.link_menu.specs.Shown.{ends_of}
+use Rattle.link_menu.specs.Tried.{steps_of_row}
 
 -- a target, the matching row that is tried next, and the reason so far
 pub record SearchValue : Type 0 where
@@ -46,10 +48,15 @@ fate_next pairs s = option_map (λ row. fate_of_row s.target pairs row) s.next
 abbrev pub fates_next : List KeyValue → List SearchValue → List Fate
 fates_next pairs searches = filter_map (fate_next pairs) searches
 
--- codes on environments, whose fates are those of the next rows
+-- the steps of those that are run
+abbrev pub ends_next : List KeyValue → List SearchValue → List ℕ
+ends_next pairs searches = filter_map (λ s. option_and_then (steps_of_row s.target pairs) s.next) searches
+
+-- codes on environments, whose fates and steps are those of the next rows
 pub record AreTries (pairs : List KeyValue) (searches : List SearchValue) (tries : Tries) : Type 0 where
   pub many : length tries.codes.items ≡ length tries.envs.items
   pub fates : map fate_of (zip (map (λ code. code.now) tries.codes.items) tries.envs.items) ≡ fates_next pairs searches
+  pub ends : ends_of (runs_of (zip (map (λ code. code.now) tries.codes.items) tries.envs.items)) ≡ ends_next pairs searches
 
 -- ---- a row after another
 

@@ -1,55 +1,100 @@
-use Rattle.std.proofs.Common.{◌≡◌, ◌<◌, ap, ◌∙◌, sym, subst, length, map, true, false, take, drop, ◌++◌}
+use Rattle.std.proofs.Common.{◌≡◌, ◌<◌, ap, ◌∙◌, sym, subst, map, true, false}
 use Rattle.std.specs.Prelude.{IfOk}
-use Rattle.std.specs.List.{list_any, sum_by}
-use Rattle.std.proofs.lemmas.List.{length-map}
-use Rattle.link_menu.specs.Private.Searches.{is_open, started, tried}
-use Rattle.link_menu.proofs.Searching.{entry_in_the_end, fewer_rows_left, menu_after_round, menu_at_end, menu_at_start, more_seen, nothing_more, rows_left, written_back}
+use Rattle.std.specs.List.{list_any}
+use Rattle.link_menu.specs.Shown.{HasSeenAll, HasSeenSome}
+use Rattle.link_menu.specs.Tried.{shown_in_all_rounds}
+use Rattle.link_menu.specs.Private.Searches.{is_open, started}
+use Rattle.link_menu.proofs.ByRounds.{AfterRounds, all_rounds, at_first, fewer_rounds, one_round, part_of_round, rounds_left, some_rounds}
+use Rattle.link_menu.proofs.Searching.{all_written_back, entry_in_the_end, menu_after_round, menu_at_end, menu_at_start}
+use Rattle.link_menu.proofs.Seeing.{nothing_seen, on_err, on_ok}
 use Rattle.link_menu.proofs.resolving.resolve_watched.Goals as goal
+
+-- ---- before the first round
+
+pub returns-in_err-asked-clause-err : goal.returns-in_err-asked-clause-err
+returns-in_err-asked-clause-err g c =
+    let lists = shown_in_all_rounds c.args.registry.now c.args.request.now.pairs in
+    let told = g.W.Watch.lists c.args.watch.now in
+    on_err c.from_residual.result (HasSeenSome lists told told) (nothing_seen lists told)
+
+pub returns-in_err-searches-clause-err : goal.returns-in_err-searches-clause-err
+returns-in_err-searches-clause-err g c =
+    let lists = shown_in_all_rounds c.args.registry.now c.args.request.now.pairs in
+    let told = g.W.Watch.lists c.args.watch.now in
+    on_err c.from_residual-in_err-searches.result (HasSeenSome lists told told) (nothing_seen lists told)
 
 pub loop-searches-init : goal.loop-searches-init
 loop-searches-init g c =
     let pairs = c.args.request.now.pairs in
+    let targets = c.args.registry.now in
     let laws = c.rows_are_tried_in_order.ensures in
-    let begun : c.in_ok-searches.searches.items ≡ map (started pairs) c.args.registry.now = cc (c.in_ok-searches.ensures, c.in_ok-asked.ensures, c.targets.ensures.value) in
+    let rise = c.matching_rows_rise.ensures in
+    let told = g.W.Watch.lists c.args.watch.now in
+    let begun : c.in_ok-searches.searches.items ≡ map (started pairs) targets = cc (c.in_ok-searches.ensures, c.in_ok-asked.ensures, c.targets.ensures.value) in
     record {
-      menu = ap (map (entry_in_the_end pairs)) begun ∙ menu_at_start laws.start laws.no_more laws.link laws.no_link pairs c.args.registry.now;
-      shown = nothing_more (g.W.Watch.lists c.args.watch.now);
+      menu = ap (map (entry_in_the_end pairs)) begun ∙ menu_at_start laws.start laws.no_more laws.link laws.no_link pairs targets;
+      rounds = subst (λ searches. AfterRounds pairs targets searches told told) (sym begun) (at_first rise.start rise.no_more rise.next pairs targets told);
     }
 
-pub returns-in_err-fates-clause-shown : goal.returns-in_err-fates-clause-shown
-returns-in_err-fates-clause-shown g c =
-    let lists = g.W.Watch.lists in
-    let some = c.in_err-fates.ensures.err in
-    more_seen (lists c.args.watch.now) (lists c.loop-searches.watch) (lists c.round.new.watch) _ c.loop-searches.invariant.shown some.2
+-- ---- a round
+
+pub returns-in_err-tries-clause-err : goal.returns-in_err-tries-clause-err
+returns-in_err-tries-clause-err g c =
+    let pairs = c.args.request.now.pairs in
+    let targets = c.args.registry.now in
+    let told = g.W.Watch.lists c.args.watch.now in
+    let shown = g.W.Watch.lists c.loop-searches.watch in
+    on_err c.from_residual-in_err-tries.result (HasSeenSome (shown_in_all_rounds targets pairs) told shown)
+    (some_rounds pairs targets c.loop-searches.searches.items told shown c.loop-searches.invariant.rounds)
+
+pub returns-in_err-fates-clause-err : goal.returns-in_err-fates-clause-err
+returns-in_err-fates-clause-err g c =
+    let pairs = c.args.request.now.pairs in
+    let targets = c.args.registry.now in
+    let searches = c.loop-searches.searches.items in
+    let told = g.W.Watch.lists c.args.watch.now in
+    let before = g.W.Watch.lists c.loop-searches.watch in
+    let shown = g.W.Watch.lists c.round.new.watch in
+    let opened : list_any is_open searches ≡ true = cc (c.is_any_open.ensures, c.deref.ensures.value, c.loop-searches-test.true) in
+    on_err c.from_residual-in_err-fates.result (HasSeenSome (shown_in_all_rounds targets pairs) told shown)
+    (part_of_round pairs targets searches told before c.loop-searches.invariant.rounds _ shown opened (cc (c.in_ok-tries.ensures.ends, c.deref-in-loop-searches.ensures.value, c.deref-in-loop-searches-2.ensures.value, c.deref-in-loop-searches-3.ensures.value, c.in_ok-asked.ensures)) c.in_err-fates.ensures.err)
 
 pub loop-searches-smaller : goal.loop-searches-smaller
 loop-searches-smaller g c =
     let pairs = c.args.request.now.pairs in
+    let targets = c.args.registry.now in
+    let rise = c.matching_rows_rise.ensures in
     let searches = c.loop-searches.searches in
-    let new = c.take_over_all.new.searches in
-    let is : new ≡ map (tried pairs) searches.items = cc (c.take_over_all.ensures, c.as_mut_slice.ensures.value, c.in_ok-asked.ensures) in
-    let long = sym (ap length c.as_mut_slice.ensures.value) ∙ c.as_mut_slice.ensures.len in
-    let back : take searches.len (new ++ drop (length new) searches.items) ≡ map (tried pairs) searches.items =
-    written_back new searches.items searches.len long (ap length is ∙ length-map searches.items (tried pairs)) ∙ is in
+    let told = g.W.Watch.lists c.args.watch.now in
+    let shown = g.W.Watch.lists c.loop-searches.watch in
+    let slice = c.as_mut_slice.ensures in
+    let back = all_written_back pairs _ searches.items _ c.take_over_all.new.searches searches.len c.in_ok-asked.ensures slice.value slice.len c.take_over_all.ensures in
     let opened : list_any is_open searches.items ≡ true = cc (c.is_any_open.ensures, c.deref.ensures.value, c.loop-searches-test.true) in
-    subst (λ now. sum_by rows_left now < sum_by rows_left searches.items) (sym back) (fewer_rows_left pairs searches.items opened)
+    subst (λ now. rounds_left pairs now < rounds_left pairs searches.items) (sym back)
+    (fewer_rounds rise.start rise.no_more rise.next pairs targets searches.items told shown c.loop-searches.invariant.rounds opened)
 
 pub loop-searches-preserved : goal.loop-searches-preserved
 loop-searches-preserved g c =
     let pairs = c.args.request.now.pairs in
-    let lists = g.W.Watch.lists in
+    let targets = c.args.registry.now in
     let laws = c.rows_are_tried_in_order.ensures in
+    let rise = c.matching_rows_rise.ensures in
     let inv = c.loop-searches.invariant in
     let searches = c.loop-searches.searches in
-    let new = c.take_over_all.new.searches in
-    let is : new ≡ map (tried pairs) searches.items = cc (c.take_over_all.ensures, c.as_mut_slice.ensures.value, c.in_ok-asked.ensures) in
-    let long = sym (ap length c.as_mut_slice.ensures.value) ∙ c.as_mut_slice.ensures.len in
-    let back : take searches.len (new ++ drop (length new) searches.items) ≡ map (tried pairs) searches.items =
-    written_back new searches.items searches.len long (ap length is ∙ length-map searches.items (tried pairs)) ∙ is in
+    let told = g.W.Watch.lists c.args.watch.now in
+    let before = g.W.Watch.lists c.loop-searches.watch in
+    let shown = g.W.Watch.lists c.round.new.watch in
+    let slice = c.as_mut_slice.ensures in
+    let back = all_written_back pairs _ searches.items _ c.take_over_all.new.searches searches.len c.in_ok-asked.ensures slice.value slice.len c.take_over_all.ensures in
+    let opened : list_any is_open searches.items ≡ true = cc (c.is_any_open.ensures, c.deref.ensures.value, c.loop-searches-test.true) in
     record {
       menu = ap (map (entry_in_the_end pairs)) back ∙ menu_after_round laws.start laws.no_more laws.link laws.no_link pairs searches.items ∙ inv.menu;
-      shown = more_seen (lists c.args.watch.now) (lists c.loop-searches.watch) (lists c.round.new.watch) _ inv.shown c.in_ok-fates.ensures.shown;
+      rounds =
+          subst (λ now. AfterRounds pairs targets now told shown) (sym back)
+          (one_round rise.start rise.no_more rise.next pairs targets searches.items told before shown _ inv.rounds opened (cc (c.in_ok-tries.ensures.ends, c.deref-in-loop-searches.ensures.value, c.deref-in-loop-searches-2.ensures.value, c.deref-in-loop-searches-3.ensures.value, c.in_ok-asked.ensures)) c.in_ok-fates.ensures.shown);
     }
+
+-- ---- after the last round
 
 pub returns-clause-menu : goal.returns-clause-menu
 returns-clause-menu g c =
@@ -57,3 +102,23 @@ returns-clause-menu g c =
     let searches = c.loop-searches.searches in
     let none : list_any is_open searches.items ≡ false = cc (c.is_any_open.ensures, c.deref.ensures.value, c.loop-searches-test.false) in
     subst (λ all. IfOk c.menu_so_far.result (λ menu. menu ≡ all)) (sym (menu_at_end pairs searches.items none) ∙ c.loop-searches.invariant.menu) c.menu_so_far.ensures
+
+pub returns-clause-shown : goal.returns-clause-shown
+returns-clause-shown g c =
+    let pairs = c.args.request.now.pairs in
+    let targets = c.args.registry.now in
+    let searches = c.loop-searches.searches.items in
+    let told = g.W.Watch.lists c.args.watch.now in
+    let shown = g.W.Watch.lists c.loop-searches.watch in
+    let none : list_any is_open searches ≡ false = cc (c.is_any_open.ensures, c.deref.ensures.value, c.loop-searches-test.false) in
+    on_ok c.menu_so_far.result (HasSeenAll (shown_in_all_rounds targets pairs) told shown)
+    (all_rounds pairs targets searches told shown c.loop-searches.invariant.rounds none)
+
+pub returns-clause-err : goal.returns-clause-err
+returns-clause-err g c =
+    let pairs = c.args.request.now.pairs in
+    let targets = c.args.registry.now in
+    let told = g.W.Watch.lists c.args.watch.now in
+    let shown = g.W.Watch.lists c.loop-searches.watch in
+    on_err c.menu_so_far.result (HasSeenSome (shown_in_all_rounds targets pairs) told shown)
+    (some_rounds pairs targets c.loop-searches.searches.items told shown c.loop-searches.invariant.rounds)

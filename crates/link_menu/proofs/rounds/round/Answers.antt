@@ -1,18 +1,18 @@
-use Rattle.std.proofs.Common.{◌≡◌, ap, sym, ◌∙◌, subst, arith, map, length}
+use Rattle.std.proofs.Common.{◌≡◌, ap, sym, ◌∙◌, subst, map, length}
 use Rattle.std.specs.Prelude.{IfOk}
 use Rattle.std.specs.List.{zip}
-use Rattle.link_menu.specs.Fates.{runs_of, said}
+use Rattle.link_menu.specs.Fates.{said}
 use Rattle.link_menu.specs.Rounds.{AreOfTheSame}
-use Rattle.link_menu.specs.Shown.{HasSeenAll, HasSeenSome, turns_to_end}
-use Rattle.link_menu.proofs.TurnsOfAll.{nothing_shown}
-use Rattle.link_menu.proofs.Finishing.{fates_after_turns, runs_after_turns, on_err}
+use Rattle.link_menu.specs.Shown.{HasSeenAll, HasSeenSome, shown_of}
+use Rattle.link_menu.proofs.Finishing.{fates_after_turns, runs_after_turns}
+use Rattle.link_menu.proofs.Seeing.{all_seen, nothing_seen, on_err}
 use Rattle.link_menu.proofs.rounds.round.Goals as goal
 
 pub returns-in_err-begun-clause-err : goal.returns-in_err-begun-clause-err
 returns-in_err-begun-clause-err g c =
-    let runs = runs_of (zip (map (λ code. code.now) c.args.codes.now) c.args.envs.now) in
+    let lists = shown_of (zip (map (λ code. code.now) c.args.codes.now) c.args.envs.now) in
     let told = g.W.Watch.lists c.args.watch.now in
-    on_err c.from_residual.result (HasSeenSome runs told told) (0, omega arith, nothing_shown told runs)
+    on_err c.from_residual.result (HasSeenSome lists told told) (nothing_seen lists told)
 
 pub finish_all-requires : goal.finish_all-requires
 finish_all-requires g c =
@@ -36,8 +36,8 @@ returns-clause-fates g c =
 
 pub returns-clause-err : goal.returns-clause-err
 returns-clause-err g c =
-    let runs = runs_of (zip (map (λ code. code.now) c.args.codes.now) c.args.envs.now) in
+    let lists = shown_of (zip (map (λ code. code.now) c.args.codes.now) c.args.envs.now) in
     let told = g.W.Watch.lists c.args.watch.now in
     let shown = g.W.Watch.lists c.turn_until_ended.new.watch in
-    let all : HasSeenAll runs told shown = cc (c.in_ok-turn_until_ended.ensures.ok, c.as_mut_slice.ensures.value, c.in_ok-begun.ensures.runs) in
-    on_err c.finish_all.result (HasSeenSome runs told shown) (turns_to_end runs, omega arith, all)
+    let all : HasSeenAll lists told shown = cc (c.in_ok-turn_until_ended.ensures.ok, c.as_mut_slice.ensures.value, c.in_ok-begun.ensures.runs) in
+    on_err c.finish_all.result (HasSeenSome lists told shown) (all_seen lists told shown all)
