@@ -4,9 +4,6 @@
 ghost use Rattle.std.specs.Prelude.{◌+◌, ◌<◌, ◌^◌, IfOk};
 ghost use Rattle.file_front.specs.Front.{IsFront};
 
-#[cfg(test)]
-mod tests;
-
 use std::alloc::Global;
 use std::fs;
 use std::io::{self, Read};

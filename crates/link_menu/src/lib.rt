@@ -10,8 +10,6 @@ mod resolving;
 mod rounds;
 mod search;
 mod shown;
-#[cfg(test)]
-mod tests;
 mod tries;
 mod turns;
 mod watch;

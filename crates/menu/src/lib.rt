@@ -12,6 +12,3 @@ mod web_link;
 pub use entry::{Entry, Reason, Text};
 pub use menu::Menu;
 pub use web_link::is_web_link;
-
-#[cfg(test)]
-mod tests;

@@ -7,8 +7,6 @@ pub mod laws;
 mod name;
 mod registry;
 mod target;
-#[cfg(test)]
-mod tests;
 
 pub use error::{AddError, AddErrorKind};
 pub use registry::{MAX_TARGETS, Registry};

@@ -6,9 +6,7 @@ mod lines;
 mod load;
 mod stop;
 mod target;
-#[cfg(test)]
-mod tests;
 
 pub use error::{RegistryError, TargetError, TargetFault};
 pub use lines::MAX_REGISTRY_BYTES;
-pub use load::{load_registry, read_registry};
+pub use load::{load_registry, random_keys, read_registry};

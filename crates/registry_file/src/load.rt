@@ -70,8 +70,8 @@ fn front<R: Files + AllocGlobal>(rt: &R, path: &str) -> io::Result<Vec<u8>> {
     read_front(rt.alloc(), fs::open(rt, path)?, MAX_REGISTRY_BYTES)
 }
 
-/// Keys that nobody knows; an error of the system where it has no random numbers.
-pub(crate) fn random_keys<R: RandomSource>(rt: &R) -> io::Result<Keys> {
+/// Keys that nobody knows, as [`read_registry`] takes them; an error of the system where it has no random numbers.
+pub fn random_keys<R: RandomSource>(rt: &R) -> io::Result<Keys> {
     Ok(Keys::new(random_number(rt)?, random_number(rt)?))
 }
 

@@ -1,4 +1,6 @@
-use crate::{open_front, read_front};
+//! The fronts of files.
+
+use file_front::{open_front, read_front};
 use std::alloc::AllocError;
 use std::fs;
 use std::io::{self, Error, ErrorKind, Read};

@@ -1,8 +1,9 @@
-//! What no contract says: files of the system, and examples from outside.
+//! Registry files of the system.
 
-use crate::{RegistryError, load_registry, read_registry};
+use crate::codes::FAIL_CODE;
 use kbart_rows::Keys;
 use registry::Registry;
+use registry_file::{RegistryError, load_registry, random_keys, read_registry};
 use std::alloc::AllocError;
 use std::fs;
 use std::io::{self, Error, ErrorKind};
@@ -10,9 +11,6 @@ use std::process::Abort;
 use std::random::RandomSource;
 use std::rt::Files;
 use std::test::Fail;
-
-/// FAIL, and nothing else.
-const FAIL_CODE: &[u8] = b"OLK1\x00\x00\x00\x00\x00\x01\x02\x00\x00\x00\x00\x00\x00\x00";
 
 /// A header and one row.
 const TABLE: &[u8] = b"title_url\nhttp://e.org/a\n";
@@ -141,6 +139,6 @@ impl RandomSource for NoNumbers {
 #[test]
 fn wants_the_file_and_random_keys(rt: HostRuntime) -> Result<(), Fail> {
     compare(&rt, load_registry(&rt, "none.txt"), "device")?;
-    assert!(&rt; crate::load::random_keys(&NoNumbers).is_err());
+    assert!(&rt; random_keys(&NoNumbers).is_err());
     Ok(())
 }

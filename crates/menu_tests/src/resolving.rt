@@ -1,20 +1,14 @@
-//! Menus of small registries, with ample memory.
+//! Menus of small registries.
 
-use crate::tests::are_shown;
-use crate::tests::codes::{DATE_CODE, ISSN_CODE, LIST_CODE, SCRIPT_CODE, many_texts};
-use crate::{Shown, resolve, resolve_watched};
-use kbart_rows::Table;
+use crate::codes::{DATE_CODE, ISSN_CODE, LIST_CODE, SCRIPT_CODE, many_texts};
+use crate::runs_together::are_shown;
+use crate::{JOURNAL, add};
 use kev_read::read_kev;
+use link_menu::{Shown, resolve, resolve_watched};
 use menu::Menu;
 use registry::Registry;
 use std::alloc::{AllocError, Global};
 use std::test::Fail;
-use verifier::load;
-
-/// Two rows of one journal, in two years.
-const TABLE: &[u8] =
-    b"print_identifier\ttitle_url\tdate_first_issue_online\tdate_last_issue_online\n\
-1234-567X\thttp://e.org/a\t1990\t1995\n1234-567X\thttp://e.org/b\t2000\t\n";
 
 const ALPHA: &[(&str, &[u8])] = &[("alpha", &DATE_CODE)];
 
@@ -26,26 +20,16 @@ const P_AND_Q: &[(&str, &[u8])] = &[("p", &LIST_CODE), ("q", &ISSN_CODE)];
 
 const WATCHED: &[&[u64]] = &[&[64, 8], &[123, 8], &[64], &[123]];
 
-fn add(alloc: Global, registry: &mut Registry, name: &str, code: &[u8]) -> Result<(), Fail> {
-    let name = String::from_str(alloc, name)?;
-    let code = load(alloc, code)?;
-    let table = Table::read(alloc, TABLE)?;
-    match registry.add(name, code, table) {
-        Ok(()) => Ok(()),
-        Err(error) => Err(Fail::from(error.kind)),
-    }
-}
-
-/// Targets that all have the table.
+/// Targets that all have the journal.
 fn registered(alloc: Global, targets: &[(&str, &[u8])]) -> Result<Registry, Fail> {
     let mut registry = Registry::new(alloc);
     for (name, code) in targets {
-        add(alloc, &mut registry, name, code)?;
+        add(alloc, &mut registry, name, code, JOURNAL)?;
     }
     Ok(registry)
 }
 
-/// What a query is answered by targets that all have the table.
+/// What a query is answered by targets that all have the journal.
 fn menu(alloc: Global, targets: &[(&str, &[u8])], query: &str) -> Result<Menu, Fail> {
     let registry = registered(alloc, targets)?;
     let request = read_kev(alloc, query.as_bytes())?;
@@ -57,35 +41,28 @@ fn report(alloc: Global, targets: &[(&str, &[u8])], query: &str) -> Result<Strin
     Ok(menu.report(alloc)?)
 }
 
-/// The text, so many times.
-fn repeated(alloc: Global, text: &str, count: u32) -> Result<String, AllocError> {
-    let mut all = String::new(alloc);
-    for _ in 0..count {
-        all.push_str(text)?;
-    }
-    Ok(all)
-}
+const OF_2003: &str = "rft.issn=1234567x&rft.date=2003";
+
+const ALPHA_PAGE: &str = "<!DOCTYPE html>\n<title>Links</title>\n<ul>\n\
+        <li><a href=\"http://e.org/b\">alpha</a></li>\n</ul>\n";
 
 #[test]
 fn first_row_with_a_web_link(rt: HostRuntime) -> Result<(), Fail> {
-    let menu = menu(rt.alloc(), ALPHA, "rft.issn=1234567x&rft.date=2003")?;
+    let menu = menu(rt.alloc(), ALPHA, OF_2003)?;
     assert!(rt; !menu.is_empty());
-    let text = menu.text(rt.alloc())?;
-    assert_eq!(rt; text.as_str(), "alpha\thttp://e.org/b\n");
+    assert_eq!(rt; menu.text(rt.alloc())?.as_str(), "alpha\thttp://e.org/b\n");
     let html = menu.html(rt.alloc())?;
-    let want = "<!DOCTYPE html>\n<title>Links</title>\n<ul>\n\
-        <li><a href=\"http://e.org/b\">alpha</a></li>\n</ul>\n";
-    assert_eq!(rt; html.as_str(), want);
+    assert_eq!(rt; html.as_str(), ALPHA_PAGE);
     assert_eq!(rt; html.len(), 92);
     Ok(())
 }
 
+const WITH_TITLE_URL: &str = "rft.issn=1234567x&rft.date=2003&title_url=http%3A%2F%2Fevil.example";
+
 #[test]
 fn a_row_comes_before_its_request(rt: HostRuntime) -> Result<(), Fail> {
-    let query = "rft.issn=1234567x&rft.date=2003&title_url=http%3A%2F%2Fevil.example";
-    let menu = menu(rt.alloc(), ALPHA_AND_BETA, query)?;
-    let text = menu.text(rt.alloc())?;
-    assert_eq!(rt; text.as_str(), "alpha\thttp://e.org/b\n");
+    let menu = menu(rt.alloc(), ALPHA_AND_BETA, WITH_TITLE_URL)?;
+    assert_eq!(rt; menu.text(rt.alloc())?.as_str(), "alpha\thttp://e.org/b\n");
     let report = menu.report(rt.alloc())?;
     assert_eq!(rt; report.as_str(), "alpha\tlink 1\nbeta\tnot a web link\n");
     Ok(())
@@ -100,16 +77,20 @@ fn no_row(rt: HostRuntime) -> Result<(), Fail> {
     Ok(())
 }
 
+fn long_members(alloc: Global) -> Result<String, AllocError> {
+    let letters = "a".repeat(alloc, 1_000)?;
+    let member = format!(in alloc; "&list={letters}")?;
+    member.repeat(alloc, 20)
+}
+
 fn of_a_long_list(alloc: Global) -> Result<String, Fail> {
-    let member = repeated(alloc, "a", 1_000)?;
-    let member = format!(in alloc; "&list={member}")?;
-    let members = repeated(alloc, member.as_str(), 20)?;
+    let members = long_members(alloc)?;
     let query = format!(in alloc; "rft.issn=1234567x{members}")?;
     report(alloc, GAMMA, query.as_str())
 }
 
 fn of_a_long_text(alloc: Global) -> Result<String, Fail> {
-    let letters = repeated(alloc, "a", 20_000)?;
+    let letters = "a".repeat(alloc, 20_000)?;
     let query = format!(in alloc; "rft.issn=1234567x&x={letters}")?;
     let code = many_texts(alloc)?;
     report(alloc, &[("delta", code.as_slice())], query.as_str())
@@ -125,10 +106,10 @@ fn long_outputs(rt: HostRuntime) -> Result<(), Fail> {
 }
 
 fn watched(alloc: Global, shown: &mut Shown) -> Result<String, Fail> {
-    let registry = registered(alloc, P_AND_Q)?;
-    let members = repeated(alloc, "&list=a", 40)?;
+    let members = "&list=a".repeat(alloc, 40)?;
     let query = format!(in alloc; "rft.issn=1234567x{members}")?;
     let request = read_kev(alloc, query.as_bytes())?;
+    let registry = registered(alloc, P_AND_Q)?;
     let menu = resolve_watched(alloc, &registry, &request, shown)?;
     Ok(menu.report(alloc)?)
 }
@@ -139,5 +120,6 @@ fn rounds(rt: HostRuntime) -> Result<(), Fail> {
     let mut shown = Shown::new(rt.alloc());
     let report = watched(rt.alloc(), &mut shown)?;
     assert_eq!(rt; report.as_str(), "p\tnot a web link\nq\tlink 0\n");
-    are_shown(&rt, &shown, WATCHED)
+    are_shown(&rt, &shown, WATCHED);
+    Ok(())
 }

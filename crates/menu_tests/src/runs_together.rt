@@ -1,10 +1,9 @@
-mod codes;
-mod menus;
+//! Runs that are carried on side by side.
 
 ghost use Rattle.std.specs.Prelude.{◌≡◌, IfOk, length};
 
-use crate::tests::codes::{LIST_CODE, TEXT_CODE};
-use crate::{Blind, Fate, Shown, Watch, play, round, turn_all};
+use crate::codes::{LIST_CODE, TEXT_CODE};
+use link_menu::{Blind, Fate, Shown, Watch, play, round, turn_all};
 use runs::{Run, prepare};
 use std::alloc::{AllocError, Global};
 use std::process::Abort;
@@ -21,18 +20,33 @@ struct Given {
     text: Env,
 }
 
-fn set_up(alloc: Global, members: &[&str]) -> Result<Given, Fail> {
-    let mut given = Given {
-        list_code: load(alloc, &LIST_CODE)?,
-        members: Env::new(alloc),
-        text_code: load(alloc, &TEXT_CODE)?,
-        text: Env::new(alloc),
-    };
+/// An environment with a list.
+fn listed(alloc: Global, members: &[&str]) -> Result<Env, Fail> {
+    let mut env = Env::new(alloc);
     for member in members {
-        given.members.add_member("list", member)?;
+        env.add_member("list", member)?;
     }
-    given.text.put_text("x", "a")?;
-    Ok(given)
+    Ok(env)
+}
+
+/// An environment with a text.
+fn lettered(alloc: Global, text: &str) -> Result<Env, Fail> {
+    let mut env = Env::new(alloc);
+    env.put_text("x", text)?;
+    Ok(env)
+}
+
+fn set_up(alloc: Global, members: &[&str]) -> Result<Given, Fail> {
+    let list_code = load(alloc, &LIST_CODE)?;
+    let text_code = load(alloc, &TEXT_CODE)?;
+    let members = listed(alloc, members)?;
+    let text = lettered(alloc, "a")?;
+    Ok(Given {
+        list_code,
+        members,
+        text_code,
+        text,
+    })
 }
 
 /// The loop over the members, and the text.
@@ -45,26 +59,37 @@ fn two_runs<'a>(alloc: Global, given: &'a Given) -> Result<Vec<Run<'a>>, Fail>
     Ok(runs)
 }
 
+const COLOURS: [&str; 3] = ["red", "green", "blue"];
+
+/// How far all runs are turned, how many then go on, and the steps of the two.
+const TURNS: [(u64, usize, [u64; 2]); 3] = [(2, 2, [2, 2]), (2, 1, [4, 4]), (64, 0, [12, 4])];
+
+fn have_steps<R: Abort>(rt: &R, runs: &[Run<'_>], wanted: &[u64]) {
+    for (run, steps) in runs.iter().zip(wanted.iter()) {
+        assert_eq!(rt; run.steps(), *steps);
+    }
+}
+
 #[test]
 fn turns_of_all(rt: HostRuntime) -> Result<(), Fail> {
-    let given = set_up(rt.alloc(), &["red", "green", "blue"])?;
+    let given = set_up(rt.alloc(), &COLOURS)?;
     let mut runs = two_runs(rt.alloc(), &given)?;
-    for (n, live, first, second) in [(2, 2, 2, 2), (2, 1, 4, 4), (64, 0, 12, 4)] {
+    for (n, live, steps) in TURNS {
         let left = turn_all(runs.as_mut_slice(), n);
         assert_eq!(rt; left, live);
-        for (run, steps) in runs.iter().zip([first, second].iter()) {
-            assert_eq!(rt; run.steps(), *steps);
-        }
+        have_steps(&rt, &runs, &steps);
     }
     Ok(())
 }
 
+const PLAYED: [(u64, &str); 2] = [(4, "red"), (3, "a")];
+
 #[test]
 fn schedule(rt: HostRuntime) -> Result<(), Fail> {
-    let given = set_up(rt.alloc(), &["red", "green", "blue"])?;
+    let given = set_up(rt.alloc(), &COLOURS)?;
     let mut runs = two_runs(rt.alloc(), &given)?;
     play(runs.as_mut_slice(), &[(1, 3), (0, 4)]);
-    for (run, (steps, output)) in runs.iter().zip([(4, "red"), (3, "a")].iter()) {
+    for (run, (steps, output)) in runs.iter().zip(PLAYED.iter()) {
         assert_eq!(rt; run.steps(), *steps);
         assert_eq!(rt; run.output(), output.as_bytes());
     }
@@ -80,55 +105,51 @@ fn said(alloc: Global, fate: &Fate) -> Result<String, AllocError> {
     }
 }
 
-/// A text `x` that may be written with more bytes than is allowed.
+/// A text that may be written with more bytes than is allowed.
 fn long(alloc: Global) -> Result<Env, Fail> {
-    let mut letters = String::new(alloc);
-    for _ in 0..400_000 {
-        letters.push_str("a")?;
-    }
-    let mut env = Env::new(alloc);
-    env.put_text("x", letters.as_str())?;
-    Ok(env)
+    let letters = "a".repeat(alloc, 400_000)?;
+    lettered(alloc, letters.as_str())
 }
 
 /// The members, the long text and the text.
 fn environments(alloc: Global) -> Result<Vec<Env>, Fail>
     ensures { IfOk result (λ envs. length envs.items ≡ 3) }
 {
-    let given = set_up(alloc, &["red", "green", "blue"])?;
     let mut envs = Vec::new(alloc);
-    envs.push(given.members)?;
+    envs.push(listed(alloc, &COLOURS)?)?;
     envs.push(long(alloc)?)?;
-    envs.push(given.text)?;
+    envs.push(lettered(alloc, "a")?)?;
     Ok(envs)
 }
 
-fn are_said<R: Abort + AllocGlobal>(rt: &R, fates: &[Fate], wanted: &[&str]) -> Result<(), Fail> {
+fn are_said<R: Abort + AllocGlobal>(
+    rt: &R,
+    fates: &[Fate],
+    wanted: &[&str],
+) -> Result<(), AllocError> {
     assert_eq!(rt; fates.len(), wanted.len());
     for (fate, wanted) in fates.iter().zip(wanted.iter()) {
-        let fate = said(rt.alloc(), fate)?;
-        assert_eq!(rt; fate.as_str(), *wanted);
+        assert_eq!(rt; said(rt.alloc(), fate)?.as_str(), *wanted);
     }
     Ok(())
 }
 
-/// Two runs, and between them what is over budget.
+const SAID: [&str; 3] = ["link red,green,blue", "over budget 1200000", "link a"];
+
+/// The fates of two runs, and between them of what is over budget.
+fn fates(alloc: Global, shown: &mut Shown) -> Result<Vec<Fate>, Fail> {
+    let given = set_up(alloc, &[])?;
+    let envs = environments(alloc)?;
+    let codes = [&given.list_code, &given.text_code, &given.text_code];
+    Ok(round(alloc, &codes, &envs, shown)?)
+}
+
 #[test]
 fn round_of_all(rt: HostRuntime) -> Result<(), Fail> {
-    let given = set_up(rt.alloc(), &[])?;
-    let envs = environments(rt.alloc())?;
-    let codes = [&given.list_code, &given.text_code, &given.text_code];
     let mut shown = Shown::new(rt.alloc());
-    let fates = round(rt.alloc(), &codes, &envs, &mut shown)?;
-    are_said(
-        &rt,
-        &fates,
-        &["link red,green,blue", "over budget 1200000", "link a"],
-    )?;
-    assert_eq!(rt; shown.lists().len(), 1);
-    for list in shown.lists() {
-        assert_eq!(rt; list.as_slice(), [12, 4].as_slice());
-    }
+    let fates = fates(rt.alloc(), &mut shown)?;
+    are_said(&rt, &fates, &SAID)?;
+    are_shown(&rt, &shown, &[&[12, 4]]);
     Ok(())
 }
 
@@ -138,22 +159,21 @@ fn nothing_to_show(rt: HostRuntime) -> Result<(), Fail> {
     let fates = round(rt.alloc(), &[], &[], &mut shown)?;
     assert_eq!(rt; fates.len(), 0);
     assert_eq!(rt; shown.lists().len(), 0);
-    assert!(rt; Blind.seen(&[]).is_ok());
+    Blind.seen(&[])?;
     Ok(())
 }
-
-const TWO_TURNS: &[&[u64]] = &[&[64, 4], &[123, 4]];
 
 /// Forty members, and the text.
 fn long_and_short(alloc: Global) -> Result<Vec<Env>, Fail>
     ensures { IfOk result (λ envs. length envs.items ≡ 2) }
 {
-    let given = set_up(alloc, &["a"; 40])?;
     let mut envs = Vec::new(alloc);
-    envs.push(given.members)?;
-    envs.push(given.text)?;
+    envs.push(listed(alloc, &["a"; 40])?)?;
+    envs.push(lettered(alloc, "a")?)?;
     Ok(envs)
 }
+
+const TWO_TURNS: &[&[u64]] = &[&[64, 4], &[123, 4]];
 
 /// A run that has ended waits for the others.
 #[test]
@@ -167,13 +187,13 @@ fn round_of_two_turns(rt: HostRuntime) -> Result<(), Fail> {
         &envs,
         &mut shown,
     )?;
-    are_shown(&rt, &shown, &[&[64, 4], &[123, 4]])
+    are_shown(&rt, &shown, TWO_TURNS);
+    Ok(())
 }
 
-fn are_shown<R: Abort + AllocGlobal>(rt: &R, shown: &Shown, wanted: &[&[u64]]) -> Result<(), Fail> {
+pub(crate) fn are_shown<R: Abort>(rt: &R, shown: &Shown, wanted: &[&[u64]]) {
     assert_eq!(rt; shown.lists().len(), wanted.len());
     for (list, wanted) in shown.lists().iter().zip(wanted.iter()) {
         assert_eq!(rt; list.as_slice(), *wanted);
     }
-    Ok(())
 }
