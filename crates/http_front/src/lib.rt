@@ -10,7 +10,5 @@
 mod exchange;
 mod menu_page;
 mod reply;
-#[cfg(test)]
-mod tests;
 
 pub use exchange::{ServeError, Served, serve_one};

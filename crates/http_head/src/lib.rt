@@ -13,8 +13,6 @@ mod host;
 pub mod laws;
 mod request;
 mod target;
-#[cfg(test)]
-mod tests;
 
 pub use asked::{Asked, HeadRead, Page};
 pub use request::{MAX_FIELDS, read_request};

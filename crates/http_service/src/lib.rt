@@ -3,8 +3,6 @@
 
 mod counts;
 mod service;
-#[cfg(test)]
-mod tests;
 
 pub use counts::Counts;
 pub use service::{serve_on, serve_within};

@@ -13,8 +13,6 @@ mod progress;
 mod read;
 mod stream;
 mod tape;
-#[cfg(test)]
-mod tests;
 mod wire;
 mod write;
 
