@@ -1,10 +1,12 @@
 -- A reply that was written, whole or in part, as the outcome of an exchange.
-use Rattle.std.proofs.Common.{◌≡◌, ℕ, Bool, false, List, Option, Result, Ok, Err, IfErr, IfOk, subst, sym}
+use Rattle.std.proofs.Common.{◌≡◌, ℕ, ◌<◌, Bool, false, List, Option, Result, Ok, Err, IfErr, IfOk, length, subst, sym}
 use Rattle.registry.specs.Targets.{TargetValue}
+use Rattle.http_streams.specs.HeadRead.{IsReadWhole}
+use Rattle.http_streams.specs.declared.read.TheConstants.{MAX_HEAD_BYTES}
 use Rattle.http_head.specs.Asking.{IsAsked, Wanted}
 use Rattle.http_front.specs.Replies.{ReplyValue, printed, unavailable}
 use Rattle.http_front.specs.Front.{IsReplyTo}
-use Rattle.http_front.specs.Exchange.{IsFault, IsReply, IsReplyToInput, IsSent, IsServed, front, no_memory, no_room}
+use Rattle.http_front.specs.Exchange.{IsFault, IsReply, IsReplyToInput, IsSent, IsServed, front, no_memory, no_room, request}
 use Rattle.http_front.specs.declared.exchange.Served.{Served}
 use Rattle.http_front.specs.declared.exchange.Served.TheVariants.{Nothing, Replied}
 use Rattle.http_front.specs.declared.exchange.ServeError.{ServeError}
@@ -28,6 +30,13 @@ pub reply-no_room : (targets : List TargetValue) (old new : Option (List ℕ)) (
     → new ≡ old → text ≡ printed unavailable false → IsReplyToInput targets old new 503 text
 reply-no_room targets old new text unread f =
     subst (λ (t : List ℕ). IsReplyToInput targets old new 503 t) (sym f) (no_room unread)
+
+-- the bytes that were read are lent to what makes the reply
+pub reply-request : (targets : List TargetValue) (old new : Option (List ℕ)) (bytes lent : List ℕ) (status : ℕ) (reply : List ℕ)
+    → IsReadWhole MAX_HEAD_BYTES old bytes new → 0 < length bytes → lent ≡ bytes → IsReply targets lent status reply
+    → IsReplyToInput targets old new status reply
+reply-request targets old new bytes lent status reply whole some same is =
+    request bytes status reply whole some (subst (λ (b : List ℕ). IsReply targets b status reply) same is)
 
 -- ---- how far it went
 

@@ -1,24 +1,21 @@
-use Rattle.std.proofs.Common.{◌≡◌, ◌∙◌, ℕ, ◌<◌, List, Err, length, subst, ap, arith}
+use Rattle.std.proofs.Common.{◌∙◌, ◌<◌, Err, length, ap, arith}
 use Rattle.std.proofs.lemmas.Bool.Decides.{nat_tests}
-use Rattle.http_front.specs.Exchange.{IsReply, request}
-use Rattle.http_front.proofs.Sent.{fault-by_sent, reply-no_room, served-by_sent}
+use Rattle.http_front.proofs.Sent.{fault-by_sent, reply-no_room, reply-request, served-by_sent}
 use Rattle.http_front.proofs.exchange.serve_one.Goals as goal
 
 pub returns-in-Ok-2-clause-served : goal.returns-in-Ok-2-clause-served
 returns-in-Ok-2-clause-served g c =
-    let answered = c.answer.ensures.answered in
     let some : 0 < length c.in-Ok.bytes.items = grind (arith, nat_tests) in
-    let lent : c.deref.result.now ≡ c.in-Ok.bytes.items = cc (c.deref.ensures.value) in
-    let reply = subst (λ (bytes : List ℕ). IsReply c.args.registry.now bytes answered.0 answered.1) lent answered.2 in
-    served-by_sent _ _ _ _ _ _ _ _ (request c.in-Ok.bytes.items _ _ c.in-Ok.ensures.whole some reply) answered.3
+    let answered = c.answer.ensures.answered in
+    let reply = reply-request _ _ _ _ _ _ _ c.in-Ok.ensures.whole some (c.deref.ensures.value) answered.2 in
+    served-by_sent _ _ _ _ _ _ _ _ reply answered.3
 
 pub returns-in-Ok-2-clause-fault : goal.returns-in-Ok-2-clause-fault
 returns-in-Ok-2-clause-fault g c =
-    let answered = c.answer.ensures.answered in
     let some : 0 < length c.in-Ok.bytes.items = grind (arith, nat_tests) in
-    let lent : c.deref.result.now ≡ c.in-Ok.bytes.items = cc (c.deref.ensures.value) in
-    let reply = subst (λ (bytes : List ℕ). IsReply c.args.registry.now bytes answered.0 answered.1) lent answered.2 in
-    fault-by_sent _ _ _ _ _ _ _ _ (request c.in-Ok.bytes.items _ _ c.in-Ok.ensures.whole some reply) answered.3
+    let answered = c.answer.ensures.answered in
+    let reply = reply-request _ _ _ _ _ _ _ c.in-Ok.ensures.whole some (c.deref.ensures.value) answered.2 in
+    fault-by_sent _ _ _ _ _ _ _ _ reply answered.3
 
 pub returns-in-Err-NoMemory-clause-served : goal.returns-in-Err-NoMemory-clause-served
 returns-in-Err-NoMemory-clause-served g c =
