@@ -1,14 +1,24 @@
+use Rattle.std.proofs.Common.{Some, inl, inr, sym, ap, ◌∙◌}
 use Rattle.std.specs.Prelude.{codes}
 use Rattle.std.proofs.lemmas.Result.{on_ok_weaker, IfErr-weaker}
-use Rattle.openlink.specs.Commands.{prints_place}
+use Rattle.openlink.specs.Commands.{prints_about, prints_place}
 use Rattle.openlink.proofs.CommandLemmas.{prints_behind}
 use Rattle.openlink.proofs.ServeLemmas.{serve_fails}
 use Rattle.openlink.proofs.commands.run.Goals as goal
 
 pub returns-in-Some-clause-printed : goal.returns-in-Some-clause-printed
 returns-in-Some-clause-printed g c =
-    on_ok_weaker c.serve.result (λ p. (p.0, prints_behind (codes "serve") _ _ p.0 c.in-Some.ensures (prints_place _ _ p.1), p.2)) c.serve.ensures.printed
+    on_ok_weaker c.write_whole.result (λ added. (c.as_bytes.result.now, prints_about _ _ (sym c.in-Some.ensures ∙ ap Some (sym c.as_bytes.ensures.value)), added)) c.write_whole.ensures.written
 
 pub returns-in-Some-clause-failed : goal.returns-in-Some-clause-failed
 returns-in-Some-clause-failed g c =
-    IfErr-weaker c.serve.result _ _ (λ f h. serve_fails _ _ f _ _ c.in-Some.ensures h) c.serve.ensures.failed
+    IfErr-weaker c.write_whole.result _ _
+    (λ f device. inr (inl (record { text = c.in-Some.text.now; prints = prints_about _ _ (sym c.in-Some.ensures); output = device }))) c.write_whole.ensures.failed
+
+pub returns-in-Some-behind-clause-printed : goal.returns-in-Some-behind-clause-printed
+returns-in-Some-behind-clause-printed g c =
+    on_ok_weaker c.serve.result (λ p. (p.0, prints_behind (codes "serve") _ _ p.0 c.in-Some-behind.ensures (prints_place _ _ p.1), p.2)) c.serve.ensures.printed
+
+pub returns-in-Some-behind-clause-failed : goal.returns-in-Some-behind-clause-failed
+returns-in-Some-behind-clause-failed g c =
+    IfErr-weaker c.serve.result _ _ (λ f h. serve_fails _ _ f _ _ c.in-Some-behind.ensures h) c.serve.ensures.failed
