@@ -43,7 +43,9 @@ fn names_each_command(rt: HostRuntime) -> Result<(), Fail> {
 #[test]
 fn tells_its_version(rt: HostRuntime) -> Result<(), Fail> {
     let line = printed(&rt, "--version")?;
-    let version = line.strip_prefix("openlink ").and_then(|rest| rest.strip_suffix('\n'));
+    let version = line
+        .strip_prefix("openlink ")
+        .and_then(|rest| rest.strip_suffix('\n'));
     let numbers = version.map(|text| text.split('.').all(|part| part.parse::<u32>().is_ok()));
     assert_eq!(rt; numbers, Some(true));
     Ok(())
