@@ -3,22 +3,4 @@
 #![tactic(auto)]
 
 #[cfg(test)]
-mod accepted_runs;
-#[cfg(test)]
-mod budgets;
-#[cfg(test)]
-mod checked_runs;
-#[cfg(test)]
-mod code_files;
-#[cfg(test)]
-mod codes;
-#[cfg(test)]
-mod compiled_rules;
-#[cfg(test)]
-mod endings;
-#[cfg(test)]
-mod environments;
-#[cfg(test)]
-mod headlines;
-#[cfg(test)]
-mod verdicts;
+mod tests;

@@ -20,9 +20,13 @@ mod runs_together;
 #[cfg(test)]
 use kbart_rows::Table;
 #[cfg(test)]
+use link_menu::Shown;
+#[cfg(test)]
 use registry::{AddErrorKind, Registry};
 #[cfg(test)]
 use std::alloc::{AllocError, Global};
+#[cfg(test)]
+use std::process::Abort;
 #[cfg(test)]
 use std::test::Fail;
 #[cfg(test)]
@@ -64,5 +68,14 @@ fn add(
     match refusal(alloc, registry, name, code, table)? {
         None => Ok(()),
         Some(kind) => Err(Fail::from(kind)),
+    }
+}
+
+/// The watch was shown these lists.
+#[cfg(test)]
+fn are_shown<R: Abort>(rt: &R, shown: &Shown, wanted: &[&[u64]]) {
+    assert_eq!(rt; shown.lists().len(), wanted.len());
+    for (list, wanted) in shown.lists().iter().zip(wanted.iter()) {
+        assert_eq!(rt; list.as_slice(), *wanted);
     }
 }

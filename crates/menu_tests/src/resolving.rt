@@ -1,8 +1,7 @@
 //! Menus of small registries.
 
-use crate::codes::{DATE_CODE, ISSN_CODE, LIST_CODE, SCRIPT_CODE, many_texts};
-use crate::runs_together::are_shown;
-use crate::{JOURNAL, add};
+use crate::codes::{DATE_CODE, HALT, ISSN_CODE, LIST_CODE, MANY_HEAD, PUT, SCRIPT_CODE};
+use crate::{JOURNAL, add, are_shown};
 use kev_read::read_kev;
 use link_menu::{Shown, resolve, resolve_watched};
 use menu::Menu;
@@ -45,6 +44,17 @@ const OF_2003: &str = "rft.issn=1234567x&rft.date=2003";
 
 const ALPHA_PAGE: &str = "<!DOCTYPE html>\n<title>Links</title>\n<ul>\n\
         <li><a href=\"http://e.org/b\">alpha</a></li>\n</ul>\n";
+
+/// The text `x` twenty times, or nothing.
+fn many_texts(alloc: Global) -> Result<Vec<u8>, AllocError> {
+    let mut code = Vec::new(alloc);
+    code.extend_from_slice(&MANY_HEAD)?;
+    for _ in 0..20 {
+        code.extend_from_slice(&PUT)?;
+    }
+    code.extend_from_slice(&HALT)?;
+    Ok(code)
+}
 
 #[test]
 fn first_row_with_a_web_link(rt: HostRuntime) -> Result<(), Fail> {

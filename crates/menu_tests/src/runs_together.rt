@@ -2,6 +2,7 @@
 
 ghost use Rattle.std.specs.Prelude.{◌≡◌, IfOk, length};
 
+use crate::are_shown;
 use crate::codes::{LIST_CODE, TEXT_CODE};
 use link_menu::{Blind, Fate, Shown, Watch, play, round, turn_all};
 use runs::{Run, prepare};
@@ -189,11 +190,4 @@ fn round_of_two_turns(rt: HostRuntime) -> Result<(), Fail> {
     )?;
     are_shown(&rt, &shown, TWO_TURNS);
     Ok(())
-}
-
-pub(crate) fn are_shown<R: Abort>(rt: &R, shown: &Shown, wanted: &[&[u64]]) {
-    assert_eq!(rt; shown.lists().len(), wanted.len());
-    for (list, wanted) in shown.lists().iter().zip(wanted.iter()) {
-        assert_eq!(rt; list.as_slice(), *wanted);
-    }
 }

@@ -1,5 +1,5 @@
 -- The definitions computed: small targets and requests are written out here, and the checker compares.
-use Rattle.std.proofs.Common.{◌≡◌, true, false, List, [], ◌∷◌, Some, refl, codes}
+use Rattle.std.proofs.Common.{ℕ, ◌≡◌, true, false, List, [], ◌∷◌, Some, refl, codes}
 use Rattle.text_model.specs.Texts.{Text}
 use Rattle.environment_model.specs.Environment.{byte_count, look_up, members_of, text_of, with_member}
 use Rattle.code_model.specs.Code.{Code, row}
@@ -61,14 +61,18 @@ pair key value = record { key = key; value = value }
 abbrev request : List KeyValue
 request = pair (codes "rft.issn") (codes "1234567x") ∷ pair (codes "title_url") (codes "http://evil.example") ∷ pair (codes "list") (codes "a") ∷ pair (codes "list") (codes "b") ∷ []
 
-bytes_of_a_row : byte_count (row_entries alpha 1) ≡ 27
+-- the row of the example, the one behind the first
+abbrev later_row : ℕ
+later_row = 1
+
+bytes_of_a_row : byte_count (row_entries alpha later_row) ≡ 27
 unfolding look_up
 bytes_of_a_row = refl
 
-row_before_request : text_of (row_environment alpha request 1) (codes "title_url") ≡ Some (codes "http://e.org/b")
+row_before_request : text_of (row_environment alpha request later_row) (codes "title_url") ≡ Some (codes "http://e.org/b")
 unfolding look_up with_member
 row_before_request = refl
 
-list_of_the_request : members_of (row_environment alpha request 1) (codes "list") ≡ codes "a" ∷ codes "b" ∷ []
+list_of_the_request : members_of (row_environment alpha request later_row) (codes "list") ≡ codes "a" ∷ codes "b" ∷ []
 unfolding look_up with_member
 list_of_the_request = refl

@@ -1,5 +1,5 @@
-use crate::codes::{HALT, literal, name};
-use crate::environments::letters;
+use crate::tests::codes::HALT;
+use crate::tests::{letters, literal, name};
 use code_file::{Code, Literal, Name};
 use std::alloc::{AllocError, Global};
 use std::process::Abort;

@@ -1,6 +1,7 @@
 //! What runs of a code can take.
 
-use crate::codes::{ISSN, ISSN_CODE, OPTIONAL, Tables, code};
+use crate::tests::code;
+use crate::tests::codes::{ISSN, ISSN_CODE, OPTIONAL, Tables};
 use budget::{Budget, budget_of};
 use code_model::Instruction::{self, Const, Count, Each, Halt, List, Next, Put, Sep};
 use std::alloc::Global;

@@ -1,4 +1,5 @@
-use crate::codes::{LIST_FILE, instr};
+use crate::tests::codes::LIST_FILE;
+use crate::tests::instr;
 use code_file::CodeErrorKind::{
     BadKind, BadLiteral, BadMagic, BadName, NoCode, NoMemory, TooLong, TooMany, Trailing, Truncated,
 };

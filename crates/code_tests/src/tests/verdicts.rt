@@ -4,7 +4,7 @@ mod forms;
 mod kinds;
 mod readers;
 
-use crate::codes::Tables;
+use crate::tests::codes::Tables;
 use std::alloc::{AllocError, Global};
 use verifier::load;
 

@@ -1,6 +1,10 @@
-//! Code as a listing has it, with commas between the instructions.
+//! Runs of any code, with every test. Code is written as a listing has it, with commas between the instructions.
 
-use crate::codes::{Tables, of_instrs};
+mod cases;
+mod instructions;
+
+use crate::tests::codes::Tables;
+use crate::tests::of_instrs;
 use code_file::{Code, Instr};
 use std::alloc::{AllocError, Global};
 use std::test::Fail;
@@ -76,7 +80,7 @@ fn instrs(alloc: Global, text: &str) -> Result<Vec<Instr>, AllocError> {
 }
 
 /// The code of a version, of these tables and instructions.
-pub fn assembled(alloc: Global, version: u8, tables: Tables<'_>, text: &str) -> Result<Code, Fail> {
+fn assembled(alloc: Global, version: u8, tables: Tables<'_>, text: &str) -> Result<Code, Fail> {
     let instrs = instrs(alloc, text)?;
     of_instrs(alloc, version, tables, instrs)
 }

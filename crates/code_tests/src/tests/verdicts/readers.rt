@@ -1,5 +1,6 @@
 use super::TABLES;
-use crate::codes::{LIST_FILE, accepted};
+use crate::tests::accepted;
+use crate::tests::codes::LIST_FILE;
 use code_model::Instruction::{Const, Halt, Put};
 use std::test::Fail;
 use verifier::load;

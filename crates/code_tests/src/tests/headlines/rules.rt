@@ -1,7 +1,7 @@
 //! Rules by their code.
 
-use crate::endings::shown;
-use crate::environments::{Given, environment, long_text};
+use crate::tests::environments::Given;
+use crate::tests::{environment, long_text, shown};
 use headline::{RulesError, RunError, run_rules};
 use rule_parser::Rules;
 use runs::PrepareError;

@@ -1,4 +1,4 @@
-use crate::codes::instr;
+use crate::tests::instr;
 use code_file::{instruction, spelling};
 use code_model::Instruction;
 

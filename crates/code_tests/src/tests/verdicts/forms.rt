@@ -1,5 +1,5 @@
 use super::answer;
-use crate::codes::LIST_FILE;
+use crate::tests::codes::LIST_FILE;
 use std::process::Abort;
 use std::test::Fail;
 use verifier::{LoadError, load};

@@ -1,15 +1,10 @@
-//! Runs of any code, with every test.
+//! What each instruction does, and where the machine is stuck.
 
-mod assembly;
-mod cases;
-
-use crate::codes::{ISSN, ISSN_CODE, Tables, code};
-use crate::endings::checked;
-use crate::environments::{
-    Given, NOTHING, VARIABLES, WITH_ISSN, environment, long_list, long_text,
-};
-use assembly::assembled;
-use cases::{EFFECTS, FIRST, LIST_CODE, SECOND, STUCK};
+use super::assembled;
+use super::cases::{EFFECTS, FIRST, LIST_CODE, SECOND, STUCK};
+use crate::tests::codes::{ISSN, ISSN_CODE, Tables};
+use crate::tests::environments::{Given, NOTHING, VARIABLES, WITH_ISSN};
+use crate::tests::{checked, code, environment, long_list, long_text};
 use code_file::Code;
 use interpreter::{Checked, run_checked};
 use std::process::Abort;

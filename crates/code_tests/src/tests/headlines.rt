@@ -4,7 +4,7 @@ mod agreement;
 mod files;
 mod rules;
 
-use crate::codes::Tables;
+use crate::tests::codes::Tables;
 
 const TABLES: Tables<'static> = Tables {
     names: &[(false, "x"), (true, "list")],

@@ -1,6 +1,7 @@
 //! The listing and the file of compiled rules, and that each limit is reached.
 
-use crate::codes::{ISSN_LISTING, lists};
+use crate::tests::codes::ISSN_LISTING;
+use crate::tests::lists;
 use code_file::Code;
 use compiler::{CompileError, compile};
 use rule_parser::Rules;

@@ -1,9 +1,9 @@
 //! Files, run.
 
 use super::TABLES;
-use crate::codes::{LIST_FILE, OPTIONAL, file};
-use crate::endings::shown;
-use crate::environments::{VARIABLES, environment, long_text};
+use crate::tests::codes::{LIST_FILE, OPTIONAL};
+use crate::tests::environments::VARIABLES;
+use crate::tests::{environment, file, long_text, shown};
 use headline::{RunError, run_file};
 use runs::PrepareError;
 use std::alloc::{AllocError, Global};

@@ -1,5 +1,6 @@
 use super::{TABLES, answer};
-use crate::codes::{OPTIONAL, file};
+use crate::tests::codes::OPTIONAL;
+use crate::tests::file;
 use code_model::Instruction::{
     self, Const, Each, Empty, Halt, Jump, Less, List, Next, Number, Put, Text, Undef,
 };

@@ -1,6 +1,5 @@
-use crate::codes::{
-    ISSN, ISSN_CODE, ISSN_LISTING, LIST_FILE, NO_TABLES, Tables, code, lists, of_instrs, rows,
-};
+use crate::tests::codes::{ISSN, ISSN_CODE, ISSN_LISTING, LIST_FILE, NO_TABLES, Tables};
+use crate::tests::{code, lists, of_instrs, rows};
 use code_file::Code;
 use std::test::Fail;
 

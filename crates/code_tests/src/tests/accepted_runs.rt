@@ -1,9 +1,8 @@
 //! Runs of accepted code, without tests.
 
-use crate::codes::{OPTIONAL, Tables, accepted};
-use crate::environments::{
-    COLOURS, Given, NOTHING, WITH_ISSN, environment, letters, long_list, long_text,
-};
+use crate::tests::codes::{OPTIONAL, Tables};
+use crate::tests::environments::{COLOURS, Given, NOTHING, WITH_ISSN};
+use crate::tests::{accepted, environment, letters, long_list, long_text};
 use code_model::Instruction::{
     self, Const, Count, Each, Emit, Empty, Fail as End, Halt, Less, List, Next, Put, Sep, Text,
     Undef,

@@ -1,9 +1,9 @@
 //! Runs come to what the checked machine comes to.
 
 use super::TABLES;
-use crate::codes::{LIST_FILE, OPTIONAL, accepted};
-use crate::endings::{checked, shown};
-use crate::environments::{NOTHING, VARIABLES, environment};
+use crate::tests::codes::{LIST_FILE, OPTIONAL};
+use crate::tests::environments::{NOTHING, VARIABLES};
+use crate::tests::{accepted, checked, environment, shown};
 use code_model::Instruction::{
     self, Const, Count, Cut, Differ, Each, Emit, Empty, Fail as End, Halt, Jump, Less, List, Next,
     NoList, Number, Put, Sep, Text, Undef,

@@ -1,5 +1,5 @@
-use crate::codes::{HALT, NO_TABLES, Tables, lists, literals, names, of_instrs, rows};
-use crate::environments::letters;
+use crate::tests::codes::{HALT, NO_TABLES, Tables};
+use crate::tests::{letters, lists, literals, names, of_instrs, rows};
 use code_file::CodeErrorKind::{BadLiteral, BadName, NoCode, TooLong, TooMany};
 use code_file::{Code, CodeErrorKind};
 use std::alloc::{AllocError, Global};
