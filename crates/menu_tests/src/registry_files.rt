@@ -18,7 +18,7 @@ use std::test::Fail;
 const TABLE: &[u8] = b"title_url\nhttp://e.org/a\n";
 
 /// Registry files, and the first fault of each, where it has one. `code.olk` and `table.txt` are there.
-const CASES: [(&[u8], &str); 18] = [
+const CASES: [(&[u8], &str); 20] = [
     (b"", ""),
     (b"\n\r\n", ""),
     (b"alpha\tcode.olk\ttable.txt\n", ""),
@@ -56,6 +56,9 @@ const CASES: [(&[u8], &str); 18] = [
         b"alpha\tcode.olk\tempty.txt\n",
         "target alpha: table: NoHeader",
     ),
+    // A folder is opened, and can't be read.
+    (b"alpha\t/\ttable.txt\n", "target alpha: device: /"),
+    (b"alpha\tcode.olk\t/\n", "target alpha: device: /"),
     // Of the faults of one target, that of its code comes first, and that of its name last.
     (
         b"a b\ttable.txt\tnone.txt\n",
@@ -183,6 +186,7 @@ fn draws_a_number_for_each_key(rt: HostRuntime) -> Result<(), Fail> {
 #[test]
 fn wants_the_file_and_random_keys(rt: HostRuntime) -> Result<(), Fail> {
     compare(&rt, load_registry(&rt, "none.txt"), "device")?;
+    compare(&rt, load_registry(&rt, "/"), "device")?;
     assert!(&rt; random_keys(&NoNumbers).is_err());
     Ok(())
 }

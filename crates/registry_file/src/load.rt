@@ -26,6 +26,7 @@ pub fn load_registry<R: Files + RandomSource + AllocGlobal>(
     rt: &R,
     path: &str,
 ) -> Result<Registry, RegistryError>
+    ensures limit { MAX_REGISTRY_BYTES ≡ 65536 }
     ensures ok { IfOk result (λ registry. (bytes : Text) × AreTargetsOf bytes registry) }
     ensures err { IfErr result (λ e. (e ≡ Device) ⊎ ((bytes : Text) × IsRegistryFault bytes e)) }
 {
