@@ -24,7 +24,13 @@ pub fn serve_on(
     ensures counted { IfOk result (λ counts. counts.replied + counts.nothing + counts.faults ≡ count) }
     ensures wait { WAIT_SECONDS ≡ 2 }
 {
-    serve_within(alloc, listener, count, registry, Duration::from_secs(WAIT_SECONDS))
+    serve_within(
+        alloc,
+        listener,
+        count,
+        registry,
+        Duration::from_secs(WAIT_SECONDS),
+    )
 }
 
 /// Serves `count` connections of the listener, one after the other: each has one exchange, as

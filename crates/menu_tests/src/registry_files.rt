@@ -68,10 +68,7 @@ const CASES: [(&[u8], &str); 20] = [
         b"a b\tnone.olk\tempty.txt\n",
         "target a b: device: none.olk",
     ),
-    (
-        b"a b\tcode.olk\tempty.txt\n",
-        "target a b: table: NoHeader",
-    ),
+    (b"a b\tcode.olk\tempty.txt\n", "target a b: table: NoHeader"),
 ];
 
 fn make_files<R: Files>(rt: &R) -> io::Result<()> {
