@@ -68,10 +68,7 @@ fn run<
         return write_whole(output, "-", text.as_bytes());
     }
     match behind(words, "serve") {
-        Some(rest) => {
-            serve(rt, rest, output)?;
-            Ok(())
-        }
+        Some(rest) => serve(rt, rest, output),
         None => {
             let text = answer(rt, words)?;
             write_whole(output, "-", text.as_bytes())
