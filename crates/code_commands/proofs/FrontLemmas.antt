@@ -1,5 +1,5 @@
 -- What was read of a code file says what the file is: it is the whole file, or longer than any code file, as the file is.
-use Rattle.std.proofs.Common.{◌≡◌, ◌≤◌, length, Option, sym, subst, inl, inr}
+use Rattle.std.proofs.Common.{◌≤◌, length, sym, subst, inl, inr}
 use Rattle.std.proofs.Math.Nat.{not-le_of_lt}
 use Rattle.text_model.specs.Texts.{Text}
 use Rattle.code_model.specs.Code.{Code}
@@ -15,16 +15,11 @@ use Rattle.machine_model.specs.Runs.{Outcome, NoLink}
 use Rattle.command_faults.specs.Faults.{IsCodeFault}
 use Rattle.command_faults.specs.declared.fault.Fault.{Fault}
 use Rattle.command_faults.specs.declared.fault.Fault.TheVariants as fault
-use Rattle.command_files.specs.Files.{OfFile, IsWholeOrLong}
+use Rattle.command_files.specs.Files.{IsWholeOrLong}
 use Rattle.code_commands.specs.Show.{IsListing}
 use Rattle.code_commands.specs.Upgrade.{IsUpgrade}
 use Rattle.code_commands.specs.Verify.{IsAcceptedFile, IsVerdict, IsVerifyFault}
 use Rattle.code_commands.specs.Run.{IsReady, IsRun, IsRunFault}
-
--- what holds of what was read, and so of the whole, holds of the file
-pub of_file : (P : Text → Type 0) (told : Option Text) (front bytes : Text) → ((all : Text) → IsWholeOrLong 65536 front all → P front → P all)
-    → OfFile told (IsWholeOrLong 65536 front) → bytes ≡ front → P bytes → OfFile told P
-of_file P told front bytes too read same holds = (read.0, read.1, too read.0 read.2 (subst P same holds))
 
 spelled_too : (code : Code) (front all : Text) → IsWholeOrLong 65536 front all → IsCodeFile front code → IsCodeFile all code
 spelled_too code front all (inl same) h = subst (λ bytes. IsCodeFile bytes code) same h

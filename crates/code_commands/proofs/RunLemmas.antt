@@ -14,7 +14,7 @@ use Rattle.runs.specs.declared.error.PrepareError.{PrepareError}
 use Rattle.runs.specs.declared.error.PrepareError.TheVariants.{OverBudget, NoMemory}
 use Rattle.command_faults.specs.Faults.{prepare_fault, IsQueryFault}
 use Rattle.command_faults.specs.declared.fault.Fault.{Fault}
-use Rattle.command_faults.specs.declared.fault.Fault.TheVariants as fault
+use Rattle.command_faults.proofs.QueryFaults.{of_query_fault}
 use Rattle.code_commands.specs.Verify.{IsAcceptedFile}
 use Rattle.code_commands.specs.Run.{request_of, IsReady, IsRunFault}
 
@@ -28,20 +28,7 @@ ready bytes query code told env accepted same request filled_from =
 
 -- a query that is refused is a fault of `run`, where the code is accepted
 pub no_request : (bytes query : Text) (code : Code) → IsAcceptedFile bytes code → (f : Fault) → IsQueryFault query f → IsRunFault bytes query f
-no_request bytes query code accepted (fault.Query e) h = (code, accepted, h)
-no_request bytes query code accepted fault.Memory h = (code, accepted.file)
-no_request bytes query code accepted fault.Usage h = absurd h
-no_request bytes query code accepted (fault.Template e) h = absurd h
-no_request bytes query code accepted (fault.Rules e) h = absurd h
-no_request bytes query code accepted (fault.Compile e) h = absurd h
-no_request bytes query code accepted (fault.Code e) h = absurd h
-no_request bytes query code accepted (fault.Load e) h = absurd h
-no_request bytes query code accepted (fault.OverBudget n) h = absurd h
-no_request bytes query code accepted fault.NoLink h = absurd h
-no_request bytes query code accepted (fault.Device path) h = absurd h
-no_request bytes query code accepted (fault.Registry n) h = absurd h
-no_request bytes query code accepted (fault.Port word) h = absurd h
-no_request bytes query code accepted (fault.Target e) h = absurd h
+no_request bytes query code accepted = of_query_fault (IsRunFault bytes query) query (λ e h. (code, accepted, h)) (code, accepted.file)
 
 pub not_begun : {T : Type 0} (bytes query : Text) (code : Code) (env : EnvValue) (result : Result T PrepareError) (e : PrepareError)
     → IsReady bytes query code env → ((n : ℕ) → (result ≡ Err (OverBudget n)) ↔ ((n ≡ most_bytes code env) × (MAX_LINK_BYTES < n))) → result ≡ Err e

@@ -5,9 +5,7 @@ ghost use Rattle.std.specs.Prelude.{◌+◌, ◌<◌, ◌^◌, IfOk};
 ghost use Rattle.file_front.specs.Front.{IsFront};
 
 use std::alloc::Global;
-use std::fs;
 use std::io::{self, Read};
-use std::rt::Files;
 
 /// All bytes of the file, or where it has more than `limit`, as many as `limit` and one more. The limit is in bytes,
 /// and a file of any length takes no more memory than that.
@@ -20,14 +18,4 @@ pub fn read_front<F: Read + Drop>(alloc: Global, file: F, limit: usize) -> io::R
     let mut front = Vec::new(alloc);
     file.take(limit as u64 + 1).read_to_end(&mut front)?;
     Ok(front)
-}
-
-/// The front of the file at the path.
-///
-/// An error of the system or of the file, or one of the kind `OutOfMemory` where a growth was refused.
-pub fn open_front<R: Files + AllocGlobal>(rt: &R, path: &str, limit: usize) -> io::Result<Vec<u8>>
-    requires { limit + 1 < 2 ^ 63 }
-{
-    let file = fs::open(rt, path)?;
-    read_front(rt.alloc(), file, limit)
 }

@@ -11,6 +11,9 @@ use std::io;
 use std::net::{TcpListener, TcpStream};
 use std::time::Duration;
 
+/// How long a read or a write of a service may take, in seconds.
+const WAIT_SECONDS: u64 = 2;
+
 /// Serves `count` connections of the listener as [`serve_within`] does, with a wait of 2 seconds.
 pub fn serve_on(
     alloc: Global,
@@ -18,9 +21,16 @@ pub fn serve_on(
     count: u32,
     registry: &Registry,
 ) -> io::Result<Counts>
-    ensures { IfOk result (λ counts. counts.replied + counts.nothing + counts.faults ≡ count) }
+    ensures counted { IfOk result (λ counts. counts.replied + counts.nothing + counts.faults ≡ count) }
+    ensures wait { WAIT_SECONDS ≡ 2 }
 {
-    serve_within(alloc, listener, count, registry, Duration::from_secs(2))
+    serve_within(
+        alloc,
+        listener,
+        count,
+        registry,
+        Duration::from_secs(WAIT_SECONDS),
+    )
 }
 
 /// Serves `count` connections of the listener, one after the other: each has one exchange, as

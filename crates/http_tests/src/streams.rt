@@ -37,6 +37,8 @@ fn reads_a_head_in_pieces_and_nothing_more(rt: HostRuntime) -> Result<(), Fail> 
         assert_eq!(rt; count, Err(HeadError::Failed), "at {fail_at}");
     }
     assert_eq!(rt; count_read(rt.alloc(), REQUEST, 1, Some(28)), Ok(28));
+    // Nor is more read behind the end of the input.
+    assert_eq!(rt; count_read(rt.alloc(), b"a", 1, Some(2)), Ok(1));
     Ok(())
 }
 
@@ -133,17 +135,27 @@ fn writes_in_pieces_up_to_a_failure(rt: HostRuntime) -> Result<(), Fail> {
 }
 
 #[test]
+fn writes_much_in_one_piece(rt: HostRuntime) -> Result<(), Fail> {
+    let much = vec![in rt.alloc(); b'x'; 1_000]?;
+    let mut output = PieceOut::new(rt.alloc(), 1_000, None)?;
+    assert_eq!(rt; output.write(&much), Ok(1_000));
+    assert_eq!(rt; output.written(), much.as_slice());
+    Ok(())
+}
+
+#[test]
 fn tapes_give_and_take(rt: HostRuntime) -> Result<(), Fail> {
     let mut tape = Tape::new(rt.alloc(), b"abc")?;
     assert_eq!(rt; tape.written(), b"".as_slice());
     let mut room = [0u8; 2];
     assert_eq!(rt; tape.read(&mut room), Ok(2));
     assert_eq!(rt; room.as_slice(), b"ab".as_slice());
-    assert_eq!(rt; write_all(&mut tape, b"one"), Ok(()));
+    assert_eq!(rt; tape.write(b"one"), Ok(3));
     assert_eq!(rt; write_all(&mut tape, b"two"), Ok(()));
     assert_eq!(rt; tape.written(), b"onetwo".as_slice());
     assert_eq!(rt; tape.read(&mut room), Ok(1));
     assert_eq!(rt; tape.read(&mut room), Ok(0));
+    assert_eq!(rt; tape.written(), b"onetwo".as_slice());
     Ok(())
 }
 

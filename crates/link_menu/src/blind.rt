@@ -9,11 +9,14 @@ use std::alloc::AllocError;
 pub struct Blind;
 
 impl Watch for Blind {
-    ghost use Rattle.std.specs.Prelude.{None};
+    ghost use Rattle.std.specs.Prelude.{◌≡◌, None, Ok};
 
     ghost lists = { λ _. None };
 
-    fn seen(&mut self, _runs: &[Run]) -> Result<(), AllocError> {
+    /// Takes no memory, and is never refused any.
+    fn seen(&mut self, _runs: &[Run]) -> Result<(), AllocError>
+        ensures never_refused { result ≡ Ok tt }
+    {
         Ok(())
     }
 }

@@ -1,5 +1,5 @@
 -- What `serve` prints, and why it does not serve.
-use Rattle.std.specs.Prelude.{◌≡◌, ◌≢◌, ◌≤◌, ◌<◌, ◌⊎◌, ℕ, List, [], ◌∷◌, ◌++◌, true, length, codes}
+use Rattle.std.specs.Prelude.{◌≡◌, ◌≢◌, ◌+◌, ◌≤◌, ◌<◌, ◌⊎◌, ℕ, List, [], ◌∷◌, ◌++◌, true, length, codes}
 use Rattle.std.specs.Fmt.{decimal}
 use Rattle.std.specs.Char.{is_ascii_digit}
 use Rattle.std.specs.List.{list_all}
@@ -7,6 +7,7 @@ use Rattle.std.specs.Str.Parse.{digits_value}
 use Rattle.text_model.specs.Texts.{Text}
 use Rattle.registry.specs.Targets.{TargetValue}
 use Rattle.registry_file.specs.Loading.{AreTargetsOf}
+use Rattle.http_service.specs.declared.counts.Counts.{Counts}
 use Rattle.menu_commands.specs.Resolve.{IsNoRegistry}
 use Rattle.command_faults.specs.declared.fault.Fault.{Fault}
 use Rattle.command_faults.specs.declared.fault.Fault.TheVariants as fault
@@ -29,6 +30,15 @@ pub record AreServeWords (words : List Text) (path port_word : Text) (port count
 
 abbrev pub NoServeWords : List Text → Type 0
 NoServeWords words = (path port_word : Text) (port count : ℕ) → AreServeWords words path port_word port count → ⊥
+
+-- the connections counted are as many as the words say
+pub record AreServed (words : List Text) (counts : Counts) : Type 0 where
+  pub path : Text
+  pub port_word : Text
+  pub port : ℕ
+  pub count : ℕ
+  pub given : AreServeWords words path port_word port count
+  pub all : counts.replied + counts.nothing + counts.faults ≡ count
 
 -- the line that says where the service listens
 abbrev pub listening_line : ℕ → Text

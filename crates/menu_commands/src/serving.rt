@@ -6,12 +6,12 @@ ghost use Rattle.std.specs.List.{list_all};
 ghost use Rattle.std.specs.Io.KnownBytes.{Appends};
 ghost use Rattle.text_model.specs.Texts.{Text, texts_of};
 ghost use Rattle.command_faults.specs.Faults.{IsDevice};
-ghost use Rattle.menu_commands.specs.Serve.{AreServeWords, FailsToServe, IsNumber, IsPortFault, IsServing, NoServeWords, StopsServing, listening_line};
+ghost use Rattle.menu_commands.specs.Serve.{AreServeWords, AreServed, FailsToServe, IsNumber, IsPortFault, IsServing, NoServeWords, StopsServing, listening_line};
 
 use crate::resolve::open_registry;
 use command_faults::Fault;
 use command_files::write_whole;
-use http_service::serve_on;
+use http_service::{Counts, serve_on};
 use std::alloc::{AllocError, Global};
 use std::io::Write;
 use std::net::{Ipv4Addr, Net, TcpListener, TcpStream};
@@ -81,7 +81,8 @@ fn listening_line(alloc: Global, port: u32) -> Result<String, AllocError>
     format!(in alloc; "listening 127.0.0.1:{port}\n")
 }
 
-/// Serves the registry at the port for as many connections as the words behind `serve` say, once it has printed where.
+/// Serves the registry at the port for as many connections as the words behind `serve` say, once it has printed where, and
+/// answers how they went.
 ///
 /// The words are the path of a registry file, a port up to 65,535 (0: a free one) and a number of connections from 1 to
 /// 1,000,000. The fault is `Usage` for other words, one of `open_registry`, or `Port` where nothing can listen there, or
@@ -91,7 +92,8 @@ pub fn serve<
     'a,
     R: Files + RandomSource + Net<Listener = TcpListener, Stream = TcpStream> + AllocGlobal,
     O: Write,
->(rt: &R, words: &[&'a str], output: &mut O) -> Result<(), Fault<'a>>
+>(rt: &R, words: &[&'a str], output: &mut O) -> Result<Counts, Fault<'a>>
+    ensures served { IfOk result (AreServed (texts_of words.now)) }
     ensures printed { OnOk result ((line : Text) × IsServing (texts_of words.now) line
         × Appends (O.contents output.old) (O.contents output.new) line) }
     ensures failed { IfErr result (λ fault. (FailsToServe (texts_of words.now) fault × (output.new ≡ output.old))
@@ -106,7 +108,7 @@ pub fn serve<
     let line = listening_line(rt.alloc(), place)?;
     write_whole(output, "-", line.as_bytes())?;
     match serve_on(rt.alloc(), &listener, asked.count, &registry) {
-        Ok(_) => Ok(()),
+        Ok(counts) => Ok(counts),
         Err(_) => Err(Fault::Port(asked.port_word)),
     }
 }

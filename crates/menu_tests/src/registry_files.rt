@@ -5,7 +5,9 @@ use kbart_rows::Keys;
 use registry::Registry;
 use registry_file::{RegistryError, load_registry, random_keys, read_registry};
 use std::alloc::AllocError;
+use std::cell::Cell;
 use std::fs;
+use std::hash::{BuildHasher, Hasher};
 use std::io::{self, Error, ErrorKind};
 use std::process::Abort;
 use std::random::RandomSource;
@@ -16,7 +18,7 @@ use std::test::Fail;
 const TABLE: &[u8] = b"title_url\nhttp://e.org/a\n";
 
 /// Registry files, and the first fault of each, where it has one. `code.olk` and `table.txt` are there.
-const CASES: [(&[u8], &str); 15] = [
+const CASES: [(&[u8], &str); 20] = [
     (b"", ""),
     (b"\n\r\n", ""),
     (b"alpha\tcode.olk\ttable.txt\n", ""),
@@ -54,6 +56,19 @@ const CASES: [(&[u8], &str); 15] = [
         b"alpha\tcode.olk\tempty.txt\n",
         "target alpha: table: NoHeader",
     ),
+    // A folder is opened, and can't be read.
+    (b"alpha\t/\ttable.txt\n", "target alpha: device: /"),
+    (b"alpha\tcode.olk\t/\n", "target alpha: device: /"),
+    // Of the faults of one target, that of its code comes first, and that of its name last.
+    (
+        b"a b\ttable.txt\tnone.txt\n",
+        "target a b: load: BadMagic at 0",
+    ),
+    (
+        b"a b\tnone.olk\tempty.txt\n",
+        "target a b: device: none.olk",
+    ),
+    (b"a b\tcode.olk\tempty.txt\n", "target a b: table: NoHeader"),
 ];
 
 fn make_files<R: Files>(rt: &R) -> io::Result<()> {
@@ -136,9 +151,39 @@ impl RandomSource for NoNumbers {
     }
 }
 
+/// A system whose random bytes are 1 at the first call, 2 at the second, and so on.
+#[derive(Drop)]
+struct Counting {
+    calls: Cell<u8>,
+}
+
+impl RandomSource for Counting {
+    fn fill_bytes(&self, buf: &mut [u8]) -> io::Result<()> {
+        self.calls.set(self.calls.get().wrapping_add(1));
+        buf.fill(self.calls.get());
+        Ok(())
+    }
+}
+
+/// What the keys hash nothing to.
+fn hash_of(keys: Keys) -> u64 {
+    keys.build_hasher().finish()
+}
+
+#[test]
+fn draws_a_number_for_each_key(rt: HostRuntime) -> Result<(), Fail> {
+    let keys = random_keys(&Counting {
+        calls: Cell::new(0),
+    })?;
+    let wanted = Keys::new(0x0101_0101_0101_0101, 0x0202_0202_0202_0202);
+    assert_eq!(rt; hash_of(keys), hash_of(wanted));
+    Ok(())
+}
+
 #[test]
 fn wants_the_file_and_random_keys(rt: HostRuntime) -> Result<(), Fail> {
     compare(&rt, load_registry(&rt, "none.txt"), "device")?;
+    compare(&rt, load_registry(&rt, "/"), "device")?;
     assert!(&rt; random_keys(&NoNumbers).is_err());
     Ok(())
 }

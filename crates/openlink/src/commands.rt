@@ -68,7 +68,10 @@ fn run<
         return write_whole(output, "-", text.as_bytes());
     }
     match behind(words, "serve") {
-        Some(rest) => serve(rt, rest, output),
+        Some(rest) => {
+            serve(rt, rest, output)?;
+            Ok(())
+        }
         None => {
             let text = answer(rt, words)?;
             write_whole(output, "-", text.as_bytes())

@@ -1,9 +1,10 @@
 //! Registries from their files.
 
-ghost use Rattle.std.specs.Prelude.{◌≡◌, ◌⊎◌, ◌<◌, IfErr, IfOk, length};
+ghost use Rattle.std.specs.Prelude.{◌≡◌, ◌⊎◌, ◌<◌, ◌↔◌, Err, IfErr, IfOk, length};
 ghost use Rattle.text_model.specs.Texts.{Text};
 ghost use Rattle.registry_file.specs.Loading.{AreTargetsOf, IsRegistryFault};
-ghost use Rattle.registry_file.specs.declared.error.RegistryError.TheVariants.{Device, NoMemory};
+ghost use Rattle.registry_file.specs.declared.error.RegistryError.TheVariants.{Device, Line, NoMemory};
+ghost use Rattle.registry_file.specs.declared.lines.TheConstants.{MAX_REGISTRY_BYTES};
 
 use crate::error::RegistryError;
 use crate::lines::{MAX_REGISTRY_BYTES, read_lines, target_line};
@@ -25,6 +26,7 @@ pub fn load_registry<R: Files + RandomSource + AllocGlobal>(
     rt: &R,
     path: &str,
 ) -> Result<Registry, RegistryError>
+    ensures limit { MAX_REGISTRY_BYTES ≡ 65536 }
     ensures ok { IfOk result (λ registry. (bytes : Text) × AreTargetsOf bytes registry) }
     ensures err { IfErr result (λ e. (e ≡ Device) ⊎ ((bytes : Text) × IsRegistryFault bytes e)) }
 {
@@ -41,13 +43,16 @@ pub fn load_registry<R: Files + RandomSource + AllocGlobal>(
 
 /// The registry of a registry file with these bytes, whose tables' hashed look-ups have these keys.
 ///
-/// Refuses the bytes by their first fault: see [`RegistryError`].
+/// Refuses the bytes by their first fault: see [`RegistryError`]. Line 0 says that they are too many, however little
+/// memory there is.
 pub fn read_registry<R: Files + AllocGlobal>(
     rt: &R,
     bytes: &[u8],
     keys: Keys,
 ) -> Result<Registry, RegistryError>
+    ensures limit { MAX_REGISTRY_BYTES ≡ 65536 }
     ensures ok { IfOk result (AreTargetsOf bytes.now) }
+    ensures too_long { (result ≡ Err (Line 0)) ↔ (MAX_REGISTRY_BYTES < length bytes.now) }
     ensures err { IfErr result (IsRegistryFault bytes.now) }
 {
     if bytes.len() > MAX_REGISTRY_BYTES {

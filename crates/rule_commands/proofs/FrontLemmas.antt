@@ -1,5 +1,5 @@
 -- What was read of a rule file says what the file is: it is the whole file, or longer than any rule text, as the file is.
-use Rattle.std.proofs.Common.{◌≡◌, ℕ, Option, None, subst, inl, inr}
+use Rattle.std.proofs.Common.{ℕ, Option, None, subst, inl, inr}
 use Rattle.std.proofs.Math.Nat.{not-le_of_lt}
 use Rattle.text_model.specs.Texts.{Text}
 use Rattle.rule_parser.specs.Grammar.{IsRuleText}
@@ -8,14 +8,9 @@ use Rattle.rule_parser.specs.Faults.{IsRefused}
 use Rattle.rule_parser.specs.declared.error.RuleErrorKind.{RuleErrorKind}
 use Rattle.command_faults.specs.declared.fault.Fault.{Fault}
 use Rattle.command_faults.specs.declared.fault.Fault.TheVariants as fault
-use Rattle.command_files.specs.Files.{OfFile, IsWholeOrLong}
+use Rattle.command_files.specs.Files.{IsWholeOrLong}
 use Rattle.rule_commands.specs.Link.{IsMeaning, IsLinkFault}
 use Rattle.rule_commands.specs.Compile.{IsCompiled, IsCompileFault}
-
--- what holds of what was read, and so of the whole, holds of the file
-pub of_file : (P : Text → Type 0) (told : Option Text) (front bytes : Text) → ((all : Text) → IsWholeOrLong 65536 front all → P front → P all)
-    → OfFile told (IsWholeOrLong 65536 front) → bytes ≡ front → P bytes → OfFile told P
-of_file P told front bytes too read same holds = (read.0, read.1, too read.0 read.2 (subst P same holds))
 
 ruled : (rules : RuleSet) (front all : Text) → IsWholeOrLong 65536 front all → IsRuleText front rules → IsRuleText all rules
 ruled rules front all (inl same) h = subst (λ bytes. IsRuleText bytes rules) same h

@@ -12,8 +12,8 @@ use Rattle.environment_model.specs.Lists.{list_names}
 use Rattle.rule_parser.specs.Names.{each_once}
 use Rattle.rule_parser.specs.Meaning.{meaning}
 use Rattle.command_faults.specs.declared.fault.Fault.{Fault}
-use Rattle.command_faults.specs.declared.fault.Fault.TheVariants as fault
 use Rattle.command_faults.specs.Faults.{IsQueryFault}
+use Rattle.command_faults.proofs.QueryFaults.{of_query_fault}
 use Rattle.rule_commands.specs.Link.{IsMeaning, IsLinkFault}
 
 pub means : (bytes query : Text) (rules : RuleSet) (lists : List (Bor Text)) (env : Environment) (link : Option Text)
@@ -29,17 +29,4 @@ means bytes query rules lists env link read listed accepted filled_from meant =
 
 -- a query that is refused is a fault of `link`, where the rules are good
 pub no_request : (bytes query : Text) (rules : RuleSet) → IsRuleText bytes rules → (f : Fault) → IsQueryFault query f → IsLinkFault bytes query f
-no_request bytes query rules read (fault.Query e) h = (rules, read, h)
-no_request bytes query rules read fault.Memory h = h
-no_request bytes query rules read fault.Usage h = absurd h
-no_request bytes query rules read (fault.Template e) h = absurd h
-no_request bytes query rules read (fault.Rules e) h = absurd h
-no_request bytes query rules read (fault.Compile e) h = absurd h
-no_request bytes query rules read (fault.Code e) h = absurd h
-no_request bytes query rules read (fault.Load e) h = absurd h
-no_request bytes query rules read (fault.OverBudget n) h = absurd h
-no_request bytes query rules read fault.NoLink h = absurd h
-no_request bytes query rules read (fault.Device path) h = absurd h
-no_request bytes query rules read (fault.Registry n) h = absurd h
-no_request bytes query rules read (fault.Port word) h = absurd h
-no_request bytes query rules read (fault.Target e) h = absurd h
+no_request bytes query rules read = of_query_fault (IsLinkFault bytes query) query (λ e h. (rules, read, h)) tt

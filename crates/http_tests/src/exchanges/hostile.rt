@@ -58,6 +58,19 @@ fn a_write_fails(rt: HostRuntime) -> Result<(), Fail> {
     Ok(())
 }
 
+const PRINTED: [(ServeError, &str); 2] = [
+    (ServeError::ReadFault, "ReadFault"),
+    (ServeError::WriteFault(115), "WriteFault after 115 bytes"),
+];
+
+#[test]
+fn faults_are_printed(rt: HostRuntime) -> Result<(), Fail> {
+    for (fault, printed) in PRINTED {
+        assert_eq!(rt; format!(in rt.alloc(); "{fault}")?.as_str(), printed);
+    }
+    Ok(())
+}
+
 #[test]
 fn the_input_ends(rt: HostRuntime) -> Result<(), Fail> {
     let registry = Registry::new(rt.alloc());

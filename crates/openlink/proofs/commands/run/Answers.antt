@@ -1,6 +1,6 @@
 use Rattle.std.proofs.Common.{Some, inl, inr, sym, ap, ◌∙◌}
 use Rattle.std.specs.Prelude.{codes}
-use Rattle.std.proofs.lemmas.Result.{on_ok_weaker, IfErr-weaker}
+use Rattle.std.proofs.lemmas.Result.{on_ok_weaker, IfErr-weaker, err_from_is_err_and}
 use Rattle.openlink.specs.Commands.{prints_about, prints_place}
 use Rattle.openlink.proofs.CommandLemmas.{prints_behind}
 use Rattle.openlink.proofs.ServeLemmas.{serve_fails}
@@ -15,10 +15,12 @@ returns-in-Some-clause-failed g c =
     IfErr-weaker c.write_whole.result _ _
     (λ f device. inr (inl (record { text = c.in-Some.text.now; prints = prints_about _ _ (sym c.in-Some.ensures); output = device }))) c.write_whole.ensures.failed
 
-pub returns-in-Some-behind-clause-printed : goal.returns-in-Some-behind-clause-printed
-returns-in-Some-behind-clause-printed g c =
-    on_ok_weaker c.serve.result (λ p. (p.0, prints_behind (codes "serve") _ _ p.0 c.in-Some-behind.ensures (prints_place _ _ p.1), p.2)) c.serve.ensures.printed
+pub returns-in_ok-serve-in-Some-behind-clause-printed : goal.returns-in_ok-serve-in-Some-behind-clause-printed
+returns-in_ok-serve-in-Some-behind-clause-printed g c =
+    let p = c.in_ok-serve-in-Some-behind.ensures.printed in
+    (p.0, prints_behind (codes "serve") _ _ p.0 c.in-Some-behind.ensures (prints_place _ _ p.1), p.2)
 
-pub returns-in-Some-behind-clause-failed : goal.returns-in-Some-behind-clause-failed
-returns-in-Some-behind-clause-failed g c =
-    IfErr-weaker c.serve.result _ _ (λ f h. serve_fails _ _ f _ _ c.in-Some-behind.ensures h) c.serve.ensures.failed
+pub returns-in_err-serve-in-Some-behind-clause-failed : goal.returns-in_err-serve-in-Some-behind-clause-failed
+returns-in_err-serve-in-Some-behind-clause-failed g c =
+    let made = err_from_is_err_and c.from_residual.result c.from_residual.ensures.1 in
+    rw (made.1, made.2) (serve_fails _ _ _ _ _ c.in-Some-behind.ensures c.in_err-serve-in-Some-behind.ensures.failed)
