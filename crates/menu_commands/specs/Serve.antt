@@ -31,48 +31,42 @@ pub record AreServeWords (words : List Text) (path port_word : Text) (port count
 abbrev pub NoServeWords : List Text → Type 0
 NoServeWords words = (path port_word : Text) (port count : ℕ) → AreServeWords words path port_word port count → ⊥
 
--- the connections counted are as many as the words say
-pub record AreServed (words : List Text) (counts : Counts) : Type 0 where
+-- the service that the words ask for
+pub record Asked (words : List Text) : Type 0 where
   pub path : Text
   pub port_word : Text
   pub port : ℕ
   pub count : ℕ
   pub given : AreServeWords words path port_word port count
-  pub all : counts.replied + counts.nothing + counts.faults ≡ count
+
+-- the connections counted are as many as the words ask for
+pub record AreServed (words : List Text) (counts : Counts) : Type 0 where
+  pub asked : Asked words
+  pub all : counts.replied + counts.nothing + counts.faults ≡ asked.count
 
 -- the line that says where the service listens
 abbrev pub listening_line : ℕ → Text
 listening_line port = codes "listening 127.0.0.1:" ++ (decimal port ++ 10 ∷ [])
 
--- the line of a service of a registry; its port is the one of the words, or a free one where that is 0
-pub record IsServiceLine (words : List Text) (port_word line : Text) : Type 0 where
-  pub path : Text
-  pub port : ℕ
-  pub count : ℕ
+-- the line of a service of a registry; its port is the one that is asked for, or a free one where that is 0
+pub record IsServing (words : List Text) (line : Text) : Type 0 where
+  pub asked : Asked words
   pub place : ℕ
   pub bytes : Text
   pub targets : List TargetValue
-  pub given : AreServeWords words path port_word port count
   pub registry : AreTargetsOf bytes targets
-  pub is_port : port ≢ 0 → place ≡ port
+  pub is_port : asked.port ≢ 0 → place ≡ asked.port
   pub printed : line ≡ listening_line place
-
-abbrev pub IsServing : List Text → Text → Type 0
-IsServing words line = (port_word : Text) × IsServiceLine words port_word line
 
 -- the port of the words can't be listened at
 abbrev pub IsPortFault : Text → Fault → Type 0
 IsPortFault port_word (fault.Port word) = word.now ≡ port_word
 IsPortFault port_word other = ⊥
 
--- the words name a registry and a port, and there is no such registry, or nothing can listen there
+-- the words ask for a service, and there is no such registry, or nothing can listen at the port, or memory was wanting
 pub record RefusesToServe (words : List Text) (f : Fault) : Type 0 where
-  pub path : Text
-  pub port_word : Text
-  pub port : ℕ
-  pub count : ℕ
-  pub given : AreServeWords words path port_word port count
-  pub refused : IsNoRegistry path f ⊎ IsPortFault port_word f ⊎ (f ≡ fault.Memory)
+  pub asked : Asked words
+  pub refused : IsNoRegistry asked.path f ⊎ IsPortFault asked.port_word f ⊎ (f ≡ fault.Memory)
 
 -- why the words print no line
 abbrev pub FailsToServe : List Text → Fault → Type 0
@@ -80,4 +74,4 @@ FailsToServe words f = ((f ≡ fault.Usage) × NoServeWords words) ⊎ RefusesTo
 
 -- the line is printed, and then the port gives no more connections
 abbrev pub StopsServing : List Text → Text → Fault → Type 0
-StopsServing words line f = (port_word : Text) × IsServiceLine words port_word line × IsPortFault port_word f
+StopsServing words line f = (serving : IsServing words line) × IsPortFault serving.asked.port_word f

@@ -1,5 +1,5 @@
 -- Lines of targets, from their cells.
-use Rattle.std.proofs.Common.{◌≡◌, ℕ, ◌∷◌, [], ◌⊎◌, inl, inr, IsUtf8, Some, length, refl, sym, subst, arith}
+use Rattle.std.proofs.Common.{◌≡◌, ◌∷◌, [], IsUtf8, Some, length, refl, sym, subst, arith}
 use Rattle.csv.specs.Records.{field_at}
 use Rattle.text_model.specs.Texts.{Text}
 use Rattle.kbart_rows.specs.Cells.{Row}

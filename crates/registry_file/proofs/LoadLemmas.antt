@@ -1,6 +1,5 @@
 -- Targets of a registry file, line after line.
 use Rattle.std.proofs.Common.{◌≡◌, ℕ, ◌+◌, ◌<◌, ◌≤◌, List, [], ◌∷◌, ◌++◌, inl, inr, length, map, take, drop, get_or, suc, refl, sym, ap, subst, arith, ◌∙◌}
-use Rattle.std.specs.Prelude.{string_bytes}
 use Rattle.std.proofs.lemmas.List.{take_more, map-append, length-map, length-take}
 use Rattle.std.proofs.Math.Seq.{split_at}
 use Rattle.text_model.specs.Texts.{Text}
@@ -58,11 +57,6 @@ pub no_target : {X : Type 0} (cells : X → Row) (bytes : Text) (lines : List X)
 no_target cells bytes lines n targets line next short read none =
     let count : length (map cells (take n lines)) ≡ n = omega (arith, length-map (take n lines) cells, length-take n lines, next.few) in
     inr (inl (map cells lines, short, read, (map cells (take n lines), targets, cells line, stops cells lines n targets line next, ap (λ n. n + 1) (sym count), none)))
-
--- what a target is refused for is no length of a file
-pub no_length : (name : Text) (why : Stop) (line : ℕ) → IsNamed name why (Line line) → ⊥
-no_length name (stop.Fault f) line named = named
-no_length name stop.NoMemory line named = named
 
 pub refused : {X : Type 0} (cells : X → Row) (bytes : Text) (lines : List X) (n : ℕ) (targets : List TargetValue) (line : X) (name code table : Text) (why : Stop) (e : RegistryError)
     → IsNext cells lines n targets line → length bytes ≤ MAX_REGISTRY_BYTES → AreLines bytes (map cells lines) → IsTargetLine (cells line) name code table

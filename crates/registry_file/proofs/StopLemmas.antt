@@ -1,5 +1,5 @@
 -- Why a target is not added, from why its files are not taken.
-use Rattle.std.proofs.Common.{◌⊎◌, inl, inr, List, IfErr, IsErrAnd, Result, Ok, Err, subst, sym, refl}
+use Rattle.std.proofs.Common.{◌⊎◌, inl, inr, List, IfErr, IsErrAnd, Result, Ok, Err, subst}
 use Rattle.std.specs.Prelude.{Option, ◌≡◌, ℕ}
 use Rattle.text_model.specs.Texts.{Text}
 use Rattle.kbart_rows.specs.declared.error.TableError.{TableError}

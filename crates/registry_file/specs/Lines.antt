@@ -1,5 +1,5 @@
 -- The lines of a registry file: for each target its name, the path of its code and the path of its table.
-use Rattle.std.specs.Prelude.{◌≡◌, List, [], ◌∷◌, IsUtf8}
+use Rattle.std.specs.Prelude.{◌≡◌, [], ◌∷◌, IsUtf8}
 use Rattle.text_model.specs.Texts.{Text}
 use Rattle.kbart_rows.specs.Cells.{Row}
 

@@ -6,7 +6,7 @@ use Rattle.code_file.specs.Grammar.{IsCodeFile}
 use Rattle.machine_model.specs.Safe.{IsSafe}
 use Rattle.verifier.specs.Faults.{IsLoadFault}
 use Rattle.verifier.specs.declared.error.LoadError.TheVariants as load
-use Rattle.kbart_rows.specs.Cells.{Row, Holdings}
+use Rattle.kbart_rows.specs.Cells.{Row}
 use Rattle.kbart_rows.specs.Reading.{AreLines, IsTable, IsFault}
 use Rattle.kbart_rows.specs.declared.error.TableError.TheVariants as table
 use Rattle.registry.specs.Targets.{TargetValue}

@@ -1,6 +1,7 @@
 //! Pages of menus.
 
-use super::{Reply, has_reply};
+use super::{Reply, gets, has_reply};
+use crate::filled;
 use kbart_rows::Table;
 use registry::Registry;
 use std::alloc::Global;
@@ -32,10 +33,10 @@ const DATE_CODE: [u8; 251] = [
     0x00, 0x00, 0x00, 0x02, 0x00, 0x00, 0x00, 0x00, 0x00, 0x00, 0x00,
 ];
 
-fn add_alpha(alloc: Global, registry: &mut Registry) -> Result<(), Fail> {
+fn add_alpha(alloc: Global, registry: &mut Registry, table: &[u8]) -> Result<(), Fail> {
     let name = String::from_str(alloc, "alpha")?;
     let code = load(alloc, &DATE_CODE)?;
-    let table = Table::read(alloc, TABLE)?;
+    let table = Table::read(alloc, table)?;
     match registry.add(name, code, table) {
         Ok(()) => Ok(()),
         Err(error) => Err(Fail::from(error.kind)),
@@ -133,7 +134,7 @@ const TO_HEAD: [(&[u8], Reply); 2] = [
 #[test]
 fn pages(rt: HostRuntime) -> Result<(), Fail> {
     let mut registry = Registry::new(rt.alloc());
-    add_alpha(rt.alloc(), &mut registry)?;
+    add_alpha(rt.alloc(), &mut registry, TABLE)?;
     for (request, reply) in PAGES {
         has_reply(&rt, &registry, request, reply)?;
     }
@@ -141,4 +142,30 @@ fn pages(rt: HostRuntime) -> Result<(), Fail> {
         has_reply(&rt, &registry, request, reply.to_head())?;
     }
     Ok(())
+}
+
+/// A row whose link is of 65,513 bytes, up to the letters that it ends in.
+const LONG_ROW: &[u8] = b"print_identifier\ttitle_url\n1234-567X\thttp://e.org/";
+
+/// The reply with its page, up to these letters: with one of them, the page would have 92 bytes.
+const LONG_PAGE: &[u8] =
+    b"HTTP/1.1 200 OK\r\nContent-Type: text/html; charset=utf-8\r\nContent-Length: 65591\r\n\
+    Connection: close\r\n\r\n\
+    <!DOCTYPE html>\n<title>Links</title>\n<ul>\n<li><a href=\"http://e.org/";
+
+/// A page can be longer than a query or a row.
+#[test]
+fn a_long_page(rt: HostRuntime) -> Result<(), Fail> {
+    let table = filled(rt.alloc(), LONG_ROW, 65_500, b"b", b"\n")?;
+    let reply = filled(
+        rt.alloc(),
+        LONG_PAGE,
+        65_500,
+        b"b",
+        b"\">alpha</a></li>\n</ul>\n",
+    )?;
+    let mut registry = Registry::new(rt.alloc());
+    add_alpha(rt.alloc(), &mut registry, &table)?;
+    let request = b"GET /openurl?rft.issn=1234567x&rft.date=2003 HTTP/1.1\r\nHost: a\r\n\r\n";
+    gets(&rt, &registry, request, 200, &reply)
 }

@@ -1,5 +1,5 @@
 -- What a table keeps, and how it is read and found.
-use Rattle.std.specs.Prelude.{◌≡◌, ℕ, ◌↔◌, ◌==◌, if◌then◌else◌, ◌+◌, ◌≤◌, ◌<◌, List, [], filter, min, drop, length, get_or, String, Vec, Bool, true, false, Option, None, Some}
+use Rattle.std.specs.Prelude.{◌≡◌, ℕ, ◌↔◌, ◌==◌, if◌then◌else◌, ◌+◌, ◌≤◌, ◌<◌, List, [], filter, min, drop, length, get_or, String, Vec, Bool, false, Option, None, Some}
 use Rattle.std.specs.HashMap.{HashMap, get_by_text}
 use Rattle.std.specs.List.{range_with_len}
 use Rattle.std.specs.Option.{option_map_or}

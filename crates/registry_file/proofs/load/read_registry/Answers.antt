@@ -1,4 +1,4 @@
-use Rattle.std.proofs.Common.{◌≤◌, length, map, subst, sym, arith}
+use Rattle.std.proofs.Common.{map, subst, sym, arith}
 use Rattle.csv.specs.Records.{fields_of}
 use Rattle.kbart_rows.specs.Reading.{AreLines}
 use Rattle.registry_file.specs.Loading.{AreTargets}

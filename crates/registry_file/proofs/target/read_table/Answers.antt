@@ -1,4 +1,4 @@
-use Rattle.std.proofs.Common.{subst, sym}
+use Rattle.std.proofs.Common.{subst}
 use Rattle.kbart_rows.specs.Reading.{IsTable}
 use Rattle.registry_file.proofs.target.read_table.Goals as goal
 
