@@ -8,7 +8,7 @@ trap 'rm -rf "$scratch"' EXIT
 git ls-files -z --cached --others --exclude-standard crates crates.txt | tar -c --null --ignore-failed-read -T - 2> "$scratch/left-out" | tar -x -C "$scratch"
 mkdir -p "$scratch/crates/runs_bench/src"
 cp benches/runs.rt.txt "$scratch/crates/runs_bench/src/main.rt"
-echo 'runs_bench: target_vars code_file interpreter verifier runs' >> "$scratch/crates.txt"
+echo 'runs_bench: target_vars code_file interpreter verifier' >> "$scratch/crates.txt"
 (cd "$scratch/crates/runs_bench" && rt run -- rule 1) > "$scratch/build.log" 2>&1 || { tail -20 "$scratch/build.log"; exit 1; }
 
 # Instructions of so many rounds of a work.

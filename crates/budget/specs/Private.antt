@@ -1,3 +1,4 @@
+-- Definitions that no contract of a public function cites.
 pub mod Running
-pub mod SumsBelow
 pub mod Shares
+pub mod SumsBelow

@@ -80,5 +80,5 @@ not_run query (fault.Compile e) front all read h = h
 not_run query (fault.Code e) front all read h = h
 not_run query (fault.Device path) front all read h = h
 not_run query (fault.Registry n) front all read h = h
-not_run query (fault.Port word) front all read h = h
+not_run query (fault.Port argument) front all read h = h
 not_run query (fault.Target e) front all read h = h

@@ -8,10 +8,10 @@ use Rattle.machine_model.specs.Form.{HasGoodForm}
 use Rattle.machine_model.specs.Typable.{IsTypable}
 use Rattle.machine_model.specs.Safe.{IsSafe}
 use Rattle.kev_read.specs.Refusal.{refusal}
-use Rattle.runs.specs.RunValue.{most_bytes}
-use Rattle.runs.specs.declared.run.TheConstants.{MAX_LINK_BYTES}
-use Rattle.runs.specs.declared.error.PrepareError.{PrepareError}
-use Rattle.runs.specs.declared.error.PrepareError.TheVariants.{OverBudget, NoMemory}
+use Rattle.verified_runs.specs.RunValue.{most_bytes}
+use Rattle.verified_runs.specs.declared.run.TheConstants.{MAX_LINK_BYTES}
+use Rattle.verified_runs.specs.declared.error.PrepareError.{PrepareError}
+use Rattle.verified_runs.specs.declared.error.PrepareError.TheVariants.{OverBudget, NoMemory}
 use Rattle.command_faults.specs.Faults.{prepare_fault, IsQueryFault}
 use Rattle.command_faults.specs.declared.fault.Fault.{Fault}
 use Rattle.command_faults.proofs.QueryFaults.{of_query_fault}

@@ -10,9 +10,9 @@ use Rattle.machine_model.specs.Runs as outcome
 use Rattle.kev_read.specs.Pairs.{pairs_of}
 use Rattle.kev_read.specs.Refusal.{refusal}
 use Rattle.kev_read.specs.Filling.{filled}
-use Rattle.runs.specs.RunValue.{most_bytes}
-use Rattle.runs.specs.declared.run.TheConstants.{MAX_LINK_BYTES}
-use Rattle.headline.specs.Ending.{EndsSafely}
+use Rattle.verified_runs.specs.RunValue.{most_bytes}
+use Rattle.verified_runs.specs.declared.run.TheConstants.{MAX_LINK_BYTES}
+use Rattle.end_to_end.specs.Ending.{EndsSafely}
 use Rattle.command_requests.specs.FileAndQuery.{LinksOfFile, FailsToGive}
 use Rattle.code_commands.specs.Verify.{IsAcceptedFile, IsVerifyFault}
 use Rattle.command_faults.specs.declared.fault.Fault.{Fault}
@@ -54,7 +54,7 @@ IsRunFault bytes query fault.NoLink = IsRun bytes query outcome.NoLink
 IsRunFault bytes query fault.Memory = (code : Code) × IsCodeFile bytes code
 IsRunFault bytes query other = ⊥
 
--- the line that the words behind `run` print
+-- the line that the arguments behind `run` print
 abbrev pub IsRunLine : List Text → Text → Type 0
 IsRunLine = LinksOfFile (λ bytes query link. IsRun bytes query (Link link))
 

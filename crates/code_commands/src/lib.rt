@@ -1,4 +1,4 @@
-//! The commands whose words name a code file: `verify`, `show`, `upgrade` and `run`.
+//! The commands whose arguments name a code file: `verify`, `show`, `upgrade` and `run`.
 #![tactic(auto)]
 
 mod run;

@@ -10,15 +10,15 @@ ghost use Rattle.code_commands.specs.Run.{IsRun, IsRunFault, IsRunLine, FailsToR
 
 use code_file::{Code, MAX_BYTES};
 use command_faults::Fault;
-use command_files::{open_file, read_front};
+use command_files::{open_file, read_first_bytes};
 use command_requests::{ended, environment};
-use command_words::two_words;
-use headline::run_verified;
-use runs::Outcome;
+use command_words::two_arguments;
+use end_to_end::run_verified;
 use std::alloc::Global;
 use std::io::Read;
 use std::rt::Files;
 use target_vars::Env;
+use verified_runs::Outcome;
 use verifier::load;
 
 /// The environment of the query's pairs, where the names that the code has as lists are lists.
@@ -59,18 +59,21 @@ pub fn run_file<'a, F: Read + Drop>(
     ensures ok { IfOk result (λ link. OfFile (F.remaining file) (λ bytes. IsRun bytes query.now (Link (string_bytes link)))) }
     ensures err { IfErr result (λ fault. IsFileFault path.now fault ⊎ OfFile (F.remaining file) (λ bytes. IsRunFault bytes query.now fault)) }
 {
-    let bytes = read_front(alloc, file, path, MAX_BYTES)?;
+    let bytes = read_first_bytes(alloc, file, path, MAX_BYTES)?;
     run_query(alloc, &bytes, query)
 }
 
-/// The line that the words behind `run` print: the path of a code file, and a query.
+/// The line that the arguments behind `run` print: the path of a code file, and a query.
 ///
-/// The fault is `Usage` for other words, or one of `run_file`.
-pub fn run_line<'a, R: Files + AllocGlobal>(rt: &R, words: &[&'a str]) -> Result<String, Fault<'a>>
-    ensures ok { IfOk result (λ line. IsRunLine (texts_of words.now) (string_bytes line)) }
-    ensures err { IfErr result (FailsToRun (texts_of words.now)) }
+/// The fault is `Usage` for other arguments, or one of `run_file`.
+pub fn run_line<'a, R: Files + AllocGlobal>(
+    rt: &R,
+    arguments: &[&'a str],
+) -> Result<String, Fault<'a>>
+    ensures ok { IfOk result (λ line. IsRunLine (texts_of arguments.now) (string_bytes line)) }
+    ensures err { IfErr result (FailsToRun (texts_of arguments.now)) }
 {
-    let Some((path, query)) = two_words(words) else {
+    let Some((path, query)) = two_arguments(arguments) else {
         return Err(Fault::Usage);
     };
     let file = open_file(rt, path)?;

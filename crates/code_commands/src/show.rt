@@ -8,8 +8,8 @@ ghost use Rattle.code_commands.specs.Show.{IsListing, IsShowLine, FailsToShow};
 
 use code_file::{Code, MAX_BYTES};
 use command_faults::Fault;
-use command_files::{open_file, read_front};
-use command_words::one_word;
+use command_files::{open_file, read_first_bytes};
+use command_words::one_argument;
 use std::alloc::Global;
 use std::io::Read;
 use std::rt::Files;
@@ -34,21 +34,21 @@ pub fn show_file<'a, F: Read + Drop>(
     ensures ok { IfOk result (λ text. OfFile (F.remaining file) (λ bytes. IsListing bytes (string_bytes text))) }
     ensures err { IfErr result (λ fault. IsFileFault path.now fault ⊎ OfFile (F.remaining file) (λ bytes. IsCodeFault bytes fault)) }
 {
-    let bytes = read_front(alloc, file, path, MAX_BYTES)?;
+    let bytes = read_first_bytes(alloc, file, path, MAX_BYTES)?;
     show_code(alloc, &bytes)
 }
 
-/// The lines that the words behind `show` print: the path of a code file.
+/// The lines that the arguments behind `show` print: the path of a code file.
 ///
-/// The fault is `Usage` for other words, or one of `show_file`.
+/// The fault is `Usage` for other arguments, or one of `show_file`.
 pub fn show_lines<'a, R: Files + AllocGlobal>(
     rt: &R,
-    words: &[&'a str],
+    arguments: &[&'a str],
 ) -> Result<String, Fault<'a>>
-    ensures ok { IfOk result (λ text. IsShowLine (texts_of words.now) (string_bytes text)) }
-    ensures err { IfErr result (FailsToShow (texts_of words.now)) }
+    ensures ok { IfOk result (λ text. IsShowLine (texts_of arguments.now) (string_bytes text)) }
+    ensures err { IfErr result (FailsToShow (texts_of arguments.now)) }
 {
-    let Some(path) = one_word(words) else {
+    let Some(path) = one_argument(arguments) else {
         return Err(Fault::Usage);
     };
     let file = open_file(rt, path)?;

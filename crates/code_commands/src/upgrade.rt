@@ -9,8 +9,8 @@ ghost use Rattle.code_commands.specs.Upgrade.{IsUpgrade};
 
 use code_file::{Code, MAX_BYTES};
 use command_faults::Fault;
-use command_files::{open_file, place_counted, read_front};
-use command_words::two_words;
+use command_files::{open_file, place_counted, read_first_bytes};
+use command_words::two_arguments;
 use std::alloc::Global;
 use std::io::Read;
 use std::rt::Files;
@@ -35,22 +35,22 @@ pub fn upgrade_file<'a, F: Read + Drop>(
     ensures ok { IfOk result (λ upgraded. OfFile (F.remaining file) (λ bytes. IsUpgrade bytes upgraded.items)) }
     ensures err { IfErr result (λ fault. IsFileFault path.now fault ⊎ OfFile (F.remaining file) (λ bytes. IsCodeFault bytes fault)) }
 {
-    let bytes = read_front(alloc, file, path, MAX_BYTES)?;
+    let bytes = read_first_bytes(alloc, file, path, MAX_BYTES)?;
     upgrade_code(alloc, &bytes)
 }
 
-/// The line that the words behind `upgrade` print, which counts the bytes of the new file, once that is in its place.
+/// The line that the arguments behind `upgrade` print, which counts the bytes of the new file, once that is in its place.
 ///
-/// The fault is `Usage` where the words are not two paths; one of `upgrade_file`; or that of the file at the second path,
+/// The fault is `Usage` where the arguments are not two paths; one of `upgrade_file`; or that of the file at the second path,
 /// which then is as it was.
 pub fn upgrade_line<'a, R: Files + AllocGlobal>(
     rt: &R,
-    words: &[&'a str],
+    arguments: &[&'a str],
 ) -> Result<String, Fault<'a>>
-    ensures ok { IfOk result (λ line. MakesFile IsUpgrade (texts_of words.now) (string_bytes line)) }
-    ensures err { IfErr result (FailsToMake IsUpgrade IsCodeFault (texts_of words.now)) }
+    ensures ok { IfOk result (λ line. MakesFile IsUpgrade (texts_of arguments.now) (string_bytes line)) }
+    ensures err { IfErr result (FailsToMake IsUpgrade IsCodeFault (texts_of arguments.now)) }
 {
-    let Some((old, new)) = two_words(words) else {
+    let Some((old, new)) = two_arguments(arguments) else {
         return Err(Fault::Usage);
     };
     let file = open_file(rt, old)?;

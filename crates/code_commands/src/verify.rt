@@ -9,8 +9,8 @@ ghost use Rattle.code_commands.specs.Verify.{steps_line, bytes_line, verdict, Is
 use budget::Budget;
 use code_file::MAX_BYTES;
 use command_faults::Fault;
-use command_files::{open_file, read_front};
-use command_words::one_word;
+use command_files::{open_file, read_first_bytes};
+use command_words::one_argument;
 use std::alloc::{AllocError, Global};
 use std::io::Read;
 use std::rt::Files;
@@ -62,21 +62,21 @@ pub fn verify_file<'a, F: Read + Drop>(
     ensures ok { IfOk result (λ text. OfFile (F.remaining file) (λ bytes. IsVerdict bytes (string_bytes text))) }
     ensures err { IfErr result (λ fault. IsFileFault path.now fault ⊎ OfFile (F.remaining file) (λ bytes. IsVerifyFault bytes fault)) }
 {
-    let bytes = read_front(alloc, file, path, MAX_BYTES)?;
+    let bytes = read_first_bytes(alloc, file, path, MAX_BYTES)?;
     verify_code(alloc, &bytes)
 }
 
-/// The lines that the words behind `verify` print: the path of a code file.
+/// The lines that the arguments behind `verify` print: the path of a code file.
 ///
-/// The fault is `Usage` for other words, or one of `verify_file`.
+/// The fault is `Usage` for other arguments, or one of `verify_file`.
 pub fn verify_lines<'a, R: Files + AllocGlobal>(
     rt: &R,
-    words: &[&'a str],
+    arguments: &[&'a str],
 ) -> Result<String, Fault<'a>>
-    ensures ok { IfOk result (λ text. IsVerifyLine (texts_of words.now) (string_bytes text)) }
-    ensures err { IfErr result (FailsToVerify (texts_of words.now)) }
+    ensures ok { IfOk result (λ text. IsVerifyLine (texts_of arguments.now) (string_bytes text)) }
+    ensures err { IfErr result (FailsToVerify (texts_of arguments.now)) }
 {
-    let Some(path) = one_word(words) else {
+    let Some(path) = one_argument(arguments) else {
         return Err(Fault::Usage);
     };
     let file = open_file(rt, path)?;

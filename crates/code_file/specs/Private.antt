@@ -1,3 +1,3 @@
--- Helpers of private contracts: no contract of a public function speaks of them.
+-- Definitions that no contract of a public function cites.
 pub mod FromLeft
 pub mod Tables

@@ -6,16 +6,15 @@ mod checked_runs;
 mod code_files;
 mod codes;
 mod compiled_rules;
+mod entry_points;
 mod environments;
-mod headlines;
 mod verdicts;
 
 use code_file::{Code, Instr, Literal, Name, spelling};
 use code_model::Instruction;
 use codes::Tables;
 use environments::Given;
-use interpreter::{Checked, run_checked};
-use runs::Outcome;
+use interpreter::{Checked, Outcome, run_checked};
 use std::alloc::{AllocError, Global};
 use std::process::Abort;
 use std::test::Fail;

@@ -21,5 +21,5 @@ of_query_fault P query refused wanting (fault.OverBudget n) h = absurd h
 of_query_fault P query refused wanting fault.NoLink h = absurd h
 of_query_fault P query refused wanting (fault.Device path) h = absurd h
 of_query_fault P query refused wanting (fault.Registry n) h = absurd h
-of_query_fault P query refused wanting (fault.Port word) h = absurd h
+of_query_fault P query refused wanting (fault.Port argument) h = absurd h
 of_query_fault P query refused wanting (fault.Target e) h = absurd h

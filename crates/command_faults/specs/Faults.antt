@@ -17,8 +17,8 @@ use Rattle.rule_parser.specs.declared.error.RuleErrorKind.{RuleErrorKind}
 use Rattle.rule_parser.specs.declared.error.RuleErrorKind.TheVariants as rules
 use Rattle.verifier.specs.declared.error.LoadError.{LoadError}
 use Rattle.verifier.specs.declared.error.LoadError.TheVariants as load
-use Rattle.runs.specs.declared.error.PrepareError.{PrepareError}
-use Rattle.runs.specs.declared.error.PrepareError.TheVariants as prepare
+use Rattle.verified_runs.specs.declared.error.PrepareError.{PrepareError}
+use Rattle.verified_runs.specs.declared.error.PrepareError.TheVariants as prepare
 use Rattle.kev_read.specs.Refusal.{refusal}
 use Rattle.kev_read.specs.declared.error.KevError.{KevError}
 use Rattle.kev_read.specs.declared.error.KevError.TheVariants as query
@@ -93,7 +93,7 @@ status_of (fault.Registry n) = 3
 status_of (fault.Target e) = status_of_target e.fault
 status_of Memory = 4
 status_of (Device path) = 4
-status_of (fault.Port word) = 4
+status_of (fault.Port argument) = 4
 
 -- the bytes are no code file, and this is their first fault; want of memory can come only where they are one
 abbrev pub IsCodeFault : Text → Fault → Type 0

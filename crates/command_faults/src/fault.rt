@@ -9,18 +9,18 @@ use compiler::CompileError;
 use kev_read::KevError;
 use registry_file::{TargetError, TargetFault};
 use rule_parser::{RuleError, RuleErrorKind};
-use runs::PrepareError;
 use std::alloc::{AllocError, AllocFailed};
 use std::io;
 use std::io::ErrorKind;
 use thiserror::Error;
 use uri_grammar::{TemplateError, TemplateErrorKind};
+use verified_runs::PrepareError;
 use verifier::LoadError;
 
 /// The exit status where no link is found.
 pub const NO_LINK: u8 = 1;
 
-/// The exit status for words that are no command.
+/// The exit status for arguments that are no command.
 pub const USAGE: u8 = 2;
 
 /// The exit status where an argument or a file is refused.
@@ -32,7 +32,7 @@ pub const FAILED: u8 = 4;
 /// Why a command ends without its result; printed behind `openlink: `.
 #[derive(Debug, PartialEq, Eq, Drop, Error)]
 pub enum Fault<'a> {
-    /// The words are no command.
+    /// The arguments are no command.
     #[error("usage")]
     Usage,
     /// The template is none of RFC 6570: the kind of its first fault, and the byte at which it stands.

@@ -3,7 +3,7 @@ use Rattle.std.proofs.Common.{◌≡◌, ℕ, ◌+◌, length, take, Option, Som
 use Rattle.std.proofs.Math.Decide.{dec_le}
 use Rattle.std.proofs.lemmas.List.{length-take, take_all}
 use Rattle.text_model.specs.Texts.{Text}
-use Rattle.file_front.specs.Front.{IsFront}
+use Rattle.file_front.specs.FirstBytes.{AreFirstBytes}
 use Rattle.command_files.specs.Files.{OfFile, IsWholeOrLong}
 
 whole_or_long : (limit : ℕ) (all : Text) → IsWholeOrLong limit (take (limit + 1) all) all
@@ -13,7 +13,7 @@ whole_or_long limit all =
       | no long ↦ inr (omega (arith, length-take (limit + 1) all, long), omega (arith, long))
     ]
 
-pub of_front : (limit : ℕ) (told : Option Text) (front : Text) → IsFront limit told front → OfFile told (IsWholeOrLong limit front)
+pub of_front : (limit : ℕ) (told : Option Text) (front : Text) → AreFirstBytes limit told front → OfFile told (IsWholeOrLong limit front)
 of_front limit None front is_front = (front, tt, inl refl)
 of_front limit (Some all) front is_front = (all, refl, subst (λ bytes. IsWholeOrLong limit bytes all) (sym is_front) (whole_or_long limit all))
 

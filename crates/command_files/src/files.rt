@@ -4,7 +4,7 @@ ghost use Rattle.std.specs.Prelude.{◌≡◌, ◌+◌, ◌<◌, ◌^◌, IfOk, 
 ghost use Rattle.std.specs.IoError.{error_kind};
 ghost use Rattle.command_faults.specs.Faults.{system_fault, IsFileFault};
 ghost use Rattle.command_files.specs.Files.{OfFile, IsWholeOrLong};
-ghost use Rattle.file_front.specs.Front.{IsFront};
+ghost use Rattle.file_front.specs.FirstBytes.{AreFirstBytes};
 
 use command_faults::Fault;
 use std::alloc::Global;
@@ -28,18 +28,18 @@ pub fn open_file<'a, R: Files>(rt: &R, path: &'a str) -> Result<R::File, Fault<'
 /// too long. The limit is in bytes, and a file of any length takes no more memory than that.
 ///
 /// The fault names the path, which is given for that alone, or is want of memory.
-pub fn read_front<'a, F: Read + Drop>(
+pub fn read_first_bytes<'a, F: Read + Drop>(
     alloc: Global,
     file: F,
     path: &'a str,
     limit: usize,
 ) -> Result<Vec<u8>, Fault<'a>>
     requires { limit + 1 < 2 ^ 63 }
-    ensures ok { IfOk result (λ bytes. IsFront limit (F.remaining file) bytes.items) }
+    ensures ok { IfOk result (λ bytes. AreFirstBytes limit (F.remaining file) bytes.items) }
     ensures whole { IfOk result (λ bytes. OfFile (F.remaining file) (IsWholeOrLong limit bytes.items)) }
     ensures err { IfErr result (IsFileFault path.now) }
 {
-    match file_front::read_front(alloc, file, limit) {
+    match file_front::read_first_bytes(alloc, file, limit) {
         Ok(bytes) => Ok(bytes),
         Err(e) => Err(file_fault(&e, path)),
     }

@@ -4,5 +4,5 @@
 mod files;
 mod placing;
 
-pub use files::{open_file, read_front};
+pub use files::{open_file, read_first_bytes};
 pub use placing::{place_counted, write_whole};

@@ -20,7 +20,7 @@ use Rattle.uri_grammar.specs.Names.{IsName}
 use Rattle.rule_parser.specs.Rules.{RuleSet}
 use Rattle.compiler_model.specs.Compiled.{has_counts, code_of}
 use Rattle.compiler_model.specs.Size.{file_size}
-use Rattle.compiler.specs.Growth.{IsUtf8Literal}
+use Rattle.compiler.specs.Private.Growth.{IsUtf8Literal}
 use Rattle.compiler.specs.Limits.{first_passed}
 use Rattle.compiler.specs.declared.error.CompileError.TheVariants.{FileTooLong}
 use Rattle.compiler.proofs.NameBytes.{file_name}

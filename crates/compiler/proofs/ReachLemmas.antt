@@ -6,7 +6,7 @@ use Rattle.compiler_model.specs.declared.lines.Line.{Line}
 use Rattle.compiler_model.specs.declared.lines.Action.{Action}
 use Rattle.compiler_model.specs.declared.lines.Line.TheVariants.{Acts, Jumps, Turns, Halts}
 use Rattle.compiler_model.specs.Blocks.{Block, Nothing, Does, Then, Unless, Either, ForEach, LeaveIf, Leave, lines}
-use Rattle.compiler.specs.Reach.{reach, StayWithin}
+use Rattle.compiler.specs.Private.Reach.{reach, StayWithin}
 
 within_more : (few many : ℕ) (ls : List Line) → few ≤ many → StayWithin few ls → StayWithin many ls
 within_more few many [] le h = tt

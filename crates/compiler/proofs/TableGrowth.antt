@@ -14,7 +14,7 @@ use Rattle.compiler_model.specs.declared.lines.Line.TheVariants.{Fails}
 use Rattle.compiler_model.specs.Tables.{is_same_name, is_same_literal, name_used, literal_used, firsts, names_of, literals_of}
 use Rattle.compiler_model.specs.Compiled.{rule_lines, all_lines}
 use Rattle.compiler_model.proofs.Entries.{same_names, same_literals}
-use Rattle.compiler.specs.Growth.{added, with_entry, gathered}
+use Rattle.compiler.specs.Private.Growth.{added, with_entry, gathered}
 
 -- the place of the first that passes is at most the length
 pub first_within : {X : Type 0} (p : X → Bool) (xs : List X) → position_or_len p xs ≤ length xs

@@ -1,3 +1,2 @@
-pub mod Growth
 pub mod Limits
-pub mod Reach
+pub mod Private

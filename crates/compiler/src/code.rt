@@ -14,12 +14,12 @@ ghost use Rattle.rule_parser.specs.Meaning.{meaning};
 ghost use Rattle.compiler_model.specs.Answer.{answer};
 ghost use Rattle.compiler_model.specs.Compiled.{all_lines, rules_instructions, is_counts, has_counts as has_guard_counts, code_of};
 ghost use Rattle.compiler_model.specs.Size.{file_size};
-ghost use Rattle.compiler.specs.Growth.{IsUtf8Literal};
+ghost use Rattle.compiler.specs.Private.Growth.{IsUtf8Literal};
 ghost use Rattle.compiler.specs.Limits.{limit_passed};
 ghost use Rattle.compiler.specs.declared.error.CompileError.TheVariants.{NoMemory, FileTooLong};
 
+use crate::code_tables::Tables;
 use crate::error::CompileError;
-use crate::gathering::Tables;
 use crate::instructions::{push_instr, push_rule};
 use crate::rule_lines::rule_lines;
 use code_file::laws::file_has_no_fault;

@@ -4,7 +4,7 @@ ghost use Rattle.std.specs.Prelude.{◌≡◌, ◌+◌, ◌≤◌, ◌++◌, ◌
 ghost use Rattle.code_model.specs.Code.{spelling as spelled};
 ghost use Rattle.code_file.specs.Grammar.{IsInstr};
 ghost use Rattle.compiler_model.specs.Compiled.{mode_of, place_of, action_instruction, test_instruction, line_instruction, instructions_from};
-ghost use Rattle.compiler.specs.Reach.{distance, reach, StayWithin};
+ghost use Rattle.compiler.specs.Private.Reach.{distance, reach, StayWithin};
 
 use crate::tables::{literal_index, name_index};
 use code_file::{Instr, Literal, Name, spelling};

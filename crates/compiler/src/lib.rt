@@ -2,8 +2,8 @@
 #![tactic(auto)]
 
 mod code;
+mod code_tables;
 mod error;
-mod gathering;
 mod guards;
 mod instructions;
 mod lines;

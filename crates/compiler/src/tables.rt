@@ -3,7 +3,7 @@
 ghost use Rattle.std.specs.Prelude.{◌≡◌, ◌≤◌, All, length, OnOk};
 ghost use Rattle.std.specs.List.{list_any, filter_map, position};
 ghost use Rattle.compiler_model.specs.Tables.{name_entry, literal_entry, is_same_name, is_same_literal, name_used, literal_used, name_index as index_of_name, literal_index as index_of_literal};
-ghost use Rattle.compiler.specs.Growth.{added, with_entry, gathered, IsUtf8Literal};
+ghost use Rattle.compiler.specs.Private.Growth.{added, with_entry, gathered, IsUtf8Literal};
 
 use code_file::{Literal, Name};
 use compiler_model::{Action, Line};

@@ -1,11 +1,11 @@
 -- A reply that was written, whole or in part, as the outcome of an exchange.
 use Rattle.std.proofs.Common.{◌≡◌, ℕ, ◌<◌, Bool, false, List, Option, Result, Ok, Err, IfErr, IfOk, length, subst, sym}
 use Rattle.registry.specs.Targets.{TargetValue}
-use Rattle.http_streams.specs.HeadRead.{IsReadWhole}
+use Rattle.http_streams.specs.HeadReading.{IsReadWhole}
 use Rattle.http_streams.specs.declared.read.TheConstants.{MAX_HEAD_BYTES}
-use Rattle.http_head.specs.Asking.{IsAsked, Wanted}
+use Rattle.http_request.specs.Routes.{IsRouted, RouteValue}
 use Rattle.http_front.specs.Replies.{ReplyValue, printed, unavailable}
-use Rattle.http_front.specs.Front.{IsReplyTo}
+use Rattle.http_front.specs.RouteReplies.{IsReplyTo}
 use Rattle.http_front.specs.Exchange.{IsFault, IsReply, IsReplyToInput, IsSent, IsServed, front, no_memory, no_room, request}
 use Rattle.http_front.specs.declared.exchange.Served.{Served}
 use Rattle.http_front.specs.declared.exchange.Served.TheVariants.{Nothing, Replied}
@@ -14,17 +14,17 @@ use Rattle.http_front.specs.declared.exchange.ServeError.TheVariants.{ReadFault,
 
 -- ---- which reply
 
-pub reply-front : (targets : List TargetValue) (bytes : List ℕ) (wanted : Wanted) (head_only : Bool) (reply : ReplyValue) (status : ℕ) (text : List ℕ)
-    → IsAsked bytes wanted head_only → IsReplyTo targets wanted reply → status ≡ reply.status → text ≡ printed reply head_only
+pub reply-front : (targets : List TargetValue) (bytes : List ℕ) (route : RouteValue) (without_body : Bool) (reply : ReplyValue) (status : ℕ) (text : List ℕ)
+    → IsRouted bytes route without_body → IsReplyTo targets route reply → status ≡ reply.status → text ≡ printed reply without_body
     → IsReply targets bytes status text
-reply-front targets bytes wanted head_only reply status text asked is e f =
+reply-front targets bytes route without_body reply status text routed is e f =
     subst (λ (s : ℕ). IsReply targets bytes s text) (sym e)
-    (subst (λ (t : List ℕ). IsReply targets bytes reply.status t) (sym f) (front wanted head_only reply asked is))
+    (subst (λ (t : List ℕ). IsReply targets bytes reply.status t) (sym f) (front route without_body reply routed is))
 
-pub reply-no_memory : (targets : List TargetValue) (bytes : List ℕ) (wanted : Wanted) (head_only : Bool) (text : List ℕ)
-    → IsAsked bytes wanted head_only → text ≡ printed unavailable head_only → IsReply targets bytes 503 text
-reply-no_memory targets bytes wanted head_only text asked f =
-    subst (λ (t : List ℕ). IsReply targets bytes 503 t) (sym f) (no_memory wanted head_only asked)
+pub reply-no_memory : (targets : List TargetValue) (bytes : List ℕ) (route : RouteValue) (without_body : Bool) (text : List ℕ)
+    → IsRouted bytes route without_body → text ≡ printed unavailable without_body → IsReply targets bytes 503 text
+reply-no_memory targets bytes route without_body text routed f =
+    subst (λ (t : List ℕ). IsReply targets bytes 503 t) (sym f) (no_memory route without_body routed)
 
 pub reply-no_room : (targets : List TargetValue) (old new : Option (List ℕ)) (text : List ℕ)
     → new ≡ old → text ≡ printed unavailable false → IsReplyToInput targets old new 503 text

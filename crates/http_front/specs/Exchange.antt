@@ -1,12 +1,12 @@
 -- One exchange: what was read, and what was written.
 use Rattle.std.specs.Prelude.{◌≡◌, ℕ, ◌+◌, ◌<◌, Bool, false, List, [], Option, Result, Ok, Err, length, take}
 use Rattle.registry.specs.Targets.{TargetValue}
-use Rattle.http_streams.specs.HeadRead.{IsReadWhole, IsReadInPart}
+use Rattle.http_streams.specs.HeadReading.{IsReadWhole, IsReadInPart}
 use Rattle.http_streams.specs.Streams.{Writes}
 use Rattle.http_streams.specs.declared.read.TheConstants.{MAX_HEAD_BYTES}
-use Rattle.http_head.specs.Asking.{Wanted, IsAsked}
+use Rattle.http_request.specs.Routes.{RouteValue, IsRouted}
 use Rattle.http_front.specs.Replies.{ReplyValue, printed, unavailable}
-use Rattle.http_front.specs.Front.{IsReplyTo}
+use Rattle.http_front.specs.RouteReplies.{IsReplyTo}
 use Rattle.http_front.specs.declared.exchange.Served.{Served}
 use Rattle.http_front.specs.declared.exchange.Served.TheVariants.{Nothing, Replied}
 use Rattle.http_front.specs.declared.exchange.ServeError.{ServeError}
@@ -17,10 +17,10 @@ use Rattle.http_front.specs.declared.exchange.ServeError.TheVariants.{ReadFault,
 -- the status and the bytes of a reply to the bytes of a request: of the reply to what they ask for, or of the one
 -- for want of memory
 pub data IsReply (targets : List TargetValue) (bytes : List ℕ) : ℕ → List ℕ → Type 0 where
-  front : (wanted : Wanted) (head_only : Bool) (reply : ReplyValue) → IsAsked bytes wanted head_only → IsReplyTo targets wanted reply
-      → IsReply targets bytes reply.status (printed reply head_only)
-  no_memory : (wanted : Wanted) (head_only : Bool) → IsAsked bytes wanted head_only
-      → IsReply targets bytes unavailable.status (printed unavailable head_only)
+  front : (route : RouteValue) (without_body : Bool) (reply : ReplyValue) → IsRouted bytes route without_body → IsReplyTo targets route reply
+      → IsReply targets bytes reply.status (printed reply without_body)
+  no_memory : (route : RouteValue) (without_body : Bool) → IsRouted bytes route without_body
+      → IsReply targets bytes unavailable.status (printed unavailable without_body)
 
 -- the same of what was read; where there was no room to read, nothing was read
 pub data IsReplyToInput (targets : List TargetValue) (old new : Option (List ℕ)) : ℕ → List ℕ → Type 0 where

@@ -1,3 +1,3 @@
 pub mod Replies
-pub mod Front
+pub mod RouteReplies
 pub mod Exchange

@@ -25,7 +25,7 @@ allow_line status = if status == 405 then codes "Allow: GET, HEAD\r\n" else []
 
 -- to HEAD no body is sent (RFC 9110, section 9.3.2)
 abbrev pub sent_body : ReplyValue → Bool → Text
-sent_body reply head_only = if head_only then [] else reply.body
+sent_body reply without_body = if without_body then [] else reply.body
 
 abbrev pub status_line : ℕ → Text
 status_line status = codes "HTTP/1.1 " ++ (status_text status ++ codes "\r\n")
@@ -40,6 +40,6 @@ length_line length = codes "Content-Length: " ++ (decimal length ++ codes "\r\n"
 
 -- the status with its phrase, the fields, an empty line, and the body
 abbrev pub printed : ReplyValue → Bool → Text
-printed reply head_only =
+printed reply without_body =
     status_line reply.status ++ type_line reply.html ++ length_line (length reply.body) ++ codes "Connection: close\r\n"
-    ++ allow_line reply.status ++ codes "\r\n" ++ sent_body reply head_only
+    ++ allow_line reply.status ++ codes "\r\n" ++ sent_body reply without_body

@@ -7,7 +7,7 @@ ghost use Rattle.http_front.specs.Exchange as spec;
 
 use crate::menu_page::print_reply;
 use crate::reply::{NO_MEMORY, unavailable};
-use http_head::read_request;
+use http_request::read_request;
 use http_streams::{HeadError, Input, Output, read_head, write_all};
 use registry::Registry;
 use std::alloc::{AllocError, Global};
@@ -58,10 +58,10 @@ fn answer<O: Output>(
         × spec.IsSent (O.written output.old) (O.written output.new) status reply result }
     ensures counted { spec.CountsWriteFailures (O.failures output.old) (O.failures output.new) result }
 {
-    let read = read_request(bytes);
-    match print_reply(alloc, registry, read) {
+    let request = read_request(bytes);
+    match print_reply(alloc, registry, request) {
         Ok((status, reply)) => send(output, status, reply.as_bytes()),
-        Err(AllocError) => send(output, NO_MEMORY, unavailable(read.head_only)),
+        Err(AllocError) => send(output, NO_MEMORY, unavailable(request.without_body)),
     }
 }
 

@@ -1,15 +1,15 @@
-//! What is replied to what is asked for.
+//! The reply to a request, by its route.
 
 ghost use Rattle.std.specs.Prelude.{◌≡◌, ◌≤◌, IfOk, length, string_bytes};
 ghost use Rattle.kev_read.specs.Refusal.{refusal};
 ghost use Rattle.kev_read.specs.declared.read.TheConstants.{MAX_QUERY_BYTES};
-ghost use Rattle.http_head.specs.Asking.{query_length, wanted_by};
+ghost use Rattle.http_request.specs.Routes.{query_length, route_value};
 ghost use Rattle.http_front.specs.Replies.{ReplyValue, printed};
-ghost use Rattle.http_front.specs.Front as spec;
+ghost use Rattle.http_front.specs.RouteReplies as spec;
 
 use crate::reply::Reply;
 use http::StatusCode;
-use http_head::{Asked, HeadRead, Page};
+use http_request::{HttpRequest, Page, Route};
 use kev_read::{KevError, Request, read_kev};
 use link_menu::resolve;
 use menu::Menu;
@@ -64,27 +64,27 @@ fn query_reply(
     }
 }
 
-/// The reply to what is asked for.
+/// The reply for a route.
 pub(crate) fn reply_for(
     alloc: Global,
     registry: &Registry,
-    asked: Asked<'_>,
+    route: Route<'_>,
 ) -> Result<Reply, AllocError>
-    requires { query_length (wanted_by asked) ≤ MAX_QUERY_BYTES }
-    ensures { IfOk result (spec.IsReplyTo registry.now (wanted_by asked.entry)) }
+    requires { query_length (route_value route) ≤ MAX_QUERY_BYTES }
+    ensures { IfOk result (spec.IsReplyTo registry.now (route_value route.entry)) }
 {
-    match asked {
-        Asked::Menu { page, query } => query_reply(alloc, registry, page, query),
-        Asked::NotFound => Reply::plain(alloc, StatusCode::NOT_FOUND, "not found\n"),
-        Asked::MethodNotAllowed => {
+    match route {
+        Route::Menu { page, query } => query_reply(alloc, registry, page, query),
+        Route::NotFound => Reply::plain(alloc, StatusCode::NOT_FOUND, "not found\n"),
+        Route::MethodNotAllowed => {
             Reply::plain(
                 alloc,
                 StatusCode::METHOD_NOT_ALLOWED,
                 "method not allowed\n",
             )
         }
-        Asked::BadRequest => Reply::plain(alloc, StatusCode::BAD_REQUEST, "bad request\n"),
-        Asked::HeadTooLarge => Reply::plain(
+        Route::BadRequest => Reply::plain(alloc, StatusCode::BAD_REQUEST, "bad request\n"),
+        Route::HeadTooLarge => Reply::plain(
             alloc,
             StatusCode::REQUEST_HEADER_FIELDS_TOO_LARGE,
             "head too large\n",
@@ -96,13 +96,13 @@ pub(crate) fn reply_for(
 pub(crate) fn print_reply(
     alloc: Global,
     registry: &Registry,
-    read: HeadRead<'_>,
+    request: HttpRequest<'_>,
 ) -> Result<(u16, String), AllocError>
-    requires { query_length (wanted_by read.asked) ≤ MAX_QUERY_BYTES }
-    ensures { IfOk result (λ made. (reply : ReplyValue) × spec.IsReplyTo registry.now (wanted_by read.entry.asked) reply
-        × (made.0 ≡ reply.status) × (string_bytes made.1 ≡ printed reply read.entry.head_only)) }
+    requires { query_length (route_value request.route) ≤ MAX_QUERY_BYTES }
+    ensures { IfOk result (λ made. (reply : ReplyValue) × spec.IsReplyTo registry.now (route_value request.entry.route) reply
+        × (made.0 ≡ reply.status) × (string_bytes made.1 ≡ printed reply request.entry.without_body)) }
 {
-    let reply = reply_for(alloc, registry, read.asked)?;
-    let text = reply.print(alloc, read.head_only)?;
+    let reply = reply_for(alloc, registry, request.route)?;
+    let text = reply.print(alloc, request.without_body)?;
     Ok((reply.status(), text))
 }

@@ -81,15 +81,15 @@ impl Reply {
     }
 
     // The body that is sent.
-    fn sent_body(&self, head_only: bool) -> &str
-        ensures { result.now ≡ spec.sent_body self.now head_only }
+    fn sent_body(&self, without_body: bool) -> &str
+        ensures { result.now ≡ spec.sent_body self.now without_body }
     {
-        if head_only { "" } else { self.body.as_str() }
+        if without_body { "" } else { self.body.as_str() }
     }
 
     /// The bytes of the reply (RFC 9112, section 2.1), without the body where only the head was asked for.
-    pub(crate) fn print(&self, alloc: Global, head_only: bool) -> Result<String, AllocError>
-        ensures { IfOk result (λ text. string_bytes text ≡ spec.printed self.now head_only) }
+    pub(crate) fn print(&self, alloc: Global, without_body: bool) -> Result<String, AllocError>
+        ensures { IfOk result (λ text. string_bytes text ≡ spec.printed self.now without_body) }
     {
         let mut text = String::new(alloc);
         self.push_status_line(&mut text)?;
@@ -98,7 +98,7 @@ impl Reply {
         text.push_str("Connection: close\r\n")?;
         text.push_str(self.allow_line())?;
         text.push_str("\r\n")?;
-        text.push_str(self.sent_body(head_only))?;
+        text.push_str(self.sent_body(without_body))?;
         Ok(text)
     }
 }
@@ -116,11 +116,11 @@ const UNAVAILABLE_HEAD: &[u8] =
 pub(crate) const NO_MEMORY: u16 = 503;
 
 /// The bytes of the reply for want of memory.
-pub(crate) fn unavailable(head_only: bool) -> &'static [u8]
-    ensures bytes { result.now ≡ spec.printed spec.unavailable head_only }
+pub(crate) fn unavailable(without_body: bool) -> &'static [u8]
+    ensures bytes { result.now ≡ spec.printed spec.unavailable without_body }
     ensures status { NO_MEMORY ≡ spec.unavailable.status }
 {
-    if head_only {
+    if without_body {
         UNAVAILABLE_HEAD
     } else {
         UNAVAILABLE

@@ -1,7 +1,7 @@
 //! How connections went.
 
 ghost use Rattle.std.specs.Prelude.{◌≡◌, ◌+◌, ◌<◌};
-ghost use Rattle.http_service.specs.Counting.{counted};
+ghost use Rattle.http_service.specs.Private.Counting.{counted};
 
 use http_front::{ServeError, Served};
 

@@ -1,4 +1,4 @@
 pub mod Streams
 pub mod Closing
-pub mod HeadRead
-pub mod Inner
+pub mod HeadReading
+pub mod Private

@@ -2,7 +2,7 @@
 
 ghost use Rattle.std.specs.Prelude.{◌≡◌, [], ◌∷◌, ◌++◌, ℕ, List};
 ghost use Rattle.http_streams.specs.Closing.{is_closed};
-ghost use Rattle.http_streams.specs.Inner.Progress.{closes_with};
+ghost use Rattle.http_streams.specs.Private.Progress.{closes_with};
 
 /// What the bytes so far leave to be seen before the head is closed.
 #[derive(Clone, Copy)]

@@ -1,7 +1,7 @@
 //! The reading of a head.
 
 ghost use Rattle.std.specs.Prelude.{◌≡◌, ◌<◌, ◌≤◌, ◌+◌, ℕ, List, Err, IfOk, OnErr, OnOk, drop, length, take};
-ghost use Rattle.http_streams.specs.HeadRead.{IsReadInPart, IsReadWhole};
+ghost use Rattle.http_streams.specs.HeadReading.{IsReadInPart, IsReadWhole};
 ghost use Rattle.http_streams.specs.Streams.{IsAtEnd, Reads};
 ghost use Rattle.http_streams.specs.declared.error.HeadError.TheVariants as head_error;
 

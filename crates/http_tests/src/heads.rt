@@ -1,30 +1,30 @@
 //! What requests ask for.
 
 use crate::filled;
-use http_head::{Asked, Page, read_request};
+use http_request::{Page, Route, read_request};
 use http_streams::MAX_HEAD_BYTES;
 use std::process::Abort;
 use std::test::Fail;
 
 /// What bytes ask for, as a short text, with the query of a page.
 fn seen(bytes: &[u8]) -> (&str, &[u8]) {
-    match read_request(bytes).asked {
-        Asked::Menu { page, query } => match page {
+    match read_request(bytes).route {
+        Route::Menu { page, query } => match page {
             Page::Html => ("html", query),
             Page::Text => ("text", query),
             Page::Report => ("report", query),
         },
-        Asked::NotFound => ("not found", b""),
-        Asked::MethodNotAllowed => ("method", b""),
-        Asked::BadRequest => ("bad", b""),
-        Asked::HeadTooLarge => ("too large", b""),
+        Route::NotFound => ("not found", b""),
+        Route::MethodNotAllowed => ("method", b""),
+        Route::BadRequest => ("bad", b""),
+        Route::HeadTooLarge => ("too large", b""),
     }
 }
 
 /// The bytes ask for this, with this query of a page.
-fn asks<R: Abort>(rt: &R, bytes: &[u8], asked: &str, query: &[u8]) {
+fn asks<R: Abort>(rt: &R, bytes: &[u8], route: &str, query: &[u8]) {
     let (came, of) = seen(bytes);
-    assert_eq!(rt; came, asked, "of {bytes:?}");
+    assert_eq!(rt; came, route, "of {bytes:?}");
     assert_eq!(rt; of, query, "of {bytes:?}");
 }
 
@@ -88,12 +88,12 @@ const REQUESTS: [(&[u8], &str, &[u8]); 14] = [
 
 #[test]
 fn asks_for(rt: HostRuntime) -> Result<(), Fail> {
-    for (line, asked, query) in TARGETS {
+    for (line, route, query) in TARGETS {
         let request = format!(in rt.alloc(); "{line} HTTP/1.1\r\nHost: a\r\n\r\n")?;
-        asks(&rt, request.as_bytes(), asked, query);
+        asks(&rt, request.as_bytes(), route, query);
     }
-    for (request, asked, query) in REQUESTS {
-        asks(&rt, request, asked, query);
+    for (request, route, query) in REQUESTS {
+        asks(&rt, request, route, query);
     }
     Ok(())
 }
@@ -109,8 +109,12 @@ const WITHOUT_BODY: [(&[u8], bool); 5] = [
 
 #[test]
 fn head_only_with_a_head(rt: HostRuntime) {
-    for (bytes, head_only) in WITHOUT_BODY {
-        assert_eq!(rt; read_request(bytes).head_only, head_only, "of {bytes:?}");
+    for (bytes, without_body) in WITHOUT_BODY {
+        assert_eq!(rt;
+            read_request(bytes).without_body,
+            without_body,
+            "of {bytes:?}"
+        );
     }
 }
 
@@ -140,9 +144,9 @@ const LONG: [(&[u8], usize, &[u8], &str); 4] = [
 
 #[test]
 fn too_large_while_open(rt: HostRuntime) -> Result<(), Fail> {
-    for (start, count, end, asked) in LONG {
+    for (start, count, end, route) in LONG {
         let bytes = filled(rt.alloc(), start, count, b"x", end)?;
-        assert_eq!(rt; seen(&bytes).0, asked, "with {count} letters");
+        assert_eq!(rt; seen(&bytes).0, route, "with {count} letters");
     }
     Ok(())
 }
@@ -150,9 +154,9 @@ fn too_large_while_open(rt: HostRuntime) -> Result<(), Fail> {
 #[test]
 fn so_many_fields(rt: HostRuntime) -> Result<(), Fail> {
     let start = b"GET /report HTTP/1.1\r\nHost: a\r\n";
-    for (others, asked) in [(0, "report"), (127, "report"), (128, "bad")] {
+    for (others, route) in [(0, "report"), (127, "report"), (128, "bad")] {
         let head = filled(rt.alloc(), start, others, b"A: b\r\n", b"\r\n")?;
-        assert_eq!(rt; seen(&head).0, asked, "with {others} fields beside Host");
+        assert_eq!(rt; seen(&head).0, route, "with {others} fields beside Host");
     }
     Ok(())
 }

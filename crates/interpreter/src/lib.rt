@@ -1,18 +1,11 @@
-//! The checked machine: runs any code on any environment, with every test that the machine's
-//! definitions make.
+//! The interpreter: runs of accepted code, and the checked machine that tests compare them with.
+//!
+//! [`prepare`] makes a [`Run`] of code that the verifier accepted. A run tests no tag, no index and no jump, and can be
+//! carried out in turns of any number of steps. [`run_checked`] runs any code on any environment, with every test that
+//! the machine's definitions make.
 #![tactic(auto)]
 
-mod act;
-mod frame;
-mod jumps;
-mod loads;
-mod loops;
-mod printing;
-mod reading;
-mod register;
-mod registers;
-mod run;
-mod step;
-mod value;
-
-pub use run::{Checked, run_checked};
+pub use checked_machine::{Checked, run_checked};
+pub use verified_runs::{
+    MAX_LINK_BYTES, Outcome, PrepareError, Run, Step, Turn, Words, prepare, step,
+};

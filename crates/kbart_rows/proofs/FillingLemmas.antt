@@ -12,7 +12,7 @@ use Rattle.target_vars.specs.declared.env.TheConstants.{MAX_BYTES}
 use Rattle.target_vars.specs.declared.error.VarsError.{VarsError}
 use Rattle.target_vars.specs.declared.error.VarsError.TheVariants.{TooLarge, NoMemory}
 use Rattle.kbart_rows.specs.Cells.{Row, NamedCell, cell_bytes, column_of, is_first, name_cell, named_cell, named_cells, row_bytes}
-use Rattle.kbart_rows.specs.Inner.Kept.{cell_at_first, IsRefusedCell}
+use Rattle.kbart_rows.specs.Private.Kept.{cell_at_first, IsRefusedCell}
 use Rattle.kbart_rows.proofs.FirstColumns.{stands_at}
 use Rattle.kbart_rows.proofs.Rows.{range_more, range_parts}
 use Rattle.kbart_rows.specs.Filling.{fill_one, filled, with_defined, StopsAtCell}

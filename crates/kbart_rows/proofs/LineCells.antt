@@ -10,7 +10,7 @@ use Rattle.std.specs.Option.{option_map, unwrap_or}
 use Rattle.csv.specs.Records.{field_at}
 use Rattle.text_model.specs.Texts.{Text}
 use Rattle.kbart_rows.specs.Cells.{Row, row_bytes, tab}
-use Rattle.kbart_rows.specs.Inner.Line.{cell_and_tab, line_of, in_front, cells_in, HasNoTab}
+use Rattle.kbart_rows.specs.Private.Line.{cell_and_tab, line_of, in_front, cells_in, HasNoTab}
 
 pub no_cells : cells_in [] ≡ []
 unfolding cells_in

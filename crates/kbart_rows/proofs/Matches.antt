@@ -6,7 +6,7 @@ use Rattle.std.specs.List.{range_with_len}
 use Rattle.text_model.specs.Texts.{Text}
 use Rattle.kbart_rows.specs.Cells.{Row}
 use Rattle.kbart_rows.specs.Identifiers.{first_from, has_identifier, is_match}
-use Rattle.kbart_rows.specs.Inner.Kept.{lesser_of, rows_with}
+use Rattle.kbart_rows.specs.Private.Kept.{lesser_of, rows_with}
 use Rattle.kbart_rows.proofs.Rows.{below_end, first_is, first_of_either, none_pass, or_false}
 
 abbrev pub matches : List (Option ℕ) → List Row → List Text → List ℕ

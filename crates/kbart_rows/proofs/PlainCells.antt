@@ -14,7 +14,7 @@ use Rattle.csv.specs.declared.parser.State.TheVariants as state
 use Rattle.csv.specs.declared.parser.Terminator.TheVariants as terminator
 use Rattle.text_model.specs.Texts.{Text}
 use Rattle.kbart_rows.specs.Cells.{Row, tab}
-use Rattle.kbart_rows.specs.Inner.Line.{HasNoTab}
+use Rattle.kbart_rows.specs.Private.Line.{HasNoTab}
 use Rattle.kbart_rows.specs.Reading.{tab_separated}
 
 -- ---- one byte

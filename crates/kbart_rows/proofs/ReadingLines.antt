@@ -7,8 +7,8 @@ use Rattle.csv.specs.declared.reader.Trim.TheVariants as trim
 use Rattle.csv.proofs.ReadFacts.{rows-end, rows-more}
 use Rattle.text_model.specs.Texts.{Text}
 use Rattle.kbart_rows.specs.Cells.{Row}
-use Rattle.kbart_rows.specs.Inner.Kept.{IsRefusedLine}
-use Rattle.kbart_rows.specs.Inner.Line.{HasNoTab}
+use Rattle.kbart_rows.specs.Private.Kept.{IsRefusedLine}
+use Rattle.kbart_rows.specs.Private.Line.{HasNoTab}
 use Rattle.kbart_rows.specs.Reading.{tab_separated, AreLines, AreFirstLines, AllFit, IsFreshReader, IsLineFault}
 use Rattle.kbart_rows.specs.declared.error.TableError.{TableError}
 use Rattle.kbart_rows.specs.declared.error.TableError.TheVariants.{TooLong, NotUtf8, NoHeader, TooManyRows, RowTooLong, NoMemory}

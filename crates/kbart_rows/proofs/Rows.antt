@@ -7,7 +7,7 @@ use Rattle.std.specs.List.Sorted.{IsNonDecreasing}
 use Rattle.std.specs.Str.{bytes_eq}
 use Rattle.text_model.specs.Texts.{Text}
 use Rattle.kbart_rows.specs.Identifiers.{first_from}
-use Rattle.kbart_rows.specs.Inner.Kept.{is_id, lesser_of}
+use Rattle.kbart_rows.specs.Private.Kept.{is_id, lesser_of}
 
 -- ---- ranges
 

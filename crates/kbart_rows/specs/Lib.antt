@@ -3,4 +3,4 @@ pub mod Identifiers
 pub mod Reading
 pub mod Filling
 pub mod Hashing
-pub mod Inner
+pub mod Private

@@ -4,7 +4,7 @@ ghost use Rattle.std.specs.Prelude.{◌≡◌, ◌<◌, ◌∷◌, [], OnOk, IfS
 ghost use Rattle.csv.specs.Records.{fields_of};
 ghost use Rattle.std.specs.Option.{option_copied};
 ghost use Rattle.kbart_rows.specs.Cells as spec;
-ghost use Rattle.kbart_rows.specs.Inner.Line.{cells_in, line_of};
+ghost use Rattle.kbart_rows.specs.Private.Line.{cells_in, line_of};
 
 use csv::StringRecord;
 use std::alloc::AllocError;

@@ -4,7 +4,7 @@ ghost use Rattle.std.specs.Option.{option_map_or, unwrap_or};
 ghost use Rattle.std.specs.Str.{bytes_eq};
 ghost use Rattle.text_model.specs.Texts.{Text};
 ghost use Rattle.kbart_rows.specs.Cells.{column_of};
-ghost use Rattle.kbart_rows.specs.Inner.Line.{cells_in};
+ghost use Rattle.kbart_rows.specs.Private.Line.{cells_in};
 
 use crate::cells::next_cell;
 use crate::keys::Keys;

@@ -1,8 +1,8 @@
 ghost use Rattle.std.specs.Prelude.{◌≡◌, ◌≤◌, ◌<◌, ◌+◌, ◌++◌, ◌∷◌, [], All, IfOk, IfErr, OnOk, length};
 ghost use Rattle.csv.specs.Records.{fields_of};
 ghost use Rattle.kbart_rows.specs.Cells.{row_bytes};
-ghost use Rattle.kbart_rows.specs.Inner.Line.{HasNoTab};
-ghost use Rattle.kbart_rows.specs.Inner.Kept.{IsRefusedLine};
+ghost use Rattle.kbart_rows.specs.Private.Line.{HasNoTab};
+ghost use Rattle.kbart_rows.specs.Private.Kept.{IsRefusedLine};
 ghost use Rattle.kbart_rows.specs.Reading.{AreLines, AllFit, IsFault, IsFreshReader, IsLineFault, IsText};
 
 use crate::cells::write_line;

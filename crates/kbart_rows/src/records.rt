@@ -1,5 +1,5 @@
 ghost use Rattle.std.specs.Prelude.{◌≡◌, ◌++◌, ◌∷◌, [], OnOk, get_or, length};
-ghost use Rattle.kbart_rows.specs.Inner.Line.{cells_in};
+ghost use Rattle.kbart_rows.specs.Private.Line.{cells_in};
 
 use csv::StringRecord;
 use std::alloc::{AllocError, Global};
@@ -16,7 +16,7 @@ impl Model for Records {
     ghost use Rattle.std.specs.Prelude.{List, map};
     ghost use Rattle.csv.specs.Records.{fields_of};
     ghost use Rattle.kbart_rows.specs.Cells.{Row};
-    ghost use Rattle.kbart_rows.specs.Inner.Line.{cells_in};
+    ghost use Rattle.kbart_rows.specs.Private.Line.{cells_in};
 
     ghost Value = { List Row };
 

@@ -7,7 +7,7 @@ ghost use Rattle.kev_read.specs.declared.read.TheConstants.{MAX_PAIRS, MAX_QUERY
 ghost use Rattle.kbart_rows.specs.Cells.{cell_bytes, cell_of, named_cells};
 ghost use Rattle.kbart_rows.specs.Filling.{filled, StopsAtCell};
 ghost use Rattle.kbart_rows.specs.Identifiers as spec;
-ghost use Rattle.kbart_rows.specs.Inner.Kept.{lesser_of, rows_with};
+ghost use Rattle.kbart_rows.specs.Private.Kept.{lesser_of, rows_with};
 ghost use Rattle.kbart_rows.specs.Reading.{AllFit, IsFault, IsTable};
 ghost use Rattle.kbart_rows.specs.declared.read.TheConstants.{MAX_ROW_BYTES, MAX_ROWS, MAX_TABLE_BYTES};
 
@@ -38,7 +38,7 @@ pub struct Table {
 
 impl Model for Table {
     ghost use Rattle.kbart_rows.specs.Cells.{Holdings};
-    ghost use Rattle.kbart_rows.specs.Inner.Kept.{IsIndexed, holdings_of};
+    ghost use Rattle.kbart_rows.specs.Private.Kept.{IsIndexed, holdings_of};
 
     ghost Value = { Holdings };
 

@@ -14,7 +14,7 @@ use Rattle.target_vars.specs.declared.env.TheConstants.{MAX_BYTES, MAX_MEMBERS}
 use Rattle.target_vars.specs.declared.error.VarsError.{VarsError}
 use Rattle.target_vars.specs.declared.error.VarsError.TheVariants.{TooLarge, NoMemory}
 use Rattle.kev_read.specs.Pairs.{KeyValue, value_bytes}
-use Rattle.kev_read.specs.Inner.KeyOrder.{passes_at}
+use Rattle.kev_read.specs.Private.KeyOrder.{passes_at}
 use Rattle.kev_read.specs.Filling.{fill_one, filled, is_added, MemberIsTooLarge, TextIsTooLarge, IsTooLarge, StopsAtPair}
 
 -- the test of the key of the pair at an index

@@ -20,7 +20,7 @@ use Rattle.std.specs.declared.cmp.Ordering.{Ordering}
 use Rattle.std.specs.declared.cmp.Ordering.TheVariants.{Less, Equal, Greater}
 use Rattle.text_model.specs.Texts.{Text}
 use Rattle.kev_read.specs.Pairs.{KeyValue}
-use Rattle.kev_read.specs.Inner.KeyOrder.{key_at, passes_at, compared, has_index, IsKeyOrder}
+use Rattle.kev_read.specs.Private.KeyOrder.{key_at, passes_at, compared, has_index, IsKeyOrder}
 
 -- ---- the order
 

@@ -10,7 +10,7 @@ use Rattle.text_model.specs.Texts.{Text}
 use Rattle.environment_model.specs.Environment.{is_among}
 use Rattle.environment_model.specs.Lists.{standard_lists, is_list}
 use Rattle.kev_read.specs.Pairs.{KeyValue}
-use Rattle.kev_read.specs.Inner.KeyOrder.{key_at, passes_at}
+use Rattle.kev_read.specs.Private.KeyOrder.{key_at, passes_at}
 
 -- a key that stands for a list has the name of a standard list or of a declared one
 is_list_parts : (declared : List Text) (key : Option Text)

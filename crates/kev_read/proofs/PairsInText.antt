@@ -4,7 +4,7 @@ use Rattle.std.proofs.lemmas.List.{take-append-le, drop-append-le, map-append}
 use Rattle.std.proofs.lemmas.List.Elements.{All-head, All-tail, All-push, All-weaker}
 use Rattle.std.proofs.lemmas.Str.{IsUtf8-append, IsUtf8-take, IsCharBoundary-from_take, IsCharBoundary-at_seam, IsCharBoundary-end}
 use Rattle.text_model.specs.Texts.{Text}
-use Rattle.kev_read.specs.Inner.Layout.{pair_in, IsPlaced}
+use Rattle.kev_read.specs.Private.Layout.{pair_in, IsPlaced}
 use Rattle.kev_read.specs.declared.pairs.Place.{Place}
 
 -- ---- more text behind

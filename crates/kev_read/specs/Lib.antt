@@ -2,4 +2,4 @@ pub mod Pairs
 pub mod ReadQuery
 pub mod Refusal
 pub mod Filling
-pub mod Inner
+pub mod Private

@@ -1,8 +1,8 @@
 ghost use Rattle.std.specs.Prelude.{◌≡◌, ◌≤◌, true, ◌↔◌, length, IfErr, OnOk, OnErr};
 ghost use Rattle.text_model.specs.Texts.{texts_of};
 ghost use Rattle.kev_read.specs.Filling as spec;
-ghost use Rattle.kev_read.specs.Inner.KeyOrder.{IsKeyOrder};
-ghost use Rattle.kev_read.specs.Inner.Layout.{key_value};
+ghost use Rattle.kev_read.specs.Private.KeyOrder.{IsKeyOrder};
+ghost use Rattle.kev_read.specs.Private.Layout.{key_value};
 
 use crate::list_keys::list_marks;
 use crate::pairs::{Pair, Pairs};

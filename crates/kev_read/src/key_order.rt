@@ -2,7 +2,7 @@ ghost use Rattle.std.specs.Prelude.{◌≡◌, ◌<◌, ◌≤◌, ℕ, All, len
 ghost use Rattle.std.specs.List.{range_with_len};
 ghost use Rattle.std.specs.Option.{option_copied};
 ghost use Rattle.std.specs.Str.{bytes_eq};
-ghost use Rattle.kev_read.specs.Inner.KeyOrder.{IsKeyOrder, compared, has_index, key_at, passes_at};
+ghost use Rattle.kev_read.specs.Private.KeyOrder.{IsKeyOrder, compared, has_index, key_at, passes_at};
 
 use crate::pairs::Pairs;
 use crate::read::MAX_PAIRS;

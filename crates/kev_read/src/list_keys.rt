@@ -2,7 +2,7 @@ ghost use Rattle.std.specs.Prelude.{◌≡◌, ◌||◌, ◌<◌, ◌≤◌, ℕ
 ghost use Rattle.environment_model.specs.Environment.{is_among};
 ghost use Rattle.environment_model.specs.Lists.{is_list};
 ghost use Rattle.text_model.specs.Texts.{texts_of};
-ghost use Rattle.kev_read.specs.Inner.KeyOrder.{IsKeyOrder, has_index, passes_at};
+ghost use Rattle.kev_read.specs.Private.KeyOrder.{IsKeyOrder, has_index, passes_at};
 
 use crate::key_order::indices_of;
 use crate::pairs::Pairs;

@@ -1,7 +1,7 @@
 ghost use Rattle.std.specs.Prelude.{◌≡◌, ◌<◌, ◌++◌, ◌∷◌, [], length, slice_get, IfOk, OnOk, Some};
 ghost use Rattle.std.specs.Option.{option_copied};
-ghost use Rattle.kev_read.specs.Inner.KeyOrder.{key_at};
-ghost use Rattle.kev_read.specs.Inner.Layout.{key_value};
+ghost use Rattle.kev_read.specs.Private.KeyOrder.{key_at};
+ghost use Rattle.kev_read.specs.Private.Layout.{key_value};
 
 use std::alloc::{AllocError, Global};
 use std::marker::Model;
@@ -35,7 +35,7 @@ impl Model for Pairs {
     ghost Value = { List KeyValue };
 
     ghost use Rattle.std.specs.Prelude.{map, All, string_bytes};
-    ghost use Rattle.kev_read.specs.Inner.Layout.{pair_in, IsPlaced};
+    ghost use Rattle.kev_read.specs.Private.Layout.{pair_in, IsPlaced};
 
     ghost view = { λ pairs. map (pair_in (string_bytes pairs.text)) pairs.places.items };
 

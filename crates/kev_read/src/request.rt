@@ -6,7 +6,7 @@ ghost use Rattle.kev_read.specs.Pairs as spec;
 ghost use Rattle.kev_read.specs.Filling.{filled, StopsAtPair};
 ghost use Rattle.kev_read.specs.declared.read.TheConstants.{MAX_PAIRS};
 ghost use Rattle.text_model.specs.Texts.{texts_of};
-ghost use Rattle.kev_read.specs.Inner.KeyOrder.{IsKeyOrder};
+ghost use Rattle.kev_read.specs.Private.KeyOrder.{IsKeyOrder};
 
 use crate::filling::fill;
 use crate::pairs::Pairs;
@@ -35,7 +35,7 @@ impl Model for Request {
 
     ghost view = { λ request. record { pairs = request.pairs; query_bytes = request.query_bytes } };
 
-    ghost use Rattle.kev_read.specs.Inner.KeyOrder.{IsKeyOrder};
+    ghost use Rattle.kev_read.specs.Private.KeyOrder.{IsKeyOrder};
 
     ghost invariant = { λ request. IsBounded record { pairs = request.pairs; query_bytes = request.query_bytes }
         × IsKeyOrder request.pairs request.order.items };

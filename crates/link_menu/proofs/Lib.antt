@@ -1,8 +1,8 @@
-pub mod Beginning
-pub mod ByRounds
-pub mod Finishing
-pub mod Moving
-pub mod Searching
-pub mod Seeing
-pub mod Trying
+pub mod RunSetLemmas
+pub mod RoundLemmas
+pub mod FateLemmas
+pub mod TurnLemmas
+pub mod SearchLemmas
+pub mod StepListLemmas
+pub mod BatchLemmas
 pub mod TurnsOfAll

@@ -7,12 +7,12 @@ use Rattle.environment_model.specs.Environment.{Environment}
 use Rattle.code_model.specs.Code.{Code}
 use Rattle.machine_model.specs.Next.{state_after}
 use Rattle.machine_model.specs.Runs.{EndsAfter}
-use Rattle.runs.specs.RunValue.{RunValue}
+use Rattle.verified_runs.specs.RunValue.{RunValue}
 use Rattle.link_menu.specs.Turns.{is_live, IsMoved}
-use Rattle.link_menu.specs.Shown.{steps_of, with_list, with_lists, end_of, ends_of, steps_after, HasSeenSome, shown_in, shown_to_end, turns_left, turns_to_end}
-use Rattle.link_menu.specs.Rounds.{IsFresh, AreFresh, same_but_steps, AreOfTheSame, run_after}
-use Rattle.link_menu.proofs.Seeing.{first_of, with_more, with_none}
-use Rattle.link_menu.proofs.Moving.{AreDecided, ended_is_over, others_go_on}
+use Rattle.link_menu.specs.StepLists.{steps_of, with_list, with_lists, end_of, ends_of, steps_after, HasSeenSome, step_lists_in, step_lists_to_end, turns_left, turns_to_end}
+use Rattle.link_menu.specs.Private.Rounds.{IsFresh, AreFresh, same_but_steps, AreOfTheSame, run_after}
+use Rattle.link_menu.proofs.StepListLemmas.{first_of, with_more, with_none}
+use Rattle.link_menu.proofs.TurnLemmas.{AreDecided, ended_is_over, others_go_on}
 
 -- a run ends once
 abbrev pub EndsOnce : Type 0
@@ -186,21 +186,21 @@ fewer_left t runs now new fresh was is lt =
 
 -- ---- what is shown
 
-pub nothing_shown : (told : Option (List (List ℕ))) (ends : List ℕ) → told ≡ with_lists told (shown_in 0 ends)
-unfolding shown_in
+pub nothing_shown : (told : Option (List (List ℕ))) (ends : List ℕ) → told ≡ with_lists told (step_lists_in 0 ends)
+unfolding step_lists_in
 nothing_shown told ends = with_none told
 
-pub shown_next : (told now new : Option (List (List ℕ))) (t : ℕ) (runs : List RunValue) → now ≡ with_lists told (shown_in t (ends_of runs))
-    → new ≡ with_list now (steps_of (all_after (64 * suc t) runs)) → new ≡ with_lists told (shown_in (suc t) (ends_of runs))
-unfolding shown_in
+pub shown_next : (told now new : Option (List (List ℕ))) (t : ℕ) (runs : List RunValue) → now ≡ with_lists told (step_lists_in t (ends_of runs))
+    → new ≡ with_list now (steps_of (all_after (64 * suc t) runs)) → new ≡ with_lists told (step_lists_in (suc t) (ends_of runs))
+unfolding step_lists_in
 shown_next told now new t runs before seen =
     let more = steps_after (64 * suc t) (ends_of runs) in
     seen ∙ ap (λ list. with_list now list) (steps_then (64 * suc t) runs) ∙ ap (λ lists. with_list lists more) before
-    ∙ with_more told (shown_in t (ends_of runs)) (more ∷ [])
+    ∙ with_more told (step_lists_in t (ends_of runs)) (more ∷ [])
 
 -- some first turns show the first of all lists
-pub shown_at_first : (t : ℕ) (ends : List ℕ) (told now : Option (List (List ℕ))) → t ≤ turns_to_end ends → now ≡ with_lists told (shown_in t ends)
-    → HasSeenSome (shown_to_end ends) told now
-unfolding shown_in
+pub shown_at_first : (t : ℕ) (ends : List ℕ) (told now : Option (List (List ℕ))) → t ≤ turns_to_end ends → now ≡ with_lists told (step_lists_in t ends)
+    → HasSeenSome (step_lists_to_end ends) told now
+unfolding step_lists_in
 shown_at_first t ends told now few seen =
-    first_of (λ n. shown_in n ends) (λ n. steps_after (64 * suc n) ends ∷ []) (λ n. refl) t (turns_to_end ends) told now few seen
+    first_of (λ n. step_lists_in n ends) (λ n. steps_after (64 * suc n) ends ∷ []) (λ n. refl) t (turns_to_end ends) told now few seen

@@ -3,8 +3,8 @@ use Rattle.std.specs.Prelude.{List, Option, Some, None, Bool, nat_lt, if◌then�
 use Rattle.std.specs.List.{filter_map}
 use Rattle.code_model.specs.Code.{Code}
 use Rattle.target_vars.specs.EnvValue.{EnvValue}
-use Rattle.runs.specs.RunValue.{RunValue, begun, most_bytes}
-use Rattle.runs.specs.declared.run.TheConstants.{MAX_LINK_BYTES}
+use Rattle.verified_runs.specs.RunValue.{RunValue, new_run, most_bytes}
+use Rattle.verified_runs.specs.declared.run.TheConstants.{MAX_LINK_BYTES}
 use Rattle.registry.specs.Fates.{Fate, OverBudget, Link, NoLink, fate_in}
 use Rattle.link_menu.specs.declared.fate.Fate as answer
 use Rattle.link_menu.specs.declared.fate.Fate.TheVariants as variant
@@ -19,7 +19,7 @@ is_over_budget c e = nat_lt MAX_LINK_BYTES (most_bytes c e)
 
 -- the runs that are begun: none of what is over budget
 abbrev pub run_of : Code × EnvValue → Option RunValue
-run_of p = if is_over_budget p.0 p.1 then None else Some (begun p.0 p.1)
+run_of p = if is_over_budget p.0 p.1 then None else Some (new_run p.0 p.1)
 
 abbrev pub runs_of : List (Code × EnvValue) → List RunValue
 runs_of pairs = filter_map run_of pairs

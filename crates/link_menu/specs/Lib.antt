@@ -1,6 +1,5 @@
 pub mod Turns
-pub mod Shown
-pub mod Rounds
-pub mod Tried
+pub mod StepLists
+pub mod RowsByRound
 pub mod Fates
 pub mod Private

@@ -1,2 +1,4 @@
-pub mod Begun
+-- Definitions that no contract of a public function cites.
+pub mod Rounds
+pub mod RunSets
 pub mod Searches

@@ -4,7 +4,7 @@ use Rattle.std.specs.List.{sum}
 use Rattle.machine_model.specs.States.{State, Ended}
 use Rattle.machine_model.specs.Runs.{EndsAfter}
 use Rattle.machine_model.specs.Next.{state_after}
-use Rattle.runs.specs.RunValue.{RunValue}
+use Rattle.verified_runs.specs.RunValue.{RunValue}
 
 -- the run has not ended
 abbrev pub goes_on : Option State → Bool

@@ -1,8 +1,8 @@
 //! A watch that does not look.
 
 use crate::watch::Watch;
-use runs::Run;
 use std::alloc::AllocError;
+use verified_runs::Run;
 
 /// A watch that does not look: it keeps nothing, and is never refused memory.
 #[derive(Drop)]

@@ -1,18 +1,18 @@
 //! What becomes of a code on an environment.
 
 ghost use Rattle.std.specs.Prelude.{◌≡◌};
-ghost use Rattle.runs.specs.RunValue.{outcome_of};
+ghost use Rattle.verified_runs.specs.RunValue.{outcome_of};
 ghost use Rattle.registry.specs.Fates.{ended};
-ghost use Rattle.registry.specs.Entries.{reason_by};
+ghost use Rattle.registry.specs.Entries.{resolution_by};
 ghost use Rattle.link_menu.specs.Fates.{said};
 
-use menu::{Reason, Text, is_web_link};
-use runs::Outcome;
+use menu::{Resolution, Text, is_web_link};
+use verified_runs::Outcome;
 
 /// What becomes of a code on an environment.
 #[derive(Debug, Drop)]
 pub enum Fate {
-    /// The run may print so many bytes, which are more than [`MAX_LINK_BYTES`](runs::MAX_LINK_BYTES): it is not begun.
+    /// The run may print so many bytes, which are more than [`MAX_LINK_BYTES`](verified_runs::MAX_LINK_BYTES): it is not begun.
     OverBudget(u64),
     /// The run ends with this link, which is URI text (RFC 3986, sections 2.1 to 2.3).
     Link(String),
@@ -31,20 +31,20 @@ impl Fate {
     }
 
     /// What the fate of a row says of its target: only a link of the web counts as one.
-    pub(crate) fn into_reason(self, row: usize) -> Reason
-        ensures { result ≡ reason_by row (said self) }
+    pub(crate) fn into_resolution(self, row: usize) -> Resolution
+        ensures { result ≡ resolution_by row (said self) }
     {
         match self {
-            Fate::OverBudget(bytes) => Reason::OverBudget(bytes),
+            Fate::OverBudget(bytes) => Resolution::OverBudget(bytes),
             Fate::Link(link) => {
                 if is_web_link(link.as_str()) {
                     let link = Text::new(link);
-                    Reason::Link { row, link }
+                    Resolution::Link { row, link }
                 } else {
-                    Reason::NotAWebLink
+                    Resolution::NotAWebLink
                 }
             }
-            Fate::NoLink => Reason::NoLink,
+            Fate::NoLink => Resolution::NoLink,
         }
     }
 }

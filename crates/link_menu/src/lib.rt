@@ -2,22 +2,22 @@
 //! order, or all of them until each has ended.
 #![tactic(auto)]
 
-mod asked;
-mod begun;
+mod batch;
 mod blind;
+mod citation;
 mod fate;
-mod resolving;
+mod recorder;
+mod resolver;
 mod rounds;
-mod search;
-mod shown;
-mod tries;
+mod run_set;
+mod target_search;
 mod turns;
 mod watch;
 
 pub use blind::Blind;
 pub use fate::Fate;
-pub use resolving::{resolve, resolve_watched};
+pub use recorder::Shown;
+pub use resolver::{resolve, resolve_watched};
 pub use rounds::round;
-pub use shown::Shown;
 pub use turns::{play, turn_all};
 pub use watch::Watch;

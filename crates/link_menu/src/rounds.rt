@@ -2,19 +2,19 @@
 
 ghost use Rattle.std.specs.Prelude.{◌≡◌, IfOk, OnErr, OnOk, length, map};
 ghost use Rattle.std.specs.List.{zip};
-ghost use Rattle.runs.specs.declared.run.TheConstants.{MAX_LINK_BYTES};
+ghost use Rattle.verified_runs.specs.declared.run.TheConstants.{MAX_LINK_BYTES};
 ghost use Rattle.link_menu.specs.Fates.{fate_of, said};
-ghost use Rattle.link_menu.specs.Rounds.{AreFresh, AreOfTheSame};
-ghost use Rattle.link_menu.specs.Shown.{HasSeenAll, HasSeenSome, ends_of, shown_of, shown_to_end};
+ghost use Rattle.link_menu.specs.Private.Rounds.{AreFresh, AreOfTheSame};
+ghost use Rattle.link_menu.specs.StepLists.{HasSeenAll, HasSeenSome, ends_of, step_lists_of, step_lists_to_end};
 
-use crate::begun::Begun;
 use crate::fate::Fate;
+use crate::run_set::RunSet;
 use crate::turns::turn_all;
 use crate::watch::Watch;
 use machine_laws::{run_ends_once, states_after_steps_are_decided};
-use runs::Run;
 use std::alloc::{AllocError, Global};
 use target_vars::Env;
+use verified_runs::Run;
 use verifier::Verified;
 
 /// In one turn of all, each run carries out at most so many steps.
@@ -33,14 +33,14 @@ pub fn round<W: Watch>(
 ) -> Result<Vec<Fate>, AllocError>
     requires { length codes.now ≡ length envs.now }
     ensures fates { IfOk result (λ fates. map said fates.items ≡ map fate_of (zip (map (λ code. code.now) codes.now) envs.now)) }
-    ensures shown { OnOk result (HasSeenAll (shown_of (zip (map (λ code. code.now) codes.now) envs.now)) (W.lists watch.old) (W.lists watch.new)) }
-    ensures err { OnErr result (HasSeenSome (shown_of (zip (map (λ code. code.now) codes.now) envs.now)) (W.lists watch.old) (W.lists watch.new)) }
+    ensures shown { OnOk result (HasSeenAll (step_lists_of (zip (map (λ code. code.now) codes.now) envs.now)) (W.lists watch.old) (W.lists watch.new)) }
+    ensures err { OnErr result (HasSeenSome (step_lists_of (zip (map (λ code. code.now) codes.now) envs.now)) (W.lists watch.old) (W.lists watch.new)) }
     ensures turn { TURN ≡ 64 }
     ensures limit { MAX_LINK_BYTES ≡ 1048576 }
 {
-    let mut begun = Begun::begin_all(alloc, codes, envs)?;
-    turn_until_ended(begun.runs.as_mut_slice(), watch)?;
-    begun.finish_all(alloc)
+    let mut run_set = RunSet::begin_all(alloc, codes, envs)?;
+    turn_until_ended(run_set.runs.as_mut_slice(), watch)?;
+    run_set.finish_all(alloc)
 }
 
 /// Carries all runs on, turn by turn of all, until each has ended, and shows them to the watch after each turn. It
@@ -50,8 +50,8 @@ pub fn round<W: Watch>(
 pub(crate) fn turn_until_ended<W: Watch>(runs: &mut [Run], watch: &mut W) -> Result<(), AllocError>
     requires { AreFresh runs.old }
     ensures same { AreOfTheSame runs.old runs.new }
-    ensures ok { OnOk result (HasSeenAll (shown_to_end (ends_of runs.old)) (W.lists watch.old) (W.lists watch.new)) }
-    ensures err { OnErr result (HasSeenSome (shown_to_end (ends_of runs.old)) (W.lists watch.old) (W.lists watch.new)) }
+    ensures ok { OnOk result (HasSeenAll (step_lists_to_end (ends_of runs.old)) (W.lists watch.old) (W.lists watch.new)) }
+    ensures err { OnErr result (HasSeenSome (step_lists_to_end (ends_of runs.old)) (W.lists watch.old) (W.lists watch.new)) }
 {
     states_after_steps_are_decided();
     run_ends_once();

@@ -1,11 +1,11 @@
 //! Turns of runs that are carried on side by side.
 
 ghost use Rattle.std.specs.Prelude.{◌≡◌, ℕ, ◌<◌, All, count_by, get_or, length};
-ghost use Rattle.runs.specs.RunValue.{RunValue};
+ghost use Rattle.verified_runs.specs.RunValue.{RunValue};
 ghost use Rattle.link_menu.specs.Turns.{IsMoved, IsPlayed, is_live, own_turns};
 
 use machine_laws::states_after_steps_are_decided;
-use runs::Run;
+use verified_runs::Run;
 
 /// Carries out up to `n` steps of each run, in their order, and answers how many have not ended. It takes no memory.
 pub fn turn_all(runs: &mut [Run], n: u64) -> usize

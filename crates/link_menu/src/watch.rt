@@ -1,10 +1,10 @@
 //! Who looks on while runs are carried on side by side.
 
 ghost use Rattle.std.specs.Prelude.{◌≡◌, ℕ, List, OnErr, OnOk, Option, map};
-ghost use Rattle.link_menu.specs.Shown.{with_list, steps_of};
+ghost use Rattle.link_menu.specs.StepLists.{with_list, steps_of};
 
-use runs::Run;
 use std::alloc::AllocError;
+use verified_runs::Run;
 
 /// Who looks on while runs are carried on side by side.
 pub trait Watch {

@@ -3,9 +3,9 @@ use Rattle.std.proofs.Common.{◌≡◌, true, false, List, [], ◌∷◌, ◌++
 use Rattle.std.specs.Prelude.{map}
 use Rattle.std.specs.Fmt.{digits}
 use Rattle.text_model.specs.Texts.{Text}
-use Rattle.menu.specs.declared.entry.Entry.{Entry}
-use Rattle.menu.specs.declared.entry.Reason.{Reason}
-use Rattle.menu.specs.declared.entry.Reason.TheVariants as reason
+use Rattle.menu.specs.declared.entry.MenuEntry.{MenuEntry}
+use Rattle.menu.specs.declared.entry.Resolution.{Resolution}
+use Rattle.menu.specs.declared.entry.Resolution.TheVariants as resolution
 use Rattle.menu.specs.Links.{is_empty}
 use Rattle.menu.specs.Escaping.{escaped}
 use Rattle.menu.specs.Printed.{text, report, html}
@@ -13,18 +13,18 @@ use Rattle.menu.specs.WebLink.{is_web_link}
 
 -- ---- menus
 
-abbrev entry : Text → Reason → Entry
-entry name reason = record { name = name; reason = reason }
+abbrev entry : Text → Resolution → MenuEntry
+entry name resolution = record { name = name; resolution = resolution }
 
-abbrev alpha : Entry
-alpha = entry (codes "alpha") (reason.Link 1 (codes "http://e.org/b"))
+abbrev alpha : MenuEntry
+alpha = entry (codes "alpha") (resolution.Link 1 (codes "http://e.org/b"))
 
 -- one link, and a target without one
-abbrev one_link : List Entry
-one_link = alpha ∷ entry (codes "beta") reason.NotAWebLink ∷ []
+abbrev one_link : List MenuEntry
+one_link = alpha ∷ entry (codes "beta") resolution.NotAWebLink ∷ []
 
-abbrev no_link : List Entry
-no_link = entry (codes "alpha") reason.NoRow ∷ entry (codes "beta") reason.NoRow ∷ []
+abbrev no_link : List MenuEntry
+no_link = entry (codes "alpha") resolution.NoRow ∷ entry (codes "beta") resolution.NoRow ∷ []
 
 text_of_one : text one_link ≡ codes "alpha\thttp://e.org/b\n"
 text_of_one = refl
@@ -48,11 +48,11 @@ html_of_none = refl
 bytes_of_none : length (html no_link) ≡ 53
 bytes_of_none = refl
 
-other_reasons : report (entry (codes "delta") (reason.OverBudget 1202100) ∷ entry (codes "gamma") reason.NoLink ∷ []) ≡ codes "delta\tover budget 1202100\ngamma\tno link\n"
+other_resolutions : report (entry (codes "delta") (resolution.OverBudget 1202100) ∷ entry (codes "gamma") resolution.NoLink ∷ []) ≡ codes "delta\tover budget 1202100\ngamma\tno link\n"
 unfolding digits
-other_reasons = refl
+other_resolutions = refl
 
-empty_menus : map is_empty (one_link ∷ no_link ∷ (entry (codes "delta") (reason.OverBudget 1202100) ∷ []) ∷ [] ∷ []) ≡ false ∷ true ∷ true ∷ true ∷ []
+empty_menus : map is_empty (one_link ∷ no_link ∷ (entry (codes "delta") (resolution.OverBudget 1202100) ∷ []) ∷ [] ∷ []) ≡ false ∷ true ∷ true ∷ true ∷ []
 empty_menus = refl
 
 -- ---- links

@@ -6,13 +6,13 @@ use Rattle.std.proofs.lemmas.Grind.{flat_map-append}
 use Rattle.std.proofs.lemmas.List.{take_more}
 use Rattle.std.proofs.lemmas.List.Elements.{filter_map-append}
 use Rattle.text_model.specs.Texts.{Text}
-use Rattle.menu.specs.declared.entry.Entry.{Entry}
-use Rattle.menu.specs.declared.entry.Reason.{Reason}
-use Rattle.menu.specs.declared.entry.Reason.TheVariants as reason
+use Rattle.menu.specs.declared.entry.MenuEntry.{MenuEntry}
+use Rattle.menu.specs.declared.entry.Resolution.{Resolution}
+use Rattle.menu.specs.declared.entry.Resolution.TheVariants as resolution
 use Rattle.menu.specs.Links.{NamedLink, link_under, named_link, links, is_link, has_link, is_empty}
 
 -- one more entry, printed behind those before it
-pub links_more : (f : NamedLink → Text) (menu : List Entry) (i : ℕ) (d : Entry) → i < length menu
+pub links_more : (f : NamedLink → Text) (menu : List MenuEntry) (i : ℕ) (d : MenuEntry) → i < length menu
     → flat_map f (links (take (i + 1) menu)) ≡ flat_map f (links (take i menu)) ++ flat_map f (links (get_or menu i d ∷ []))
 links_more f menu i d within =
     ap (λ es. flat_map f (links es)) (take_more menu i d within)
@@ -20,7 +20,7 @@ links_more f menu i d within =
     ∙ flat_map-append f (links (take i menu)) (links (get_or menu i d ∷ [])))
 
 -- the step of a loop that prints them behind what was there
-pub links_step : (f : NamedLink → Text) (start before after : Text) (menu : List Entry) (i : ℕ) (d : Entry) → i < length menu
+pub links_step : (f : NamedLink → Text) (start before after : Text) (menu : List MenuEntry) (i : ℕ) (d : MenuEntry) → i < length menu
     → before ≡ start ++ flat_map f (links (take i menu)) → after ≡ before ++ flat_map f (links (get_or menu i d ∷ []))
     → after ≡ start ++ flat_map f (links (take (i + 1) menu))
 links_step f start before after menu i d within h g =
@@ -29,14 +29,14 @@ links_step f start before after menu i d within h g =
     ∙ ap (λ (t : Text). start ++ t) (sym (links_more f menu i d within))))
 
 -- no entry has a link exactly where there are no links
-pub no_links : (menu : List Entry) → not (list_any has_link menu) ≡ is_empty menu
+pub no_links : (menu : List MenuEntry) → not (list_any has_link menu) ≡ is_empty menu
 no_links [] = refl
-no_links (entry ∷ menu) = by_reason entry.reason (no_links menu)
+no_links (entry ∷ menu) = by_resolution entry.resolution (no_links menu)
   where
-    by_reason : (r : Reason) → not (list_any has_link menu) ≡ is_empty menu
+    by_resolution : (r : Resolution) → not (list_any has_link menu) ≡ is_empty menu
         → not (is_link r || list_any has_link menu) ≡ (length (cons_option (link_under entry.name r) (links menu)) == 0)
-    by_reason (reason.Link row link) rest = sym (ne_eqb (suc (length (links menu))) 0 (λ e. omega (arith, e)))
-    by_reason reason.NoRow rest = rest
-    by_reason reason.NoLink rest = rest
-    by_reason reason.NotAWebLink rest = rest
-    by_reason (reason.OverBudget bytes) rest = rest
+    by_resolution (resolution.Link row link) rest = sym (ne_eqb (suc (length (links menu))) 0 (λ e. omega (arith, e)))
+    by_resolution resolution.NoRow rest = rest
+    by_resolution resolution.NoLink rest = rest
+    by_resolution resolution.NotAWebLink rest = rest
+    by_resolution (resolution.OverBudget bytes) rest = rest

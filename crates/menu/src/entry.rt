@@ -45,7 +45,7 @@ impl Text {
 
 /// Why a target's entry is as it is.
 #[derive(Debug, Drop)]
-pub enum Reason {
+pub enum Resolution {
     /// A row of the target's table gave a link; rows count from 0.
     Link { row: usize, link: Text },
     /// No row has the cited title.
@@ -60,18 +60,18 @@ pub enum Reason {
 
 /// What a menu has of one target.
 #[derive(Debug, Drop)]
-pub struct Entry {
+pub struct MenuEntry {
     /// The target's name.
     pub name: Text,
     /// Its link, or why it has none.
-    pub reason: Reason,
+    pub resolution: Resolution,
 }
 
-impl Entry {
+impl MenuEntry {
     /// Whether the target has a link.
     pub fn has_link(&self) -> bool
         ensures { result ≡ has_link self.now }
     {
-        matches!(self.reason, Reason::Link { .. })
+        matches!(self.resolution, Resolution::Link { .. })
     }
 }

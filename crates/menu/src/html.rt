@@ -4,7 +4,7 @@ ghost use Rattle.std.specs.Prelude.{◌≡◌, ◌++◌, ◌∷◌, [], OnOk, en
 ghost use Rattle.menu.specs.Escaping.{escaped};
 ghost use Rattle.menu.specs.Printed.{html_item, html_items, html_list};
 
-use crate::entry::{Entry, Reason};
+use crate::entry::{MenuEntry, Resolution};
 use std::alloc::AllocError;
 
 // Appends a character of a link.
@@ -39,17 +39,17 @@ fn push_link_item(out: &mut String, name: &str, link: &str) -> Result<(), AllocE
 }
 
 // Appends the entry's item, if it has a link.
-fn push_item(out: &mut String, entry: &Entry) -> Result<(), AllocError>
+fn push_item(out: &mut String, entry: &MenuEntry) -> Result<(), AllocError>
     ensures { OnOk result (string_bytes out.new ≡ string_bytes out.old ++ html_items (entry.now ∷ [])) }
 {
-    match &entry.reason {
-        Reason::Link { link, .. } => push_link_item(out, entry.name.as_str(), link.as_str()),
+    match &entry.resolution {
+        Resolution::Link { link, .. } => push_link_item(out, entry.name.as_str(), link.as_str()),
         _ => Ok(()),
     }
 }
 
 // Appends the list of all items.
-pub(crate) fn push_list(out: &mut String, entries: &[Entry]) -> Result<(), AllocError>
+pub(crate) fn push_list(out: &mut String, entries: &[MenuEntry]) -> Result<(), AllocError>
     ensures { OnOk result (string_bytes out.new ≡ string_bytes out.old ++ html_list entries.now) }
 {
     out.push_str("<ul>\n")?;

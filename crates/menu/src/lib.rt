@@ -9,6 +9,6 @@ mod lines;
 mod menu;
 mod web_link;
 
-pub use entry::{Entry, Reason, Text};
+pub use entry::{MenuEntry, Resolution, Text};
 pub use menu::Menu;
 pub use web_link::is_web_link;

@@ -1,17 +1,17 @@
 //! The lines of the two plain texts.
 
 ghost use Rattle.std.specs.Prelude.{◌≡◌, ◌++◌, ◌∷◌, [], OnOk, string_bytes};
-ghost use Rattle.menu.specs.Printed.{text, reason_text, report_line};
+ghost use Rattle.menu.specs.Printed.{text, resolution_text, report_line};
 
-use crate::entry::{Entry, Reason};
+use crate::entry::{MenuEntry, Resolution};
 use std::alloc::AllocError;
 
 // Appends the entry's line of the links, if it has a link.
-pub(crate) fn push_text_line(out: &mut String, entry: &Entry) -> Result<(), AllocError>
+pub(crate) fn push_text_line(out: &mut String, entry: &MenuEntry) -> Result<(), AllocError>
     ensures { OnOk result (string_bytes out.new ≡ string_bytes out.old ++ text (entry.now ∷ [])) }
 {
-    match &entry.reason {
-        Reason::Link { link, .. } => {
+    match &entry.resolution {
+        Resolution::Link { link, .. } => {
             let name = entry.name.as_str();
             let link = link.as_str();
             write!(out, "{name}\t{link}\n")
@@ -20,24 +20,24 @@ pub(crate) fn push_text_line(out: &mut String, entry: &Entry) -> Result<(), Allo
     }
 }
 
-fn push_reason(out: &mut String, reason: &Reason) -> Result<(), AllocError>
-    ensures { OnOk result (string_bytes out.new ≡ string_bytes out.old ++ reason_text reason.now) }
+fn push_resolution(out: &mut String, resolution: &Resolution) -> Result<(), AllocError>
+    ensures { OnOk result (string_bytes out.new ≡ string_bytes out.old ++ resolution_text resolution.now) }
 {
-    match reason {
-        Reason::Link { row, .. } => write!(out, "link {row}"),
-        Reason::NoRow => out.push_str("no row"),
-        Reason::NoLink => out.push_str("no link"),
-        Reason::NotAWebLink => out.push_str("not a web link"),
-        Reason::OverBudget(bytes) => write!(out, "over budget {bytes}"),
+    match resolution {
+        Resolution::Link { row, .. } => write!(out, "link {row}"),
+        Resolution::NoRow => out.push_str("no row"),
+        Resolution::NoLink => out.push_str("no link"),
+        Resolution::NotAWebLink => out.push_str("not a web link"),
+        Resolution::OverBudget(bytes) => write!(out, "over budget {bytes}"),
     }
 }
 
 // Appends the entry's line of the reasons.
-pub(crate) fn push_report_line(out: &mut String, entry: &Entry) -> Result<(), AllocError>
+pub(crate) fn push_report_line(out: &mut String, entry: &MenuEntry) -> Result<(), AllocError>
     ensures { OnOk result (string_bytes out.new ≡ string_bytes out.old ++ report_line entry.now) }
 {
     let name = entry.name.as_str();
     write!(out, "{name}\t")?;
-    push_reason(out, &entry.reason)?;
+    push_resolution(out, &entry.resolution)?;
     out.push('\n')
 }

@@ -3,7 +3,7 @@ ghost use Rattle.std.specs.List.{list_any};
 ghost use Rattle.menu.specs.Links.{has_link, is_empty};
 ghost use Rattle.menu.specs.Printed.{text, html, report};
 
-use crate::entry::Entry;
+use crate::entry::MenuEntry;
 use crate::html::push_list;
 use crate::lines::{push_report_line, push_text_line};
 use std::alloc::{AllocError, Global};
@@ -12,19 +12,19 @@ use std::marker::Model;
 /// A menu, which contracts see as the list of its entries, one for each target.
 #[derive(Debug, Drop)]
 pub struct Menu {
-    list: Vec<Entry>,
+    list: Vec<MenuEntry>,
 }
 
 impl Model for Menu {
     ghost use Rattle.std.specs.Prelude.{List};
-    ghost use Rattle.menu.specs.declared.entry.Entry.{Entry};
+    ghost use Rattle.menu.specs.declared.entry.MenuEntry.{MenuEntry};
 
-    ghost Value = { List Entry };
+    ghost Value = { List MenuEntry };
 
     ghost view = { λ menu. menu.list.items };
 }
 
-fn has_links(entries: &[Entry]) -> bool
+fn has_links(entries: &[MenuEntry]) -> bool
     ensures { result ≡ list_any has_link entries.now }
 {
     entries.iter().any(|entry| entry.has_link())
@@ -32,14 +32,14 @@ fn has_links(entries: &[Entry]) -> bool
 
 impl Menu {
     /// The menu of these entries, in their order.
-    pub fn new(entries: Vec<Entry>) -> Menu
+    pub fn new(entries: Vec<MenuEntry>) -> Menu
         ensures { result ≡ entries.items }
     {
         Menu { list: entries }
     }
 
     /// The entries in their order, lent.
-    pub fn entries(&self) -> &[Entry]
+    pub fn entries(&self) -> &[MenuEntry]
         ensures { result.now ≡ self.now }
     {
         &self.list

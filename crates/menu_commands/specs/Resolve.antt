@@ -38,23 +38,23 @@ IsRegistryFaultAt path e other = ⊥
 abbrev pub IsNoRegistry : Text → Fault → Type 0
 IsNoRegistry path f = (e : RegistryError) × IsRegistryFaultAt path e f × ((e ≡ error.Device) ⊎ ((bytes : Text) × IsRegistryFault bytes e))
 
--- the words are the path of a registry file and a query, for which this is the text of the menu
-pub record IsMenuLines (words : List Text) (text : Text) : Type 0 where
+-- the arguments are the path of a registry file and a query, for which this is the text of the menu
+pub record IsMenuLines (arguments : List Text) (text : Text) : Type 0 where
   pub path : Text
   pub query : Text
   pub bytes : Text
   pub targets : List TargetValue
-  pub two_words : words ≡ path ∷ query ∷ []
+  pub two_arguments : arguments ≡ path ∷ query ∷ []
   pub registry : AreTargetsOf bytes targets
   pub menu : IsMenuText targets query text
 
--- the words are a path and a query, and there is no registry there, or it has no menu for the query
-pub record RefusesMenu (words : List Text) (f : Fault) : Type 0 where
+-- the arguments are a path and a query, and there is no registry there, or it has no menu for the query
+pub record RefusesMenu (arguments : List Text) (f : Fault) : Type 0 where
   pub path : Text
   pub query : Text
-  pub two_words : words ≡ path ∷ query ∷ []
+  pub two_arguments : arguments ≡ path ∷ query ∷ []
   pub refused : IsNoRegistry path f ⊎ ((bytes : Text) × (targets : List TargetValue) × AreTargetsOf bytes targets × IsMenuFault targets query f)
 
--- why the words print nothing
+-- why the arguments print nothing
 abbrev pub FailsToResolve : List Text → Fault → Type 0
-FailsToResolve words f = ((f ≡ fault.Usage) × (length words ≢ 2)) ⊎ RefusesMenu words f
+FailsToResolve arguments f = ((f ≡ fault.Usage) × (length arguments ≢ 2)) ⊎ RefusesMenu arguments f

@@ -12,66 +12,66 @@ use Rattle.menu_commands.specs.Resolve.{IsNoRegistry}
 use Rattle.command_faults.specs.declared.fault.Fault.{Fault}
 use Rattle.command_faults.specs.declared.fault.Fault.TheVariants as fault
 
--- the word is ASCII digits alone, and this is their value
-pub record IsNumber (word : Text) (n : ℕ) : Type 0 where
-  pub some : 0 < length word
-  pub digits : list_all is_ascii_digit word ≡ true
-  pub value : n ≡ digits_value 10 word
+-- the argument is ASCII digits alone, and this is their value
+pub record IsNumber (argument : Text) (n : ℕ) : Type 0 where
+  pub some : 0 < length argument
+  pub digits : list_all is_ascii_digit argument ≡ true
+  pub value : n ≡ digits_value 10 argument
 
--- the words are the path of a registry file, a port, and how many connections are served
-pub record AreServeWords (words : List Text) (path port_word : Text) (port count : ℕ) : Type 0 where
-  pub count_word : Text
-  pub three_words : words ≡ path ∷ port_word ∷ count_word ∷ []
-  pub port_number : IsNumber port_word port
+-- the arguments are the path of a registry file, a port, and how many connections are served
+pub record AreServeArguments (arguments : List Text) (path port_text : Text) (port count : ℕ) : Type 0 where
+  pub count_text : Text
+  pub three_arguments : arguments ≡ path ∷ port_text ∷ count_text ∷ []
+  pub port_number : IsNumber port_text port
   pub port_limit : port ≤ 65535
-  pub count_number : IsNumber count_word count
+  pub count_number : IsNumber count_text count
   pub one : 1 ≤ count
   pub count_limit : count ≤ 1000000
 
-abbrev pub NoServeWords : List Text → Type 0
-NoServeWords words = (path port_word : Text) (port count : ℕ) → AreServeWords words path port_word port count → ⊥
+abbrev pub NoServeArguments : List Text → Type 0
+NoServeArguments arguments = (path port_text : Text) (port count : ℕ) → AreServeArguments arguments path port_text port count → ⊥
 
--- the service that the words ask for
-pub record Asked (words : List Text) : Type 0 where
+-- the service that the arguments ask for
+pub record Service (arguments : List Text) : Type 0 where
   pub path : Text
-  pub port_word : Text
+  pub port_text : Text
   pub port : ℕ
   pub count : ℕ
-  pub given : AreServeWords words path port_word port count
+  pub given : AreServeArguments arguments path port_text port count
 
--- the connections counted are as many as the words ask for
-pub record AreServed (words : List Text) (counts : Counts) : Type 0 where
-  pub asked : Asked words
-  pub all : counts.replied + counts.nothing + counts.faults ≡ asked.count
+-- the connections counted are as many as the arguments ask for
+pub record AreServed (arguments : List Text) (counts : Counts) : Type 0 where
+  pub service : Service arguments
+  pub all : counts.replied + counts.nothing + counts.faults ≡ service.count
 
 -- the line that says where the service listens
 abbrev pub listening_line : ℕ → Text
 listening_line port = codes "listening 127.0.0.1:" ++ (decimal port ++ 10 ∷ [])
 
 -- the line of a service of a registry; its port is the one that is asked for, or a free one where that is 0
-pub record IsServing (words : List Text) (line : Text) : Type 0 where
-  pub asked : Asked words
+pub record IsServing (arguments : List Text) (line : Text) : Type 0 where
+  pub service : Service arguments
   pub place : ℕ
   pub bytes : Text
   pub targets : List TargetValue
   pub registry : AreTargetsOf bytes targets
-  pub is_port : asked.port ≢ 0 → place ≡ asked.port
+  pub is_port : service.port ≢ 0 → place ≡ service.port
   pub printed : line ≡ listening_line place
 
--- the port of the words can't be listened at
+-- the port of the arguments can't be listened at
 abbrev pub IsPortFault : Text → Fault → Type 0
-IsPortFault port_word (fault.Port word) = word.now ≡ port_word
-IsPortFault port_word other = ⊥
+IsPortFault port_text (fault.Port argument) = argument.now ≡ port_text
+IsPortFault port_text other = ⊥
 
--- the words ask for a service, and there is no such registry, or nothing can listen at the port, or memory was wanting
-pub record RefusesToServe (words : List Text) (f : Fault) : Type 0 where
-  pub asked : Asked words
-  pub refused : IsNoRegistry asked.path f ⊎ IsPortFault asked.port_word f ⊎ (f ≡ fault.Memory)
+-- the arguments ask for a service, and there is no such registry, or nothing can listen at the port, or memory was wanting
+pub record RefusesToServe (arguments : List Text) (f : Fault) : Type 0 where
+  pub service : Service arguments
+  pub refused : IsNoRegistry service.path f ⊎ IsPortFault service.port_text f ⊎ (f ≡ fault.Memory)
 
--- why the words print no line
+-- why the arguments print no line
 abbrev pub FailsToServe : List Text → Fault → Type 0
-FailsToServe words f = ((f ≡ fault.Usage) × NoServeWords words) ⊎ RefusesToServe words f
+FailsToServe arguments f = ((f ≡ fault.Usage) × NoServeArguments arguments) ⊎ RefusesToServe arguments f
 
 -- the line is printed, and then the port gives no more connections
 abbrev pub StopsServing : List Text → Text → Fault → Type 0
-StopsServing words line f = (serving : IsServing words line) × IsPortFault serving.asked.port_word f
+StopsServing arguments line f = (serving : IsServing arguments line) × IsPortFault serving.service.port_text f

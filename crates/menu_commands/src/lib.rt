@@ -1,8 +1,8 @@
-//! The commands whose words name a registry file: `resolve` and `serve`.
+//! The commands whose arguments name a registry file: `resolve` and `serve`.
 #![tactic(auto)]
 
 mod resolve;
-mod serving;
+mod service;
 
 pub use resolve::{open_registry, resolve_lines, resolve_query};
-pub use serving::serve;
+pub use service::serve;

@@ -6,7 +6,7 @@ ghost use Rattle.registry_file.specs.Loading.{AreTargetsOf};
 ghost use Rattle.menu_commands.specs.Resolve.{FailsToResolve, IsMenuFault, IsMenuLines, IsMenuText, IsNoRegistry, IsRegistryFaultAt};
 
 use command_faults::Fault;
-use command_words::two_words;
+use command_words::two_arguments;
 use kev_read::read_kev;
 use link_menu::resolve;
 use registry::Registry;
@@ -63,17 +63,17 @@ fn registry_fault<'a>(error: RegistryError, path: &'a str) -> Fault<'a>
     }
 }
 
-/// The lines that the words behind `resolve` print: the path of a registry file, and a query.
+/// The lines that the arguments behind `resolve` print: the path of a registry file, and a query.
 ///
-/// The fault is `Usage` for other words, one of `open_registry`, or else one of `resolve_query`.
+/// The fault is `Usage` for other arguments, one of `open_registry`, or else one of `resolve_query`.
 pub fn resolve_lines<'a, R: Files + RandomSource + AllocGlobal>(
     rt: &R,
-    words: &[&'a str],
+    arguments: &[&'a str],
 ) -> Result<String, Fault<'a>>
-    ensures ok { IfOk result (λ text. IsMenuLines (texts_of words.now) (string_bytes text)) }
-    ensures err { IfErr result (FailsToResolve (texts_of words.now)) }
+    ensures ok { IfOk result (λ text. IsMenuLines (texts_of arguments.now) (string_bytes text)) }
+    ensures err { IfErr result (FailsToResolve (texts_of arguments.now)) }
 {
-    let Some((path, query)) = two_words(words) else {
+    let Some((path, query)) = two_arguments(arguments) else {
         return Err(Fault::Usage);
     };
     let registry = open_registry(rt, path)?;

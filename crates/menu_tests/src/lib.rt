@@ -5,7 +5,7 @@
 #[cfg(test)]
 mod codes;
 #[cfg(test)]
-mod fronts;
+mod first_bytes;
 #[cfg(test)]
 mod menus;
 #[cfg(test)]
@@ -13,7 +13,7 @@ mod registries;
 #[cfg(test)]
 mod registry_files;
 #[cfg(test)]
-mod resolving;
+mod resolver;
 #[cfg(test)]
 mod runs_together;
 

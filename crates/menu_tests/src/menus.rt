@@ -1,6 +1,6 @@
 //! The three texts of a menu, and which links count as links of the web.
 
-use menu::{Entry, Menu, Reason, Text, is_web_link};
+use menu::{Menu, MenuEntry, Resolution, Text, is_web_link};
 use std::alloc::{AllocError, Global};
 use std::process::Abort;
 use std::test::Fail;
@@ -9,14 +9,14 @@ fn text(alloc: Global, text: &str) -> Result<Text, AllocError> {
     Ok(Text::new(String::from_str(alloc, text)?))
 }
 
-fn entry(alloc: Global, name: &str, reason: Reason) -> Result<Entry, AllocError> {
+fn entry(alloc: Global, name: &str, resolution: Resolution) -> Result<MenuEntry, AllocError> {
     let name = text(alloc, name)?;
-    Ok(Entry { name, reason })
+    Ok(MenuEntry { name, resolution })
 }
 
-fn linked(alloc: Global, name: &str, row: usize, link: &str) -> Result<Entry, AllocError> {
+fn linked(alloc: Global, name: &str, row: usize, link: &str) -> Result<MenuEntry, AllocError> {
     let link = text(alloc, link)?;
-    entry(alloc, name, Reason::Link { row, link })
+    entry(alloc, name, Resolution::Link { row, link })
 }
 
 /// Compares the text, the report and the page with those that are wanted.
@@ -34,7 +34,7 @@ fn prints<R: Abort + AllocGlobal>(
 fn with_links(alloc: Global) -> Result<Menu, AllocError> {
     let mut entries = Vec::new(alloc);
     entries.push(linked(alloc, "zeta", 0, "https://e.org/?a=1&b='c'")?)?;
-    entries.push(entry(alloc, "beta", Reason::NotAWebLink)?)?;
+    entries.push(entry(alloc, "beta", Resolution::NotAWebLink)?)?;
     entries.push(linked(alloc, "alpha", 1, "http://e.org/b")?)?;
     Ok(Menu::new(entries))
 }
@@ -57,9 +57,9 @@ fn a_menu_with_links(rt: HostRuntime) -> Result<(), Fail> {
 
 fn without_links(alloc: Global) -> Result<Menu, AllocError> {
     let mut entries = Vec::new(alloc);
-    entries.push(entry(alloc, "alpha", Reason::NoRow)?)?;
-    entries.push(entry(alloc, "gamma", Reason::NoLink)?)?;
-    entries.push(entry(alloc, "delta", Reason::OverBudget(1_202_100))?)?;
+    entries.push(entry(alloc, "alpha", Resolution::NoRow)?)?;
+    entries.push(entry(alloc, "gamma", Resolution::NoLink)?)?;
+    entries.push(entry(alloc, "delta", Resolution::OverBudget(1_202_100))?)?;
     Ok(Menu::new(entries))
 }
 
@@ -79,7 +79,7 @@ fn a_menu_without_links(rt: HostRuntime) -> Result<(), Fail> {
 
 fn of_one(alloc: Global) -> Result<Menu, AllocError> {
     let mut entries = Vec::new(alloc);
-    entries.push(entry(alloc, "beta", Reason::NoRow)?)?;
+    entries.push(entry(alloc, "beta", Resolution::NoRow)?)?;
     Ok(Menu::new(entries))
 }
 

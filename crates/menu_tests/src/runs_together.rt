@@ -4,8 +4,8 @@ ghost use Rattle.std.specs.Prelude.{◌≡◌, IfOk, length};
 
 use crate::are_shown;
 use crate::codes::{LIST_CODE, TEXT_CODE};
+use interpreter::{Run, prepare};
 use link_menu::{Blind, Fate, Shown, Watch, play, round, turn_all};
-use runs::{Run, prepare};
 use std::alloc::{AllocError, Global};
 use std::process::Abort;
 use std::test::Fail;

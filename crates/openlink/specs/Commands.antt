@@ -17,46 +17,46 @@ use Rattle.command_faults.specs.Faults.{IsDevice, IsCodeFault}
 use Rattle.command_faults.specs.declared.fault.Fault.{Fault}
 use Rattle.command_faults.specs.declared.fault.Fault.TheVariants.{Usage}
 
-abbrev pub begins_with_word : Text → List Text → Bool
-begins_with_word name [] = false
-begins_with_word name (word ∷ words) = bytes_eq word name
+abbrev pub begins_with_command : Text → List Text → Bool
+begins_with_command name [] = false
+begins_with_command name (argument ∷ arguments) = bytes_eq argument name
 
 abbrev pub names_command : List Text → Bool
-names_command words =
-    begins_with_word (codes "expand") words || (begins_with_word (codes "link") words || (begins_with_word (codes "compile") words || (begins_with_word (codes "run") words || (begins_with_word (codes "resolve") words || (begins_with_word (codes "verify") words || (begins_with_word (codes "show") words || (begins_with_word (codes "upgrade") words || begins_with_word (codes "serve") words)))))))
+names_command arguments =
+    begins_with_command (codes "expand") arguments || (begins_with_command (codes "link") arguments || (begins_with_command (codes "compile") arguments || (begins_with_command (codes "run") arguments || (begins_with_command (codes "resolve") arguments || (begins_with_command (codes "verify") arguments || (begins_with_command (codes "show") arguments || (begins_with_command (codes "upgrade") arguments || begins_with_command (codes "serve") arguments)))))))
 
--- the words of a command that is done, and what it prints
+-- the arguments of a command that is done, and what it prints
 pub data Prints : List Text → Text → Type 0 where
-  prints_expansion : (words : List Text) (line : Text) → IsExpandLine words line → Prints (codes "expand" ∷ words) line
-  prints_link : (words : List Text) (line : Text) → IsLinkLine words line → Prints (codes "link" ∷ words) line
-  prints_size : (words : List Text) (line : Text) → MakesFile IsCompiled words line → Prints (codes "compile" ∷ words) line
-  prints_run : (words : List Text) (line : Text) → IsRunLine words line → Prints (codes "run" ∷ words) line
-  prints_menu : (words : List Text) (text : Text) → IsMenuLines words text → Prints (codes "resolve" ∷ words) text
-  prints_verdict : (words : List Text) (text : Text) → IsVerifyLine words text → Prints (codes "verify" ∷ words) text
-  prints_listing : (words : List Text) (text : Text) → IsShowLine words text → Prints (codes "show" ∷ words) text
-  prints_count : (words : List Text) (line : Text) → MakesFile IsUpgrade words line → Prints (codes "upgrade" ∷ words) line
-  prints_about : (words : List Text) (text : Text) → about words ≡ Some text → Prints words text
-  prints_place : (words : List Text) (line : Text) → IsServing words line → Prints (codes "serve" ∷ words) line
+  prints_expansion : (arguments : List Text) (line : Text) → IsExpandLine arguments line → Prints (codes "expand" ∷ arguments) line
+  prints_link : (arguments : List Text) (line : Text) → IsLinkLine arguments line → Prints (codes "link" ∷ arguments) line
+  prints_size : (arguments : List Text) (line : Text) → MakesFile IsCompiled arguments line → Prints (codes "compile" ∷ arguments) line
+  prints_run : (arguments : List Text) (line : Text) → IsRunLine arguments line → Prints (codes "run" ∷ arguments) line
+  prints_menu : (arguments : List Text) (text : Text) → IsMenuLines arguments text → Prints (codes "resolve" ∷ arguments) text
+  prints_verdict : (arguments : List Text) (text : Text) → IsVerifyLine arguments text → Prints (codes "verify" ∷ arguments) text
+  prints_listing : (arguments : List Text) (text : Text) → IsShowLine arguments text → Prints (codes "show" ∷ arguments) text
+  prints_count : (arguments : List Text) (line : Text) → MakesFile IsUpgrade arguments line → Prints (codes "upgrade" ∷ arguments) line
+  prints_about : (arguments : List Text) (text : Text) → about arguments ≡ Some text → Prints arguments text
+  prints_place : (arguments : List Text) (line : Text) → IsServing arguments line → Prints (codes "serve" ∷ arguments) line
 
--- the words of a command that is not done, and why
+-- the arguments of a command that is not done, and why
 pub data Fails : List Text → Fault → Type 0 where
-  no_command : (words : List Text) → names_command words ≡ false → about words ≡ None → Fails words Usage
-  no_expansion : (words : List Text) (fault : Fault) → FailsToExpand words fault → Fails (codes "expand" ∷ words) fault
-  no_link : (words : List Text) (fault : Fault) → FailsToLink words fault → Fails (codes "link" ∷ words) fault
-  no_code : (words : List Text) (fault : Fault) → FailsToMake IsCompiled IsCompileFault words fault → Fails (codes "compile" ∷ words) fault
-  no_run : (words : List Text) (fault : Fault) → FailsToRun words fault → Fails (codes "run" ∷ words) fault
-  no_menu : (words : List Text) (fault : Fault) → FailsToResolve words fault → Fails (codes "resolve" ∷ words) fault
-  no_verdict : (words : List Text) (fault : Fault) → FailsToVerify words fault → Fails (codes "verify" ∷ words) fault
-  no_listing : (words : List Text) (fault : Fault) → FailsToShow words fault → Fails (codes "show" ∷ words) fault
-  no_upgrade : (words : List Text) (fault : Fault) → FailsToMake IsUpgrade IsCodeFault words fault → Fails (codes "upgrade" ∷ words) fault
-  no_service : (words : List Text) (fault : Fault) → FailsToServe words fault → Fails (codes "serve" ∷ words) fault
+  no_command : (arguments : List Text) → names_command arguments ≡ false → about arguments ≡ None → Fails arguments Usage
+  no_expansion : (arguments : List Text) (fault : Fault) → FailsToExpand arguments fault → Fails (codes "expand" ∷ arguments) fault
+  no_link : (arguments : List Text) (fault : Fault) → FailsToLink arguments fault → Fails (codes "link" ∷ arguments) fault
+  no_code : (arguments : List Text) (fault : Fault) → FailsToMake IsCompiled IsCompileFault arguments fault → Fails (codes "compile" ∷ arguments) fault
+  no_run : (arguments : List Text) (fault : Fault) → FailsToRun arguments fault → Fails (codes "run" ∷ arguments) fault
+  no_menu : (arguments : List Text) (fault : Fault) → FailsToResolve arguments fault → Fails (codes "resolve" ∷ arguments) fault
+  no_verdict : (arguments : List Text) (fault : Fault) → FailsToVerify arguments fault → Fails (codes "verify" ∷ arguments) fault
+  no_listing : (arguments : List Text) (fault : Fault) → FailsToShow arguments fault → Fails (codes "show" ∷ arguments) fault
+  no_upgrade : (arguments : List Text) (fault : Fault) → FailsToMake IsUpgrade IsCodeFault arguments fault → Fails (codes "upgrade" ∷ arguments) fault
+  no_service : (arguments : List Text) (fault : Fault) → FailsToServe arguments fault → Fails (codes "serve" ∷ arguments) fault
 
--- the words of a service that has printed its line, and why it stops before it is done
+-- the arguments of a service that has printed its line, and why it stops before it is done
 pub data Stops : List Text → Text → Fault → Type 0 where
-  no_more : (words : List Text) (line : Text) (fault : Fault) → StopsServing words line fault → Stops (codes "serve" ∷ words) line fault
+  no_more : (arguments : List Text) (line : Text) (fault : Fault) → StopsServing arguments line fault → Stops (codes "serve" ∷ arguments) line fault
 
--- the words print something, and the output does not take it
-pub record OutputFails (words : List Text) (fault : Fault) : Type 0 where
+-- the arguments print something, and the output does not take it
+pub record OutputFails (arguments : List Text) (fault : Fault) : Type 0 where
   pub text : Text
-  pub prints : Prints words text
+  pub prints : Prints arguments text
   pub output : IsDevice fault (codes "-")

@@ -8,9 +8,9 @@ use command_faults::Fault;
 use std::alloc::{AllocError, Global};
 use std::env::{self, Env};
 
-/// The arguments behind the program's name. Those that are no text, or that the system does not give, are
+/// The arguments after the program's name. Those that are no text, or that the system does not give, are
 /// wrong arguments.
-pub fn arguments<R: Env + AllocGlobal>(rt: &R) -> Result<Vec<String>, Fault<'static>>
+pub fn program_arguments<R: Env + AllocGlobal>(rt: &R) -> Result<Vec<String>, Fault<'static>>
     ensures { IfErr result (λ fault. (fault ≡ Usage) ⊎ (fault ≡ Memory)) }
 {
     match env::args(rt) {
@@ -19,13 +19,13 @@ pub fn arguments<R: Env + AllocGlobal>(rt: &R) -> Result<Vec<String>, Fault<'sta
     }
 }
 
-/// The arguments as words.
-pub fn words(alloc: Global, arguments: &[String]) -> Result<Vec<&str>, AllocError>
-    ensures { IfOk result (λ words. texts_of words.items ≡ map string_bytes arguments.now) }
+/// The arguments as borrowed texts.
+pub fn argument_texts(alloc: Global, arguments: &[String]) -> Result<Vec<&str>, AllocError>
+    ensures { IfOk result (λ texts. texts_of texts.items ≡ map string_bytes arguments.now) }
 {
-    let mut words = Vec::new(alloc);
+    let mut texts = Vec::new(alloc);
     for argument in arguments {
-        words.push(argument.as_str())?;
+        texts.push(argument.as_str())?;
     }
-    Ok(words)
+    Ok(texts)
 }

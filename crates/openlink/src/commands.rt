@@ -1,10 +1,10 @@
-//! The commands: which words run what, and what is printed.
+//! The commands: which arguments run what, and what is printed.
 
 ghost use Rattle.std.specs.Prelude.{◌≡◌, ◌≢◌, ◌⊎◌, codes, false, None, string_bytes, IfOk, IfErr, OnOk};
 ghost use Rattle.std.specs.Io.KnownBytes.{Appends};
 ghost use Rattle.text_model.specs.Texts.{Text, texts_of};
 ghost use Rattle.openlink.specs.Help as help;
-ghost use Rattle.openlink.specs.Commands.{Prints, Fails, OutputFails, Stops, begins_with_word};
+ghost use Rattle.openlink.specs.Commands.{Prints, Fails, OutputFails, Stops, begins_with_command};
 ghost use Rattle.command_faults.specs.Faults.{status_of};
 ghost use Rattle.command_faults.specs.declared.fault.Fault.{Fault};
 
@@ -20,22 +20,22 @@ use std::net::{Net, TcpListener, TcpStream};
 use std::random::RandomSource;
 use std::rt::Files;
 
-/// Runs the command that the words name, prints its result on `output`, or one line with its fault on
-/// `errors`, and gives the exit status: 0 done, 1 no link, or a menu without links (and nothing is printed), 2 words that are no
+/// Runs the command that the arguments name, prints its result on `output`, or one line with its fault on
+/// `errors`, and gives the exit status: 0 done, 1 no link, or a menu without links (and nothing is printed), 2 arguments that are no
 /// command, 3 refused, 4 memory or device.
 pub fn command<
     R: Files + RandomSource + Net<Listener = TcpListener, Stream = TcpStream> + AllocGlobal,
     O: Write,
     E: Write,
->(rt: &R, words: &[&str], output: &mut O, errors: &mut E) -> u8
-    ensures done { result ≡ 0 → (line : Text) × Prints (texts_of words.now) line
+>(rt: &R, arguments: &[&str], output: &mut O, errors: &mut E) -> u8
+    ensures done { result ≡ 0 → (line : Text) × Prints (texts_of arguments.now) line
         × Appends (O.contents output.old) (O.contents output.new) line }
     ensures not_done { result ≢ 0 → (fault : Fault) × (result ≡ status_of fault)
-        × ((Fails (texts_of words.now) fault × (output.new ≡ output.old)) ⊎ OutputFails (texts_of words.now) fault
-        ⊎ ((line : Text) × Stops (texts_of words.now) line fault × Appends (O.contents output.old) (O.contents output.new) line)) }
+        × ((Fails (texts_of arguments.now) fault × (output.new ≡ output.old)) ⊎ OutputFails (texts_of arguments.now) fault
+        ⊎ ((line : Text) × Stops (texts_of arguments.now) line fault × Appends (O.contents output.old) (O.contents output.new) line)) }
     ensures no_fault { (result ≡ 0) ⊎ (result ≡ 1) → errors.new ≡ errors.old }
 {
-    match run(rt, words, output) {
+    match run(rt, arguments, output) {
         Ok(()) => 0,
         Err(fault) => report(fault, errors),
     }
@@ -52,65 +52,65 @@ pub fn report<E: Write>(fault: Fault, errors: &mut E) -> u8
     fault.status()
 }
 
-/// Runs the command that the words name, and prints its result on `output`.
+/// Runs the command that the arguments name, and prints its result on `output`.
 fn run<
     'a,
     R: Files + RandomSource + Net<Listener = TcpListener, Stream = TcpStream> + AllocGlobal,
     O: Write,
->(rt: &R, words: &[&'a str], output: &mut O) -> Result<(), Fault<'a>>
-    ensures printed { OnOk result ((line : Text) × Prints (texts_of words.now) line
+>(rt: &R, arguments: &[&'a str], output: &mut O) -> Result<(), Fault<'a>>
+    ensures printed { OnOk result ((line : Text) × Prints (texts_of arguments.now) line
         × Appends (O.contents output.old) (O.contents output.new) line) }
-    ensures failed { IfErr result (λ fault. (Fails (texts_of words.now) fault × (output.new ≡ output.old))
-        ⊎ OutputFails (texts_of words.now) fault
-        ⊎ ((line : Text) × Stops (texts_of words.now) line fault × Appends (O.contents output.old) (O.contents output.new) line)) }
+    ensures failed { IfErr result (λ fault. (Fails (texts_of arguments.now) fault × (output.new ≡ output.old))
+        ⊎ OutputFails (texts_of arguments.now) fault
+        ⊎ ((line : Text) × Stops (texts_of arguments.now) line fault × Appends (O.contents output.old) (O.contents output.new) line)) }
 {
-    if let Some(text) = about(words) {
+    if let Some(text) = about(arguments) {
         return write_whole(output, "-", text.as_bytes());
     }
-    match behind(words, "serve") {
+    match behind(arguments, "serve") {
         Some(rest) => {
             serve(rt, rest, output)?;
             Ok(())
         }
         None => {
-            let text = answer(rt, words)?;
+            let text = answer(rt, arguments)?;
             write_whole(output, "-", text.as_bytes())
         }
     }
 }
 
-/// What the command that the words name prints, which is none that prints before it is done.
+/// What the command that the arguments name prints, which is none that prints before it is done.
 fn answer<'a, R: Files + RandomSource + AllocGlobal>(
     rt: &R,
-    words: &[&'a str],
+    arguments: &[&'a str],
 ) -> Result<String, Fault<'a>>
-    requires serve { begins_with_word (codes "serve") (texts_of words.now) ≡ false }
-    requires about { help.about (texts_of words.now) ≡ None }
-    ensures ok { IfOk result (λ text. Prints (texts_of words.now) (string_bytes text)) }
-    ensures err { IfErr result (Fails (texts_of words.now)) }
+    requires serve { begins_with_command (codes "serve") (texts_of arguments.now) ≡ false }
+    requires about { help.about (texts_of arguments.now) ≡ None }
+    ensures ok { IfOk result (λ text. Prints (texts_of arguments.now) (string_bytes text)) }
+    ensures err { IfErr result (Fails (texts_of arguments.now)) }
 {
-    if let Some(rest) = behind(words, "expand") {
+    if let Some(rest) = behind(arguments, "expand") {
         return expand_line(rt.alloc(), rest);
     }
-    if let Some(rest) = behind(words, "link") {
+    if let Some(rest) = behind(arguments, "link") {
         return link_line(rt, rest);
     }
-    if let Some(rest) = behind(words, "compile") {
+    if let Some(rest) = behind(arguments, "compile") {
         return compile_line(rt, rest);
     }
-    if let Some(rest) = behind(words, "run") {
+    if let Some(rest) = behind(arguments, "run") {
         return run_line(rt, rest);
     }
-    if let Some(rest) = behind(words, "resolve") {
+    if let Some(rest) = behind(arguments, "resolve") {
         return resolve_lines(rt, rest);
     }
-    if let Some(rest) = behind(words, "verify") {
+    if let Some(rest) = behind(arguments, "verify") {
         return verify_lines(rt, rest);
     }
-    if let Some(rest) = behind(words, "show") {
+    if let Some(rest) = behind(arguments, "show") {
         return show_lines(rt, rest);
     }
-    if let Some(rest) = behind(words, "upgrade") {
+    if let Some(rest) = behind(arguments, "upgrade") {
         return upgrade_line(rt, rest);
     }
     Err(Fault::Usage)

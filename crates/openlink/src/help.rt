@@ -5,7 +5,7 @@ ghost use Rattle.std.specs.Option.{option_map};
 ghost use Rattle.text_model.specs.Texts.{texts_of};
 ghost use Rattle.openlink.specs.Help as spec;
 
-use command_words::one_word;
+use command_words::one_argument;
 
 /// The line of the version, which stands here alone.
 const VERSION: &str = "openlink 0.1.0\n";
@@ -43,28 +43,28 @@ Limits:
 Exit status:
   0   done
   1   no link, or an empty menu
-  2   the words are no command
+  2   the arguments are no command
   3   refused: a template, a query, a file or a target
   4   memory or device
 ";
 
-/// What the program says of itself where that is what the words ask for: its help for `--help`, `-h` and `help`, and its
+/// What the program says of itself where that is what the arguments ask for: its help for `--help`, `-h` and `help`, and its
 /// version for `--version`, each alone.
-pub fn about(words: &[&str]) -> Option<&'static str>
-    ensures { option_map (λ text. text.now) result ≡ spec.about (texts_of words.now) }
+pub fn about(arguments: &[&str]) -> Option<&'static str>
+    ensures { option_map (λ text. text.now) result ≡ spec.about (texts_of arguments.now) }
 {
-    let word = one_word(words)?;
-    if asks_for_help(word) {
+    let argument = one_argument(arguments)?;
+    if asks_for_help(argument) {
         return Some(HELP);
     }
-    match word {
+    match argument {
         "--version" => Some(VERSION),
         _ => None,
     }
 }
 
-fn asks_for_help(word: &str) -> bool
-    ensures { result ≡ spec.asks_for_help word.now }
+fn asks_for_help(argument: &str) -> bool
+    ensures { result ≡ spec.asks_for_help argument.now }
 {
-    word == "--help" || word == "-h" || word == "help"
+    argument == "--help" || argument == "-h" || argument == "help"
 }

@@ -7,17 +7,17 @@ mod help;
 #[cfg(test)]
 mod tests;
 
-use crate::arguments::{arguments, words};
+use crate::arguments::{argument_texts, program_arguments};
 use crate::commands::{command, report};
 use command_faults::Fault;
 use std::io::Write;
 use std::process::ExitCode;
 
-/// Carries out the words after the program's name.
+/// Carries out the arguments after the program's name.
 fn carry_out<E: Write>(rt: &HostRuntime, errors: &mut E) -> Result<u8, Fault<'static>> {
-    let arguments = arguments(rt)?;
-    let words = words(rt.alloc(), &arguments)?;
-    Ok(command(rt, &words, &mut rt.stdout(), errors))
+    let arguments = program_arguments(rt)?;
+    let texts = argument_texts(rt.alloc(), &arguments)?;
+    Ok(command(rt, &texts, &mut rt.stdout(), errors))
 }
 
 fn main(rt: HostRuntime) -> ExitCode {

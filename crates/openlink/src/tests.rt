@@ -19,27 +19,27 @@ use std::random::RandomSource;
 use std::rt::Files;
 use std::test::Fail;
 
-/// The words of a command, and what it gives: status, standard output and standard error.
+/// The arguments of a command, and what it gives: status, standard output and standard error.
 #[derive(Clone, Copy)]
 pub struct Case<'a> {
-    words: &'a [&'a str],
+    arguments: &'a [&'a str],
     status: u8,
     printed: &'a str,
     fault: &'a str,
 }
 
-pub fn done<'a>(words: &'a [&'a str], printed: &'a str) -> Case<'a> {
+pub fn done<'a>(arguments: &'a [&'a str], printed: &'a str) -> Case<'a> {
     Case {
-        words,
+        arguments,
         status: 0,
         printed,
         fault: "",
     }
 }
 
-pub fn ends<'a>(words: &'a [&'a str], status: u8, fault: &'a str) -> Case<'a> {
+pub fn ends<'a>(arguments: &'a [&'a str], status: u8, fault: &'a str) -> Case<'a> {
     Case {
-        words,
+        arguments,
         status,
         printed: "",
         fault,
@@ -50,14 +50,14 @@ fn is_out_of_memory(errors: &[u8]) -> bool {
     errors == b"openlink: out of memory\n".as_slice()
 }
 
-/// Runs the words, and compares what they give: status, standard output and standard error. Where a growth
+/// Runs the arguments, and compares what they give: status, standard output and standard error. Where a growth
 /// was refused, they give that, whatever they would have given.
-pub fn run_words<
+pub fn run_arguments<
     R: Abort + Files + RandomSource + Net<Listener = TcpListener, Stream = TcpStream> + AllocGlobal,
->(rt: &R, words: &[&str], status: u8, printed: &str, fault: &str) -> Result<(), Fail> {
+>(rt: &R, arguments: &[&str], status: u8, printed: &str, fault: &str) -> Result<(), Fail> {
     let mut output = Vec::with_capacity(rt.alloc(), printed.len())?;
     let mut errors = Vec::with_capacity(rt.alloc(), 64 + fault.len())?;
-    let answer = command(rt, words, &mut output, &mut errors);
+    let answer = command(rt, arguments, &mut output, &mut errors);
     if is_out_of_memory(&errors) {
         assert_eq!(rt; (answer, output.len()), (4, 0), "{words:?}");
         return Err(AllocError.into());
@@ -72,13 +72,13 @@ pub fn run_cases<
     R: Abort + Files + RandomSource + Net<Listener = TcpListener, Stream = TcpStream> + AllocGlobal,
 >(rt: &R, cases: &[Case]) -> Result<(), Fail> {
     for case in cases {
-        run_words(rt, case.words, case.status, case.printed, case.fault)?;
+        run_arguments(rt, case.arguments, case.status, case.printed, case.fault)?;
     }
     Ok(())
 }
 
 #[test]
-fn answers_other_words_as_usage(rt: HostRuntime) -> Result<(), Fail> {
+fn answers_other_arguments_as_usage(rt: HostRuntime) -> Result<(), Fail> {
     let usage = "openlink: usage\n";
     run_cases(
         &rt,

@@ -5,30 +5,30 @@ use Rattle.environment_model.specs.Environment.{byte_count, look_up, members_of,
 use Rattle.code_model.specs.Code.{Code, row}
 use Rattle.kev_read.specs.Pairs.{KeyValue}
 use Rattle.kbart_rows.specs.Cells.{Holdings}
-use Rattle.menu.specs.declared.entry.Reason.{Reason}
-use Rattle.menu.specs.declared.entry.Reason.TheVariants as reason
+use Rattle.menu.specs.declared.entry.Resolution.{Resolution}
+use Rattle.menu.specs.declared.entry.Resolution.TheVariants as resolution
 use Rattle.registry.specs.Targets.{TargetValue}
 use Rattle.registry.specs.RowEnvironments.{row_entries, row_environment}
 use Rattle.registry.specs.Fates.{OverBudget, Link, NoLink}
-use Rattle.registry.specs.Entries.{chosen, reason_by}
+use Rattle.registry.specs.Entries.{chosen, resolution_by}
 
 -- ---- what is chosen
 
-second_row_has_a_link : chosen reason.NoRow (reason.NoLink ∷ reason.Link 1 (codes "http://a") ∷ reason.Link 2 (codes "http://b") ∷ []) ≡ reason.Link 1 (codes "http://a")
+second_row_has_a_link : chosen resolution.NoRow (resolution.NoLink ∷ resolution.Link 1 (codes "http://a") ∷ resolution.Link 2 (codes "http://b") ∷ []) ≡ resolution.Link 1 (codes "http://a")
 second_row_has_a_link = refl
 
-no_row_has_a_link : chosen reason.NoRow (reason.NoLink ∷ reason.NotAWebLink ∷ []) ≡ reason.NotAWebLink
+no_row_has_a_link : chosen resolution.NoRow (resolution.NoLink ∷ resolution.NotAWebLink ∷ []) ≡ resolution.NotAWebLink
 no_row_has_a_link = refl
 
-no_row_matches : chosen reason.NoRow [] ≡ reason.NoRow
+no_row_matches : chosen resolution.NoRow [] ≡ resolution.NoRow
 no_row_matches = refl
 
-reasons : List Reason
-reasons = reason_by 3 (Link (codes "HTTPS://e.org")) ∷ reason_by 3 (Link (codes "javascript:x")) ∷ reason_by 3 NoLink ∷ reason_by 3 (OverBudget 1202100) ∷ []
+resolutions : List Resolution
+resolutions = resolution_by 3 (Link (codes "HTTPS://e.org")) ∷ resolution_by 3 (Link (codes "javascript:x")) ∷ resolution_by 3 NoLink ∷ resolution_by 3 (OverBudget 1202100) ∷ []
 
-reasons_of_fates : reasons ≡ reason.Link 3 (codes "HTTPS://e.org") ∷ reason.NotAWebLink ∷ reason.NoLink ∷ reason.OverBudget 1202100 ∷ []
-unfolding reasons
-reasons_of_fates = refl
+resolutions_of_fates : resolutions ≡ resolution.Link 3 (codes "HTTPS://e.org") ∷ resolution.NotAWebLink ∷ resolution.NoLink ∷ resolution.OverBudget 1202100 ∷ []
+unfolding resolutions
+resolutions_of_fates = refl
 
 -- ---- a table with two rows
 

@@ -9,7 +9,7 @@ use Rattle.std.specs.List.{AllPairs, range_with_len}
 use Rattle.kev_read.specs.Pairs.{KeyValue}
 use Rattle.kbart_rows.specs.Identifiers.{first_from, identifier_columns, ids_of, is_match}
 use Rattle.menu.specs.Links.{is_link}
-use Rattle.menu.specs.declared.entry.Reason.{Reason}
+use Rattle.menu.specs.declared.entry.Resolution.{Resolution}
 use Rattle.registry.specs.Targets.{TargetValue}
 use Rattle.registry.specs.Entries.{chosen, matching_rows_of}
 
@@ -92,8 +92,8 @@ first_and_rest from row (next ∷ rows) rise found = by_test (nat_le from next) 
 
 -- ---- what is chosen
 
-pub link_first : (so_far reason : Reason) (reasons : List Reason) → is_link reason ≡ true → chosen so_far (reason ∷ reasons) ≡ reason
-link_first so_far reason reasons link = rw link refl
+pub link_first : (so_far resolution : Resolution) (resolutions : List Resolution) → is_link resolution ≡ true → chosen so_far (resolution ∷ resolutions) ≡ resolution
+link_first so_far resolution resolutions link = rw link refl
 
-pub no_link_first : (so_far reason : Reason) (reasons : List Reason) → is_link reason ≡ false → chosen so_far (reason ∷ reasons) ≡ chosen reason reasons
-no_link_first so_far reason reasons no_link = rw no_link refl
+pub no_link_first : (so_far resolution : Resolution) (resolutions : List Resolution) → is_link resolution ≡ false → chosen so_far (resolution ∷ resolutions) ≡ chosen resolution resolutions
+no_link_first so_far resolution resolutions no_link = rw no_link refl

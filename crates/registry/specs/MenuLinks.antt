@@ -4,7 +4,7 @@ use Rattle.text_model.specs.UriText.{IsUriText}
 use Rattle.menu.specs.Contained.{IsTargetName}
 use Rattle.menu.specs.Links.{NamedLink, links}
 use Rattle.menu.specs.WebLink.{is_web_link}
-use Rattle.menu.specs.declared.entry.Entry.{Entry}
+use Rattle.menu.specs.declared.entry.MenuEntry.{MenuEntry}
 
 -- the name of a target, and a link of the web that is URI text
 pub record IsMenuLink (l : NamedLink) : Type 0 where
@@ -13,6 +13,6 @@ pub record IsMenuLink (l : NamedLink) : Type 0 where
   pub uri : IsUriText l.link
 
 -- each entry has the name of a target, and each link is as said
-pub record IsSoundMenu (menu : List Entry) : Type 0 where
+pub record IsSoundMenu (menu : List MenuEntry) : Type 0 where
   pub names : All (λ entry. IsTargetName entry.name) menu
   pub links : All IsMenuLink (links menu)

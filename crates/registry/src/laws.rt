@@ -7,29 +7,29 @@ ghost use Rattle.machine_model.specs.Runs.{HasOutcome, Outcome};
 ghost use Rattle.kev_read.specs.Pairs.{KeyValue};
 ghost use Rattle.kbart_rows.specs.Identifiers.{first_from};
 ghost use Rattle.menu.specs.Links.{is_link};
-ghost use Rattle.menu.specs.declared.entry.Reason.{Reason};
-ghost use Rattle.menu.specs.declared.entry.Reason.TheVariants.{NoRow};
+ghost use Rattle.menu.specs.declared.entry.Resolution.{Resolution};
+ghost use Rattle.menu.specs.declared.entry.Resolution.TheVariants.{NoRow};
 ghost use Rattle.registry.specs.Targets.{TargetValue, IsRegistry};
 ghost use Rattle.registry.specs.Fates.{OverBudget, ended, fate_in, most_bytes_in};
-ghost use Rattle.registry.specs.Entries.{matching_rows_of, menu_of, reason_from, reason_of, reason_of_row};
+ghost use Rattle.registry.specs.Entries.{matching_rows_of, menu_of, resolution_from, resolution_of, resolution_of_row};
 ghost use Rattle.registry.specs.MenuLinks.{IsSoundMenu};
 
 use machine_laws::course_is_decided;
-use runs::MAX_LINK_BYTES;
+use verified_runs::MAX_LINK_BYTES;
 
 /// The reason of a target is found row after row: from row 0 on, with NoRow so far. Where no row matches any more,
 /// it is the reason so far. Otherwise it is that of the next matching row, where that is a link; and where it is
 /// none, it is found from behind that row, with its reason so far.
 pub fn rows_are_tried_in_order()
-    ensures start { (target : TargetValue) (pairs : List KeyValue) → reason_of target pairs ≡ reason_from target pairs 0 NoRow }
-    ensures no_more { (target : TargetValue) (pairs : List KeyValue) (from : ℕ) (so_far : Reason) →
-        first_from from (matching_rows_of target pairs) ≡ None → reason_from target pairs from so_far ≡ so_far }
-    ensures link { (target : TargetValue) (pairs : List KeyValue) (from row : ℕ) (so_far : Reason) →
-        first_from from (matching_rows_of target pairs) ≡ Some row → is_link (reason_of_row target pairs row) ≡ true
-        → reason_from target pairs from so_far ≡ reason_of_row target pairs row }
-    ensures no_link { (target : TargetValue) (pairs : List KeyValue) (from row : ℕ) (so_far : Reason) →
-        first_from from (matching_rows_of target pairs) ≡ Some row → is_link (reason_of_row target pairs row) ≡ false
-        → reason_from target pairs from so_far ≡ reason_from target pairs (row + 1) (reason_of_row target pairs row) }
+    ensures start { (target : TargetValue) (pairs : List KeyValue) → resolution_of target pairs ≡ resolution_from target pairs 0 NoRow }
+    ensures no_more { (target : TargetValue) (pairs : List KeyValue) (from : ℕ) (so_far : Resolution) →
+        first_from from (matching_rows_of target pairs) ≡ None → resolution_from target pairs from so_far ≡ so_far }
+    ensures link { (target : TargetValue) (pairs : List KeyValue) (from row : ℕ) (so_far : Resolution) →
+        first_from from (matching_rows_of target pairs) ≡ Some row → is_link (resolution_of_row target pairs row) ≡ true
+        → resolution_from target pairs from so_far ≡ resolution_of_row target pairs row }
+    ensures no_link { (target : TargetValue) (pairs : List KeyValue) (from row : ℕ) (so_far : Resolution) →
+        first_from from (matching_rows_of target pairs) ≡ Some row → is_link (resolution_of_row target pairs row) ≡ false
+        → resolution_from target pairs from so_far ≡ resolution_from target pairs (row + 1) (resolution_of_row target pairs row) }
 {}
 
 /// The matching rows of a target stand in rising order: those at or after row 0 are all of them. Where none is at or

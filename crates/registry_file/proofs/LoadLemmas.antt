@@ -8,7 +8,7 @@ use Rattle.kbart_rows.specs.Reading.{AreLines}
 use Rattle.registry.specs.Targets.{TargetValue}
 use Rattle.registry_file.specs.Lines.{IsTargetLine, IsNoTargetLine}
 use Rattle.registry_file.specs.Loading.{IsTargetAt, AreTargets, StopsAtLine, IsRegistryFault}
-use Rattle.registry_file.specs.Private.{IsTargetOf, IsStop, IsNamed}
+use Rattle.registry_file.specs.Private.Stops.{IsTargetOf, IsStop, IsNamed}
 use Rattle.registry_file.specs.declared.lines.TheConstants.{MAX_REGISTRY_BYTES}
 use Rattle.registry_file.specs.declared.error.RegistryError.{RegistryError}
 use Rattle.registry_file.specs.declared.error.RegistryError.TheVariants.{Device, Line, Target, NoMemory}

@@ -10,7 +10,7 @@ use Rattle.registry.specs.declared.error.AddErrorKind.{AddErrorKind}
 use Rattle.registry.specs.declared.error.AddErrorKind.TheVariants as add
 use Rattle.kbart_rows.specs.Reading.{IsFault}
 use Rattle.registry_file.specs.Loading.{OfFront, IsTargetFault}
-use Rattle.registry_file.specs.Private.{IsFileStop, IsTableStop, IsStop, stop_of_kind, stop_of_table}
+use Rattle.registry_file.specs.Private.Stops.{IsFileStop, IsTableStop, IsStop, stop_of_kind, stop_of_table}
 use Rattle.registry_file.specs.declared.stop.Stop.{Stop}
 use Rattle.registry_file.specs.declared.stop.Stop.TheVariants.{Fault, NoMemory}
 use Rattle.registry_file.specs.declared.error.TargetFault.{TargetFault}

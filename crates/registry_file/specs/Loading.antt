@@ -12,7 +12,7 @@ use Rattle.kbart_rows.specs.declared.error.TableError.TheVariants as table
 use Rattle.registry.specs.Targets.{TargetValue}
 use Rattle.registry.specs.Refusals.{IsRefusal}
 use Rattle.registry.specs.declared.error.AddErrorKind.TheVariants as add
-use Rattle.file_front.specs.Front.{IsFront}
+use Rattle.file_front.specs.FirstBytes.{AreFirstBytes}
 use Rattle.registry_file.specs.Lines.{IsTargetLine, IsNoTargetLine}
 use Rattle.registry_file.specs.declared.lines.TheConstants.{MAX_REGISTRY_BYTES}
 use Rattle.registry_file.specs.declared.error.RegistryError.{RegistryError}
@@ -23,7 +23,7 @@ use Rattle.registry_file.specs.declared.error.TargetFault.TheVariants as fault
 
 -- it holds of the front of a file, whose reader may tell its bytes
 abbrev pub OfFront : ℕ → Option Text → (Text → Type 0) → Type 0
-OfFront limit told P = (front : Text) × IsFront limit told front × P front
+OfFront limit told P = (front : Text) × AreFirstBytes limit told front × P front
 
 -- the bytes are the code file of safe code
 pub record IsSafeFile (bytes : Text) (code : Code) : Type 0 where

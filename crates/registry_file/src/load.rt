@@ -9,7 +9,7 @@ ghost use Rattle.registry_file.specs.declared.lines.TheConstants.{MAX_REGISTRY_B
 use crate::error::RegistryError;
 use crate::lines::{MAX_REGISTRY_BYTES, read_lines, target_line};
 use crate::target::add_target;
-use file_front::read_front;
+use file_front::read_first_bytes;
 use kbart_rows::Keys;
 use registry::Registry;
 use std::fs;
@@ -72,7 +72,7 @@ pub fn read_registry<R: Files + AllocGlobal>(
 }
 
 fn front<R: Files + AllocGlobal>(rt: &R, path: &str) -> io::Result<Vec<u8>> {
-    read_front(rt.alloc(), fs::open(rt, path)?, MAX_REGISTRY_BYTES)
+    read_first_bytes(rt.alloc(), fs::open(rt, path)?, MAX_REGISTRY_BYTES)
 }
 
 /// Keys that nobody knows, as [`read_registry`] takes them; an error of the system where it has no random numbers.

@@ -1,7 +1,7 @@
 //! Why a target is not added, before it is named.
 
 ghost use Rattle.std.specs.Prelude.{◌≡◌};
-ghost use Rattle.registry_file.specs.Private.{IsFileStop, IsNamed, stop_of_kind};
+ghost use Rattle.registry_file.specs.Private.Stops.{IsFileStop, IsNamed, stop_of_kind};
 
 use crate::error::{RegistryError, TargetError, TargetFault};
 use kbart_rows::TableError;
@@ -64,7 +64,7 @@ impl From<AllocError> for Stop {
 }
 
 impl From<LoadError> for Stop {
-    ghost use Rattle.registry_file.specs.Private.{stop_of_load};
+    ghost use Rattle.registry_file.specs.Private.Stops.{stop_of_load};
     ghost use Rattle.std.specs.Prelude.{◌≡◌};
 
     ghost from_gives = { λ e stop. stop ≡ stop_of_load e };
@@ -78,7 +78,7 @@ impl From<LoadError> for Stop {
 }
 
 impl From<TableError> for Stop {
-    ghost use Rattle.registry_file.specs.Private.{stop_of_table};
+    ghost use Rattle.registry_file.specs.Private.Stops.{stop_of_table};
     ghost use Rattle.std.specs.Prelude.{◌≡◌};
 
     ghost from_gives = { λ e stop. stop ≡ stop_of_table e };

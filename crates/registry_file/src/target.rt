@@ -2,17 +2,17 @@
 
 ghost use Rattle.std.specs.Prelude.{◌≡◌, ◌++◌, ◌∷◌, [], ◌⊎◌, ◌+◌, ◌<◌, ◌^◌, IfErr, IfOk, OnErr, OnOk};
 ghost use Rattle.code_file.specs.declared.limits.TheConstants as code_file;
-ghost use Rattle.file_front.specs.Front.{IsFront};
+ghost use Rattle.file_front.specs.FirstBytes.{AreFirstBytes};
 ghost use Rattle.kbart_rows.specs.Reading.{IsTable};
 ghost use Rattle.kbart_rows.specs.declared.read.TheConstants as kbart_rows;
 ghost use Rattle.registry.specs.Targets.{TargetValue};
 ghost use Rattle.registry_file.specs.Loading.{IsSafeFile, OfFront};
-ghost use Rattle.registry_file.specs.Private.{IsCodeStop, IsFileStop, IsStop, IsTableStop, IsTargetOf};
+ghost use Rattle.registry_file.specs.Private.Stops.{IsCodeStop, IsFileStop, IsStop, IsTableStop, IsTargetOf};
 
 use crate::lines::TargetLine;
 use crate::stop::Stop;
 use code_file::MAX_BYTES;
-use file_front::read_front;
+use file_front::read_first_bytes;
 use kbart_rows::{Keys, MAX_TABLE_BYTES, Table};
 use registry::Registry;
 use std::alloc::Global;
@@ -72,10 +72,10 @@ fn open<R: Files + AllocGlobal>(rt: &R, path: &str) -> Result<R::File, Stop>
 /// All bytes of a file, or where it has more, as many as the limit and one more.
 fn front<F: Read + Drop>(alloc: Global, file: F, path: &str, limit: usize) -> Result<Vec<u8>, Stop>
     requires { limit + 1 < 2 ^ 63 }
-    ensures ok { IfOk result (λ front. IsFront limit (F.remaining file) front.items) }
+    ensures ok { IfOk result (λ front. AreFirstBytes limit (F.remaining file) front.items) }
     ensures err { IfErr result (IsFileStop path.now) }
 {
-    match read_front(alloc, file, limit) {
+    match read_first_bytes(alloc, file, limit) {
         Ok(front) => Ok(front),
         Err(e) => Err(Stop::of_file(alloc, &e, path)),
     }

@@ -38,7 +38,7 @@ not_linked query (fault.Load e) front all read h = h
 not_linked query (fault.OverBudget n) front all read h = h
 not_linked query (fault.Device path) front all read h = h
 not_linked query (fault.Registry n) front all read h = h
-not_linked query (fault.Port word) front all read h = h
+not_linked query (fault.Port argument) front all read h = h
 not_linked query (fault.Target e) front all read h = h
 
 pub compiled : (new front all : Text) → IsWholeOrLong 65536 front all → IsCompiled front new → IsCompiled all new
@@ -57,5 +57,5 @@ not_compiled (fault.Load e) front all read h = h
 not_compiled (fault.OverBudget n) front all read h = h
 not_compiled (fault.Device path) front all read h = h
 not_compiled (fault.Registry n) front all read h = h
-not_compiled (fault.Port word) front all read h = h
+not_compiled (fault.Port argument) front all read h = h
 not_compiled (fault.Target e) front all read h = h

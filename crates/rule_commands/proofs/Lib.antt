@@ -1,3 +1,3 @@
-pub mod WordLemmas
+pub mod ArgumentLemmas
 pub mod FrontLemmas
 pub mod LinkLemmas

@@ -1,4 +1,4 @@
--- What `expand` prints, from its words to the bytes, and why it prints nothing.
+-- What `expand` prints, from its arguments to the bytes, and why it prints nothing.
 use Rattle.std.specs.Prelude.{◌≡◌, true, List, [], ◌∷◌, ◌++◌, ◌⊎◌, Some, None}
 use Rattle.text_model.specs.Texts.{Text}
 use Rattle.environment_model.specs.Environment.{look_up}
@@ -8,7 +8,7 @@ use Rattle.uri_template.specs.Expansion.{expansion}
 use Rattle.kev_read.specs.Pairs.{pairs_of}
 use Rattle.kev_read.specs.Refusal.{refusal}
 use Rattle.kev_read.specs.Filling.{filled}
-use Rattle.rule_commands.specs.Words.{AreExpandWords, NoExpandWords, begins_with_option}
+use Rattle.rule_commands.specs.Arguments.{AreExpandArguments, NoExpandArguments, begins_with_option}
 use Rattle.command_faults.specs.declared.fault.Fault.{Fault}
 use Rattle.command_faults.specs.declared.fault.Fault.TheVariants.{Usage, Template, Query, Memory}
 
@@ -26,25 +26,25 @@ IsExpandFault template query (Query e) = (parts : List Part) × IsTemplate templ
 IsExpandFault template query Memory = Unit {0}
 IsExpandFault template query other = ⊥
 
--- the line that the words behind `expand` print
-pub record IsExpandLine (words : List Text) (line : Text) : Type 0 where
+-- the line that the arguments behind `expand` print
+pub record IsExpandLine (arguments : List Text) (line : Text) : Type 0 where
   pub lists : List Text
   pub template : Text
   pub query : Text
   pub text : Text
-  pub told_apart : AreExpandWords words lists template query
+  pub told_apart : AreExpandArguments arguments lists template query
   pub expansion : IsExpansion lists template query text
   pub whole : line ≡ text ++ 10 ∷ []
 
--- the words are those behind `expand`, and the template or the query is refused
-pub record IsExpandRefusal (words : List Text) (fault : Fault) : Type 0 where
+-- the arguments are those behind `expand`, and the template or the query is refused
+pub record IsExpandRefusal (arguments : List Text) (fault : Fault) : Type 0 where
   pub lists : List Text
   pub template : Text
   pub query : Text
-  pub told_apart : AreExpandWords words lists template query
+  pub told_apart : AreExpandArguments arguments lists template query
   pub refused : IsExpandFault template query fault
 
--- why the words behind `expand` print nothing; the names of the options take memory before all words are told apart
+-- why the arguments behind `expand` print nothing; the names of the options take memory before all arguments are told apart
 abbrev pub FailsToExpand : List Text → Fault → Type 0
-FailsToExpand words fault =
-    ((fault ≡ Memory) × (begins_with_option words ≡ true)) ⊎ ((fault ≡ Usage) × NoExpandWords words) ⊎ IsExpandRefusal words fault
+FailsToExpand arguments fault =
+    ((fault ≡ Memory) × (begins_with_option arguments ≡ true)) ⊎ ((fault ≡ Usage) × NoExpandArguments arguments) ⊎ IsExpandRefusal arguments fault

@@ -1,4 +1,4 @@
-pub mod Words
+pub mod Arguments
 pub mod Expand
 pub mod Link
 pub mod Compile

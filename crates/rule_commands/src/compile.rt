@@ -8,8 +8,8 @@ ghost use Rattle.command_files.specs.Files.{OfFile};
 ghost use Rattle.command_files.specs.NewFile.{MakesFile, FailsToMake};
 
 use command_faults::Fault;
-use command_files::{open_file, place_counted, read_front};
-use command_words::two_words;
+use command_files::{open_file, place_counted, read_first_bytes};
+use command_words::two_arguments;
 use compiler::compile;
 use rule_parser::{MAX_BYTES, Rules};
 use std::alloc::Global;
@@ -38,22 +38,22 @@ pub fn compile_file<'a, F: Read + Drop>(
     ensures ok { IfOk result (λ code. OfFile (F.remaining file) (λ bytes. IsCompiled bytes code.items)) }
     ensures err { IfErr result (λ fault. IsFileFault path.now fault ⊎ OfFile (F.remaining file) (λ bytes. IsCompileFault bytes fault)) }
 {
-    let bytes = read_front(alloc, file, path, MAX_BYTES)?;
+    let bytes = read_first_bytes(alloc, file, path, MAX_BYTES)?;
     compile_rules(alloc, &bytes)
 }
 
-/// The line that the words behind `compile` print, which counts the bytes of the code file, once that is in its place.
+/// The line that the arguments behind `compile` print, which counts the bytes of the code file, once that is in its place.
 ///
-/// The fault is `Usage` where the words are not two paths; one of `compile_file`; or that of the file at the second path,
+/// The fault is `Usage` where the arguments are not two paths; one of `compile_file`; or that of the file at the second path,
 /// which then is as it was.
 pub fn compile_line<'a, R: Files + AllocGlobal>(
     rt: &R,
-    words: &[&'a str],
+    arguments: &[&'a str],
 ) -> Result<String, Fault<'a>>
-    ensures ok { IfOk result (λ line. MakesFile IsCompiled (texts_of words.now) (string_bytes line)) }
-    ensures err { IfErr result (FailsToMake IsCompiled IsCompileFault (texts_of words.now)) }
+    ensures ok { IfOk result (λ line. MakesFile IsCompiled (texts_of arguments.now) (string_bytes line)) }
+    ensures err { IfErr result (FailsToMake IsCompiled IsCompileFault (texts_of arguments.now)) }
 {
-    let Some((rules, code)) = two_words(words) else {
+    let Some((rules, code)) = two_arguments(arguments) else {
         return Err(Fault::Usage);
     };
     let file = open_file(rt, rules)?;

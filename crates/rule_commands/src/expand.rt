@@ -4,7 +4,7 @@ ghost use Rattle.std.specs.Prelude.{IfOk, IfErr, string_bytes};
 ghost use Rattle.text_model.specs.Texts.{texts_of};
 ghost use Rattle.rule_commands.specs.Expand.{IsExpansion, IsExpandFault, IsExpandLine, FailsToExpand};
 
-use crate::words::expand_words;
+use crate::arguments::expand_arguments;
 use command_faults::Fault;
 use command_requests::{ended, environment};
 use std::alloc::Global;
@@ -26,15 +26,15 @@ pub fn expand_query<'a>(
     Ok(expand(alloc, &template, &env)?)
 }
 
-/// The line that the words behind `expand` print: options `--list NAME`, a template and a query. A template has at most
+/// The line that the arguments behind `expand` print: options `--list NAME`, a template and a query. A template has at most
 /// 8,192 bytes, a query 65,536.
 ///
-/// The fault is `Usage` for other words, the first of the template, or else that of the query; or want of memory.
-pub fn expand_line<'a>(alloc: Global, words: &[&'a str]) -> Result<String, Fault<'a>>
-    ensures ok { IfOk result (λ line. IsExpandLine (texts_of words.now) (string_bytes line)) }
-    ensures err { IfErr result (FailsToExpand (texts_of words.now)) }
+/// The fault is `Usage` for other arguments, the first of the template, or else that of the query; or want of memory.
+pub fn expand_line<'a>(alloc: Global, arguments: &[&'a str]) -> Result<String, Fault<'a>>
+    ensures ok { IfOk result (λ line. IsExpandLine (texts_of arguments.now) (string_bytes line)) }
+    ensures err { IfErr result (FailsToExpand (texts_of arguments.now)) }
 {
-    let words = expand_words(alloc, words)?;
-    let text = expand_query(alloc, &words.lists, words.template, words.query)?;
+    let arguments = expand_arguments(alloc, arguments)?;
+    let text = expand_query(alloc, &arguments.lists, arguments.template, arguments.query)?;
     Ok(ended(text)?)
 }

@@ -7,9 +7,9 @@ ghost use Rattle.command_files.specs.Files.{OfFile};
 ghost use Rattle.rule_commands.specs.Link.{IsMeaning, IsLinkFault, IsLinkLine, FailsToLink};
 
 use command_faults::Fault;
-use command_files::{open_file, read_front};
+use command_files::{open_file, read_first_bytes};
 use command_requests::{ended, environment};
-use command_words::two_words;
+use command_words::two_arguments;
 use rule_parser::{MAX_BYTES, Rules, meaning};
 use std::alloc::Global;
 use std::io::Read;
@@ -42,18 +42,21 @@ pub fn link_file<'a, F: Read + Drop>(
     ensures ok { IfOk result (λ link. OfFile (F.remaining file) (λ bytes. IsMeaning bytes query.now (Some (string_bytes link)))) }
     ensures err { IfErr result (λ fault. IsFileFault path.now fault ⊎ OfFile (F.remaining file) (λ bytes. IsLinkFault bytes query.now fault)) }
 {
-    let bytes = read_front(alloc, file, path, MAX_BYTES)?;
+    let bytes = read_first_bytes(alloc, file, path, MAX_BYTES)?;
     link_query(alloc, &bytes, query)
 }
 
-/// The line that the words behind `link` print: the path of a rule file, and a query.
+/// The line that the arguments behind `link` print: the path of a rule file, and a query.
 ///
-/// The fault is `Usage` for other words, or one of `link_file`.
-pub fn link_line<'a, R: Files + AllocGlobal>(rt: &R, words: &[&'a str]) -> Result<String, Fault<'a>>
-    ensures ok { IfOk result (λ line. IsLinkLine (texts_of words.now) (string_bytes line)) }
-    ensures err { IfErr result (FailsToLink (texts_of words.now)) }
+/// The fault is `Usage` for other arguments, or one of `link_file`.
+pub fn link_line<'a, R: Files + AllocGlobal>(
+    rt: &R,
+    arguments: &[&'a str],
+) -> Result<String, Fault<'a>>
+    ensures ok { IfOk result (λ line. IsLinkLine (texts_of arguments.now) (string_bytes line)) }
+    ensures err { IfErr result (FailsToLink (texts_of arguments.now)) }
 {
-    let Some((path, query)) = two_words(words) else {
+    let Some((path, query)) = two_arguments(arguments) else {
         return Err(Fault::Usage);
     };
     let file = open_file(rt, path)?;

@@ -9,7 +9,7 @@ use Rattle.std.proofs.lemmas.List.Elements.{recursion_from_All, All-from_get_or}
 use Rattle.std.proofs.lemmas.Str.{encode_ascii, inside_one, length-le-encodes}
 use Rattle.text_model.specs.Texts.{Text}
 use Rattle.rule_parser.specs.Statements.{escaped, is_special}
-use Rattle.rule_parser.proofs.WordLemmas.{same_parts}
+use Rattle.rule_parser.proofs.TokenLemmas.{same_parts}
 
 -- the text that is left, behind a backslash that was read and waits for its character
 abbrev pub waiting : Bool → Text → Text

@@ -13,11 +13,11 @@ use Rattle.rule_parser.specs.declared.rule.Guard.{Guard}
 use Rattle.rule_parser.specs.Rules.{RuleSet, IsSound, guard_fits, parts_fit}
 use Rattle.rule_parser.specs.Statements.{Statement, Declare, Begin, When, Link, IsStatement, line_of, statements}
 use Rattle.rule_parser.specs.Grammar.{significant, IsRuleText}
-use Rattle.rule_parser.specs.Faults.{Begun, IsSoundBegun, begun_statements, is_in_order, IsLineFault, no_statement, out_of_order, bad_template, mismatched_guard, mismatched_link, EndsRule, IsRefused}
-use Rattle.rule_parser.specs.Progress.{no_rules}
+use Rattle.rule_parser.specs.Faults.{RulesSoFar, AreSoundSoFar, statements_so_far, is_in_order, IsLineFault, no_statement, out_of_order, bad_template, mismatched_guard, mismatched_link, EndsRule, IsRefused}
+use Rattle.rule_parser.specs.Private.Progress.{no_rules}
 use Rattle.rule_parser.proofs.LineNumbers.{line_number, IsNumberedFault, line_fault, open_rule as open_fault, numbered_fault}
-use Rattle.rule_parser.proofs.LawLemmas.{OneTree, Follows, Runs, begun_runs, begun_same, goes_on}
-use Rattle.rule_parser.proofs.WordLemmas.{same_parts}
+use Rattle.rule_parser.proofs.LawLemmas.{OneTree, Follows, Runs, so_far_runs, so_far_same, goes_on}
+use Rattle.rule_parser.proofs.TokenLemmas.{same_parts}
 use Rattle.rule_parser.proofs.LineLaws.{statement_same, AreStatements, HasNext, compare}
 
 -- a template's text has no fault
@@ -28,28 +28,28 @@ NoFault = (text : Text) (parts : List Part) (k : TemplateErrorKind) (at : ℕ) �
 abbrev pub OneFault : Type 0
 OneFault = (text : Text) (k other : TemplateErrorKind) (at place : ℕ) → IsRefusedTemplate text k at → IsRefusedTemplate text other place → (k ≡ other) × (at ≡ place)
 
-abbrev complete : RuleSet → Begun
+abbrev complete : RuleSet → RulesSoFar
 complete rules = record { whole = rules; guards = None }
 
-complete_is_sound : (rules : RuleSet) → IsSound rules → IsSoundBegun (complete rules)
+complete_is_sound : (rules : RuleSet) → IsSound rules → AreSoundSoFar (complete rules)
 complete_is_sound rules s = record { whole = s; guards = tt }
 
 -- ---- statements that follow
 
-follows_is_statement : (b : Begun) (s : Statement) (c : Begun) → Follows b s c → IsStatement s
+follows_is_statement : (b : RulesSoFar) (s : Statement) (c : RulesSoFar) → Follows b s c → IsStatement s
 follows_is_statement b (Declare name) c p = p.2
 follows_is_statement b Begin c p = tt
-follows_is_statement b (When g) c p = p.2.words
+follows_is_statement b (When g) c p = p.2.tokens
 follows_is_statement b (Link text) c p = tt
 
-runs_are_statements : (b : Begun) (ss : List Statement) (c : Begun) → Runs b ss c → AreStatements ss
+runs_are_statements : (b : RulesSoFar) (ss : List Statement) (c : RulesSoFar) → Runs b ss c → AreStatements ss
 runs_are_statements b [] c p = tt
 runs_are_statements b (s ∷ ss) c p = (follows_is_statement b s p.0 p.1, runs_are_statements p.0 ss c p.2)
 
-begun_are_statements : (b : Begun) → IsSoundBegun b → AreStatements (begun_statements b)
-begun_are_statements b s = runs_are_statements no_rules (begun_statements b) b (begun_runs b s)
+so_far_are_statements : (b : RulesSoFar) → AreSoundSoFar b → AreStatements (statements_so_far b)
+so_far_are_statements b s = runs_are_statements no_rules (statements_so_far b) b (so_far_runs b s)
 
-follows_in_order : (b : Begun) (s : Statement) (c : Begun) → Follows b s c → is_in_order b s ≡ true
+follows_in_order : (b : RulesSoFar) (s : Statement) (c : RulesSoFar) → Follows b s c → is_in_order b s ≡ true
 follows_in_order b (Declare name) c p =
     ap (λ o. is_none o && length b.whole.rules == 0) p.0 ∙ ap (λ rules. length rules == 0) p.1
 follows_in_order b Begin c p = refl
@@ -58,7 +58,7 @@ follows_in_order b (Link text) c p = ap is_some p.in_rule
 
 -- ---- what is wrong with a line, by its statement
 
-abbrev IsBadContent : Begun → Statement → RuleErrorKind → Type 0
+abbrev IsBadContent : RulesSoFar → Statement → RuleErrorKind → Type 0
 IsBadContent b (Declare name) k = ⊥
 IsBadContent b Begin k = ⊥
 IsBadContent b (When g) k = (guard_fits b.whole.lists g ≡ false) × (k ≡ kind.KindMismatch)
@@ -66,21 +66,21 @@ IsBadContent b (Link text) k =
     ((t : TemplateErrorKind) × (at : ℕ) × IsRefusedTemplate text t at × (k ≡ kind.Template t))
     ⊎ ((parts : List Part) × IsTemplate text parts × (parts_fit b.whole.lists parts ≡ false) × (k ≡ kind.KindMismatch))
 
-abbrev IsBad : Begun → Statement → RuleErrorKind → Type 0
+abbrev IsBad : RulesSoFar → Statement → RuleErrorKind → Type 0
 IsBad b s k = ((is_in_order b s ≡ false) × (k ≡ kind.BadLine)) ⊎ ((is_in_order b s ≡ true) × IsBadContent b s k)
 
-abbrev IsBadText : Begun → Text → RuleErrorKind → Type 0
+abbrev IsBadText : RulesSoFar → Text → RuleErrorKind → Type 0
 IsBadText b line k =
     (((s : Statement) → IsStatement s → line ≡ line_of s → ⊥) × (k ≡ kind.BadLine)) ⊎ ((s : Statement) × IsStatement s × (line ≡ line_of s) × IsBad b s k)
 
-bad_text : (b : Begun) (line : Text) (k : RuleErrorKind) → IsLineFault b line k → IsBadText b line k
+bad_text : (b : RulesSoFar) (line : Text) (k : RuleErrorKind) → IsLineFault b line k → IsBadText b line k
 bad_text b line k (no_statement b' l h) = inl (h, refl)
 bad_text b line k (out_of_order b' s a o) = inr (s, a, refl, inl (o, refl))
 bad_text b line k (bad_template b' text t at o r) = inr (Link text, tt, refl, inr (o, inl (t, at, r, refl)))
 bad_text b line k (mismatched_guard b' g o a m) = inr (When g, a, refl, inr (o, (m, refl)))
 bad_text b line k (mismatched_link b' text parts o t m) = inr (Link text, tt, refl, inr (o, inr (parts, t, m, refl)))
 
-content_same : OneTree → NoFault → OneFault → (b : Begun) (s : Statement) (k other : RuleErrorKind) → IsBadContent b s k → IsBadContent b s other → k ≡ other
+content_same : OneTree → NoFault → OneFault → (b : RulesSoFar) (s : Statement) (k other : RuleErrorKind) → IsBadContent b s k → IsBadContent b s other → k ≡ other
 content_same tree none fault b (Declare name) k other p q = absurd p
 content_same tree none fault b Begin k other p q = absurd p
 content_same tree none fault b (When g) k other p q = p.1 ∙ sym q.1
@@ -90,20 +90,20 @@ content_same tree none fault b (Link text) k other (inl p) (inr q) = absurd (non
 content_same tree none fault b (Link text) k other (inr p) (inl q) = absurd (none text p.0 q.0 q.1 p.1 q.2)
 content_same tree none fault b (Link text) k other (inr p) (inr q) = p.3 ∙ sym q.3
 
-bad_same : OneTree → NoFault → OneFault → (b : Begun) (s : Statement) (k other : RuleErrorKind) → IsBad b s k → IsBad b s other → k ≡ other
+bad_same : OneTree → NoFault → OneFault → (b : RulesSoFar) (s : Statement) (k other : RuleErrorKind) → IsBad b s k → IsBad b s other → k ≡ other
 bad_same tree none fault b s k other (inl p) (inl q) = p.1 ∙ sym q.1
 bad_same tree none fault b s k other (inl p) (inr q) = absurd (both_ways (is_in_order b s) p.0 q.0)
 bad_same tree none fault b s k other (inr p) (inl q) = absurd (both_ways (is_in_order b s) q.0 p.0)
 bad_same tree none fault b s k other (inr p) (inr q) = content_same tree none fault b s k other p.1 q.1
 
-bad_text_same : OneTree → NoFault → OneFault → (b : Begun) (line : Text) (k other : RuleErrorKind) → IsBadText b line k → IsBadText b line other → k ≡ other
+bad_text_same : OneTree → NoFault → OneFault → (b : RulesSoFar) (line : Text) (k other : RuleErrorKind) → IsBadText b line k → IsBadText b line other → k ≡ other
 bad_text_same tree none fault b line k other (inl p) (inl q) = p.1 ∙ sym q.1
 bad_text_same tree none fault b line k other (inl p) (inr q) = absurd (p.0 q.0 q.1 q.2)
 bad_text_same tree none fault b line k other (inr p) (inl q) = absurd (q.0 p.0 p.1 p.2)
 bad_text_same tree none fault b line k other (inr p) (inr q) =
     bad_same tree none fault b p.0 k other p.3 (subst (λ s. IsBad b s other) (statement_same q.0 p.0 q.1 p.1 (sym q.2 ∙ p.2)) q.3)
 
-bad_is_no_next : OneTree → NoFault → (b : Begun) (s : Statement) (k : RuleErrorKind) (c : Begun) → IsBad b s k → Follows b s c → ⊥
+bad_is_no_next : OneTree → NoFault → (b : RulesSoFar) (s : Statement) (k : RuleErrorKind) (c : RulesSoFar) → IsBad b s k → Follows b s c → ⊥
 bad_is_no_next tree none b s k c (inl p) f = both_ways (is_in_order b s) p.0 (follows_in_order b s c f)
 bad_is_no_next tree none b (Declare name) k c (inr p) f = p.1
 bad_is_no_next tree none b Begin k c (inr p) f = p.1
@@ -115,7 +115,7 @@ bad_is_no_next tree none b (Link text) k c (inr p) f = no_link_follows p.1
     no_link_follows (inr q) = both_ways (parts_fit b.whole.lists q.0) q.2 (ap (parts_fit b.whole.lists) (tree text q.0 f.parts q.1 f.template) ∙ f.kinds)
 
 -- a faulty line spells no statement that follows
-faulty_is_no_next : OneTree → NoFault → (b : Begun) (line : Text) (k : RuleErrorKind) (s : Statement) (c : Begun) → IsLineFault b line k → IsStatement s
+faulty_is_no_next : OneTree → NoFault → (b : RulesSoFar) (line : Text) (k : RuleErrorKind) (s : Statement) (c : RulesSoFar) → IsLineFault b line k → IsStatement s
     → line ≡ line_of s → Follows b s c → ⊥
 faulty_is_no_next tree none b line k s c fault a e f = refuted (bad_text b line k fault)
   where
@@ -124,7 +124,7 @@ faulty_is_no_next tree none b line k s c fault a e f = refuted (bad_text b line 
     refuted (inr p) = bad_is_no_next tree none b s k c (subst (λ x. IsBad b x k) (statement_same p.0 s p.1 a (sym p.2 ∙ e)) p.3) f
 
 -- a line `rule` is never faulty itself
-begin_is_not_faulty : (b : Begun) (line : Text) (k : RuleErrorKind) → IsLineFault b line k → line ≡ line_of Begin → ⊥
+begin_is_not_faulty : (b : RulesSoFar) (line : Text) (k : RuleErrorKind) → IsLineFault b line k → line ≡ line_of Begin → ⊥
 begin_is_not_faulty b line k fault e = refuted (bad_text b line k fault)
   where
     no_bad_begin : IsBad b Begin k → ⊥
@@ -138,8 +138,8 @@ begin_is_not_faulty b line k fault e = refuted (bad_text b line k fault)
 -- ---- first faults
 
 -- of two lists of statements that were begun, the longer one goes on with the shorter
-extends_not : OneTree → NoFault → (b c : Begun) (line : Text) (k : RuleErrorKind) (rest : List Text) → IsSoundBegun b → IsSoundBegun c → IsLineFault b line k
-    → HasNext (begun_statements b) (begun_statements c) (line ∷ rest) → ⊥
+extends_not : OneTree → NoFault → (b c : RulesSoFar) (line : Text) (k : RuleErrorKind) (rest : List Text) → AreSoundSoFar b → AreSoundSoFar c → IsLineFault b line k
+    → HasNext (statements_so_far b) (statements_so_far c) (line ∷ rest) → ⊥
 extends_not tree none b c line k rest s t fault n =
     let next = goes_on tree b c n.next n.more s t n.goes_on in
     faulty_is_no_next tree none b line k n.next next.0 fault n.is_statement (same_parts line (line_of n.next) rest n.rest n.spelled).0 next.1
@@ -151,11 +151,11 @@ nothing_next ss ts n = no_lines (line_of n.next) n.rest n.spelled
     no_lines x xs e = cc
 
 -- a rule that has begun takes no other
-open_not_extended : OneTree → (whole : RuleSet) (guards : List Guard) (c : Begun) (rest : List Text) → IsSoundBegun (record { whole = whole; guards = Some guards })
-    → IsSoundBegun c → EndsRule rest → HasNext (begun_statements (record { whole = whole; guards = Some guards })) (begun_statements c) rest → ⊥
-open_not_extended tree whole guards c [] s t r n = nothing_next (begun_statements (record { whole = whole; guards = Some guards })) (begun_statements c) n
+open_not_extended : OneTree → (whole : RuleSet) (guards : List Guard) (c : RulesSoFar) (rest : List Text) → AreSoundSoFar (record { whole = whole; guards = Some guards })
+    → AreSoundSoFar c → EndsRule rest → HasNext (statements_so_far (record { whole = whole; guards = Some guards })) (statements_so_far c) rest → ⊥
+open_not_extended tree whole guards c [] s t r n = nothing_next (statements_so_far (record { whole = whole; guards = Some guards })) (statements_so_far c) n
 open_not_extended tree whole guards c (line ∷ rest) s t r n =
-    let b : Begun = record { whole = whole; guards = Some guards } in
+    let b : RulesSoFar = record { whole = whole; guards = Some guards } in
     let next = goes_on tree b c n.next n.more s t n.goes_on in
     let begin : n.next ≡ Begin = statement_same n.next Begin n.is_statement tt (sym (same_parts line (line_of n.next) rest n.rest n.spelled).0 ∙ r) in
     no_begin (subst (λ x. Follows b x next.0) begin next.1).0
@@ -164,8 +164,8 @@ open_not_extended tree whole guards c (line ∷ rest) s t r n =
     no_begin e = cc
 
 spelled_by : (ls : List Text) (rules : RuleSet) → significant ls ≡ map line_of (statements rules)
-    → significant ls ≡ map line_of (begun_statements (complete rules)) ++ []
-spelled_by ls rules e = e ∙ sym (ap (map line_of) (append-nil (statements rules))) ∙ sym (append-nil (map line_of (begun_statements (complete rules))))
+    → significant ls ≡ map line_of (statements_so_far (complete rules)) ++ []
+spelled_by ls rules e = e ∙ sym (ap (map line_of) (append-nil (statements rules))) ∙ sym (append-nil (map line_of (statements_so_far (complete rules))))
 
 abbrev no_lines : List Text
 no_lines = []
@@ -175,22 +175,22 @@ pub rules_same : OneTree → (ls : List Text) (rules others : RuleSet) → IsSou
     → significant ls ≡ map line_of (statements others) → rules ≡ others
 rules_same tree ls rules others s t e f =
     by_comparison
-    (compare (begun_statements (complete rules)) (begun_statements (complete others)) [] [] (begun_are_statements (complete rules) (complete_is_sound rules s))
-    (begun_are_statements (complete others) (complete_is_sound others t)) (sym (spelled_by ls rules e) ∙ spelled_by ls others f))
+    (compare (statements_so_far (complete rules)) (statements_so_far (complete others)) [] [] (so_far_are_statements (complete rules) (complete_is_sound rules s))
+    (so_far_are_statements (complete others) (complete_is_sound others t)) (sym (spelled_by ls rules e) ∙ spelled_by ls others f))
   where
-    by_comparison : ((begun_statements (complete rules) ≡ begun_statements (complete others)) × (no_lines ≡ no_lines))
-        ⊎ (HasNext (begun_statements (complete rules)) (begun_statements (complete others)) [] ⊎ HasNext (begun_statements (complete others)) (begun_statements (complete rules)) [])
+    by_comparison : ((statements_so_far (complete rules) ≡ statements_so_far (complete others)) × (no_lines ≡ no_lines))
+        ⊎ (HasNext (statements_so_far (complete rules)) (statements_so_far (complete others)) [] ⊎ HasNext (statements_so_far (complete others)) (statements_so_far (complete rules)) [])
         → rules ≡ others
     by_comparison (inl p) =
-        ap (λ (b : Begun). b.whole) (begun_same tree (complete rules) (complete others) (complete_is_sound rules s) (complete_is_sound others t) p.0)
+        ap (λ (b : RulesSoFar). b.whole) (so_far_same tree (complete rules) (complete others) (complete_is_sound rules s) (complete_is_sound others t) p.0)
     by_comparison (inr (inl n)) = absurd (nothing_next _ _ n)
     by_comparison (inr (inr n)) = absurd (nothing_next _ _ n)
 
-abbrev open_rule : RuleSet → List Guard → Begun
+abbrev open_rule : RuleSet → List Guard → RulesSoFar
 open_rule whole guards = record { whole = whole; guards = Some guards }
 
 not_complete : (whole : RuleSet) (guards : List Guard) (rules : RuleSet) → open_rule whole guards ≡ complete rules → ⊥
-not_complete whole guards rules e = not_none (ap (λ (b : Begun). b.guards) e)
+not_complete whole guards rules e = not_none (ap (λ (b : RulesSoFar). b.guards) e)
   where
     not_none : Some guards ≡ None → ⊥
     not_none x = cc
@@ -200,61 +200,61 @@ rules_have_no_fault : OneTree → NoFault → (ls : List Text) (rules : RuleSet)
     → significant ls ≡ map line_of (statements rules) → IsNumberedFault ls k at → ⊥
 rules_have_no_fault tree none ls rules k at s e (line_fault l b line rest k' t f fault) =
     by_comparison
-    (compare (begun_statements b) (begun_statements (complete rules)) (line ∷ rest) [] (begun_are_statements b t)
-    (begun_are_statements (complete rules) (complete_is_sound rules s)) (sym f ∙ spelled_by l rules e))
+    (compare (statements_so_far b) (statements_so_far (complete rules)) (line ∷ rest) [] (so_far_are_statements b t)
+    (so_far_are_statements (complete rules) (complete_is_sound rules s)) (sym f ∙ spelled_by l rules e))
   where
     not_nothing : line ∷ rest ≡ no_lines → ⊥
     not_nothing x = cc
 
-    by_comparison : ((begun_statements b ≡ begun_statements (complete rules)) × (line ∷ rest ≡ no_lines))
-        ⊎ (HasNext (begun_statements b) (begun_statements (complete rules)) (line ∷ rest) ⊎ HasNext (begun_statements (complete rules)) (begun_statements b) no_lines) → ⊥
+    by_comparison : ((statements_so_far b ≡ statements_so_far (complete rules)) × (line ∷ rest ≡ no_lines))
+        ⊎ (HasNext (statements_so_far b) (statements_so_far (complete rules)) (line ∷ rest) ⊎ HasNext (statements_so_far (complete rules)) (statements_so_far b) no_lines) → ⊥
     by_comparison (inl p) = not_nothing p.1
     by_comparison (inr (inl n)) = extends_not tree none b (complete rules) line k' rest t (complete_is_sound rules s) fault n
     by_comparison (inr (inr n)) = nothing_next _ _ n
 rules_have_no_fault tree none ls rules k at s e (open_fault l whole guards rest t f r) =
     by_comparison
-    (compare (begun_statements (open_rule whole guards)) (begun_statements (complete rules)) rest [] (begun_are_statements (open_rule whole guards) t)
-    (begun_are_statements (complete rules) (complete_is_sound rules s)) (sym f ∙ spelled_by l rules e))
+    (compare (statements_so_far (open_rule whole guards)) (statements_so_far (complete rules)) rest [] (so_far_are_statements (open_rule whole guards) t)
+    (so_far_are_statements (complete rules) (complete_is_sound rules s)) (sym f ∙ spelled_by l rules e))
   where
-    by_comparison : ((begun_statements (open_rule whole guards) ≡ begun_statements (complete rules)) × (rest ≡ no_lines))
-        ⊎ (HasNext (begun_statements (open_rule whole guards)) (begun_statements (complete rules)) rest
-        ⊎ HasNext (begun_statements (complete rules)) (begun_statements (open_rule whole guards)) no_lines) → ⊥
+    by_comparison : ((statements_so_far (open_rule whole guards) ≡ statements_so_far (complete rules)) × (rest ≡ no_lines))
+        ⊎ (HasNext (statements_so_far (open_rule whole guards)) (statements_so_far (complete rules)) rest
+        ⊎ HasNext (statements_so_far (complete rules)) (statements_so_far (open_rule whole guards)) no_lines) → ⊥
     by_comparison (inl p) =
         not_complete whole guards rules
-        (begun_same tree (open_rule whole guards) (complete rules) t (complete_is_sound rules s) p.0)
+        (so_far_same tree (open_rule whole guards) (complete rules) t (complete_is_sound rules s) p.0)
     by_comparison (inr (inl n)) = open_not_extended tree whole guards (complete rules) rest t (complete_is_sound rules s) r n
     by_comparison (inr (inr n)) = nothing_next _ _ n
 
 -- a line at fault where a rule lacks its link
-line_and_open : OneTree → NoFault → (ls : List Text) (b : Begun) (line : Text) (rest : List Text) (k : RuleErrorKind) (whole : RuleSet) (guards : List Guard)
-    (behind : List Text) → IsSoundBegun b → significant ls ≡ map line_of (begun_statements b) ++ line ∷ rest → IsLineFault b line k → IsSoundBegun (open_rule whole guards)
-    → significant ls ≡ map line_of (begun_statements (open_rule whole guards)) ++ behind → EndsRule behind → ⊥
+line_and_open : OneTree → NoFault → (ls : List Text) (b : RulesSoFar) (line : Text) (rest : List Text) (k : RuleErrorKind) (whole : RuleSet) (guards : List Guard)
+    (behind : List Text) → AreSoundSoFar b → significant ls ≡ map line_of (statements_so_far b) ++ line ∷ rest → IsLineFault b line k → AreSoundSoFar (open_rule whole guards)
+    → significant ls ≡ map line_of (statements_so_far (open_rule whole guards)) ++ behind → EndsRule behind → ⊥
 line_and_open tree none ls b line rest k whole guards behind s e fault t f r =
     by_comparison
-    (compare (begun_statements b) (begun_statements (open_rule whole guards)) (line ∷ rest) behind (begun_are_statements b s)
-    (begun_are_statements (open_rule whole guards) t) (sym e ∙ f))
+    (compare (statements_so_far b) (statements_so_far (open_rule whole guards)) (line ∷ rest) behind (so_far_are_statements b s)
+    (so_far_are_statements (open_rule whole guards) t) (sym e ∙ f))
   where
-    by_comparison : ((begun_statements b ≡ begun_statements (open_rule whole guards)) × (line ∷ rest ≡ behind))
-        ⊎ (HasNext (begun_statements b) (begun_statements (open_rule whole guards)) (line ∷ rest)
-        ⊎ HasNext (begun_statements (open_rule whole guards)) (begun_statements b) behind) → ⊥
+    by_comparison : ((statements_so_far b ≡ statements_so_far (open_rule whole guards)) × (line ∷ rest ≡ behind))
+        ⊎ (HasNext (statements_so_far b) (statements_so_far (open_rule whole guards)) (line ∷ rest)
+        ⊎ HasNext (statements_so_far (open_rule whole guards)) (statements_so_far b) behind) → ⊥
     by_comparison (inl p) = begin_is_not_faulty b line k fault (subst EndsRule (sym p.1) r)
     by_comparison (inr (inl n)) = extends_not tree none b (open_rule whole guards) line k rest s t fault n
     by_comparison (inr (inr n)) = open_not_extended tree whole guards b behind t s r n
 
 -- a line at fault, and another fault of the same lines
-line_fault_same : OneTree → NoFault → OneFault → (ls : List Text) (b : Begun) (line : Text) (rest : List Text) (k : RuleErrorKind) (other : RuleErrorKind) (place : ℕ)
-    → IsSoundBegun b → significant ls ≡ map line_of (begun_statements b) ++ line ∷ rest → IsLineFault b line k → IsNumberedFault ls other place
-    → (k ≡ other) × (line_number ls (length (begun_statements b)) ≡ place)
+line_fault_same : OneTree → NoFault → OneFault → (ls : List Text) (b : RulesSoFar) (line : Text) (rest : List Text) (k : RuleErrorKind) (other : RuleErrorKind) (place : ℕ)
+    → AreSoundSoFar b → significant ls ≡ map line_of (statements_so_far b) ++ line ∷ rest → IsLineFault b line k → IsNumberedFault ls other place
+    → (k ≡ other) × (line_number ls (length (statements_so_far b)) ≡ place)
 line_fault_same tree none one ls b line rest k other place s e fault (line_fault l c line' rest' k' t f fault') =
     by_comparison
-    (compare (begun_statements b) (begun_statements c) (line ∷ rest) (line' ∷ rest') (begun_are_statements b s) (begun_are_statements c t) (sym e ∙ f))
+    (compare (statements_so_far b) (statements_so_far c) (line ∷ rest) (line' ∷ rest') (so_far_are_statements b s) (so_far_are_statements c t) (sym e ∙ f))
   where
-    by_comparison : ((begun_statements b ≡ begun_statements c) × (line ∷ rest ≡ line' ∷ rest'))
-        ⊎ (HasNext (begun_statements b) (begun_statements c) (line ∷ rest) ⊎ HasNext (begun_statements c) (begun_statements b) (line' ∷ rest'))
-        → (k ≡ k') × (line_number l (length (begun_statements b)) ≡ line_number l (length (begun_statements c)))
+    by_comparison : ((statements_so_far b ≡ statements_so_far c) × (line ∷ rest ≡ line' ∷ rest'))
+        ⊎ (HasNext (statements_so_far b) (statements_so_far c) (line ∷ rest) ⊎ HasNext (statements_so_far c) (statements_so_far b) (line' ∷ rest'))
+        → (k ≡ k') × (line_number l (length (statements_so_far b)) ≡ line_number l (length (statements_so_far c)))
     by_comparison (inl p) = (
       bad_text_same tree none one b line k k' (bad_text b line k fault)
-          (subst (λ (x : Begun). IsBadText x line k') (sym (begun_same tree b c s t p.0))
+          (subst (λ (x : RulesSoFar). IsBadText x line k') (sym (so_far_same tree b c s t p.0))
           (subst (λ x. IsBadText c x k') (sym (same_parts line line' rest rest' p.1).0) (bad_text c line' k' fault'))),
       ap (λ ss. line_number l (length ss)) p.0,
     )
@@ -265,24 +265,24 @@ line_fault_same tree none one ls b line rest k other place s e fault (open_fault
 
 -- a rule without a link, and another fault of the same lines
 open_fault_same : OneTree → NoFault → OneFault → (ls : List Text) (whole : RuleSet) (guards : List Guard) (rest : List Text) (other : RuleErrorKind) (place : ℕ)
-    → IsSoundBegun (open_rule whole guards) → significant ls ≡ map line_of (begun_statements (open_rule whole guards)) ++ rest → EndsRule rest
+    → AreSoundSoFar (open_rule whole guards) → significant ls ≡ map line_of (statements_so_far (open_rule whole guards)) ++ rest → EndsRule rest
     → IsNumberedFault ls other place → (kind.NoLink ≡ other) × (line_number ls (length (statements whole)) ≡ place)
 open_fault_same tree none one ls whole guards rest other place s e r (line_fault l b line rest' k' t f fault) =
     absurd (line_and_open tree none l b line rest' k' whole guards rest t f fault s e r)
 open_fault_same tree none one ls whole guards rest other place s e r (open_fault l whole' guards' rest' t f q) =
     by_comparison
-    (compare (begun_statements (open_rule whole guards)) (begun_statements (open_rule whole' guards')) rest rest'
-    (begun_are_statements (open_rule whole guards) s) (begun_are_statements (open_rule whole' guards') t)
+    (compare (statements_so_far (open_rule whole guards)) (statements_so_far (open_rule whole' guards')) rest rest'
+    (so_far_are_statements (open_rule whole guards) s) (so_far_are_statements (open_rule whole' guards') t)
     (sym e ∙ f))
   where
-    by_comparison : ((begun_statements (open_rule whole guards) ≡ begun_statements (open_rule whole' guards')) × (rest ≡ rest'))
-        ⊎ (HasNext (begun_statements (open_rule whole guards)) (begun_statements (open_rule whole' guards')) rest
-        ⊎ HasNext (begun_statements (open_rule whole' guards')) (begun_statements (open_rule whole guards)) rest')
+    by_comparison : ((statements_so_far (open_rule whole guards) ≡ statements_so_far (open_rule whole' guards')) × (rest ≡ rest'))
+        ⊎ (HasNext (statements_so_far (open_rule whole guards)) (statements_so_far (open_rule whole' guards')) rest
+        ⊎ HasNext (statements_so_far (open_rule whole' guards')) (statements_so_far (open_rule whole guards)) rest')
         → (kind.NoLink ≡ kind.NoLink) × (line_number l (length (statements whole)) ≡ line_number l (length (statements whole')))
     by_comparison (inl p) = (
       refl,
-      ap (λ (b : Begun). line_number l (length (statements b.whole)))
-          (begun_same tree (open_rule whole guards) (open_rule whole' guards') s t p.0),
+      ap (λ (b : RulesSoFar). line_number l (length (statements b.whole)))
+          (so_far_same tree (open_rule whole guards) (open_rule whole' guards') s t p.0),
     )
     by_comparison (inr (inl n)) = absurd (open_not_extended tree whole guards (open_rule whole' guards') rest s t r n)
     by_comparison (inr (inr n)) = absurd (open_not_extended tree whole' guards' (open_rule whole guards) rest' t s q n)

@@ -1,4 +1,4 @@
--- Words spell a guard or they spell none.
+-- Tokens spell a guard or they spell none.
 use Rattle.std.proofs.Common.{◌≡◌, ◌≢◌, ℕ, [], ◌∷◌, ◌++◌, true, false, Option, Some, None, ◌⊎◌, inl, inr, length, refl, ap, subst, sym, ◌∙◌, codes, arith}
 use Rattle.std.specs.Char.{is_ascii_digit}
 use Rattle.std.specs.Cmp.Lexicographic.{bytes_decides}
@@ -12,10 +12,10 @@ use Rattle.rule_parser.specs.declared.rule.Bound.TheVariants as bound
 use Rattle.rule_parser.specs.declared.rule.Guard.{Guard}
 use Rattle.rule_parser.specs.declared.rule.Guard.TheVariants as guard
 use Rattle.rule_parser.specs.Statements.{escaped, is_special}
-use Rattle.rule_parser.specs.Reading.{ReadsEscaped, ReadsQuoted, ReadsBound, ReadsBounds, ReadsGuard, IsWord}
+use Rattle.rule_parser.specs.Private.Reading.{ReadsEscaped, ReadsQuoted, ReadsBound, ReadsBounds, ReadsGuard, IsToken}
 use Rattle.rule_parser.proofs.NameChoice.{name_choice}
 use Rattle.rule_parser.proofs.EscapeLemmas.{escaped_special, escaped_plain, escaped_rest, special_is, not_quote, after_backslash}
-use Rattle.rule_parser.proofs.GuardLemmas.{quoted_reads, not_quoted, not_closed, no_bound, no_bounds_in_word, no_bounds_without_to, no_bounds_without_low, no_bounds_without_high, bounds_read, no_guard_without_name, no_guard_of_verb, no_compared_guard, no_same, no_holds, no_between, no_counts, no_guard_in_word}
+use Rattle.rule_parser.proofs.GuardLemmas.{quoted_reads, not_quoted, not_closed, no_bound, no_bounds_in_token, no_bounds_without_to, no_bounds_without_low, no_bounds_without_high, bounds_read, no_guard_without_name, no_guard_of_verb, no_compared_guard, no_same, no_holds, no_between, no_counts, no_guard_in_token}
 
 -- ---- texts
 
@@ -63,12 +63,12 @@ end_choice c (b ∷ text) = by_case text (cases_eq b c) (end_choice c text)
         refuted (x ∷ front) e = n front (cc)
 
 -- the first space parts a text, or it has none
-space_choice : (text : Text) → IsWord text ⊎ ((word : Text) × (rest : Text) × (text ≡ word ++ 32 ∷ rest) × IsWord word)
+space_choice : (text : Text) → IsToken text ⊎ ((token : Text) × (rest : Text) × (text ≡ token ++ 32 ∷ rest) × IsToken token)
 space_choice [] = inl tt
 space_choice (b ∷ text) = by_case (cases_eq b 32) (space_choice text)
   where
-    by_case : (b ≡ 32) ⊎ (b ≢ 32) → IsWord text ⊎ ((word : Text) × (rest : Text) × (text ≡ word ++ 32 ∷ rest) × IsWord word)
-        → IsWord (b ∷ text) ⊎ ((word : Text) × (rest : Text) × (b ∷ text ≡ word ++ 32 ∷ rest) × IsWord word)
+    by_case : (b ≡ 32) ⊎ (b ≢ 32) → IsToken text ⊎ ((token : Text) × (rest : Text) × (text ≡ token ++ 32 ∷ rest) × IsToken token)
+        → IsToken (b ∷ text) ⊎ ((token : Text) × (rest : Text) × (b ∷ text ≡ token ++ 32 ∷ rest) × IsToken token)
     by_case (inl e) c = inr ([], text, ap (λ x. x ∷ text) e, tt)
     by_case (inr d) (inl w) = inl (d, w)
     by_case (inr d) (inr c) = inr (b ∷ c.0, c.1, ap (λ t. b ∷ t) c.2, (d, c.3))
@@ -136,34 +136,34 @@ quoted_choice value =
 
 -- ---- bounds
 
-digits_choice : (word : Text) → list_all is_ascii_digit word ≡ true → (word ≡ codes "*" → ⊥) → (read : Option Bound) × ReadsBound word read
-digits_choice word d star =
-    elim (cases_lt (length word) 1) [
-      | inl short ↦ (None, no_bound word star (λ _ l m. omega (arith, short, l)) (λ n e. both_ways (list_all is_ascii_digit word) e d))
-      | inr some ↦ elim (cases_lt 9 (length word)) [
-        | inl long ↦ (None, no_bound word star (λ _ l m. omega (arith, long, m)) (λ n e. both_ways (list_all is_ascii_digit word) e d))
-        | inr few ↦ (Some (bound.Digits word), ((d, some, few), refl))
+digits_choice : (token : Text) → list_all is_ascii_digit token ≡ true → (token ≡ codes "*" → ⊥) → (read : Option Bound) × ReadsBound token read
+digits_choice token d star =
+    elim (cases_lt (length token) 1) [
+      | inl short ↦ (None, no_bound token star (λ _ l m. omega (arith, short, l)) (λ n e. both_ways (list_all is_ascii_digit token) e d))
+      | inr some ↦ elim (cases_lt 9 (length token)) [
+        | inl long ↦ (None, no_bound token star (λ _ l m. omega (arith, long, m)) (λ n e. both_ways (list_all is_ascii_digit token) e d))
+        | inr few ↦ (Some (bound.Digits token), ((d, some, few), refl))
       ]
     ]
 
-name_bound_choice : (word : Text) → list_all is_ascii_digit word ≡ false → (word ≡ codes "*" → ⊥) → (read : Option Bound) × ReadsBound word read
-name_bound_choice word d star =
-    elim (name_choice word) [
-      | inl n ↦ (Some (bound.Name word), ((n, d), refl))
-      | inr n ↦ (None, no_bound word star (λ e _ _. both_ways (list_all is_ascii_digit word) d e) (λ m _. n m))
+name_bound_choice : (token : Text) → list_all is_ascii_digit token ≡ false → (token ≡ codes "*" → ⊥) → (read : Option Bound) × ReadsBound token read
+name_bound_choice token d star =
+    elim (name_choice token) [
+      | inl n ↦ (Some (bound.Name token), ((n, d), refl))
+      | inr n ↦ (None, no_bound token star (λ e _ _. both_ways (list_all is_ascii_digit token) d e) (λ m _. n m))
     ]
 
-bound_choice : (word : Text) → (read : Option Bound) × ReadsBound word read
-bound_choice word =
-    elim (text_choice word (codes "*")) [
+bound_choice : (token : Text) → (read : Option Bound) × ReadsBound token read
+bound_choice token =
+    elim (text_choice token (codes "*")) [
       | inl e ↦ (Some bound.Open, (tt, e))
-      | inr star ↦ elim (cases_Bool (list_all is_ascii_digit word)) [
-        | inl d ↦ digits_choice word d star
-        | inr d ↦ name_bound_choice word d star
+      | inr star ↦ elim (cases_Bool (list_all is_ascii_digit token)) [
+        | inl d ↦ digits_choice token d star
+        | inr d ↦ name_bound_choice token d star
       ]
     ]
 
-two_bounds : (text l rest u : Text) → text ≡ l ++ 32 ∷ rest → rest ≡ codes "to " ++ u → IsWord l → (read : Option Bound) × ReadsBound l read
+two_bounds : (text l rest u : Text) → text ≡ l ++ 32 ∷ rest → rest ≡ codes "to " ++ u → IsToken l → (read : Option Bound) × ReadsBound l read
     → (read : Option Bound) × ReadsBound u read → (read : Option (Bound × Bound)) × ReadsBounds text read
 two_bounds text l rest u s r w (None, a) high = (None, no_bounds_without_low text l rest s w a)
 two_bounds text l rest u s r w (Some low, a) (None, b) = (None, no_bounds_without_high text l rest u s r w b)
@@ -172,7 +172,7 @@ two_bounds text l rest u s r w (Some low, a) (Some high, b) = (Some (low, high),
 bounds_choice : (text : Text) → (read : Option (Bound × Bound)) × ReadsBounds text read
 bounds_choice text =
     elim (space_choice text) [
-      | inl w ↦ (None, no_bounds_in_word text w)
+      | inl w ↦ (None, no_bounds_in_token text w)
       | inr c ↦ elim (front_choice (codes "to ") c.1) [
         | inr n ↦ (None, no_bounds_without_to text c.0 c.1 c.2 c.3 n)
         | inl t ↦ two_bounds text c.0 c.1 t.0 c.2 t.1 c.3 (bound_choice c.0) (bound_choice t.0)
@@ -182,9 +182,9 @@ bounds_choice text =
 -- ---- guards
 
 abbrev Reads : Text → Type 0
-Reads words = (read : Option Guard) × ReadsGuard words read
+Reads tokens = (read : Option Guard) × ReadsGuard tokens read
 
-defined_choice : (verb name : Text) → IsWord verb → IsWord name → Reads (verb ++ 32 ∷ name)
+defined_choice : (verb name : Text) → IsToken verb → IsToken name → Reads (verb ++ 32 ∷ name)
 defined_choice verb name v w =
     elim (name_choice name) [
       | inr n ↦ (None, no_guard_without_name verb name v w n)
@@ -216,11 +216,11 @@ counts_choice : (name value : Text) → IsName name → (read : Option (Bound ×
 counts_choice name value n (None, q) = (None, no_counts name value n q)
 counts_choice name value n (Some b, q) = (Some (guard.Counts name b.0 b.1), ((n, q.0), ap (λ x. name ++ (codes " counts " ++ x)) q.1))
 
--- the same words with another verb
+-- the same tokens with another verb
 with_verb : (name verb other value : Text) → verb ≡ other → Reads (name ++ 32 ∷ (other ++ 32 ∷ value)) → Reads (name ++ 32 ∷ (verb ++ 32 ∷ value))
 with_verb name verb other value e r = subst (λ v. Reads (name ++ 32 ∷ (v ++ 32 ∷ value))) (sym e) r
 
-compared_choice : (name verb value : Text) → IsWord name → IsWord verb → Reads (name ++ 32 ∷ (verb ++ 32 ∷ value))
+compared_choice : (name verb value : Text) → IsToken name → IsToken verb → Reads (name ++ 32 ∷ (verb ++ 32 ∷ value))
 compared_choice name verb value w v =
     elim (name_choice name) [
       | inr n ↦ (None, no_compared_guard name verb value w v (λ m _ _ _. n m) (λ m _ _ _. n m) (λ m _ _ _ _ _. n m) (λ m _ _ _ _ _. n m))
@@ -239,10 +239,10 @@ compared_choice name verb value w v =
       ]
     ]
 
-pub guard_choice : (words : Text) → Reads words
-guard_choice words =
-    elim (space_choice words) [
-      | inl w ↦ (None, no_guard_in_word words w)
+pub guard_choice : (tokens : Text) → Reads tokens
+guard_choice tokens =
+    elim (space_choice tokens) [
+      | inl w ↦ (None, no_guard_in_token tokens w)
       | inr first ↦ subst Reads (sym first.2) (elim (space_choice first.1) [
         | inl w ↦ defined_choice first.0 first.1 first.3 w
         | inr second ↦ subst (λ t. Reads (first.0 ++ 32 ∷ t)) (sym second.2) (compared_choice first.0 second.0 second.1 first.3 second.3)

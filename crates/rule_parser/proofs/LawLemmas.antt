@@ -11,8 +11,8 @@ use Rattle.rule_parser.specs.declared.rule.Guard.{Guard}
 use Rattle.rule_parser.specs.declared.rule.Rule.{Rule}
 use Rattle.rule_parser.specs.Rules.{IsSoundGuard, IsSoundRule, parts_fit}
 use Rattle.rule_parser.specs.Statements.{Statement, Declare, Begin, When, Link, statements, statements_of_rule}
-use Rattle.rule_parser.specs.Faults.{Begun, IsSoundBegun, AreSoundGuards, begun_statements, statements_of_guards}
-use Rattle.rule_parser.specs.Progress.{no_rules}
+use Rattle.rule_parser.specs.Faults.{RulesSoFar, AreSoundSoFar, AreSoundGuards, statements_so_far, statements_of_guards}
+use Rattle.rule_parser.specs.Private.Progress.{no_rules}
 use Rattle.rule_parser.proofs.ReaderLemmas.{stage}
 
 -- a template's text has one tree
@@ -22,7 +22,7 @@ OneTree = (text : Text) (parts others : List Part) → IsTemplate text parts →
 -- ---- how statements go on
 
 -- a link ends the rule that was begun
-pub record EndsRuleBegun (b : Begun) (text : Text) (c : Begun) : Type 0 where
+pub record EndsOpenRule (b : RulesSoFar) (text : Text) (c : RulesSoFar) : Type 0 where
   pub guards : List Guard
   pub parts : List Part
   pub in_rule : b.guards ≡ Some guards
@@ -31,17 +31,17 @@ pub record EndsRuleBegun (b : Begun) (text : Text) (c : Begun) : Type 0 where
   pub whole : c ≡ stage b.whole.lists (b.whole.rules ++ record { guards = guards; template = record { text = text; parts = parts } } ∷ []) None
 
 -- the statement goes on with what was begun
-abbrev pub Follows : Begun → Statement → Begun → Type 0
+abbrev pub Follows : RulesSoFar → Statement → RulesSoFar → Type 0
 Follows b (Declare name) c = (b.guards ≡ None) × (b.whole.rules ≡ []) × IsName name × (c ≡ stage (b.whole.lists ++ name ∷ []) [] None)
 Follows b Begin c = (b.guards ≡ None) × (c ≡ stage b.whole.lists b.whole.rules (Some []))
 Follows b (When g) c =
     (guards : List Guard) × (b.guards ≡ Some guards) × IsSoundGuard b.whole.lists g × (c ≡ stage b.whole.lists b.whole.rules (Some (guards ++ g ∷ [])))
-Follows b (Link text) c = EndsRuleBegun b text c
+Follows b (Link text) c = EndsOpenRule b text c
 
 same_some : {X : Type 0} (o : Option X) (x y : X) → o ≡ Some x → o ≡ Some y → x ≡ y
 same_some o x y a b = cc
 
-pub follows_same : OneTree → (b : Begun) (s : Statement) (c d : Begun) → Follows b s c → Follows b s d → c ≡ d
+pub follows_same : OneTree → (b : RulesSoFar) (s : Statement) (c d : RulesSoFar) → Follows b s c → Follows b s d → c ≡ d
 follows_same one b (Declare name) c d p q = p.3 ∙ sym q.3
 follows_same one b Begin c d p q = p.1 ∙ sym q.1
 follows_same one b (When g) c d p q =
@@ -53,19 +53,19 @@ follows_same one b (Link text) c d p q =
     (one text p.parts q.parts p.template q.template) ∙ sym q.whole
 
 -- statements, one after another
-abbrev pub Runs : Begun → List Statement → Begun → Type 0
+abbrev pub Runs : RulesSoFar → List Statement → RulesSoFar → Type 0
 Runs b [] c = b ≡ c
-Runs b (s ∷ ss) c = (d : Begun) × Follows b s d × Runs d ss c
+Runs b (s ∷ ss) c = (d : RulesSoFar) × Follows b s d × Runs d ss c
 
-pub runs_same : OneTree → (b : Begun) (ss : List Statement) (c d : Begun) → Runs b ss c → Runs b ss d → c ≡ d
+pub runs_same : OneTree → (b : RulesSoFar) (ss : List Statement) (c d : RulesSoFar) → Runs b ss c → Runs b ss d → c ≡ d
 runs_same one b [] c d p q = sym p ∙ q
 runs_same one b (s ∷ ss) c d p q = runs_same one q.0 ss c d (subst (λ x. Runs x ss c) (follows_same one b s p.0 q.0 p.1 q.1) p.2) q.2
 
-pub runs-append : (b : Begun) (ss more : List Statement) (c d : Begun) → Runs b ss c → Runs c more d → Runs b (ss ++ more) d
+pub runs-append : (b : RulesSoFar) (ss more : List Statement) (c d : RulesSoFar) → Runs b ss c → Runs c more d → Runs b (ss ++ more) d
 runs-append b [] more c d p q = subst (λ x. Runs x more d) (sym p) q
 runs-append b (s ∷ ss) more c d p q = (p.0, p.1, runs-append p.0 ss more c d p.2 q)
 
-pub runs_split : (b : Begun) (ss more : List Statement) (d : Begun) → Runs b (ss ++ more) d → (c : Begun) × Runs b ss c × Runs c more d
+pub runs_split : (b : RulesSoFar) (ss more : List Statement) (d : RulesSoFar) → Runs b (ss ++ more) d → (c : RulesSoFar) × Runs b ss c × Runs c more d
 runs_split b [] more d p = (b, refl, p)
 runs_split b (s ∷ ss) more d p = let r = runs_split p.0 ss more d p.2 in (r.0, (p.0, p.1, r.1), r.2)
 
@@ -118,8 +118,8 @@ open_runs lists rules None h = refl
 open_runs lists rules (Some guards) h =
     (stage lists rules (Some []), (refl, refl), guards_run lists rules [] guards (recursion_from_All (IsSoundGuard lists) guards h))
 
-pub begun_runs : (b : Begun) → IsSoundBegun b → Runs no_rules (begun_statements b) b
-begun_runs b s =
+pub so_far_runs : (b : RulesSoFar) → AreSoundSoFar b → Runs no_rules (statements_so_far b) b
+so_far_runs b s =
     runs-append no_rules (statements b.whole) (statements_of_guards b.guards) (stage b.whole.lists b.whole.rules None) b
     (runs-append no_rules (map Declare b.whole.lists) (flat_map statements_of_rule b.whole.rules) (stage b.whole.lists [] None)
     (stage b.whole.lists b.whole.rules None)
@@ -128,14 +128,14 @@ begun_runs b s =
     (open_runs b.whole.lists b.whole.rules b.guards s.guards)
 
 -- what was begun is known by its statements
-pub begun_same : OneTree → (b c : Begun) → IsSoundBegun b → IsSoundBegun c → begun_statements b ≡ begun_statements c → b ≡ c
-begun_same one b c s t e =
-    runs_same one no_rules (begun_statements c) b c (subst (λ ss. Runs no_rules ss b) e (begun_runs b s)) (begun_runs c t)
+pub so_far_same : OneTree → (b c : RulesSoFar) → AreSoundSoFar b → AreSoundSoFar c → statements_so_far b ≡ statements_so_far c → b ≡ c
+so_far_same one b c s t e =
+    runs_same one no_rules (statements_so_far c) b c (subst (λ ss. Runs no_rules ss b) e (so_far_runs b s)) (so_far_runs c t)
 
 -- a statement behind those of what was begun goes on with it
-pub goes_on : OneTree → (b c : Begun) (s : Statement) (more : List Statement) → IsSoundBegun b → IsSoundBegun c
-    → begun_statements c ≡ begun_statements b ++ s ∷ more → (d : Begun) × Follows b s d
+pub goes_on : OneTree → (b c : RulesSoFar) (s : Statement) (more : List Statement) → AreSoundSoFar b → AreSoundSoFar c
+    → statements_so_far c ≡ statements_so_far b ++ s ∷ more → (d : RulesSoFar) × Follows b s d
 goes_on one b c s more p q e =
-    let split = runs_split no_rules (begun_statements b) (s ∷ more) c (subst (λ ss. Runs no_rules ss c) e (begun_runs c q)) in
-    let same : split.0 ≡ b = runs_same one no_rules (begun_statements b) split.0 b split.1 (begun_runs b p) in
+    let split = runs_split no_rules (statements_so_far b) (s ∷ more) c (subst (λ ss. Runs no_rules ss c) e (so_far_runs c q)) in
+    let same : split.0 ≡ b = runs_same one no_rules (statements_so_far b) split.0 b split.1 (so_far_runs b p) in
     (split.2.0, subst (λ x. Follows x s split.2.0) same split.2.1)

@@ -1,4 +1,4 @@
-pub mod WordLemmas
+pub mod TokenLemmas
 pub mod EscapeLemmas
 pub mod GuardLemmas
 pub mod ReaderLemmas

@@ -21,9 +21,9 @@ use Rattle.rule_parser.specs.Rules.{RuleSet, IsGuard, IsSound, guard_fits, parts
 use Rattle.rule_parser.specs.Statements.{Statement, Declare, Begin, When, Link, IsStatement, line_of, statements}
 use Rattle.rule_parser.specs.declared.rules.TheConstants.{MAX_BYTES}
 use Rattle.rule_parser.specs.Grammar.{is_significant, significant, IsRuleText}
-use Rattle.rule_parser.specs.Faults.{Begun, IsSoundBegun, begun_statements, takes_lists, IsLineFault, no_statement, out_of_order, bad_template, mismatched_guard, mismatched_link, IsFirstFault, IsRefused}
-use Rattle.rule_parser.specs.Progress.{GoesOn, no_rules}
-use Rattle.rule_parser.specs.Reading.{ReadsGuard}
+use Rattle.rule_parser.specs.Faults.{RulesSoFar, AreSoundSoFar, statements_so_far, takes_lists, IsLineFault, no_statement, out_of_order, bad_template, mismatched_guard, mismatched_link, IsFirstFault, IsRefused}
+use Rattle.rule_parser.specs.Private.Progress.{GoesOn, no_rules}
+use Rattle.rule_parser.specs.Private.Reading.{ReadsGuard}
 use Rattle.rule_parser.proofs.LineNumbers.{line_number, line_fault, open_rule, first_fault}
 use Rattle.rule_parser.proofs.ReaderLemmas.{stage, begins, declares, guards_more, links, no_list, no_when, no_other}
 use Rattle.rule_parser.proofs.NameChoice.{name_choice}
@@ -93,9 +93,9 @@ IsSpelled line = (s : Statement) × IsStatement s × (line ≡ line_of s)
 abbrev IsNotSpelled : Text → Type 0
 IsNotSpelled line = (s : Statement) → IsStatement s → line ≡ line_of s → ⊥
 
-when_choice : (line words : Text) → line ≡ codes "when " ++ words → (read : Option Guard) × ReadsGuard words read → IsSpelled line ⊎ IsNotSpelled line
-when_choice line words e (Some g, r) = inl (When g, r.0, e ∙ ap (λ w. codes "when " ++ w) r.1)
-when_choice line words e (None, n) = inr (λ s k f. no_when words n s k (sym e ∙ f))
+when_choice : (line tokens : Text) → line ≡ codes "when " ++ tokens → (read : Option Guard) × ReadsGuard tokens read → IsSpelled line ⊎ IsNotSpelled line
+when_choice line tokens e (Some g, r) = inl (When g, r.0, e ∙ ap (λ w. codes "when " ++ w) r.1)
+when_choice line tokens e (None, n) = inr (λ s k f. no_when tokens n s k (sym e ∙ f))
 
 statement_choice : (line : Text) → IsSpelled line ⊎ IsNotSpelled line
 statement_choice line =
@@ -119,41 +119,41 @@ statement_choice line =
 -- ---- one more line
 
 -- it goes on with what was begun, or is faulty, or begins a rule in another
-abbrev Goes : Begun → Text → Type 0
-Goes b line = ((new : Begun) × GoesOn b new line) ⊎ ((k : RuleErrorKind) × IsLineFault b line k) ⊎ ((line ≡ line_of Begin) × (is_some b.guards ≡ true))
+abbrev Goes : RulesSoFar → Text → Type 0
+Goes b line = ((new : RulesSoFar) × GoesOn b new line) ⊎ ((k : RuleErrorKind) × IsLineFault b line k) ⊎ ((line ≡ line_of Begin) × (is_some b.guards ≡ true))
 
-faulty : (b : Begun) (line : Text) (k : RuleErrorKind) → IsLineFault b line k → Goes b line
+faulty : (b : RulesSoFar) (line : Text) (k : RuleErrorKind) → IsLineFault b line k → Goes b line
 faulty b line k f = inr (inl (k, f))
 
-goes : (b new : Begun) (line : Text) → GoesOn b new line → Goes b line
+goes : (b new : RulesSoFar) (line : Text) → GoesOn b new line → Goes b line
 goes b new line g = inl (new, g)
 
-declared_choice : (lists : List Text) (rules : List Rule) (o : Option (List Guard)) (name : Text) → IsName name → IsSoundBegun (stage lists rules o)
+declared_choice : (lists : List Text) (rules : List Rule) (o : Option (List Guard)) (name : Text) → IsName name → AreSoundSoFar (stage lists rules o)
     → (takes_lists (stage lists rules o) ≡ true) ⊎ (takes_lists (stage lists rules o) ≡ false) → Goes (stage lists rules o) (line_of (Declare name))
 declared_choice lists rules o name n s (inr f) = faulty (stage lists rules o) _ _ (out_of_order (stage lists rules o) (Declare name) n f)
 declared_choice lists rules None name n s (inl t) = goes (stage lists rules None) _ _ (declares lists rules None [] name t n s)
 declared_choice lists rules (Some gs) name n s (inl t) = absurd (cc)
 
-begin_choice : (lists : List Text) (rules : List Rule) (o : Option (List Guard)) → IsSoundBegun (stage lists rules o) → Goes (stage lists rules o) (line_of Begin)
+begin_choice : (lists : List Text) (rules : List Rule) (o : Option (List Guard)) → AreSoundSoFar (stage lists rules o) → Goes (stage lists rules o) (line_of Begin)
 begin_choice lists rules None s = goes (stage lists rules None) _ _ (begins lists rules None [] refl s)
 begin_choice lists rules (Some gs) s = inr (inr (refl, refl))
 
-guarded_choice : (lists : List Text) (rules : List Rule) (o : Option (List Guard)) (g : Guard) → IsGuard g → IsSoundBegun (stage lists rules o)
+guarded_choice : (lists : List Text) (rules : List Rule) (o : Option (List Guard)) (g : Guard) → IsGuard g → AreSoundSoFar (stage lists rules o)
     → (guard_fits lists g ≡ true) ⊎ (guard_fits lists g ≡ false) → Goes (stage lists rules o) (line_of (When g))
 guarded_choice lists rules None g h s f = faulty (stage lists rules None) _ _ (out_of_order (stage lists rules None) (When g) h refl)
 guarded_choice lists rules (Some gs) g h s (inl t) =
-    goes (stage lists rules (Some gs)) _ _ (guards_more lists rules (Some 0) gs g refl (record { words = h; kinds = t }) s)
+    goes (stage lists rules (Some gs)) _ _ (guards_more lists rules (Some 0) gs g refl (record { tokens = h; kinds = t }) s)
 guarded_choice lists rules (Some gs) g h s (inr f) = faulty (stage lists rules (Some gs)) _ _ (mismatched_guard (stage lists rules (Some gs)) g refl h f)
 
 tree_choice : (lists : List Text) (rules : List Rule) (gs : List Guard) (text : Text) (parts : List Part) → IsTemplate text parts
-    → IsSoundBegun (stage lists rules (Some gs)) → (parts_fit lists parts ≡ true) ⊎ (parts_fit lists parts ≡ false)
+    → AreSoundSoFar (stage lists rules (Some gs)) → (parts_fit lists parts ≡ true) ⊎ (parts_fit lists parts ≡ false)
     → Goes (stage lists rules (Some gs)) (line_of (Link text))
 tree_choice lists rules gs text parts t s (inl f) =
     goes (stage lists rules (Some gs)) _ _ (links lists rules (Some 0) (record { guards = gs; template = record { text = text; parts = parts } }) refl t f s)
 tree_choice lists rules gs text parts t s (inr f) =
     faulty (stage lists rules (Some gs)) _ _ (mismatched_link (stage lists rules (Some gs)) text parts refl t f)
 
-link_choice : TreeOrFault → (lists : List Text) (rules : List Rule) (o : Option (List Guard)) (text : Text) → IsUtf8 text → IsSoundBegun (stage lists rules o)
+link_choice : TreeOrFault → (lists : List Text) (rules : List Rule) (o : Option (List Guard)) (text : Text) → IsUtf8 text → AreSoundSoFar (stage lists rules o)
     → Goes (stage lists rules o) (line_of (Link text))
 link_choice tree lists rules None text u s = faulty (stage lists rules None) _ _ (out_of_order (stage lists rules None) (Link text) tt refl)
 link_choice tree lists rules (Some gs) text u s =
@@ -162,13 +162,13 @@ link_choice tree lists rules (Some gs) text u s =
       | inr f ↦ faulty (stage lists rules (Some gs)) _ _ (bad_template (stage lists rules (Some gs)) text f.0 f.1 refl f.2)
     ]
 
-statement_goes : TreeOrFault → (b : Begun) (s : Statement) → IsStatement s → IsUtf8 (line_of s) → IsSoundBegun b → Goes b (line_of s)
+statement_goes : TreeOrFault → (b : RulesSoFar) (s : Statement) → IsStatement s → IsUtf8 (line_of s) → AreSoundSoFar b → Goes b (line_of s)
 statement_goes tree b (Declare name) k u s = declared_choice b.whole.lists b.whole.rules b.guards name k s (cases_Bool (takes_lists b))
 statement_goes tree b Begin k u s = begin_choice b.whole.lists b.whole.rules b.guards s
 statement_goes tree b (When g) k u s = guarded_choice b.whole.lists b.whole.rules b.guards g k s (cases_Bool (guard_fits b.whole.lists g))
 statement_goes tree b (Link text) k u s = link_choice tree b.whole.lists b.whole.rules b.guards text (ascii_parts (codes "link") text 32 (omega arith) u).1 s
 
-line_choice : TreeOrFault → (b : Begun) (line : Text) → IsUtf8 line → IsSoundBegun b → Goes b line
+line_choice : TreeOrFault → (b : RulesSoFar) (line : Text) → IsUtf8 line → AreSoundSoFar b → Goes b line
 line_choice tree b line u s =
     elim (statement_choice line) [
       | inr n ↦ faulty b line kind.BadLine (no_statement b line n)
@@ -181,31 +181,31 @@ abbrev HasRulesOrFault : List Text → Type 0
 HasRulesOrFault ls =
     ((rules : RuleSet) × IsSound rules × (significant ls ≡ map line_of (statements rules))) ⊎ ((k : RuleErrorKind) × (at : ℕ) × IsFirstFault ls k at)
 
-at_end : (ls : List Text) (whole : RuleSet) (o : Option (List Guard)) → IsSoundBegun (record { whole = whole; guards = o })
-    → significant ls ≡ map line_of (begun_statements (record { whole = whole; guards = o })) ++ [] → HasRulesOrFault ls
+at_end : (ls : List Text) (whole : RuleSet) (o : Option (List Guard)) → AreSoundSoFar (record { whole = whole; guards = o })
+    → significant ls ≡ map line_of (statements_so_far (record { whole = whole; guards = o })) ++ [] → HasRulesOrFault ls
 at_end ls whole None s e = inl (whole, s.whole, e ∙ append-nil _ ∙ ap (map line_of) (append-nil (statements whole)))
 at_end ls whole (Some gs) s e = inr (kind.NoLink, line_number ls (length (statements whole)), first_fault ls _ _ (open_rule ls whole gs [] s e tt))
 
 rule_in_rule : (ls : List Text) (whole : RuleSet) (o : Option (List Guard)) (line : Text) (rest : List Text) → is_some o ≡ true → line ≡ line_of Begin
-    → IsSoundBegun (record { whole = whole; guards = o }) → significant ls ≡ map line_of (begun_statements (record { whole = whole; guards = o })) ++ line ∷ rest
+    → AreSoundSoFar (record { whole = whole; guards = o }) → significant ls ≡ map line_of (statements_so_far (record { whole = whole; guards = o })) ++ line ∷ rest
     → HasRulesOrFault ls
 rule_in_rule ls whole None line rest o b s e = absurd (cc)
 rule_in_rule ls whole (Some gs) line rest o b s e = inr (kind.NoLink, line_number ls (length (statements whole)), first_fault ls _ _ (open_rule ls whole gs (line ∷ rest) s e b))
 
-one_more : (ls : List Text) (b new : Begun) (line : Text) (rest : List Text) → GoesOn b new line → significant ls ≡ map line_of (begun_statements b) ++ line ∷ rest
-    → significant ls ≡ map line_of (begun_statements new) ++ rest
+one_more : (ls : List Text) (b new : RulesSoFar) (line : Text) (rest : List Text) → GoesOn b new line → significant ls ≡ map line_of (statements_so_far b) ++ line ∷ rest
+    → significant ls ≡ map line_of (statements_so_far new) ++ rest
 one_more ls b new line rest g e =
-    e ∙ ap (λ l. map line_of (begun_statements b) ++ l ∷ rest) g.spelled ∙ sym (append_assoc (map line_of (begun_statements b)) (line_of g.statement ∷ []) rest)
-    ∙ ap (λ l. l ++ rest) (sym (map-append line_of (begun_statements b) (g.statement ∷ [])) ∙ sym (ap (map line_of) g.longer))
+    e ∙ ap (λ l. map line_of (statements_so_far b) ++ l ∷ rest) g.spelled ∙ sym (append_assoc (map line_of (statements_so_far b)) (line_of g.statement ∷ []) rest)
+    ∙ ap (λ l. l ++ rest) (sym (map-append line_of (statements_so_far b) (g.statement ∷ [])) ∙ sym (ap (map line_of) g.longer))
 
-lines_choice : TreeOrFault → (ls rest : List Text) (b : Begun) → AllByRecursion IsUtf8 rest → IsSoundBegun b
-    → significant ls ≡ map line_of (begun_statements b) ++ rest → HasRulesOrFault ls
+lines_choice : TreeOrFault → (ls rest : List Text) (b : RulesSoFar) → AllByRecursion IsUtf8 rest → AreSoundSoFar b
+    → significant ls ≡ map line_of (statements_so_far b) ++ rest → HasRulesOrFault ls
 lines_choice tree ls [] b u s e = at_end ls b.whole b.guards s e
 lines_choice tree ls (line ∷ rest) b u s e = by_case (line_choice tree b line u.0 s) (λ new. lines_choice tree ls rest new u.1)
   where
-    by_case : Goes b line → ((new : Begun) → IsSoundBegun new → significant ls ≡ map line_of (begun_statements new) ++ rest → HasRulesOrFault ls) → HasRulesOrFault ls
+    by_case : Goes b line → ((new : RulesSoFar) → AreSoundSoFar new → significant ls ≡ map line_of (statements_so_far new) ++ rest → HasRulesOrFault ls) → HasRulesOrFault ls
     by_case (inl g) next = next g.0 g.1.sound (one_more ls b g.0 line rest g.1 e)
-    by_case (inr (inl f)) next = inr (f.0, line_number ls (length (begun_statements b)), first_fault ls _ _ (line_fault ls b line rest f.0 s e f.1))
+    by_case (inr (inl f)) next = inr (f.0, line_number ls (length (statements_so_far b)), first_fault ls _ _ (line_fault ls b line rest f.0 s e f.1))
     by_case (inr (inr r)) next = rule_in_rule ls b.whole b.guards line rest r.1 r.0 s e
 
 -- ---- bytes

@@ -13,9 +13,9 @@ use Rattle.rule_parser.specs.declared.rule.Guard.{Guard}
 use Rattle.rule_parser.specs.declared.rule.Guard.TheVariants as guard
 use Rattle.rule_parser.specs.Rules.{IsBound, AreBounds, IsGuard}
 use Rattle.rule_parser.specs.Statements.{Statement, Declare, Begin, When, Link, IsStatement, line_of, quoted, escaped, bound_text, bounds_text, guard_text}
-use Rattle.rule_parser.proofs.WordLemmas.{same_parts, same_tails, other_heads, word_split, name_is_word, bound_is_word, star_is_no_name}
+use Rattle.rule_parser.proofs.TokenLemmas.{same_parts, same_tails, other_heads, token_split, name_is_token, bound_is_token, star_is_no_name}
 use Rattle.rule_parser.proofs.EscapeLemmas.{escaped_same}
-use Rattle.rule_parser.proofs.GuardLemmas.{IsDefined, defined_words, IsCompared, compared_words}
+use Rattle.rule_parser.proofs.GuardLemmas.{IsDefined, defined_tokens, IsCompared, compared_tokens}
 
 -- ---- the parts of guards
 
@@ -38,7 +38,7 @@ bound_same (bound.Name n) (bound.Name m) h k e = ap (λ t. bound.Name t) e
 
 bounds_same : (b c d f : Bound) → AreBounds b c → AreBounds d f → bounds_text b c ≡ bounds_text d f → (b ≡ d) × (c ≡ f)
 bounds_same b c d f h k e =
-    let cut = word_split (bound_text b) (codes "to " ++ bound_text c) (bound_text d) (codes "to " ++ bound_text f) (bound_is_word b h.0) (bound_is_word d k.0) e in
+    let cut = token_split (bound_text b) (codes "to " ++ bound_text c) (bound_text d) (codes "to " ++ bound_text f) (bound_is_token b h.0) (bound_is_token d k.0) e in
     (bound_same b d h.0 k.0 cut.0, bound_same c f h.1 k.1 (append_cancel_left (codes "to ") (bound_text c) (bound_text f) cut.1))
 
 -- ---- guards
@@ -104,23 +104,23 @@ compared_same name verb value g h p q = absurd (other_kinds name verb value g h 
 
 guard_same : (g h : Guard) → IsGuard g → IsGuard h → guard_text g ≡ guard_text h → g ≡ h
 guard_same (guard.Has n) h a b e =
-    defined_same (codes "has") n (guard.Has n) h (a, refl, refl) (defined_words (codes "has") n (search rules) (name_is_word n a) h b e)
+    defined_same (codes "has") n (guard.Has n) h (a, refl, refl) (defined_tokens (codes "has") n (search rules) (name_is_token n a) h b e)
 guard_same (guard.Lacks n) h a b e =
-    defined_same (codes "lacks") n (guard.Lacks n) h (a, refl, refl) (defined_words (codes "lacks") n (search rules) (name_is_word n a) h b e)
+    defined_same (codes "lacks") n (guard.Lacks n) h (a, refl, refl) (defined_tokens (codes "lacks") n (search rules) (name_is_token n a) h b e)
 guard_same (guard.Given n) h a b e =
-    defined_same (codes "given") n (guard.Given n) h (a, refl, refl) (defined_words (codes "given") n (search rules) (name_is_word n a) h b e)
+    defined_same (codes "given") n (guard.Given n) h (a, refl, refl) (defined_tokens (codes "given") n (search rules) (name_is_token n a) h b e)
 guard_same (guard.Same n t) h a b e =
     compared_same n (codes "is") (quoted t) (guard.Same n t) h (a, refl, refl, refl)
-    (compared_words n (codes "is") (quoted t) (name_is_word n a) (search rules) h b e)
+    (compared_tokens n (codes "is") (quoted t) (name_is_token n a) (search rules) h b e)
 guard_same (guard.Holds n t) h a b e =
     compared_same n (codes "holds") (quoted t) (guard.Holds n t) h (a, refl, refl, refl)
-    (compared_words n (codes "holds") (quoted t) (name_is_word n a) (search rules) h b e)
+    (compared_tokens n (codes "holds") (quoted t) (name_is_token n a) (search rules) h b e)
 guard_same (guard.Between n c d) h a b e =
     compared_same n (codes "from") (bounds_text c d) (guard.Between n c d) h (a.0, refl, a.1, refl, refl)
-    (compared_words n (codes "from") (bounds_text c d) (name_is_word n a.0) (search rules) h b e)
+    (compared_tokens n (codes "from") (bounds_text c d) (name_is_token n a.0) (search rules) h b e)
 guard_same (guard.Counts n c d) h a b e =
     compared_same n (codes "counts") (bounds_text c d) (guard.Counts n c d) h (a.0, refl, a.1, refl, refl)
-    (compared_words n (codes "counts") (bounds_text c d) (name_is_word n a.0) (search rules) h b e)
+    (compared_tokens n (codes "counts") (bounds_text c d) (name_is_token n a.0) (search rules) h b e)
 
 -- ---- lines
 

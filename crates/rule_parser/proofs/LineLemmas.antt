@@ -16,8 +16,8 @@ use Rattle.std.specs.Prelude.{IsUtf8}
 use Rattle.std.specs.Str.Lines.{lines}
 use Rattle.rule_parser.specs.declared.rules.TheConstants.{MAX_BYTES}
 use Rattle.rule_parser.specs.Grammar.{is_significant, significant, IsRuleText}
-use Rattle.rule_parser.specs.Faults.{Begun, IsSoundBegun, begun_statements, statements_of_guards, IsFirstFault, EndsRule, IsRefused}
-use Rattle.rule_parser.specs.Progress.{begun_of, no_rules, GoesOn, IsNumbered, KeepsLine, IsStepFault}
+use Rattle.rule_parser.specs.Faults.{RulesSoFar, AreSoundSoFar, statements_so_far, statements_of_guards, IsFirstFault, EndsRule, IsRefused}
+use Rattle.rule_parser.specs.Private.Progress.{so_far_of, no_rules, GoesOn, IsNumbered, KeepsLine, IsStepFault}
 use Rattle.rule_parser.proofs.LineNumbers.{significant-append, one_significant, line_number, split_at, significant_around, number_is, line_fault, open_rule, first_fault}
 use Rattle.rule_parser.proofs.ReaderLemmas.{guards_from}
 
@@ -25,33 +25,33 @@ use Rattle.rule_parser.proofs.ReaderLemmas.{guards_from}
 
 -- the first i lines, read by a reader
 pub record AreRead (ls : List Text) (i : ℕ) (reader : Reader) : Type 0 where
-  pub spelled : significant (take i ls) ≡ map line_of (begun_statements (begun_of reader))
-  pub sound : IsSoundBegun (begun_of reader)
+  pub spelled : significant (take i ls) ≡ map line_of (statements_so_far (so_far_of reader))
+  pub sound : AreSoundSoFar (so_far_of reader)
   pub numbered : IsNumbered (line_number ls) reader
 
 no_rule_line : (line : Option ℕ) (guards : List Guard) (P : ℕ → Type 0) → guards_from line guards ≡ None → IfSome line P
 no_rule_line None guards P e = tt
 no_rule_line (Some l) guards P e = absurd (cc)
 
-pub no_rules_are_sound : IsSoundBegun no_rules
+pub no_rules_are_sound : AreSoundSoFar no_rules
 no_rules_are_sound = record { whole = record { names = All-nil IsName; rules = All-nil (IsSoundRule []) }; guards = tt }
 
-pub none_read : (ls : List Text) (reader : Reader) → begun_of reader ≡ no_rules → AreRead ls 0 reader
+pub none_read : (ls : List Text) (reader : Reader) → so_far_of reader ≡ no_rules → AreRead ls 0 reader
 none_read ls reader e = record {
-  spelled = ap (λ (b : Begun). map line_of (begun_statements b)) (sym e);
-  sound = subst IsSoundBegun (sym e) no_rules_are_sound;
-  numbered = no_rule_line reader.rule_line reader.guards.items _ (ap (λ (b : Begun). b.guards) e);
+  spelled = ap (λ (b : RulesSoFar). map line_of (statements_so_far b)) (sym e);
+  sound = subst AreSoundSoFar (sym e) no_rules_are_sound;
+  numbered = no_rule_line reader.rule_line reader.guards.items _ (ap (λ (b : RulesSoFar). b.guards) e);
 }
 
 pub line_read : (ls : List Text) (i : ℕ) (reader new : Reader) (line : Text) → AreRead ls i reader → i < length ls → get_or ls i line ≡ line
-    → is_significant line ≡ true → GoesOn (begun_of reader) (begun_of new) line → KeepsLine reader new (i + 1) → AreRead ls (i + 1) new
+    → is_significant line ≡ true → GoesOn (so_far_of reader) (so_far_of new) line → KeepsLine reader new (i + 1) → AreRead ls (i + 1) new
 line_read ls i reader new line r h e x goes keeps = record {
   spelled =
       ap significant (take_more ls i line h ∙ ap (λ y. take i ls ++ y ∷ []) e) ∙ significant_around _ (take i ls) [] line refl x
-      ∙ ap (λ l. l ++ line ∷ []) r.spelled ∙ ap (λ y. map line_of (begun_statements (begun_of reader)) ++ y ∷ []) goes.spelled
-      ∙ sym (map-append line_of (begun_statements (begun_of reader)) (goes.statement ∷ [])) ∙ sym (ap (map line_of) goes.longer);
+      ∙ ap (λ l. l ++ line ∷ []) r.spelled ∙ ap (λ y. map line_of (statements_so_far (so_far_of reader)) ++ y ∷ []) goes.spelled
+      ∙ sym (map-append line_of (statements_so_far (so_far_of reader)) (goes.statement ∷ [])) ∙ sym (ap (map line_of) goes.longer);
   sound = goes.sound;
-  numbered = keeps (line_number ls) (number_is ls i (begun_statements (begun_of reader)) line h e x r.spelled) r.numbered;
+  numbered = keeps (line_number ls) (number_is ls i (statements_so_far (so_far_of reader)) line h e x r.spelled) r.numbered;
 }
 
 pub line_skipped : (ls : List Text) (i : ℕ) (reader : Reader) (line : Text) → AreRead ls i reader → i < length ls → get_or ls i line ≡ line
@@ -68,7 +68,7 @@ line_skipped ls i reader line r h e x = record {
 
 -- the rule whose link is yet to come has none
 no_link_found : (ls : List Text) (whole : RuleSet) (guards : List Guard) (rule_line : Option ℕ) (at : ℕ) (k : RuleErrorKind) (rest : List Text)
-    → rule_line ≡ Some at → k ≡ kind.NoLink → IsSoundBegun (record { whole = whole; guards = guards_from rule_line guards })
+    → rule_line ≡ Some at → k ≡ kind.NoLink → AreSoundSoFar (record { whole = whole; guards = guards_from rule_line guards })
     → significant ls ≡ map line_of (statements whole ++ statements_of_guards (guards_from rule_line guards)) ++ rest → EndsRule rest
     → IfSome rule_line (λ line. line ≡ line_number ls (length (statements whole))) → IsFirstFault ls k at
 no_link_found ls whole guards None at k rest a b s e r n = absurd (cc)
@@ -84,24 +84,24 @@ line_refused ls i reader line e r h g x (inr (inl f)) =
     let split = split_at ls i line h g in
     let spelled = significant_around ls (take i ls) split.0 line split.1 x ∙ ap (λ l. l ++ line ∷ significant split.0) r.spelled in
     inr
-    (subst (IsFirstFault ls e.kind) (number_is ls i (begun_statements (begun_of reader)) line h g x r.spelled ∙ sym f.1)
-    (first_fault ls _ _ (line_fault ls (begun_of reader) line (significant split.0) e.kind r.sound spelled f.0)))
+    (subst (IsFirstFault ls e.kind) (number_is ls i (statements_so_far (so_far_of reader)) line h g x r.spelled ∙ sym f.1)
+    (first_fault ls _ _ (line_fault ls (so_far_of reader) line (significant split.0) e.kind r.sound spelled f.0)))
 line_refused ls i reader line e r h g x (inr (inr f)) =
     let split = split_at ls i line h g in
     let spelled = significant_around ls (take i ls) split.0 line split.1 x ∙ ap (λ l. l ++ line ∷ significant split.0) r.spelled in
-    inr (no_link_found ls (begun_of reader).whole reader.guards.items reader.rule_line e.line e.kind (line ∷ significant split.0) f.2 f.0 r.sound spelled f.1 r.numbered)
+    inr (no_link_found ls (so_far_of reader).whole reader.guards.items reader.rule_line e.line e.kind (line ∷ significant split.0) f.2 f.0 r.sound spelled f.1 r.numbered)
 
 pub end_refused : (ls : List Text) (i : ℕ) (reader : Reader) (e : RuleError) → AreRead ls i reader → length ls ≤ i → e.kind ≡ kind.NoLink
     → reader.rule_line ≡ Some e.line → IsFirstFault ls e.kind e.line
 end_refused ls i reader e r h k a =
-    no_link_found ls (begun_of reader).whole reader.guards.items reader.rule_line e.line e.kind [] a k r.sound
-    (ap significant (sym (take_all i ls h)) ∙ r.spelled ∙ sym (append-nil (map line_of (begun_statements (begun_of reader))))) tt r.numbered
+    no_link_found ls (so_far_of reader).whole reader.guards.items reader.rule_line e.line e.kind [] a k r.sound
+    (ap significant (sym (take_all i ls h)) ∙ r.spelled ∙ sym (append-nil (map line_of (statements_so_far (so_far_of reader))))) tt r.numbered
 
 pub all_read : (ls : List Text) (i : ℕ) (reader : Reader) (rules : RuleSet) → AreRead ls i reader → length ls ≤ i
-    → begun_of reader ≡ record { whole = rules; guards = None } → IsSound rules × (significant ls ≡ map line_of (statements rules))
+    → so_far_of reader ≡ record { whole = rules; guards = None } → IsSound rules × (significant ls ≡ map line_of (statements rules))
 all_read ls i reader rules r h e = (
-  subst (λ (b : Begun). IsSound b.whole) e r.sound.whole,
-  ap significant (sym (take_all i ls h)) ∙ r.spelled ∙ ap (λ (b : Begun). map line_of (begun_statements b)) e
+  subst (λ (b : RulesSoFar). IsSound b.whole) e r.sound.whole,
+  ap significant (sym (take_all i ls h)) ∙ r.spelled ∙ ap (λ (b : RulesSoFar). map line_of (statements_so_far b)) e
       ∙ ap (map line_of) (append-nil (statements rules)),
 )
 

@@ -10,7 +10,7 @@ use Rattle.rule_parser.specs.declared.rule.Guard.{Guard}
 use Rattle.rule_parser.specs.Rules.{RuleSet}
 use Rattle.rule_parser.specs.Statements.{Statement, Begin, When, line_of, statements}
 use Rattle.rule_parser.specs.Grammar.{is_significant, significant}
-use Rattle.rule_parser.specs.Faults.{Begun, IsSoundBegun, begun_statements, statements_of_guards, EndsRule, IsLineFault, IsFirstFault}
+use Rattle.rule_parser.specs.Faults.{RulesSoFar, AreSoundSoFar, statements_so_far, statements_of_guards, EndsRule, IsLineFault, IsFirstFault}
 
 -- ---- significant lines
 
@@ -75,16 +75,16 @@ number_is ls i ss line h e x s =
 -- ---- first faults, by the numbers of their statements
 
 pub data IsNumberedFault : List Text → RuleErrorKind → ℕ → Type 0 where
-  line_fault : (ls : List Text) (begun : Begun) (line : Text) (rest : List Text) (k : RuleErrorKind) → IsSoundBegun begun
-      → significant ls ≡ map line_of (begun_statements begun) ++ line ∷ rest → IsLineFault begun line k
-      → IsNumberedFault ls k (line_number ls (length (begun_statements begun)))
-  open_rule : (ls : List Text) (whole : RuleSet) (guards : List Guard) (rest : List Text) → IsSoundBegun (record { whole = whole; guards = Some guards })
+  line_fault : (ls : List Text) (begun : RulesSoFar) (line : Text) (rest : List Text) (k : RuleErrorKind) → AreSoundSoFar begun
+      → significant ls ≡ map line_of (statements_so_far begun) ++ line ∷ rest → IsLineFault begun line k
+      → IsNumberedFault ls k (line_number ls (length (statements_so_far begun)))
+  open_rule : (ls : List Text) (whole : RuleSet) (guards : List Guard) (rest : List Text) → AreSoundSoFar (record { whole = whole; guards = Some guards })
       → significant ls ≡ map line_of (statements whole ++ statements_of_guards (Some guards)) ++ rest → EndsRule rest
       → IsNumberedFault ls kind.NoLink (line_number ls (length (statements whole)))
 
 pub numbered_fault : (ls : List Text) (k : RuleErrorKind) (at : ℕ) → IsFirstFault ls k at → IsNumberedFault ls k at
 numbered_fault ls k at (inl f) =
-    subst (IsNumberedFault ls k) (number_behind ls f.before f.behind f.line (begun_statements f.begun) f.whole f.is_no_comment f.spelled ∙ sym f.counted)
+    subst (IsNumberedFault ls k) (number_behind ls f.before f.behind f.line (statements_so_far f.begun) f.whole f.is_no_comment f.spelled ∙ sym f.counted)
     (line_fault ls f.begun f.line (significant f.behind) k f.sound
     (significant_around ls f.before f.behind f.line f.whole f.is_no_comment ∙ ap (λ l. l ++ f.line ∷ significant f.behind) f.spelled) f.faulty)
 numbered_fault ls k at (inr f) =
@@ -142,14 +142,14 @@ splits_at (l ∷ ls) before line behind e = by_case (is_significant l) refl befo
 
 pub first_fault : (ls : List Text) (k : RuleErrorKind) (at : ℕ) → IsNumberedFault ls k at → IsFirstFault ls k at
 first_fault ls k at (line_fault l b line rest k' s e f) =
-    let split = splits_at l (map line_of (begun_statements b)) line rest e in
+    let split = splits_at l (map line_of (statements_so_far b)) line rest e in
     inl (record {
       before = split.front;
       line = line;
       behind = split.back;
       begun = b;
       whole = split.whole;
-      counted = number_behind l split.front split.back line (begun_statements b) split.whole split.is_no_comment split.before_it;
+      counted = number_behind l split.front split.back line (statements_so_far b) split.whole split.is_no_comment split.before_it;
       spelled = split.before_it;
       sound = s;
       is_no_comment = split.is_no_comment;

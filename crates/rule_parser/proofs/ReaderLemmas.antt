@@ -21,27 +21,27 @@ use Rattle.rule_parser.specs.declared.rule.Guard.{Guard}
 use Rattle.rule_parser.specs.declared.rule.Rule.{Rule}
 use Rattle.rule_parser.specs.Rules.{IsSoundGuard, IsSoundRule, guard_fits, parts_fit}
 use Rattle.rule_parser.specs.Statements.{Statement, Declare, Begin, When, Link, IsStatement, line_of, guard_text}
-use Rattle.rule_parser.specs.Faults.{Begun, IsSoundBegun, IsLineFault, no_statement, out_of_order, bad_template, mismatched_guard, takes_lists}
-use Rattle.rule_parser.specs.Progress.{GoesOn, IsStepFault, begun_of}
-use Rattle.rule_parser.specs.Reading.{ReadsGuard}
+use Rattle.rule_parser.specs.Faults.{RulesSoFar, AreSoundSoFar, IsLineFault, no_statement, out_of_order, bad_template, mismatched_guard, takes_lists}
+use Rattle.rule_parser.specs.Private.Progress.{GoesOn, IsStepFault, so_far_of}
+use Rattle.rule_parser.specs.Private.Reading.{ReadsGuard}
 use Rattle.rule_parser.proofs.GuardChoice.{guard_choice}
-use Rattle.rule_parser.proofs.WordLemmas.{same_tails, other_heads}
+use Rattle.rule_parser.proofs.TokenLemmas.{same_tails, other_heads}
 
-abbrev pub stage : List Text → List Rule → Option (List Guard) → Begun
+abbrev pub stage : List Text → List Rule → Option (List Guard) → RulesSoFar
 stage lists rules guards = record { whole = record { lists = lists; rules = rules }; guards = guards }
 
 -- the guards of a rule that has begun at a line
 abbrev pub guards_from : Option ℕ → List Guard → Option (List Guard)
 guards_from line guards = option_map (λ l. guards) line
 
-pub begins : (lists : List Text) (rules : List Rule) (line : Option ℕ) (old : List Guard) → line ≡ None → IsSoundBegun (stage lists rules (guards_from line old))
+pub begins : (lists : List Text) (rules : List Rule) (line : Option ℕ) (old : List Guard) → line ≡ None → AreSoundSoFar (stage lists rules (guards_from line old))
     → GoesOn (stage lists rules (guards_from line old)) (stage lists rules (Some [])) (line_of Begin)
 begins lists rules None old e s =
     record { statement = Begin; spelled = refl; longer = rw append-nil refl; sound = record { whole = s.whole; guards = All-nil (IsSoundGuard lists) } }
 begins lists rules (Some l) old e s = absurd (cc)
 
 pub declares : (lists : List Text) (rules : List Rule) (line : Option ℕ) (guards : List Guard) (name : Text)
-    → takes_lists (stage lists rules (guards_from line guards)) ≡ true → IsName name → IsSoundBegun (stage lists rules (guards_from line guards))
+    → takes_lists (stage lists rules (guards_from line guards)) ≡ true → IsName name → AreSoundSoFar (stage lists rules (guards_from line guards))
     → GoesOn (stage lists rules (guards_from line guards)) (stage (lists ++ name ∷ []) rules (guards_from line guards)) (line_of (Declare name))
 declares lists [] None guards name e n s = record {
   statement = Declare name;
@@ -53,7 +53,7 @@ declares lists (r ∷ rules) None guards name e n s = absurd (omega (arith, eqb-
 declares lists rules (Some l) guards name e n s = absurd (cc)
 
 pub guards_more : (lists : List Text) (rules : List Rule) (line : Option ℕ) (guards : List Guard) (g : Guard) → is_some (guards_from line guards) ≡ true → IsSoundGuard lists g
-    → IsSoundBegun (stage lists rules (guards_from line guards))
+    → AreSoundSoFar (stage lists rules (guards_from line guards))
     → GoesOn (stage lists rules (guards_from line guards)) (stage lists rules (guards_from line (guards ++ g ∷ []))) (line_of (When g))
 guards_more lists rules None guards g e h s = absurd (cc)
 guards_more lists rules (Some l) guards g e h s = record {
@@ -64,7 +64,7 @@ guards_more lists rules (Some l) guards g e h s = record {
 }
 
 pub links : (lists : List Text) (rules : List Rule) (line : Option ℕ) (rule : Rule) → is_some (guards_from line rule.guards) ≡ true → IsTemplate rule.template.text rule.template.parts
-    → parts_fit lists rule.template.parts ≡ true → IsSoundBegun (stage lists rules (guards_from line rule.guards))
+    → parts_fit lists rule.template.parts ≡ true → AreSoundSoFar (stage lists rules (guards_from line rule.guards))
     → GoesOn (stage lists rules (guards_from line rule.guards)) (stage lists (rules ++ rule ∷ []) None) (line_of (Link rule.template.text))
 links lists rules None rule e t k s = absurd (cc)
 links lists rules (Some l) rule e t k s = record {
@@ -83,19 +83,19 @@ links lists rules (Some l) rule e t k s = record {
 -- ---- lines that no statement spells
 
 pub no_list : (name : Text) → (IsName name → ⊥) → (s : Statement) → IsStatement s → codes "list " ++ name ≡ line_of s → ⊥
-no_list name h (Declare n) k e = h (subst IsName (sym (behind_word e)) k)
+no_list name h (Declare n) k e = h (subst IsName (sym (after_token e)) k)
   where
-    behind_word : codes "list " ++ name ≡ codes "list " ++ n → name ≡ n
-    behind_word f = append_cancel_left (codes "list ") name n f
+    after_token : codes "list " ++ name ≡ codes "list " ++ n → name ≡ n
+    after_token f = append_cancel_left (codes "list ") name n f
 no_list name h Begin k e = other_heads 108 114 _ _ refl e
 no_list name h (When g) k e = other_heads 108 119 _ _ refl e
 no_list name h (Link t) k e = other_heads 115 110 _ _ refl (same_tails 105 105 _ _ (same_tails 108 108 _ _ e))
 
-pub no_when : (words : Text) → ReadsGuard words None → (s : Statement) → IsStatement s → codes "when " ++ words ≡ line_of s → ⊥
-no_when words h (Declare n) k e = other_heads 119 108 _ _ refl e
-no_when words h Begin k e = other_heads 119 114 _ _ refl e
-no_when words h (When g) k e = h g k (append_cancel_left (codes "when ") words (guard_text g) e)
-no_when words h (Link t) k e = other_heads 119 108 _ _ refl e
+pub no_when : (tokens : Text) → ReadsGuard tokens None → (s : Statement) → IsStatement s → codes "when " ++ tokens ≡ line_of s → ⊥
+no_when tokens h (Declare n) k e = other_heads 119 108 _ _ refl e
+no_when tokens h Begin k e = other_heads 119 114 _ _ refl e
+no_when tokens h (When g) k e = h g k (append_cancel_left (codes "when ") tokens (guard_text g) e)
+no_when tokens h (Link t) k e = other_heads 119 108 _ _ refl e
 
 pub no_other : (line : Text) → line ≢ codes "rule" → ((t : Text) → line ≢ codes "list " ++ t) → ((t : Text) → line ≢ codes "when " ++ t)
     → ((t : Text) → line ≢ codes "link " ++ t) → (s : Statement) → IsStatement s → line ≡ line_of s → ⊥
@@ -107,26 +107,26 @@ no_other line rule list when link (Link t) k e = link t e
 -- ---- faults
 
 pub line_faulty : (r : Reader) (number : ℕ) (line : Text) (e : RuleError) (k : RuleErrorKind) → e ≡ record { kind = k; line = number }
-    → IsLineFault (begun_of r) line k → IsStepFault r number line e
+    → IsLineFault (so_far_of r) line k → IsStepFault r number line e
 line_faulty r number line e k s h =
-    inr (inl (subst (IsLineFault (begun_of r) line) (sym (ap (λ (x : RuleError). x.kind) s)) h, ap (λ (x : RuleError). x.line) s))
+    inr (inl (subst (IsLineFault (so_far_of r) line) (sym (ap (λ (x : RuleError). x.kind) s)) h, ap (λ (x : RuleError). x.line) s))
 
-pub list_out_of_order : (begun : Begun) (name : Text) → IsName name → takes_lists begun ≡ false → IsLineFault begun (codes "list " ++ name) kind.BadLine
+pub list_out_of_order : (begun : RulesSoFar) (name : Text) → IsName name → takes_lists begun ≡ false → IsLineFault begun (codes "list " ++ name) kind.BadLine
 list_out_of_order begun name n o = out_of_order begun (Declare name) n o
 
-pub when_out_of_order : (begun : Begun) (words : Text) → is_some begun.guards ≡ false → IsLineFault begun (codes "when " ++ words) kind.BadLine
-when_out_of_order begun words o = by_reading (guard_choice words)
+pub when_out_of_order : (begun : RulesSoFar) (tokens : Text) → is_some begun.guards ≡ false → IsLineFault begun (codes "when " ++ tokens) kind.BadLine
+when_out_of_order begun tokens o = by_reading (guard_choice tokens)
   where
-    by_reading : (read : Option Guard) × ReadsGuard words read → IsLineFault begun (codes "when " ++ words) kind.BadLine
-    by_reading (None, n) = no_statement begun (codes "when " ++ words) (no_when words n)
+    by_reading : (read : Option Guard) × ReadsGuard tokens read → IsLineFault begun (codes "when " ++ tokens) kind.BadLine
+    by_reading (None, n) = no_statement begun (codes "when " ++ tokens) (no_when tokens n)
     by_reading (Some g, h) = subst (λ (w : Text). IsLineFault begun (codes "when " ++ w) kind.BadLine) (sym h.1) (out_of_order begun (When g) h.0 o)
 
-pub guard_mismatched : (begun : Begun) (words : Text) (g : Guard) → ReadsGuard words (Some g) → is_some begun.guards ≡ true → guard_fits begun.whole.lists g ≡ false
-    → IsLineFault begun (codes "when " ++ words) kind.KindMismatch
-guard_mismatched begun words g h o k =
+pub guard_mismatched : (begun : RulesSoFar) (tokens : Text) (g : Guard) → ReadsGuard tokens (Some g) → is_some begun.guards ≡ true → guard_fits begun.whole.lists g ≡ false
+    → IsLineFault begun (codes "when " ++ tokens) kind.KindMismatch
+guard_mismatched begun tokens g h o k =
     subst (λ (w : Text). IsLineFault begun (codes "when " ++ w) kind.KindMismatch) (sym h.1) (mismatched_guard begun g o h.0 k)
 
-pub link_out_of_order : (begun : Begun) (text : Text) → is_some begun.guards ≡ false → IsLineFault begun (codes "link " ++ text) kind.BadLine
+pub link_out_of_order : (begun : RulesSoFar) (text : Text) → is_some begun.guards ≡ false → IsLineFault begun (codes "link " ++ text) kind.BadLine
 link_out_of_order begun text o = out_of_order begun (Link text) tt o
 
 no_memory_or_not : (k : TemplateErrorKind) → (k ≡ template_kind.NoMemory) ⊎ (k ≢ template_kind.NoMemory)
@@ -134,7 +134,7 @@ no_memory_or_not template_kind.NoMemory = inl refl
 no_memory_or_not k = inr (λ e. cc)
 
 -- a fault of a template, unless memory was wanting
-pub template_faulty : (r : Reader) (number : ℕ) (text : Text) (t : TemplateError) (e : RuleError) → is_some (begun_of r).guards ≡ true
+pub template_faulty : (r : Reader) (number : ℕ) (text : Text) (t : TemplateError) (e : RuleError) → is_some (so_far_of r).guards ≡ true
     → (t ≡ TEMPLATE_NO_MEMORY) ⊎ IsRefused text t.kind t.at
     → (t.kind ≡ template_kind.NoMemory → e ≡ NO_MEMORY) → (t.kind ≢ template_kind.NoMemory → e ≡ record { kind = kind.Template t.kind; line = number })
     → IsStepFault r number (codes "link " ++ text) e
@@ -142,5 +142,5 @@ template_faulty r number text t e o (inl m) memory fault = inl (memory (ap (λ (
 template_faulty r number text t e o (inr f) memory fault =
     elim (no_memory_or_not t.kind) [
       | inl m ↦ inl (memory m)
-      | inr n ↦ line_faulty r number (codes "link " ++ text) e (kind.Template t.kind) (fault n) (bad_template (begun_of r) text t.kind t.at o f)
+      | inr n ↦ line_faulty r number (codes "link " ++ text) e (kind.Template t.kind) (fault n) (bad_template (so_far_of r) text t.kind t.at o f)
     ]

@@ -1,7 +1,7 @@
 -- The ASCII characters that the rule text names.
 use Rattle.std.specs.Prelude.{ℕ}
 
--- ` `, between two words
+-- ` `, between two tokens
 abbrev pub space : ℕ
 space = 0x20
 

@@ -14,7 +14,7 @@ use Rattle.rule_parser.specs.declared.rules.TheConstants.{MAX_BYTES}
 use Rattle.rule_parser.specs.Grammar.{is_significant, significant}
 
 -- Rules that are whole, and the guards of one more rule whose link is yet to come, if one has begun.
-pub record Begun : Type 0 where
+pub record RulesSoFar : Type 0 where
   pub whole : RuleSet
   pub guards : Option (List Guard)
 
@@ -23,39 +23,39 @@ abbrev pub statements_of_guards : Option (List Guard) → List Statement
 statements_of_guards None = []
 statements_of_guards (Some guards) = Begin ∷ map When guards
 
-abbrev pub begun_statements : Begun → List Statement
-begun_statements begun = statements begun.whole ++ statements_of_guards begun.guards
+abbrev pub statements_so_far : RulesSoFar → List Statement
+statements_so_far begun = statements begun.whole ++ statements_of_guards begun.guards
 
 abbrev pub AreSoundGuards : List Text → Option (List Guard) → Type 0
 AreSoundGuards lists None = Unit {0}
 AreSoundGuards lists (Some guards) = All (IsSoundGuard lists) guards
 
-pub record IsSoundBegun (begun : Begun) : Type 0 where
+pub record AreSoundSoFar (begun : RulesSoFar) : Type 0 where
   pub whole : IsSound begun.whole
   pub guards : AreSoundGuards begun.whole.lists begun.guards
 
 -- ---- a line that cannot go on
 
 -- lists come before all rules
-abbrev pub takes_lists : Begun → Bool
+abbrev pub takes_lists : RulesSoFar → Bool
 takes_lists begun = is_none begun.guards && length begun.whole.rules == 0
 
 -- guards and a link come in a rule; a rule that comes too early lacks the link of the one before
-abbrev pub is_in_order : Begun → Statement → Bool
+abbrev pub is_in_order : RulesSoFar → Statement → Bool
 is_in_order begun (Declare name) = takes_lists begun
 is_in_order begun Begin = true
 is_in_order begun (When g) = is_some begun.guards
 is_in_order begun (Link text) = is_some begun.guards
 
 -- what is wrong with a line
-pub data IsLineFault : Begun → Text → RuleErrorKind → Type 0 where
-  no_statement : (begun : Begun) (line : Text) → ((s : Statement) → IsStatement s → line ≡ line_of s → ⊥) → IsLineFault begun line kind.BadLine
-  out_of_order : (begun : Begun) (s : Statement) → IsStatement s → is_in_order begun s ≡ false → IsLineFault begun (line_of s) kind.BadLine
-  bad_template : (begun : Begun) (text : Text) (k : TemplateErrorKind) (at : ℕ) → is_in_order begun (Link text) ≡ true → IsRefusedTemplate text k at
+pub data IsLineFault : RulesSoFar → Text → RuleErrorKind → Type 0 where
+  no_statement : (begun : RulesSoFar) (line : Text) → ((s : Statement) → IsStatement s → line ≡ line_of s → ⊥) → IsLineFault begun line kind.BadLine
+  out_of_order : (begun : RulesSoFar) (s : Statement) → IsStatement s → is_in_order begun s ≡ false → IsLineFault begun (line_of s) kind.BadLine
+  bad_template : (begun : RulesSoFar) (text : Text) (k : TemplateErrorKind) (at : ℕ) → is_in_order begun (Link text) ≡ true → IsRefusedTemplate text k at
       → IsLineFault begun (line_of (Link text)) (kind.Template k)
-  mismatched_guard : (begun : Begun) (g : Guard) → is_in_order begun (When g) ≡ true → IsGuard g → guard_fits begun.whole.lists g ≡ false
+  mismatched_guard : (begun : RulesSoFar) (g : Guard) → is_in_order begun (When g) ≡ true → IsGuard g → guard_fits begun.whole.lists g ≡ false
       → IsLineFault begun (line_of (When g)) kind.KindMismatch
-  mismatched_link : (begun : Begun) (text : Text) (parts : List Part) → is_in_order begun (Link text) ≡ true → IsTemplate text parts
+  mismatched_link : (begun : RulesSoFar) (text : Text) (parts : List Part) → is_in_order begun (Link text) ≡ true → IsTemplate text parts
       → parts_fit begun.whole.lists parts ≡ false → IsLineFault begun (line_of (Link text)) kind.KindMismatch
 
 -- ---- the first fault
@@ -65,11 +65,11 @@ pub record StopsAtLine (ls : List Text) (k : RuleErrorKind) (number : ℕ) : Typ
   pub before : List Text
   pub line : Text
   pub behind : List Text
-  pub begun : Begun
+  pub begun : RulesSoFar
   pub whole : ls ≡ before ++ line ∷ behind
   pub counted : number ≡ length before + 1
-  pub spelled : significant before ≡ map line_of (begun_statements begun)
-  pub sound : IsSoundBegun begun
+  pub spelled : significant before ≡ map line_of (statements_so_far begun)
+  pub sound : AreSoundSoFar begun
   pub is_no_comment : is_significant line ≡ true
   pub faulty : IsLineFault begun line k
 
@@ -90,7 +90,7 @@ pub record LacksLink (ls : List Text) (k : RuleErrorKind) (number : ℕ) : Type 
   pub spelled : significant before ≡ map line_of (statements rules)
   pub guarded : significant behind ≡ map line_of (map When guards) ++ rest
   pub ends : EndsRule rest
-  pub sound : IsSoundBegun (record { whole = rules; guards = Some guards })
+  pub sound : AreSoundSoFar (record { whole = rules; guards = Some guards })
   pub no_link : k ≡ kind.NoLink
 
 abbrev pub IsFirstFault : List Text → RuleErrorKind → ℕ → Type 0

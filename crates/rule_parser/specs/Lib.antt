@@ -1,5 +1,3 @@
--- What the public contracts cite: `Characters`, `Names`, `Rules`, `Statements`, `Grammar`, `Faults` and `Meaning`. `Reading`
--- and `Progress` are what the private contracts of the reader cite; no public contract rests on them.
 pub mod Characters
 pub mod Names
 pub mod Rules
@@ -7,5 +5,4 @@ pub mod Statements
 pub mod Grammar
 pub mod Faults
 pub mod Meaning
-pub mod Reading
-pub mod Progress
+pub mod Private

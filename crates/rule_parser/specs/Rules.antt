@@ -21,7 +21,7 @@ pub record RuleSet : Type 0 where
   pub lists : List Text
   pub rules : List Rule
 
--- ---- words
+-- ---- tokens
 
 -- digits alone are no name of a bound
 abbrev pub IsBound : Bound → Type 0
@@ -74,7 +74,7 @@ parts_fit lists parts = list_all (part_fits lists) parts
 -- ---- rules
 
 pub record IsSoundGuard (lists : List Text) (g : Guard) : Type 0 where
-  pub words : IsGuard g
+  pub tokens : IsGuard g
   pub kinds : guard_fits lists g ≡ true
 
 pub record IsSoundRule (lists : List Text) (rule : Rule) : Type 0 where

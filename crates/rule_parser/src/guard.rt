@@ -1,11 +1,11 @@
-//! How a guard is read from the words of its line.
+//! How a guard is read from the tokens of its line.
 
 ghost use Rattle.std.specs.Prelude.{◌≡◌, ◌∷◌, ◌++◌, codes, IfOk};
 ghost use Rattle.std.specs.List.{list_all};
 ghost use Rattle.std.specs.Char.{is_ascii_digit};
 ghost use Rattle.uri_grammar.specs.Names.{IsName};
 ghost use Rattle.rule_parser.specs.Statements.{is_special as is_quote_or_backslash};
-ghost use Rattle.rule_parser.specs.Reading.{ReadsEscaped, ReadsQuoted, ReadsBound, ReadsBounds, ReadsGuard, IsWord};
+ghost use Rattle.rule_parser.specs.Private.Reading.{ReadsEscaped, ReadsQuoted, ReadsBound, ReadsBounds, ReadsGuard, IsToken};
 
 use crate::names::copy;
 use crate::rule::{Bound, Guard};
@@ -15,11 +15,11 @@ use uri_grammar::{Text, is_name};
 /// The most digits that a bound has.
 pub const MAX_DIGITS: usize = 9;
 
-/// The guard that the words after `when ` spell, if they spell one.
-pub(crate) fn guard(alloc: Global, words: &str) -> Result<Option<Guard>, AllocError>
-    ensures { IfOk result (λ read. ReadsGuard words.now read) }
+/// The guard that the tokens after `when ` spell, if they spell one.
+pub(crate) fn guard(alloc: Global, tokens: &str) -> Result<Option<Guard>, AllocError>
+    ensures { IfOk result (λ read. ReadsGuard tokens.now read) }
 {
-    let Some((first, rest)) = words.split_once(' ') else {
+    let Some((first, rest)) = tokens.split_once(' ') else {
         return Ok(None);
     };
     match rest.split_once(' ') {
@@ -29,8 +29,8 @@ pub(crate) fn guard(alloc: Global, words: &str) -> Result<Option<Guard>, AllocEr
 }
 
 fn defined(alloc: Global, verb: &str, name: &str) -> Result<Option<Guard>, AllocError>
-    requires verb { IsWord verb.now }
-    requires name { IsWord name.now }
+    requires verb { IsToken verb.now }
+    requires name { IsToken name.now }
     ensures { IfOk result (λ read. ReadsGuard (verb.now ++ 32 ∷ name.now) read) }
 {
     if !is_name(name) {
@@ -45,8 +45,8 @@ fn defined(alloc: Global, verb: &str, name: &str) -> Result<Option<Guard>, Alloc
 }
 
 fn compared(alloc: Global, name: &str, verb: &str, value: &str) -> Result<Option<Guard>, AllocError>
-    requires name { IsWord name.now }
-    requires verb { IsWord verb.now }
+    requires name { IsToken name.now }
+    requires verb { IsToken verb.now }
     ensures { IfOk result (λ read. ReadsGuard (name.now ++ 32 ∷ (verb.now ++ 32 ∷ value.now)) read) }
 {
     if !is_name(name) {
@@ -161,26 +161,26 @@ fn is_special(c: char) -> bool
     c == '"' || c == '\\'
 }
 
-fn bound(alloc: Global, word: &str) -> Result<Option<Bound>, AllocError>
-    ensures { IfOk result (λ read. ReadsBound word.now read) }
+fn bound(alloc: Global, token: &str) -> Result<Option<Bound>, AllocError>
+    ensures { IfOk result (λ read. ReadsBound token.now read) }
 {
-    if word == "*" {
+    if token == "*" {
         return Ok(Some(Bound::Open));
     }
-    if are_digits(word) {
-        if !(1..=MAX_DIGITS).contains(&word.len()) {
+    if are_digits(token) {
+        if !(1..=MAX_DIGITS).contains(&token.len()) {
             return Ok(None);
         }
-        return Ok(Some(Bound::Digits(copy(alloc, word)?)));
+        return Ok(Some(Bound::Digits(copy(alloc, token)?)));
     }
-    if !is_name(word) {
+    if !is_name(token) {
         return Ok(None);
     }
-    Ok(Some(Bound::Name(copy(alloc, word)?)))
+    Ok(Some(Bound::Name(copy(alloc, token)?)))
 }
 
-fn are_digits(word: &str) -> bool
-    ensures { result ≡ list_all is_ascii_digit word.now }
+fn are_digits(token: &str) -> bool
+    ensures { result ≡ list_all is_ascii_digit token.now }
 {
-    word.bytes().all(|b| b.is_ascii_digit())
+    token.bytes().all(|b| b.is_ascii_digit())
 }

@@ -3,9 +3,9 @@
 ghost use Rattle.std.specs.Prelude.{◌≡◌, ◌++◌, true, codes, is_some, Err, IfOk, IfErr, OnOk};
 ghost use Rattle.uri_grammar.specs.Names.{IsName};
 ghost use Rattle.rule_parser.specs.declared.error.TheConstants.{NO_MEMORY};
-ghost use Rattle.rule_parser.specs.Faults.{IsSoundBegun, takes_lists as lists_may_come};
+ghost use Rattle.rule_parser.specs.Faults.{AreSoundSoFar, takes_lists as lists_may_come};
 ghost use Rattle.rule_parser.specs.Statements.{Begin, line_of};
-ghost use Rattle.rule_parser.specs.Progress.{begun_of, GoesOn, KeepsLine, IsStepFault, no_rules};
+ghost use Rattle.rule_parser.specs.Private.Progress.{so_far_of, GoesOn, KeepsLine, IsStepFault, no_rules};
 
 use crate::error::{RuleError, RuleErrorKind};
 use crate::guard::guard;
@@ -30,7 +30,7 @@ pub(crate) struct Reader {
 
 impl Reader {
     pub(crate) fn new(alloc: Global) -> Reader
-        ensures { begun_of result ≡ no_rules }
+        ensures { so_far_of result ≡ no_rules }
     {
         Reader {
             lists: Vec::new(alloc),
@@ -42,8 +42,8 @@ impl Reader {
 
     /// Takes one more line that says something.
     pub(crate) fn read(&mut self, alloc: Global, number: usize, line: &str) -> Result<(), RuleError>
-        requires { IsSoundBegun (begun_of self.old) }
-        ensures ok { OnOk result (GoesOn (begun_of self.old) (begun_of self.new) line.now) }
+        requires { AreSoundSoFar (so_far_of self.old) }
+        ensures ok { OnOk result (GoesOn (so_far_of self.old) (so_far_of self.new) line.now) }
         ensures line { OnOk result (KeepsLine self.old self.new number) }
         ensures err { IfErr result (IsStepFault self.old number line.now) }
     {
@@ -53,8 +53,8 @@ impl Reader {
         if let Some(name) = line.strip_prefix("list ") {
             return self.declare(alloc, number, name);
         }
-        if let Some(words) = line.strip_prefix("when ") {
-            return self.add_guard(alloc, number, words);
+        if let Some(tokens) = line.strip_prefix("when ") {
+            return self.add_guard(alloc, number, tokens);
         }
         if let Some(text) = line.strip_prefix("link ") {
             return self.add_link(alloc, number, text);
@@ -63,8 +63,8 @@ impl Reader {
     }
 
     fn begin(&mut self, alloc: Global, number: usize) -> Result<(), RuleError>
-        requires { IsSoundBegun (begun_of self.old) }
-        ensures ok { OnOk result (GoesOn (begun_of self.old) (begun_of self.new) (line_of Begin)) }
+        requires { AreSoundSoFar (so_far_of self.old) }
+        ensures ok { OnOk result (GoesOn (so_far_of self.old) (so_far_of self.new) (line_of Begin)) }
         ensures line { OnOk result (KeepsLine self.old self.new number) }
         ensures err { IfErr result (λ e. (e.kind ≡ RuleErrorKind.NoLink) × (self.old.rule_line ≡ Some e.line)) }
     {
@@ -77,23 +77,23 @@ impl Reader {
     }
 
     fn is_in_rule(&self) -> bool
-        ensures { result ≡ is_some (begun_of self.now).guards }
+        ensures { result ≡ is_some (so_far_of self.now).guards }
     {
         self.rule_line.is_some()
     }
 
     fn takes_lists(&self) -> bool
-        ensures { result ≡ lists_may_come (begun_of self.now) }
+        ensures { result ≡ lists_may_come (so_far_of self.now) }
     {
         self.rule_line.is_none() && self.rules.is_empty()
     }
 
     fn declare(&mut self, alloc: Global, number: usize, name: &str) -> Result<(), RuleError>
-        requires { IsSoundBegun (begun_of self.old) }
-        ensures ok { OnOk result (GoesOn (begun_of self.old) (begun_of self.new) (codes "list " ++ name.now)) }
+        requires { AreSoundSoFar (so_far_of self.old) }
+        ensures ok { OnOk result (GoesOn (so_far_of self.old) (so_far_of self.new) (codes "list " ++ name.now)) }
         ensures line { OnOk result (KeepsLine self.old self.new number) }
         ensures err { IfErr result (IsStepFault self.old number (codes "list " ++ name.now)) }
-        ensures no_memory { result ≡ Err NO_MEMORY → IsName name.now × (lists_may_come (begun_of self.old) ≡ true) }
+        ensures no_memory { result ≡ Err NO_MEMORY → IsName name.now × (lists_may_come (so_far_of self.old) ≡ true) }
     {
         if !is_name(name) {
             return Err(RuleError::new(RuleErrorKind::BadLine, number));
@@ -105,17 +105,17 @@ impl Reader {
         Ok(())
     }
 
-    fn add_guard(&mut self, alloc: Global, number: usize, words: &str) -> Result<(), RuleError>
-        requires { IsSoundBegun (begun_of self.old) }
-        ensures ok { OnOk result (GoesOn (begun_of self.old) (begun_of self.new) (codes "when " ++ words.now)) }
+    fn add_guard(&mut self, alloc: Global, number: usize, tokens: &str) -> Result<(), RuleError>
+        requires { AreSoundSoFar (so_far_of self.old) }
+        ensures ok { OnOk result (GoesOn (so_far_of self.old) (so_far_of self.new) (codes "when " ++ tokens.now)) }
         ensures line { OnOk result (KeepsLine self.old self.new number) }
-        ensures err { IfErr result (IsStepFault self.old number (codes "when " ++ words.now)) }
-        ensures no_memory { result ≡ Err NO_MEMORY → is_some (begun_of self.old).guards ≡ true }
+        ensures err { IfErr result (IsStepFault self.old number (codes "when " ++ tokens.now)) }
+        ensures no_memory { result ≡ Err NO_MEMORY → is_some (so_far_of self.old).guards ≡ true }
     {
         if !self.is_in_rule() {
             return Err(RuleError::new(RuleErrorKind::BadLine, number));
         }
-        let Some(guard) = guard(alloc, words)? else {
+        let Some(guard) = guard(alloc, tokens)? else {
             return Err(RuleError::new(RuleErrorKind::BadLine, number));
         };
         if !guard_fits(&self.lists, &guard) {
@@ -126,11 +126,11 @@ impl Reader {
     }
 
     fn add_link(&mut self, alloc: Global, number: usize, text: &str) -> Result<(), RuleError>
-        requires { IsSoundBegun (begun_of self.old) }
-        ensures ok { OnOk result (GoesOn (begun_of self.old) (begun_of self.new) (codes "link " ++ text.now)) }
+        requires { AreSoundSoFar (so_far_of self.old) }
+        ensures ok { OnOk result (GoesOn (so_far_of self.old) (so_far_of self.new) (codes "link " ++ text.now)) }
         ensures line { OnOk result (KeepsLine self.old self.new number) }
         ensures err { IfErr result (IsStepFault self.old number (codes "link " ++ text.now)) }
-        ensures no_memory { result ≡ Err NO_MEMORY → is_some (begun_of self.old).guards ≡ true }
+        ensures no_memory { result ≡ Err NO_MEMORY → is_some (so_far_of self.old).guards ≡ true }
     {
         if !self.is_in_rule() {
             return Err(RuleError::new(RuleErrorKind::BadLine, number));
@@ -153,8 +153,8 @@ impl Reader {
 
     /// The rules, where no link is yet to come.
     pub(crate) fn finish(self) -> Result<Rules, RuleError>
-        requires { IsSoundBegun (begun_of self) }
-        ensures ok { IfOk result (λ rules. begun_of self ≡ record { whole = rules; guards = None }) }
+        requires { AreSoundSoFar (so_far_of self) }
+        ensures ok { IfOk result (λ rules. so_far_of self ≡ record { whole = rules; guards = None }) }
         ensures err { IfErr result (λ e. (e.kind ≡ RuleErrorKind.NoLink) × (self.rule_line ≡ Some e.line)) }
     {
         match self.rule_line {

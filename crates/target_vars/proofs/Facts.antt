@@ -5,7 +5,7 @@ use Rattle.std.proofs.lemmas.Option.{slice_get-get_or, slice_get_within}
 use Rattle.text_model.specs.Texts.{Text}
 use Rattle.environment_model.specs.Environment.{is_there, is_among, text_in, byte_count, member_count}
 use Rattle.target_vars.specs.EnvValue.{EnvValue, stands_for_text}
-use Rattle.target_vars.specs.NamesValue.{IsGap}
+use Rattle.target_vars.specs.Private.NamesValue.{IsGap}
 use Rattle.target_vars.specs.Layout.{at, is_one, laid_spans, meaning_in, members_in, IsLaid, IsPutLast}
 use Rattle.target_vars.specs.declared.env.Env.TheInside.{Inside}
 use Rattle.target_vars.specs.declared.env.TheConstants.{MAX_BYTES, MAX_MEMBERS}

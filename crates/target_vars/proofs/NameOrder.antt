@@ -19,7 +19,7 @@ use Rattle.std.proofs.lemmas.Option.{slice_get-get_or}
 use Rattle.std.proofs.lemmas.Slice.Eq.{bytes_eq-Decides}
 use Rattle.text_model.specs.Texts.{Text}
 use Rattle.environment_model.specs.Environment.{is_among}
-use Rattle.target_vars.specs.NamesValue.{names_in, compared, IsNamePlace, AreNames, IsGap}
+use Rattle.target_vars.specs.Private.NamesValue.{names_in, compared, IsNamePlace, AreNames, IsGap}
 use Rattle.target_vars.specs.declared.names.NamePlace.{NamePlace}
 
 -- ---- the numbers in the order are those of the names

@@ -1,4 +1,4 @@
 pub mod EnvValue
 pub mod Layout
 pub mod Members
-pub mod NamesValue
+pub mod Private

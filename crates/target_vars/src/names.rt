@@ -1,5 +1,5 @@
 ghost use Rattle.std.specs.Prelude.{◌≡◌, [], ◌∷◌, ◌++◌, length, slice_get, slice_index_or, OnOk, OnErr, MatchResult};
-ghost use Rattle.target_vars.specs.NamesValue.{compared, IsGap};
+ghost use Rattle.target_vars.specs.Private.NamesValue.{compared, IsGap};
 
 use crate::room::{FIRST_BYTES, FIRST_NAMES, reserve_items};
 use std::alloc::{AllocError, Global};
@@ -22,11 +22,11 @@ pub(crate) struct Names {
 }
 
 impl Model for Names {
-    ghost use Rattle.target_vars.specs.NamesValue.{NamesValue};
+    ghost use Rattle.target_vars.specs.Private.NamesValue.{NamesValue};
 
     ghost Value = { NamesValue };
 
-    ghost use Rattle.target_vars.specs.NamesValue.{names_in, AreNames};
+    ghost use Rattle.target_vars.specs.Private.NamesValue.{names_in, AreNames};
 
     ghost view = { λ n. record { listed = names_in n.bytes.items n.places.items; order = n.order.items } };
 

@@ -1,7 +1,7 @@
 ghost use Rattle.std.specs.Prelude.{◌≡◌, false, ◌<◌, ◌≤◌, ◌+◌, [], ◌∷◌, ◌++◌, length, vec_len, vec_capacity, slice_get, MatchResult, IfOk, OnOk, OnErr};
 ghost use Rattle.std.specs.List.Sorted.{IsNonDecreasingBy};
 ghost use Rattle.target_vars.specs.Layout.{part_text, is_one, HasList, IsPart, IsPutLast, IsRun};
-ghost use Rattle.target_vars.specs.NamesValue.{IsGap};
+ghost use Rattle.target_vars.specs.Private.NamesValue.{IsGap};
 ghost use Rattle.target_vars.specs.declared.place.Place.TheVariants.{Many};
 ghost use Rattle.target_vars.specs.declared.place.Place.{Place as PlaceValue};
 

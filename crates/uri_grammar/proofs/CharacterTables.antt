@@ -4,7 +4,7 @@
 use Rattle.std.proofs.Common.{◌≡◌, ℕ, List, [], ◌∷◌, ◌++◌, Bool, true, false, not, ◌&&◌, ◌==◌, refl, codes}
 use Rattle.std.specs.List.{filter, range_with_len, list_all, list_any}
 use Rattle.uri_grammar.specs.Literals.{is_literal_character}
-use Rattle.uri_grammar.specs.Lengths.{literal_item_len, varchar_len, next_len}
+use Rattle.uri_grammar.specs.Private.Lengths.{literal_item_len, varchar_len, next_len}
 use Rattle.uri_grammar.specs.Names.{is_name_character}
 use Rattle.uri_grammar.specs.Expressions.{begins_with_operator, begins_with_reserved}
 use Rattle.uri_grammar.specs.Faults.{begins_with_modifier}

@@ -15,7 +15,7 @@ use Rattle.uri_grammar.specs.declared.parts.Part.TheVariants.{Literal, Expressio
 use Rattle.uri_grammar.specs.declared.parts.Spec.{Spec}
 use Rattle.uri_grammar.specs.declared.names.TheConstants.{MAX_NAME_BYTES}
 use Rattle.uri_grammar.specs.declared.template.TheConstants.{MAX_BYTES}
-use Rattle.uri_grammar.specs.Lengths.{literal_item_len, varchar_len, next_len}
+use Rattle.uri_grammar.specs.Private.Lengths.{literal_item_len, varchar_len, next_len}
 use Rattle.uri_grammar.specs.Literals.{AreLiterals, no_literals}
 use Rattle.uri_grammar.specs.Names.{IsVarname, BeginsWithVarname}
 use Rattle.uri_grammar.specs.Specs.{IsModifier, IsSpec, Lacks, SpellsSpecs}
@@ -23,7 +23,7 @@ use Rattle.uri_grammar.specs.Expressions.{operator_text, begins_with_reserved, I
 use Rattle.uri_grammar.specs.Templates.{Spells}
 use Rattle.uri_grammar.specs.Faults.{begins_with_modifier, IsNamed, IsSpecFault, bad_name, bad_modifier, IsListFault, IsBodyFault, reserved_operator, bad_list, IsPartFault, unclosed, empty_expression, bad_expression, IsFirstFault}
 use Rattle.uri_grammar.specs.Texts.{IsTemplate, IsRefused}
-use Rattle.uri_grammar.specs.Reading.{begins_with_brace, modifier_of, operator_of, IsExpression, EndsWithNoLiteral}
+use Rattle.uri_grammar.specs.Private.Reading.{begins_with_brace, modifier_of, operator_of, IsExpression, EndsWithNoLiteral}
 use Rattle.uri_grammar.proofs.LiteralLemmas.{AreLiterals-append, AreLiterals-item}
 use Rattle.uri_grammar.proofs.NameLemmas.{ended_varname, IsVarname-front, IsVarname-next}
 use Rattle.uri_grammar.proofs.SpecLemmas.{modifier_of-some, modifier_of-none, no_name, long_name, bad_follower}

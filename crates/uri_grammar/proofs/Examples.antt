@@ -16,11 +16,11 @@ use Rattle.uri_grammar.specs.declared.parts.Op.TheVariants as operator
 use Rattle.uri_grammar.specs.declared.parts.Part.{Part}
 use Rattle.uri_grammar.specs.declared.parts.Part.TheVariants.{Literal, Expression}
 use Rattle.uri_grammar.specs.declared.parts.Spec.{Spec}
-use Rattle.uri_grammar.specs.Lengths.{next_len}
+use Rattle.uri_grammar.specs.Private.Lengths.{next_len}
 use Rattle.uri_grammar.specs.Names.{is_name_character, IsVarname, first_varchar, next_varchar, dotted_varchar, character_varchar, BeginsWithVarname}
 use Rattle.uri_grammar.specs.Literals.{is_literal_character, AreLiterals, no_literals, literal_character}
 use Rattle.uri_grammar.specs.Specs.{IsModifier, no_modifier, prefix_modifier, IsSpec, Lacks, SpellsSpecs}
-use Rattle.uri_grammar.specs.Reading.{modifier_of}
+use Rattle.uri_grammar.specs.Private.Reading.{modifier_of}
 use Rattle.uri_grammar.specs.Templates.{Spells}
 use Rattle.uri_grammar.specs.Expressions.{begins_with_operator, begins_with_reserved, HasOperator}
 use Rattle.uri_grammar.specs.Faults.{begins_with_modifier, IsSpecFault, IsListFault, IsBodyFault, IsPartFault, bad_name, bad_modifier, reserved_operator, bad_list, bad_literal, unclosed, empty_expression, bad_expression, IsFirstFault}

@@ -9,8 +9,8 @@ use Rattle.uri_grammar.specs.declared.parts.Op.{Op}
 use Rattle.uri_grammar.specs.declared.parts.Op.TheVariants as operator
 use Rattle.uri_grammar.specs.Expressions.{operator_text, begins_with_operator, begins_with_reserved, HasOperator}
 use Rattle.uri_grammar.specs.Faults.{IsListFault, IsBodyFault, reserved_operator, bad_list}
-use Rattle.uri_grammar.specs.Reading.{operator_of, IsFault}
-use Rattle.uri_grammar.specs.Moved.{moved, moved_place}
+use Rattle.uri_grammar.specs.Private.Reading.{operator_of, IsFault}
+use Rattle.uri_grammar.specs.Private.Moved.{moved, moved_place}
 use Rattle.uri_grammar.proofs.SpecLemmas.{spec_moves}
 
 -- ---- the operator of a body

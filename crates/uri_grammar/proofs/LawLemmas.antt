@@ -11,7 +11,7 @@ use Rattle.uri_grammar.specs.declared.parts.Op.{Op}
 use Rattle.uri_grammar.specs.declared.parts.Part.{Part}
 use Rattle.uri_grammar.specs.declared.parts.Part.TheVariants.{Literal, Expression}
 use Rattle.uri_grammar.specs.declared.parts.Spec.{Spec}
-use Rattle.uri_grammar.specs.Lengths.{literal_item_len}
+use Rattle.uri_grammar.specs.Private.Lengths.{literal_item_len}
 use Rattle.uri_grammar.specs.declared.template.TheConstants.{MAX_BYTES}
 use Rattle.uri_grammar.specs.Specs.{IsSpec, Lacks, BeginsWithSpec, SpellsSpecs}
 use Rattle.uri_grammar.specs.Expressions.{operator_text, begins_with_reserved, IsBody}

@@ -6,7 +6,7 @@ use Rattle.std.proofs.lemmas.Bool.{cond_both, cond-true, cond-false, eqb-true, a
 use Rattle.text_model.specs.Texts.{begins_with_triplet, is_triplet, is_hexadecimal}
 use Rattle.uri_grammar.specs.Characters.{open_brace}
 use Rattle.uri_grammar.specs.Literals.{is_literal_character, begins_with_literal, AreLiterals, no_literals, literal_character, literal_triplet}
-use Rattle.uri_grammar.specs.Lengths.{literal_item_len}
+use Rattle.uri_grammar.specs.Private.Lengths.{literal_item_len}
 use Rattle.uri_grammar.proofs.RunLemmas.{Run, no_item, next_item}
 
 pub percent_first : (c high low : ℕ) → is_triplet c high low ≡ true → c ≡ 37

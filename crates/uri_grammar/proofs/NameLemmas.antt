@@ -10,7 +10,7 @@ use Rattle.text_model.specs.Texts.{begins_with_triplet, is_hexadecimal, is_unres
 use Rattle.text_model.specs.Writing.{is_unreserved_or_reserved}
 use Rattle.text_model.specs.UriText.{IsUriText}
 use Rattle.text_model.proofs.UriTexts.{IsUriText-append, IsUriText-character, IsUriText-triplet}
-use Rattle.uri_grammar.specs.Lengths.{varchar_len, next_len}
+use Rattle.uri_grammar.specs.Private.Lengths.{varchar_len, next_len}
 use Rattle.uri_grammar.specs.Names.{is_name_character, IsVarchar, character_varchar, triplet_varchar, IsVarname, first_varchar, next_varchar, dotted_varchar, BeginsWithVarname}
 use Rattle.uri_grammar.proofs.RunLemmas.{Run, run-append, run_one, run_longest, append_same}
 use Rattle.uri_grammar.proofs.LiteralLemmas.{percent_first}

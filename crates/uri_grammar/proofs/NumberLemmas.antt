@@ -9,7 +9,7 @@ use Rattle.std.proofs.lemmas.List.{drop_more}
 use Rattle.text_model.specs.Number.{value_from}
 use Rattle.uri_grammar.specs.declared.variables.TheConstants.{MAX_PREFIX}
 use Rattle.uri_grammar.specs.Specs.{is_max_length}
-use Rattle.uri_grammar.specs.Reading.{begins_above_zero, number_of}
+use Rattle.uri_grammar.specs.Private.Reading.{begins_above_zero, number_of}
 
 -- more digits make no smaller number
 value_from-least : (ds : List ℕ) (n : ℕ) → n ≤ value_from n ds

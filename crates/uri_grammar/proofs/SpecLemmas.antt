@@ -10,12 +10,12 @@ use Rattle.uri_grammar.specs.declared.error.TemplateErrorKind.{TemplateErrorKind
 use Rattle.uri_grammar.specs.declared.parts.Spec.{Spec}
 use Rattle.uri_grammar.specs.declared.names.TheConstants.{MAX_NAME_BYTES}
 use Rattle.uri_grammar.specs.declared.variables.TheConstants.{MAX_PREFIX}
-use Rattle.uri_grammar.specs.Lengths.{varchar_len, next_len}
+use Rattle.uri_grammar.specs.Private.Lengths.{varchar_len, next_len}
 use Rattle.uri_grammar.specs.Names.{BeginsWithVarname}
 use Rattle.uri_grammar.specs.Specs.{is_max_length, IsModifier, no_modifier, explode_modifier, prefix_modifier, IsSpec, Lacks, BeginsWithSpec, SpellsSpecs}
 use Rattle.uri_grammar.specs.Faults.{begins_with_modifier, IsNamed, IsSpecFault, bad_name, bad_modifier, IsListFault}
-use Rattle.uri_grammar.specs.Reading.{modifier_of, IsFault}
-use Rattle.uri_grammar.specs.Moved.{moved, moved_place}
+use Rattle.uri_grammar.specs.Private.Reading.{modifier_of, IsFault}
+use Rattle.uri_grammar.specs.Private.Moved.{moved, moved_place}
 use Rattle.uri_grammar.proofs.NameLemmas.{longest_same, ended_varname, varchar_len-varname}
 use Rattle.uri_grammar.proofs.NumberLemmas.{max_length_range}
 

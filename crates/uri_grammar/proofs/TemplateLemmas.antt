@@ -14,13 +14,13 @@ use Rattle.uri_grammar.specs.declared.parts.Part.{Part}
 use Rattle.uri_grammar.specs.declared.parts.Part.TheVariants.{Literal, Expression}
 use Rattle.uri_grammar.specs.declared.parts.Spec.{Spec}
 use Rattle.uri_grammar.specs.Literals.{AreLiterals}
-use Rattle.uri_grammar.specs.Lengths.{literal_item_len}
+use Rattle.uri_grammar.specs.Private.Lengths.{literal_item_len}
 use Rattle.uri_grammar.specs.Specs.{Lacks}
 use Rattle.uri_grammar.specs.Expressions.{IsBody}
 use Rattle.uri_grammar.specs.Templates.{BeginsWithLiterals, BeginsWithExpression, Spells}
 use Rattle.uri_grammar.specs.Faults.{IsBodyFault, IsPartFault, bad_literal, unclosed, empty_expression, bad_expression, IsFirstFault}
-use Rattle.uri_grammar.specs.Reading.{IsFault, begins_with_brace, IsExpression, EndsWithNoLiteral}
-use Rattle.uri_grammar.specs.Moved.{moved, moved_place}
+use Rattle.uri_grammar.specs.Private.Reading.{IsFault, begins_with_brace, IsExpression, EndsWithNoLiteral}
+use Rattle.uri_grammar.specs.Private.Moved.{moved, moved_place}
 use Rattle.uri_grammar.proofs.LiteralLemmas.{no_length-literal}
 use Rattle.uri_grammar.proofs.ExpressionLemmas.{body_moves}
 

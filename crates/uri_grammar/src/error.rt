@@ -1,5 +1,5 @@
 ghost use Rattle.std.specs.Prelude.{◌≡◌, ◌+◌, ◌<◌, ◌^◌};
-ghost use Rattle.uri_grammar.specs.Moved.{moved};
+ghost use Rattle.uri_grammar.specs.Private.Moved.{moved};
 
 use std::alloc::{AllocError, AllocFailed};
 use thiserror::Error;

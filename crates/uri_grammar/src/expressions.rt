@@ -1,10 +1,10 @@
 ghost use Rattle.std.specs.Prelude.{◌≡◌, ◌+◌, ◌<◌, ◌≤◌, ℕ, List, [], ◌∷◌, ◌++◌, IfOk, IfErr, length, take};
 ghost use Rattle.uri_grammar.specs.Characters.{comma};
-ghost use Rattle.uri_grammar.specs.Lengths.{literal_item_len};
+ghost use Rattle.uri_grammar.specs.Private.Lengths.{literal_item_len};
 ghost use Rattle.uri_grammar.specs.Specs.{Lacks, SpellsSpecs};
 ghost use Rattle.uri_grammar.specs.Expressions.{operator_text, begins_with_reserved, IsBody};
 ghost use Rattle.uri_grammar.specs.Faults.{IsListFault, IsBodyFault, IsPartFault};
-ghost use Rattle.uri_grammar.specs.Reading.{begins_with_brace, operator_of, IsExpression, IsFault};
+ghost use Rattle.uri_grammar.specs.Private.Reading.{begins_with_brace, operator_of, IsExpression, IsFault};
 
 use crate::characters::place_of;
 use crate::error::{TemplateError, TemplateErrorKind};

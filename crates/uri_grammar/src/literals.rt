@@ -1,7 +1,7 @@
 ghost use Rattle.std.specs.Prelude.{◌≡◌, ◌<◌, ◌≤◌, IfOk, length, take, drop, encode_utf8_all};
 ghost use Rattle.text_model.specs.Writing.{written_ur};
 ghost use Rattle.uri_grammar.specs.Literals.{is_literal_character, AreLiterals};
-ghost use Rattle.uri_grammar.specs.Lengths.{literal_item_len};
+ghost use Rattle.uri_grammar.specs.Private.Lengths.{literal_item_len};
 ghost use Rattle.uri_grammar.specs.declared.parts.Part.{Part};
 
 use crate::characters::{is_hexadecimal, text_of};

@@ -1,6 +1,6 @@
 ghost use Rattle.std.specs.Prelude.{◌≡◌, ◌<◌, ◌≤◌, ◌↔◌, IsTrue, length, take, drop};
 ghost use Rattle.uri_grammar.specs.Names.{is_name_character, IsVarname, BeginsWithVarname, IsName};
-ghost use Rattle.uri_grammar.specs.Lengths.{varchar_len, next_len};
+ghost use Rattle.uri_grammar.specs.Private.Lengths.{varchar_len, next_len};
 
 use crate::characters::is_hexadecimal;
 use crate::template::MAX_BYTES;

@@ -1,7 +1,7 @@
 ghost use Rattle.std.specs.Prelude.{◌≡◌, ◌<◌, ◌≤◌, ◌⊎◌, All, IfOk, IfErr, length, encode_utf8_all};
 ghost use Rattle.uri_grammar.specs.Templates.{Spells};
 ghost use Rattle.uri_grammar.specs.Faults.{IsFirstFault};
-ghost use Rattle.uri_grammar.specs.Reading.{IsFault};
+ghost use Rattle.uri_grammar.specs.Private.Reading.{IsFault};
 ghost use Rattle.uri_grammar.specs.Texts.{IsTemplate, IsRefused};
 ghost use Rattle.uri_grammar.specs.Promises.{IsSoundPart};
 ghost use Rattle.uri_grammar.specs.declared.error.TemplateErrorKind.TheVariants.{NoMemory, TooLong};

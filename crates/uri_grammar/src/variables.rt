@@ -2,7 +2,7 @@ ghost use Rattle.std.specs.Prelude.{◌≡◌, true, ◌+◌, ◌-◌, ◌<◌, 
 ghost use Rattle.std.specs.Char.{is_ascii_digit};
 ghost use Rattle.uri_grammar.specs.Specs.{IsModifier, IsSpec};
 ghost use Rattle.uri_grammar.specs.Faults.{begins_with_modifier, IsNamed, IsSpecFault};
-ghost use Rattle.uri_grammar.specs.Reading.{begins_above_zero, number_of, modifier_of, IsFault};
+ghost use Rattle.uri_grammar.specs.Private.Reading.{begins_above_zero, number_of, modifier_of, IsFault};
 
 use crate::characters::text_of;
 use crate::error::{TemplateError, TemplateErrorKind};

@@ -8,7 +8,7 @@ use Rattle.text_model.specs.Texts.{Text}
 use Rattle.environment_model.specs.Environment.{Meaning, Single, Several, LookUp, text_in, members_in}
 use Rattle.uri_grammar.specs.declared.parts.Spec.{Spec}
 use Rattle.uri_template.specs.Expansion.{Style, item, prefix, joined_by, list_piece, several_piece, piece, pieces, led}
-use Rattle.uri_template.specs.Pieces.{lead, pieces_from, led_piece, list_head, member_text, member_sep}
+use Rattle.uri_template.specs.Private.Pieces.{lead, pieces_from, led_piece, list_head, member_text, member_sep}
 
 -- ---- all pieces together
 

@@ -4,7 +4,7 @@ ghost use Rattle.std.specs.Prelude.{◌≡◌, ◌++◌, ◌&&◌, is_none, OnOk
 ghost use Rattle.environment_model.specs.Environment.{look_up};
 ghost use Rattle.text_model.specs.UriText.{IsUriText};
 ghost use Rattle.uri_template.specs.Expansion.{style_of, piece, pieces, led, part_text, expansion};
-ghost use Rattle.uri_template.specs.Pieces.{led_piece};
+ghost use Rattle.uri_template.specs.Private.Pieces.{led_piece};
 
 use crate::pieces::{push_list, push_text};
 use crate::style::Style;

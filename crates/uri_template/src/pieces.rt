@@ -4,7 +4,7 @@ ghost use Rattle.std.specs.Prelude.{◌≡◌, ◌≤◌, ◌<◌, ◌==◌, ◌
 ghost use Rattle.text_model.specs.Writing.{written};
 ghost use Rattle.target_vars.specs.Members.{members_left};
 ghost use Rattle.uri_template.specs.Expansion.{item, prefix, joined_by, list_piece};
-ghost use Rattle.uri_template.specs.Pieces.{list_head, member_text, member_sep, lead};
+ghost use Rattle.uri_template.specs.Private.Pieces.{list_head, member_text, member_sep, lead};
 
 use crate::style::Style;
 use std::alloc::AllocError;

@@ -11,7 +11,7 @@ use Rattle.text_model.specs.Texts.{Text, is_hexadecimal, is_triplet}
 use Rattle.text_model.specs.Cut.{is_continuation, code_points, with_triplets, items, cut}
 use Rattle.text_model.proofs.Cuts.{code_points-next, begins_with_triplet_points, with_triplets-first, with_triplets-triplet, cut-item, cut-nothing}
 use Rattle.uri_text.specs.Prefix.{writing_of}
-use Rattle.uri_text.specs.Items.{continues, code_point_length, begins_with_triplet_item, item_length}
+use Rattle.uri_text.specs.Private.Items.{continues, code_point_length, begins_with_triplet_item, item_length}
 
 hexadecimal_alone : (b : ℕ) → is_hexadecimal b ≡ true → is_continuation b ≡ false
 hexadecimal_alone b h = grind (arith, nat_tests)

@@ -4,7 +4,7 @@ ghost use Rattle.std.specs.Prelude.{◌≡◌, ◌<◌, ◌≤◌, length};
 ghost use Rattle.std.specs.List.{prefix_len};
 ghost use Rattle.text_model.specs.Cut.{is_continuation, cut};
 ghost use Rattle.uri_text.specs.Prefix.{writing_of};
-ghost use Rattle.uri_text.specs.Items.{continues, code_point_length, begins_with_triplet_item, item_length};
+ghost use Rattle.uri_text.specs.Private.Items.{continues, code_point_length, begins_with_triplet_item, item_length};
 
 use crate::triplet::are_hexadecimal;
 

@@ -15,7 +15,7 @@ use Rattle.machine_model.specs.Kinds.{kind_le, Kinds, any_kinds, IsBelow, Edge, 
 use Rattle.machine_model.specs.Typable.{Table, Holds, IsClosed, IsLeast}
 use Rattle.machine_model.proofs.Moves.{some_one}
 use Rattle.machine_model.proofs.Orders.{below_trans, EdgesBelow, edges_below}
-use Rattle.verifier.specs.Walks.{Follows, IsSameBefore, IsClosedBefore, IsBelowClosed}
+use Rattle.verifier.specs.Private.Walks.{Follows, IsSameBefore, IsClosedBefore, IsBelowClosed}
 
 -- ---- one after another
 

@@ -4,7 +4,7 @@ use Rattle.machine_model.specs.declared.kind.Kind.{Kind}
 use Rattle.machine_model.specs.declared.kind.Kind.TheVariants.{Any, OptText, Text as TextKind, List as ListKind, Number as NumberKind}
 use Rattle.machine_model.specs.Kinds.{kind_le, kind_join}
 use Rattle.verifier.specs.declared.row.Row.{Row}
-use Rattle.verifier.specs.Walks.{rises, row_rises, place_rises, table_rises}
+use Rattle.verifier.specs.Private.Walks.{rises, row_rises, place_rises, table_rises}
 
 -- what is at or below changes nothing
 pub join_below : (k m : Kind) → kind_le m k ≡ true → kind_join k m ≡ k

@@ -23,7 +23,7 @@ use Rattle.machine_model.specs.Safe.{IsFileCode}
 use Rattle.machine_model.proofs.Moves.{some_one}
 use Rattle.verifier.specs.declared.error.LoadError.{LoadError}
 use Rattle.verifier.specs.declared.error.LoadError.TheVariants as load
-use Rattle.verifier.specs.Checks.{located_of}
+use Rattle.verifier.specs.Private.Checks.{located_of}
 use Rattle.verifier.specs.Faults.{form_error, mismatch_error, read_error, IsLoadFault, IsRefusal}
 use Rattle.verifier.specs.Faults as faults
 

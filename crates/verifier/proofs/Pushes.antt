@@ -8,8 +8,8 @@ use Rattle.machine_model.specs.declared.kind.Kind.TheVariants.{Any}
 use Rattle.machine_model.specs.Kinds.{any_kinds, kind_join, edge}
 use Rattle.machine_model.specs.Typable.{Table}
 use Rattle.verifier.specs.declared.row.Row.{Row}
-use Rattle.verifier.specs.Rows.{kinds_of, table_of}
-use Rattle.verifier.specs.Walks.{Follows, IsSameBefore, IsClosedBefore, IsBelowClosed, GoesOn, Rises, row_rises, place_rises}
+use Rattle.verifier.specs.Private.Rows.{kinds_of, table_of}
+use Rattle.verifier.specs.Private.Walks.{Follows, IsSameBefore, IsClosedBefore, IsBelowClosed, GoesOn, Rises, row_rises, place_rises}
 use Rattle.verifier.proofs.KindRises.{row_rises_few, table_rises_set}
 use Rattle.verifier.proofs.Rowed.{Arrives, follows_one, arrives_first, arrives_joined, table_here, table_other}
 

@@ -3,7 +3,7 @@ use Rattle.std.proofs.Common.{◌≡◌, ◌≢◌, ℕ, ◌+◌, ◌<◌, ◌�
 use Rattle.machine_model.specs.declared.kind.Kind.{Kind}
 use Rattle.machine_model.specs.declared.kind.Kind.TheVariants.{Any}
 use Rattle.machine_model.specs.Kinds.{kind_le, kind_join}
-use Rattle.verifier.specs.Walks.{rises, row_rises, Rises}
+use Rattle.verifier.specs.Private.Walks.{rises, row_rises, Rises}
 use Rattle.verifier.proofs.KindRises.{join_below, join_rises, row_rises_set}
 
 module _ (olds others : List Kind) where

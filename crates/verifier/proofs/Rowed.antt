@@ -8,8 +8,8 @@ use Rattle.machine_model.specs.Typable.{Table, Holds, TableBelow}
 use Rattle.machine_model.proofs.Moves.{some_one}
 use Rattle.machine_model.proofs.Orders.{kind_le_refl, below_trans, kind_le-join_left, kind_le-join_right, kind_join-least}
 use Rattle.verifier.specs.declared.row.Row.{Row}
-use Rattle.verifier.specs.Rows.{kinds_of, table_of}
-use Rattle.verifier.specs.Walks.{Follows, IsSameAt}
+use Rattle.verifier.specs.Private.Rows.{kinds_of, table_of}
+use Rattle.verifier.specs.Private.Walks.{Follows, IsSameAt}
 
 -- ---- a table in which one place has other kinds
 

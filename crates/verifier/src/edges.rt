@@ -2,7 +2,7 @@
 
 ghost use Rattle.std.specs.Prelude.{◌≡◌, ◌<◌, [], ◌∷◌};
 ghost use Rattle.machine_model.specs.Kinds as model;
-ghost use Rattle.verifier.specs.Rows.{kinds_of, edges_of, one_or_none, edge_of, AreInRow, IsElementInRow};
+ghost use Rattle.verifier.specs.Private.Rows.{kinds_of, edges_of, one_or_none, edge_of, AreInRow, IsElementInRow};
 
 use crate::row::Row;
 use code_model::Instruction;

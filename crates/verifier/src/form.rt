@@ -7,7 +7,7 @@ ghost use Rattle.machine_model.specs.First.{Located};
 ghost use Rattle.machine_model.specs.Operands as operand;
 ghost use Rattle.machine_model.specs.Form as form;
 ghost use Rattle.machine_model.specs.Form.{is_next, is_sep, goes_to, is_same_body, is_in_body, ends_body, body_at, first_failing, fault_at, first_form_fault};
-ghost use Rattle.verifier.specs.Checks.{operand_checks, jump_checks, each_checks, order_checks, located_of};
+ghost use Rattle.verifier.specs.Private.Checks.{operand_checks, jump_checks, each_checks, order_checks, located_of};
 
 use crate::layout::Layout;
 use code_file::{Code, spelling};

@@ -8,7 +8,7 @@ ghost use Rattle.machine_model.specs.Form.{HasGoodForm};
 ghost use Rattle.machine_model.specs.Typable.{IsTypable};
 ghost use Rattle.machine_model.specs.Safe.{IsSafe};
 ghost use Rattle.verifier.specs.Faults.{IsLoadFault, IsRefusal, mismatch_error};
-ghost use Rattle.verifier.specs.Layouts.{AreInstructions};
+ghost use Rattle.verifier.specs.Private.Layouts.{AreInstructions};
 
 use crate::compared::join_compared;
 use crate::error::LoadError;

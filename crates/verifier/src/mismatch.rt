@@ -3,8 +3,8 @@
 ghost use Rattle.std.specs.Prelude.{◌≡◌, ◌<◌, length};
 ghost use Rattle.machine_model.specs.Form.{HasGoodForm};
 ghost use Rattle.machine_model.specs.Mismatch.{mismatch_at, first_mismatch};
-ghost use Rattle.verifier.specs.Checks.{located_of};
-ghost use Rattle.verifier.specs.Rows.{table_of};
+ghost use Rattle.verifier.specs.Private.Checks.{located_of};
+ghost use Rattle.verifier.specs.Private.Rows.{table_of};
 
 use crate::layout::Layout;
 use crate::row::Row;

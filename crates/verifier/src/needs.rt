@@ -3,7 +3,7 @@
 ghost use Rattle.std.specs.Prelude.{◌≡◌, [], ◌∷◌};
 ghost use Rattle.machine_model.specs.Kinds as model;
 ghost use Rattle.machine_model.specs.Mismatch.{first_unmet};
-ghost use Rattle.verifier.specs.Rows.{kinds_of, needs_of, one_or_none, need_of, AreInRow, IsNeedInRow};
+ghost use Rattle.verifier.specs.Private.Rows.{kinds_of, needs_of, one_or_none, need_of, AreInRow, IsNeedInRow};
 
 use crate::row::{Row, is_below};
 use code_model::Instruction;

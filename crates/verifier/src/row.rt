@@ -4,8 +4,8 @@ ghost use Rattle.std.specs.Prelude.{◌≡◌, ◌<◌, ℕ, length, slice_index
 ghost use Rattle.machine_model.specs.declared.kind.Kind.TheVariants.{Any};
 ghost use Rattle.machine_model.specs.States.{put};
 ghost use Rattle.machine_model.specs.Kinds.{kind_le, kind_join, any_kinds};
-ghost use Rattle.verifier.specs.Rows.{kinds_of};
-ghost use Rattle.verifier.specs.Walks.{row_rises, Rises};
+ghost use Rattle.verifier.specs.Private.Rows.{kinds_of};
+ghost use Rattle.verifier.specs.Private.Walks.{row_rises, Rises};
 
 use machine_model::Kind;
 

@@ -5,8 +5,8 @@ ghost use Rattle.std.specs.Prelude.{◌≡◌, ◌<◌, ◌+◌, [], ◌∷◌, 
 ghost use Rattle.std.specs.List.{AllByRecursion};
 ghost use Rattle.machine_model.specs.Form.{HasGoodForm};
 ghost use Rattle.machine_model.specs.Typable.{IsLeast};
-ghost use Rattle.verifier.specs.Rows.{table_of, edge_of, edges_of, one_or_none};
-ghost use Rattle.verifier.specs.Walks.{Follows, IsSameBefore, GoesOn, IsClosedBefore, IsBelowClosed};
+ghost use Rattle.verifier.specs.Private.Rows.{table_of, edge_of, edges_of, one_or_none};
+ghost use Rattle.verifier.specs.Private.Walks.{Follows, IsSameBefore, GoesOn, IsClosedBefore, IsBelowClosed};
 
 use crate::edges::{Edge, edges};
 use crate::layout::Layout;

@@ -7,7 +7,7 @@ use code_model::Instruction::{
     self, Const, Count, Each, Emit, Empty, Fail as End, Halt, Less, List, Next, Put, Sep, Text,
     Undef,
 };
-use runs::{Outcome, PrepareError, Step, Words, prepare, step};
+use interpreter::{Outcome, PrepareError, Step, Words, prepare, step};
 use std::alloc::Global;
 use std::process::Abort;
 use std::test::Fail;

@@ -1,4 +1,4 @@
-use super::{done, ends, run_cases, run_words};
+use super::{done, ends, run_arguments, run_cases};
 use std::fs;
 use std::test::Fail;
 
@@ -46,7 +46,7 @@ fn does_not_compile(rt: HostRuntime) -> Result<(), Fail> {
     ];
     for (rules, code, status, fault) in cases {
         let line = format!(in rt.alloc(); "openlink: {fault}\n")?;
-        run_words(&rt, &["compile", rules, code], status, "", line.as_str())?;
+        run_arguments(&rt, &["compile", rules, code], status, "", line.as_str())?;
     }
     run_cases(
         &rt,

@@ -1,4 +1,4 @@
-use super::run_words;
+use super::run_arguments;
 use std::net::{Net, TcpListener, TcpStream};
 use std::process::Abort;
 use std::random::RandomSource;
@@ -23,12 +23,12 @@ fn expands<
 >(rt: &R, options: &[&'a str], rows: &[Row<'a>]) -> Result<(), Fail> {
     for row in rows {
         let (template, query, expansion) = *row;
-        let mut words = vec![in rt.alloc(); "expand"]?;
-        words.extend_from_slice(options)?;
-        words.push(template)?;
-        words.push(query)?;
+        let mut arguments = vec![in rt.alloc(); "expand"]?;
+        arguments.extend_from_slice(options)?;
+        arguments.push(template)?;
+        arguments.push(query)?;
         let line = format!(in rt.alloc(); "{expansion}\n")?;
-        run_words(rt, &words, 0, line.as_str(), "")?;
+        run_arguments(rt, &arguments, 0, line.as_str(), "")?;
     }
     Ok(())
 }
@@ -119,8 +119,8 @@ fn refuses_templates_and_queries(rt: HostRuntime) -> Result<(), Fail> {
     ];
     for (template, query, fault) in rows {
         let line = format!(in rt.alloc(); "openlink: {fault}\n")?;
-        let words = ["expand", template, query];
-        run_words(&rt, &words, 3, "", line.as_str())?;
+        let arguments = ["expand", template, query];
+        run_arguments(&rt, &arguments, 3, "", line.as_str())?;
     }
     Ok(())
 }
@@ -129,7 +129,7 @@ fn refuses_templates_and_queries(rt: HostRuntime) -> Result<(), Fail> {
 fn refuses_long_templates(rt: HostRuntime) -> Result<(), Fail> {
     let bytes = vec![in rt.alloc(); b'a'; 8193]?;
     let template = String::from_utf8(bytes)?;
-    let words = ["expand", template.as_str(), ""];
+    let arguments = ["expand", template.as_str(), ""];
     let fault = "openlink: template: TooLong at 8192\n";
-    run_words(&rt, &words, 3, "", fault)
+    run_arguments(&rt, &arguments, 3, "", fault)
 }

@@ -12,13 +12,13 @@ const COMMANDS: [&str; 9] = [
     "expand", "link", "compile", "verify", "show", "upgrade", "run", "resolve", "serve",
 ];
 
-/// What the one word prints.
+/// What the one argument prints.
 fn printed<
     R: Abort + Files + RandomSource + Net<Listener = TcpListener, Stream = TcpStream> + AllocGlobal,
->(rt: &R, word: &str) -> Result<String, Fail> {
+>(rt: &R, argument: &str) -> Result<String, Fail> {
     let mut output = Vec::with_capacity(rt.alloc(), 4096)?;
     let mut errors = Vec::with_capacity(rt.alloc(), 64)?;
-    let status = command(rt, &[word], &mut output, &mut errors);
+    let status = command(rt, &[argument], &mut output, &mut errors);
     if is_out_of_memory(&errors) {
         return Err(AllocError.into());
     }
@@ -33,8 +33,8 @@ fn names_each_command(rt: HostRuntime) -> Result<(), Fail> {
         let line = format!(in rt.alloc(); "\n  openlink {name} ")?;
         assert!(rt; help.contains(line.as_str()), "{name}");
     }
-    for word in ["-h", "help"] {
-        let same = printed(&rt, word)?;
+    for argument in ["-h", "help"] {
+        let same = printed(&rt, argument)?;
         assert_eq!(rt; same.as_str(), help.as_str(), "{word}");
     }
     Ok(())
@@ -52,7 +52,7 @@ fn tells_its_version(rt: HostRuntime) -> Result<(), Fail> {
 }
 
 #[test]
-fn answers_more_words_as_usage(rt: HostRuntime) -> Result<(), Fail> {
+fn answers_more_arguments_as_usage(rt: HostRuntime) -> Result<(), Fail> {
     let usage = "openlink: usage\n";
     run_cases(
         &rt,

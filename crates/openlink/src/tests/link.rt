@@ -16,8 +16,8 @@ fn run_with<
     Ok(())
 }
 
-fn no_link<'a>(words: &'a [&'a str]) -> Case<'a> {
-    ends(words, 1, "")
+fn no_link<'a>(arguments: &'a [&'a str]) -> Case<'a> {
+    ends(arguments, 1, "")
 }
 
 #[test]
@@ -74,11 +74,11 @@ fn guards_hold(rt: HostRuntime) -> Result<(), Fail> {
     ];
     for (guard, query, holds) in cases {
         let rules = format!(in rt.alloc(); "rule\nwhen {guard}\nlink http://e.org/\n")?;
-        let words = ["link", "guard.rules", query];
+        let arguments = ["link", "guard.rules", query];
         let case = if holds {
-            done(&words, "http://e.org/\n")
+            done(&arguments, "http://e.org/\n")
         } else {
-            no_link(&words)
+            no_link(&arguments)
         };
         run_with(&rt, "guard.rules", rules.as_bytes(), &[case])?;
     }
@@ -103,8 +103,8 @@ fn refuses_rules(rt: HostRuntime) -> Result<(), Fail> {
     ];
     for (rules, fault) in cases {
         let printed = format!(in rt.alloc(); "openlink: rules: {fault}\n")?;
-        let words = ["link", "bad.rules", ""];
-        let case = ends(&words, 3, printed.as_str());
+        let arguments = ["link", "bad.rules", ""];
+        let case = ends(&arguments, 3, printed.as_str());
         run_with(&rt, "bad.rules", rules.as_bytes(), &[case])?;
     }
     Ok(())
@@ -113,13 +113,13 @@ fn refuses_rules(rt: HostRuntime) -> Result<(), Fail> {
 #[test]
 fn refuses_long_rules(rt: HostRuntime) -> Result<(), Fail> {
     let rules = vec![in rt.alloc(); b'#'; 65_537]?;
-    let words = ["link", "long.rules", ""];
-    let case = ends(&words, 3, "openlink: rules: line 0: TooLong\n");
+    let arguments = ["link", "long.rules", ""];
+    let case = ends(&arguments, 3, "openlink: rules: line 0: TooLong\n");
     run_with(&rt, "long.rules", &rules, &[case])
 }
 
 #[test]
-fn refuses_other_words(rt: HostRuntime) -> Result<(), Fail> {
+fn refuses_other_arguments(rt: HostRuntime) -> Result<(), Fail> {
     run_with(
         &rt,
         "none.rules",

@@ -95,8 +95,8 @@ fn refuses_registries(rt: HostRuntime) -> Result<(), Fail> {
     for (bytes, status, fault) in FAULTS {
         fs::write(&rt, "faulty.txt", bytes)?;
         // The registry's fault comes before the query's.
-        let words = ["resolve", "faulty.txt", "ctx_ver=Z39.88-2005"];
-        run_cases(&rt, &[ends(&words, status, fault)])?;
+        let arguments = ["resolve", "faulty.txt", "ctx_ver=Z39.88-2005"];
+        run_cases(&rt, &[ends(&arguments, status, fault)])?;
     }
     fs::remove_file(&rt, "faulty.txt")?;
     remove_targets(&rt)?;

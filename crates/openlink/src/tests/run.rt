@@ -1,5 +1,5 @@
 use super::show::LIST_CODE;
-use super::{done, ends, run_cases, run_words};
+use super::{done, ends, run_arguments, run_cases};
 use std::fs;
 use std::test::Fail;
 
@@ -82,7 +82,7 @@ fn refuses_what_might_be_too_long(rt: HostRuntime) -> Result<(), Fail> {
         query.push('a')?;
     }
     fs::write(&rt, "twenty.olk", &code)?;
-    run_words(
+    run_arguments(
         &rt,
         &["run", "twenty.olk", query.as_str()],
         3,

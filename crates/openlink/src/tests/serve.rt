@@ -1,4 +1,4 @@
-use super::{ends, run_cases, run_words};
+use super::{ends, run_arguments, run_cases};
 use std::fs;
 use std::net::TcpListener;
 use std::test::Fail;
@@ -18,10 +18,10 @@ const NO_NUMBERS: [[&str; 2]; 10] = [
 ];
 
 #[test]
-fn answers_wrong_words_as_usage(rt: HostRuntime) -> Result<(), Fail> {
+fn answers_wrong_arguments_as_usage(rt: HostRuntime) -> Result<(), Fail> {
     let usage = "openlink: usage\n";
     for [port, count] in NO_NUMBERS {
-        run_words(&rt, &["serve", "none.txt", port, count], 2, "", usage)?;
+        run_arguments(&rt, &["serve", "none.txt", port, count], 2, "", usage)?;
     }
     run_cases(
         &rt,
@@ -46,10 +46,10 @@ fn wants_the_registry_and_the_port(rt: HostRuntime) -> Result<(), Fail> {
     let fault = format!(in rt.alloc(); "openlink: device: 127.0.0.1:{port}\n")?;
     fs::write(&rt, "empty.txt", b"")?;
     fs::write(&rt, "bad.txt", b"alpha\n")?;
-    let words = ["serve", "bad.txt", port.as_str(), "1"];
-    run_words(&rt, &words, 3, "", "openlink: registry: line 1\n")?;
-    let words = ["serve", "empty.txt", port.as_str(), "1"];
-    run_words(&rt, &words, 4, "", fault.as_str())?;
+    let arguments = ["serve", "bad.txt", port.as_str(), "1"];
+    run_arguments(&rt, &arguments, 3, "", "openlink: registry: line 1\n")?;
+    let arguments = ["serve", "empty.txt", port.as_str(), "1"];
+    run_arguments(&rt, &arguments, 4, "", fault.as_str())?;
     fs::remove_file(&rt, "empty.txt")?;
     fs::remove_file(&rt, "bad.txt")?;
     Ok(())

@@ -1,5 +1,5 @@
 use super::show::LIST_CODE;
-use super::{done, run_cases, run_words};
+use super::{done, run_arguments, run_cases};
 use std::fs;
 use std::test::Fail;
 
@@ -9,8 +9,8 @@ fn upgrades_code(rt: HostRuntime) -> Result<(), Fail> {
     fs::write(&rt, "new.olk", "what stood there")?;
     let upgrade = ["upgrade", "old.olk", "new.olk"];
     // The second time a file is upgraded into its own place.
-    for words in [upgrade, ["upgrade", "new.olk", "new.olk"]] {
-        run_cases(&rt, &[done(&words, "68 bytes\n")])?;
+    for arguments in [upgrade, ["upgrade", "new.olk", "new.olk"]] {
+        run_cases(&rt, &[done(&arguments, "68 bytes\n")])?;
         let new = fs::read(&rt, "new.olk")?;
         assert!(rt; new.starts_with(b"OLK2"));
         assert!(rt; LIST_CODE.len() == new.len() && new.len() > 4);
@@ -38,7 +38,7 @@ fn keeps_what_stands_there(rt: HostRuntime) -> Result<(), Fail> {
     ];
     for (old, new, status, fault) in cases {
         let line = format!(in rt.alloc(); "openlink: {fault}\n")?;
-        run_words(&rt, &["upgrade", old, new], status, "", line.as_str())?;
+        run_arguments(&rt, &["upgrade", old, new], status, "", line.as_str())?;
     }
     assert_eq!(rt; fs::read(&rt, "kept.olk")?.as_slice(), LIST_CODE);
     assert_eq!(rt;

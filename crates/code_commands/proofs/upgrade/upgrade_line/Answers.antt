@@ -11,7 +11,7 @@ returns-clause-ok g c =
       place = c.in-Some.new.now;
       bytes = made.0;
       new = c.in_ok-upgraded.upgraded.items;
-      two_words = search rules;
+      two_arguments = search rules;
       made = made.2;
       counted = search rules;
     }) c.place_counted.ensures.counted
@@ -24,6 +24,6 @@ returns-clause-err g c =
     record {
       path = c.in-Some.old.now;
       place = c.in-Some.new.now;
-      two_words = search rules;
+      two_arguments = search rules;
       refused = inr (inr (made.0, c.in_ok-upgraded.upgraded.items, made.2, failed));
     })) c.place_counted.ensures.failed

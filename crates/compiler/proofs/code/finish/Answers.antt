@@ -5,7 +5,7 @@ use Rattle.code_file.specs.Grammar.{spelled, IsInstr, IsCode}
 use Rattle.code_file.specs.Fault.{fault, IsFirstFault}
 use Rattle.compiler_model.specs.Compiled.{has_counts, code_of}
 use Rattle.compiler_model.specs.Size.{file_size}
-use Rattle.compiler.specs.Growth.{IsUtf8Literal}
+use Rattle.compiler.specs.Private.Growth.{IsUtf8Literal}
 use Rattle.compiler.proofs.CodeParts.{length-spelled, is_code, whole_code, known_version, refused_long}
 use Rattle.compiler.proofs.code.finish.Goals as goal
 

@@ -2,7 +2,7 @@ use Rattle.std.proofs.Common.{◌≡◌, ◌+◌, ◌++◌, List, length, map, s
 use Rattle.code_model.specs.Code.{Name, Literal, spelling}
 use Rattle.compiler_model.specs.Shapes.{rule_block}
 use Rattle.compiler_model.specs.Compiled.{rule_lines, instructions_from}
-use Rattle.compiler.specs.Reach.{StayWithin}
+use Rattle.compiler.specs.Private.Reach.{StayWithin}
 use Rattle.compiler.proofs.ReachLemmas.{rule_within}
 use Rattle.compiler.proofs.RuleSteps.{length_step, length-instructions, instructions_step}
 use Rattle.compiler.proofs.code.instructions.Goals as goal

@@ -2,7 +2,7 @@ use Rattle.std.proofs.Common.{◌≡◌, ◌+◌, ◌++◌, All, drop, length, m
 use Rattle.code_model.specs.Code.{spelling}
 use Rattle.code_file.specs.Grammar.{IsInstr}
 use Rattle.compiler_model.specs.Compiled.{instructions_from}
-use Rattle.compiler.specs.Reach.{StayWithin}
+use Rattle.compiler.specs.Private.Reach.{StayWithin}
 use Rattle.compiler.proofs.instructions.push_rule.Given as goal
 
 -- what is pushed with the lines that are left is the whole; these stay within the rule, and each line has one instruction

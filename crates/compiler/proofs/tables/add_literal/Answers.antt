@@ -2,7 +2,7 @@ use Rattle.std.proofs.Common.{All, sym, ◌∙◌, subst}
 use Rattle.std.specs.Str.{IsUtf8}
 use Rattle.std.proofs.lemmas.List.Elements.{All-push}
 use Rattle.compiler_model.specs.Tables.{literal_entry}
-use Rattle.compiler.specs.Growth.{IsUtf8Literal}
+use Rattle.compiler.specs.Private.Growth.{IsUtf8Literal}
 use Rattle.compiler.proofs.tables.add_literal.Goals as goal
 
 pub returns-clause-utf8 : goal.returns-clause-utf8

@@ -1,7 +1,7 @@
 use Rattle.std.proofs.Common.{◌≡◌, drop, All}
 use Rattle.std.specs.List.{filter_map}
 use Rattle.compiler_model.specs.Tables.{is_same_literal, literal_used}
-use Rattle.compiler.specs.Growth.{gathered, IsUtf8Literal}
+use Rattle.compiler.specs.Private.Growth.{gathered, IsUtf8Literal}
 use Rattle.compiler.proofs.tables.add_literals.Given as goal
 
 -- what is gathered with the lines that are left is the whole; all that is gathered is UTF-8

@@ -1,7 +1,7 @@
 use Rattle.std.proofs.Common.{◌≡◌, drop}
 use Rattle.std.specs.List.{filter_map}
 use Rattle.compiler_model.specs.Tables.{is_same_name, name_used}
-use Rattle.compiler.specs.Growth.{gathered}
+use Rattle.compiler.specs.Private.Growth.{gathered}
 use Rattle.compiler.proofs.tables.add_names.Given as goal
 
 -- what is gathered with the lines that are left is the whole

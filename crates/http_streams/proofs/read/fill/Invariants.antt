@@ -1,6 +1,6 @@
 use Rattle.std.proofs.Common.{◌≡◌, ◌≤◌, ◌-◌, ℕ, List, ◌++◌, length, take}
 use Rattle.http_streams.specs.Closing.{is_closed}
-use Rattle.http_streams.specs.Inner.Progress.{closes_with}
+use Rattle.http_streams.specs.Private.Progress.{closes_with}
 use Rattle.http_streams.specs.Streams.{Reads}
 use Rattle.http_streams.proofs.read.fill.Given as goal
 

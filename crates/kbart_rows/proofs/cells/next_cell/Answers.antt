@@ -3,7 +3,7 @@ use Rattle.std.proofs.lemmas.List.Elements.{All-from_get_or}
 use Rattle.std.proofs.lemmas.Str.Pattern.{IsSplitOnceResult, split_parts}
 use Rattle.text_model.specs.Texts.{Text}
 use Rattle.kbart_rows.specs.Cells.{tab}
-use Rattle.kbart_rows.specs.Inner.Line.{cells_in}
+use Rattle.kbart_rows.specs.Private.Line.{cells_in}
 use Rattle.kbart_rows.proofs.LineCells.{first_cell, no_cell}
 use Rattle.kbart_rows.proofs.cells.next_cell.Goals as goal
 

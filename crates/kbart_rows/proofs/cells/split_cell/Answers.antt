@@ -1,7 +1,7 @@
 use Rattle.std.proofs.Common.{Bor, ◌≡◌, ◌∷◌, [], Option, Some, None, IfSome, IfNone, drop, ap, sym, refl, ◌∙◌}
 use Rattle.std.specs.Option.{unwrap_or}
 use Rattle.text_model.specs.Texts.{Text}
-use Rattle.kbart_rows.specs.Inner.Line.{cells_in}
+use Rattle.kbart_rows.specs.Private.Line.{cells_in}
 use Rattle.kbart_rows.proofs.LineCells.{no_cells}
 use Rattle.kbart_rows.proofs.cells.split_cell.Goals as goal
 

@@ -1,6 +1,6 @@
 use Rattle.std.proofs.Common.{◌≡◌, take, string_bytes}
 use Rattle.csv.specs.Records.{fields_of}
-use Rattle.kbart_rows.specs.Inner.Line.{line_of}
+use Rattle.kbart_rows.specs.Private.Line.{line_of}
 use Rattle.kbart_rows.proofs.cells.write_line.Given as goal
 
 -- the cells so far were written

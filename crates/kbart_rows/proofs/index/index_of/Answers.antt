@@ -3,8 +3,8 @@ use Rattle.std.proofs.lemmas.List.{get_or-drop}
 use Rattle.std.specs.List.{range_with_len}
 use Rattle.std.specs.Option.{option_map}
 use Rattle.kbart_rows.specs.Identifiers.{has_identifier, identifier_in}
-use Rattle.kbart_rows.specs.Inner.Kept.{is_id}
-use Rattle.kbart_rows.specs.Inner.Line.{cells_in}
+use Rattle.kbart_rows.specs.Private.Kept.{is_id}
+use Rattle.kbart_rows.specs.Private.Line.{cells_in}
 use Rattle.kbart_rows.proofs.Rows.{filter_row, one_of_two}
 use Rattle.kbart_rows.proofs.index.index_of.Goals as goal
 

@@ -2,7 +2,7 @@ use Rattle.std.proofs.Common.{◌∙◌, ap, sym}
 use Rattle.text_model.specs.Texts.{texts_of}
 use Rattle.environment_model.specs.Lists.{is_list}
 use Rattle.kev_read.specs.Filling.{added, StopsAtPair}
-use Rattle.kev_read.specs.Inner.Layout.{key_value}
+use Rattle.kev_read.specs.Private.Layout.{key_value}
 use Rattle.kev_read.proofs.FillingLemmas.{filled_more, passes_there, stops_at, IfErr_passed_on}
 use Rattle.kev_read.proofs.filling.fill.Goals as goal
 

@@ -5,7 +5,7 @@ use Rattle.std.specs.Cmp.Lexicographic.{options_total}
 use Rattle.std.proofs.lemmas.Cmp.{nat_list_cmp_total}
 use Rattle.std.proofs.lemmas.Fn.{always_returns_same}
 use Rattle.std.proofs.lemmas.List.Sorted.{ranks_by}
-use Rattle.kev_read.specs.Inner.KeyOrder.{compared, key_at}
+use Rattle.kev_read.specs.Private.KeyOrder.{compared, key_at}
 use Rattle.kev_read.proofs.KeyOrders.{key_order_from_sort}
 use Rattle.kev_read.proofs.key_order.key_order.Goals as goal
 

@@ -1,5 +1,5 @@
 use Rattle.std.proofs.Common.{◌≡◌, ℕ, ◌||◌, false, slice_index_or, take}
-use Rattle.kev_read.specs.Inner.KeyOrder.{has_index}
+use Rattle.kev_read.specs.Private.KeyOrder.{has_index}
 use Rattle.kev_read.proofs.list_keys.mark.Given as goal
 
 -- the indices so far were marked

@@ -1,7 +1,7 @@
 use Rattle.std.proofs.Common.{◌≡◌, ℕ, ◌||◌, false, slice_index_or, take}
 use Rattle.text_model.specs.Texts.{texts_of}
 use Rattle.environment_model.specs.Environment.{is_among}
-use Rattle.kev_read.specs.Inner.KeyOrder.{passes_at}
+use Rattle.kev_read.specs.Private.KeyOrder.{passes_at}
 use Rattle.kev_read.proofs.list_keys.mark_names.Given as goal
 
 -- the names so far were looked for

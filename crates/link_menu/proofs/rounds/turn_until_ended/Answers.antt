@@ -1,8 +1,8 @@
 use Rattle.std.proofs.Common.{◌≡◌, suc, ◌*◌, ◌<◌, ◌≤◌, subst, sym, ap, ◌∙◌, arith}
-use Rattle.link_menu.specs.Shown.{ends_of, HasSeenSome, shown_in, shown_to_end, steps_of, with_list, with_lists}
-use Rattle.link_menu.specs.Rounds.{AreOfTheSame}
+use Rattle.link_menu.specs.StepLists.{ends_of, HasSeenSome, step_lists_in, step_lists_to_end, steps_of, with_list, with_lists}
+use Rattle.link_menu.specs.Private.Rounds.{AreOfTheSame}
 use Rattle.link_menu.proofs.TurnsOfAll.{all_after, at_start, all_live, next_turn, still_left, all_done, fewer_left, same_runs, nothing_shown, shown_at_first, shown_next, turns_at_start, turns_of}
-use Rattle.link_menu.proofs.Seeing.{on_err}
+use Rattle.link_menu.proofs.StepListLemmas.{on_err}
 use Rattle.link_menu.proofs.rounds.turn_until_ended.Goals as goal
 
 pub loop-live-init : goal.loop-live-init
@@ -44,7 +44,7 @@ returns-in_err-seen-clause-err g c =
     let told = g.W.Watch.lists c.args.watch.now in
     let after = g.W.Watch.lists c.seen.new.self in
     let few = subst (λ n. inv.0 ≤ n) (turns_at_start runs c.requires) inv.2 in
-    on_err c.from_residual.result (HasSeenSome (shown_to_end (ends_of runs)) told after)
+    on_err c.from_residual.result (HasSeenSome (step_lists_to_end (ends_of runs)) told after)
     (shown_at_first inv.0 (ends_of runs) told after few (c.in_err-seen.ensures.err ∙ inv.4))
 
 pub returns-clause-same : goal.returns-clause-same
@@ -59,4 +59,4 @@ returns-clause-ok g c =
     let runs = c.args.runs.now in
     let told = g.W.Watch.lists c.args.watch.now in
     let all : inv.0 ≡ turns_of runs = all_done c.states_after_steps_are_decided.ensures c.run_ends_once.ensures inv.0 runs c.loop-live.runs c.loop-live.live c.requires inv.1 inv.3 c.loop-live-test.false inv.2 in
-    inv.4 ∙ ap (λ t. with_lists told (shown_in t (ends_of runs))) (all ∙ turns_at_start runs c.requires)
+    inv.4 ∙ ap (λ t. with_lists told (step_lists_in t (ends_of runs))) (all ∙ turns_at_start runs c.requires)

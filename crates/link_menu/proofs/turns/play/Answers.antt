@@ -1,8 +1,8 @@
 use Rattle.std.proofs.Common.{ℕ, ◌<◌, subst, refl, arith, get_or, length, length-set, ◌∙◌}
 use Rattle.std.proofs.lemmas.List.{get_or_default}
-use Rattle.runs.specs.RunValue.{RunValue}
+use Rattle.verified_runs.specs.RunValue.{RunValue}
 use Rattle.link_menu.specs.Turns.{IsMoved}
-use Rattle.link_menu.proofs.Moving.{played_next}
+use Rattle.link_menu.proofs.TurnLemmas.{played_next}
 use Rattle.link_menu.proofs.turns.play.Goals as goal
 
 pub loop-turn-preserved : goal.loop-turn-preserved

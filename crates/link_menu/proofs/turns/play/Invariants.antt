@@ -1,5 +1,5 @@
 use Rattle.std.proofs.Common.{◌≡◌, ℕ, ◌<◌, get_or, length, take}
-use Rattle.runs.specs.RunValue.{RunValue}
+use Rattle.verified_runs.specs.RunValue.{RunValue}
 use Rattle.link_menu.specs.Turns.{IsPlayed, own_turns}
 use Rattle.link_menu.proofs.turns.play.Given as goal
 

@@ -2,9 +2,9 @@ use Rattle.std.proofs.Common.{◌≡◌, ◌+◌, ◌<◌, ◌≤◌, subst, ari
 use Rattle.std.specs.Prelude.{slice_set, length}
 use Rattle.std.proofs.lemmas.Grind.{common_steps}
 use Rattle.std.proofs.lemmas.List.{get_or_default}
-use Rattle.runs.specs.RunValue.{RunValue, HasEnded}
+use Rattle.verified_runs.specs.RunValue.{RunValue, HasEnded}
 use Rattle.link_menu.specs.Turns.{IsMoved, is_live}
-use Rattle.link_menu.proofs.Moving.{ended_is_over, others_go_on, moved_next, others_next, live_next}
+use Rattle.link_menu.proofs.TurnLemmas.{ended_is_over, others_go_on, moved_next, others_next, live_next}
 use Rattle.link_menu.proofs.turns.turn_all.Goals as goal
 use Rattle.link_menu.proofs.turns.turn_all.Goals.{then-not-advance, else-not-advance}
 

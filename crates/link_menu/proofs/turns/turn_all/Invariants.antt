@@ -1,5 +1,5 @@
 use Rattle.std.proofs.Common.{◌≡◌, ℕ, ◌<◌, ◌≤◌, count_by, get_or, take}
-use Rattle.runs.specs.RunValue.{RunValue}
+use Rattle.verified_runs.specs.RunValue.{RunValue}
 use Rattle.link_menu.specs.Turns.{IsMoved, is_live}
 use Rattle.link_menu.proofs.turns.turn_all.Given as goal
 

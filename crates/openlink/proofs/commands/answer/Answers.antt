@@ -72,4 +72,4 @@ returns-in-Some-behind-7-clause-err g c =
 
 pub returns-clause-err : goal.returns-clause-err
 returns-clause-err g c =
-    no_name (texts_of c.args.words.now) c.in_default.ensures c.in_default-behind.ensures c.in_default-behind-2.ensures c.in_default-behind-3.ensures c.in_default-behind-4.ensures c.in_default-behind-5.ensures c.in_default-behind-6.ensures c.in_default-behind-7.ensures c.requires.serve c.requires.about
+    no_name (texts_of c.args.arguments.now) c.in_default.ensures c.in_default-behind.ensures c.in_default-behind-2.ensures c.in_default-behind-3.ensures c.in_default-behind-4.ensures c.in_default-behind-5.ensures c.in_default-behind-6.ensures c.in_default-behind-7.ensures c.requires.serve c.requires.about

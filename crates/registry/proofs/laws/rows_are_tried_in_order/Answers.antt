@@ -1,25 +1,25 @@
 use Rattle.std.proofs.Common.{◌+◌, filter, map, ap, sym, ◌∙◌, nat_le}
-use Rattle.menu.specs.declared.entry.Reason.TheVariants.{NoRow}
-use Rattle.registry.specs.Entries.{chosen, matching_rows_of, reason_of_row}
+use Rattle.menu.specs.declared.entry.Resolution.TheVariants.{NoRow}
+use Rattle.registry.specs.Entries.{chosen, matching_rows_of, resolution_of_row}
 use Rattle.registry.proofs.RowsInOrder.{all_from_start, first_and_rest, link_first, matching_rows_are_in_order, no_link_first, none_from}
 use Rattle.registry.proofs.laws.rows_are_tried_in_order.Goals as goal
 
 pub returns-clause-start : goal.returns-clause-start
 returns-clause-start c = λ target pairs.
-    ap (λ rows. chosen NoRow (map (reason_of_row target pairs) rows)) (sym (all_from_start (matching_rows_of target pairs)))
+    ap (λ rows. chosen NoRow (map (resolution_of_row target pairs) rows)) (sym (all_from_start (matching_rows_of target pairs)))
 
 pub returns-clause-no_more : goal.returns-clause-no_more
 returns-clause-no_more c = λ target pairs from so_far none.
-    ap (λ rows. chosen so_far (map (reason_of_row target pairs) rows)) (none_from from (matching_rows_of target pairs) none)
+    ap (λ rows. chosen so_far (map (resolution_of_row target pairs) rows)) (none_from from (matching_rows_of target pairs) none)
 
 pub returns-clause-link : goal.returns-clause-link
 returns-clause-link c = λ target pairs from row so_far found link.
     let rows = matching_rows_of target pairs in
-    ap (λ rows. chosen so_far (map (reason_of_row target pairs) rows)) (first_and_rest from row rows (matching_rows_are_in_order target pairs) found)
-    ∙ link_first so_far (reason_of_row target pairs row) (map (reason_of_row target pairs) (filter (nat_le (row + 1)) rows)) link
+    ap (λ rows. chosen so_far (map (resolution_of_row target pairs) rows)) (first_and_rest from row rows (matching_rows_are_in_order target pairs) found)
+    ∙ link_first so_far (resolution_of_row target pairs row) (map (resolution_of_row target pairs) (filter (nat_le (row + 1)) rows)) link
 
 pub returns-clause-no_link : goal.returns-clause-no_link
 returns-clause-no_link c = λ target pairs from row so_far found no_link.
     let rows = matching_rows_of target pairs in
-    ap (λ rows. chosen so_far (map (reason_of_row target pairs) rows)) (first_and_rest from row rows (matching_rows_are_in_order target pairs) found)
-    ∙ no_link_first so_far (reason_of_row target pairs row) (map (reason_of_row target pairs) (filter (nat_le (row + 1)) rows)) no_link
+    ap (λ rows. chosen so_far (map (resolution_of_row target pairs) rows)) (first_and_rest from row rows (matching_rows_are_in_order target pairs) found)
+    ∙ no_link_first so_far (resolution_of_row target pairs row) (map (resolution_of_row target pairs) (filter (nat_le (row + 1)) rows)) no_link

@@ -1,6 +1,6 @@
 use Rattle.std.proofs.Common.{subst, sym}
 use Rattle.kbart_rows.specs.declared.read.TheConstants.{MAX_TABLE_BYTES}
-use Rattle.registry_file.specs.Private.{IsStop}
+use Rattle.registry_file.specs.Private.Stops.{IsStop}
 use Rattle.registry_file.proofs.StopLemmas.{answers, no_table, not_taken}
 use Rattle.registry_file.proofs.target.add_target.Goals as goal
 

@@ -2,7 +2,7 @@ use Rattle.std.proofs.Common.{◌≡◌, ◌∙◌, sym, ap, subst, ℕ, List, d
 use Rattle.uri_grammar.specs.declared.parts.Op.{Op}
 use Rattle.uri_grammar.specs.Expressions.{operator_text}
 use Rattle.uri_grammar.specs.Faults.{IsListFault, reserved_operator}
-use Rattle.uri_grammar.specs.Reading.{IsFault, operator_of}
+use Rattle.uri_grammar.specs.Private.Reading.{IsFault, operator_of}
 use Rattle.uri_grammar.proofs.ExpressionLemmas.{operator_of-HasOperator, body_fault}
 use Rattle.uri_grammar.proofs.expressions.body.Goals as goal
 

@@ -1,7 +1,7 @@
 use Rattle.std.proofs.Common.{arith, ◌≡◌, ◌∙◌, sym, take, subst, List, ℕ, inr, false}
 use Rattle.uri_grammar.specs.Expressions.{IsBody}
 use Rattle.uri_grammar.specs.Faults.{IsBodyFault}
-use Rattle.uri_grammar.specs.Reading.{IsFault, begins_with_brace}
+use Rattle.uri_grammar.specs.Private.Reading.{IsFault, begins_with_brace}
 use Rattle.uri_grammar.proofs.TemplateLemmas.{IsExpression-braced, IsPartFault-literal, IsPartFault-body, IsPartFault-unclosed, IsPartFault-empty}
 use Rattle.uri_grammar.proofs.expressions.expression.Goals as goal
 

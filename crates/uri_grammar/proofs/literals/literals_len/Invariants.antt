@@ -1,6 +1,6 @@
 use Rattle.std.proofs.Common.{◌≡◌, length, ◌+◌, ◌-◌, ◌≤◌, ◌<◌, take, drop}
 use Rattle.uri_grammar.specs.Literals.{AreLiterals}
-use Rattle.uri_grammar.specs.Lengths.{literal_item_len}
+use Rattle.uri_grammar.specs.Private.Lengths.{literal_item_len}
 use Rattle.uri_grammar.proofs.literals.literals_len.Given as goal
 
 abbrev pub invariant-loop-more : goal.invariant-loop-more

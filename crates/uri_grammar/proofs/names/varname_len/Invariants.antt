@@ -1,6 +1,6 @@
 use Rattle.std.proofs.Common.{◌≡◌, length, ◌+◌, ◌-◌, ◌≤◌, ◌<◌, take, drop}
 use Rattle.uri_grammar.specs.Names.{IsVarname}
-use Rattle.uri_grammar.specs.Lengths.{next_len}
+use Rattle.uri_grammar.specs.Private.Lengths.{next_len}
 use Rattle.uri_grammar.proofs.names.varname_len.Given as goal
 
 abbrev pub invariant-loop-more : goal.invariant-loop-more

@@ -3,9 +3,9 @@ use Rattle.std.proofs.lemmas.List.{drop-drop}
 use Rattle.std.proofs.lemmas.Str.{length-le-encodes}
 use Rattle.uri_grammar.specs.declared.parts.Part.{Part}
 use Rattle.uri_grammar.specs.Literals.{AreLiterals}
-use Rattle.uri_grammar.specs.Lengths.{literal_item_len}
+use Rattle.uri_grammar.specs.Private.Lengths.{literal_item_len}
 use Rattle.uri_grammar.specs.Faults.{IsPartFault}
-use Rattle.uri_grammar.specs.Reading.{IsExpression, IsFault}
+use Rattle.uri_grammar.specs.Private.Reading.{IsExpression, IsFault}
 use Rattle.uri_grammar.proofs.CharacterLemmas.{length-encodes-take, length-encodes-drop}
 use Rattle.uri_grammar.proofs.TemplateLemmas.{Spells-more_literal, Spells-more_expression, EndsWithNoLiteral-expression, IsFirstFault-after}
 use Rattle.uri_grammar.proofs.template.read.Goals as goal

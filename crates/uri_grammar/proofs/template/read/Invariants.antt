@@ -1,7 +1,7 @@
 use Rattle.std.proofs.Common.{length, ◌≤◌, ◌<◌, ◌-◌, take, drop}
-use Rattle.uri_grammar.specs.Lengths.{literal_item_len}
+use Rattle.uri_grammar.specs.Private.Lengths.{literal_item_len}
 use Rattle.uri_grammar.specs.Templates.{Spells}
-use Rattle.uri_grammar.specs.Reading.{EndsWithNoLiteral}
+use Rattle.uri_grammar.specs.Private.Reading.{EndsWithNoLiteral}
 use Rattle.uri_grammar.proofs.template.read.Given as goal
 
 -- what was read spells the parts so far, and a literal can only come behind an expression

@@ -3,7 +3,7 @@ use Rattle.std.proofs.lemmas.List.{length-take-le}
 use Rattle.uri_grammar.specs.declared.error.TemplateErrorKind.TheVariants as kind
 use Rattle.uri_grammar.specs.Names.{IsName}
 use Rattle.uri_grammar.specs.Faults.{IsSpecFault, bad_name, bad_modifier}
-use Rattle.uri_grammar.specs.Reading.{modifier_of}
+use Rattle.uri_grammar.specs.Private.Reading.{modifier_of}
 use Rattle.uri_grammar.proofs.NameLemmas.{encodes-varname}
 use Rattle.uri_grammar.proofs.SpecLemmas.{modifier_of-some, modifier_of-none}
 use Rattle.uri_grammar.proofs.variables.spec.Goals as goal

@@ -1,6 +1,6 @@
 use Rattle.std.proofs.Common.{◌≡◌, ◌++◌, drop, string_bytes}
 use Rattle.uri_template.specs.Expansion.{pieces, led}
-use Rattle.uri_template.specs.Pieces.{pieces_from}
+use Rattle.uri_template.specs.Private.Pieces.{pieces_from}
 use Rattle.uri_template.proofs.expansion.push_expression.Given as goal
 
 -- what is appended with the variables that are left is the whole

@@ -1,6 +1,6 @@
 use Rattle.std.proofs.Common.{◌++◌, ap, map, string_bytes}
 use Rattle.target_vars.specs.Members.{members_left}
-use Rattle.uri_template.specs.Pieces.{member_text, member_sep}
+use Rattle.uri_template.specs.Private.Pieces.{member_text, member_sep}
 use Rattle.uri_template.proofs.Led.{pieces_from-joined}
 use Rattle.uri_template.proofs.pieces.push_members.Goals as goal
 

@@ -1,7 +1,7 @@
 use Rattle.std.proofs.Common.{◌≡◌, ◌==◌, ◌++◌, [], drop, map, string_bytes}
 use Rattle.target_vars.specs.Members.{members_left}
 use Rattle.uri_template.specs.Expansion.{joined_by}
-use Rattle.uri_template.specs.Pieces.{member_text, member_sep, pieces_from}
+use Rattle.uri_template.specs.Private.Pieces.{member_text, member_sep, pieces_from}
 use Rattle.uri_template.proofs.pieces.push_members.Given as goal
 
 -- what is appended with the members that are left is the whole

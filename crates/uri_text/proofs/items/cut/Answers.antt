@@ -1,5 +1,5 @@
 use Rattle.std.proofs.Common.{◌≡◌, ◌∙◌, sym, ap, drop, inl, inr, arith}
-use Rattle.uri_text.specs.Items.{item_length}
+use Rattle.uri_text.specs.Private.Items.{item_length}
 use Rattle.uri_text.proofs.FirstItems.{next_item, all_taken}
 use Rattle.uri_text.proofs.items.cut.Goals as goal
 use Rattle.uri_text.proofs.items.cut.Goals.{then-loop-left-test+else-end-text, else-loop-left-test}

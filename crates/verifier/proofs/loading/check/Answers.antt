@@ -1,9 +1,9 @@
 use Rattle.std.proofs.Common.{sym, ap, ◌∙◌, subst}
 use Rattle.std.proofs.lemmas.Result.{err_from_is_err_and}
 use Rattle.machine_model.specs.Typable.{IsLeast}
-use Rattle.verifier.specs.Checks.{located_of}
+use Rattle.verifier.specs.Private.Checks.{located_of}
 use Rattle.verifier.specs.Faults.{IsRefusal}
-use Rattle.verifier.specs.Rows.{table_of}
+use Rattle.verifier.specs.Private.Rows.{table_of}
 use Rattle.verifier.proofs.Loads.{form_refused, kinds_refused}
 use Rattle.verifier.proofs.loading.check.Goals as goal
 

@@ -1,6 +1,6 @@
 use Rattle.std.proofs.Common.{length, sym, ◌∙◌, arith}
 use Rattle.machine_model.specs.Mismatch.{mismatch_at}
-use Rattle.verifier.specs.Rows.{table_of}
+use Rattle.verifier.specs.Private.Rows.{table_of}
 use Rattle.verifier.proofs.Firsts.{first_zero, first_more, first_found}
 use Rattle.verifier.proofs.mismatch.first_mismatch.Goals as goal
 

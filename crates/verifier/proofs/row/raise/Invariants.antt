@@ -1,7 +1,7 @@
 use Rattle.std.proofs.Common.{◌≡◌, ℕ, ◌<◌, ◌≤◌, get_or}
 use Rattle.machine_model.specs.declared.kind.Kind.TheVariants.{Any}
 use Rattle.machine_model.specs.Kinds.{kind_join}
-use Rattle.verifier.specs.Walks.{row_rises, Rises}
+use Rattle.verifier.specs.Private.Walks.{row_rises, Rises}
 use Rattle.verifier.proofs.row.raise.Given as goal
 
 abbrev pub invariant-loop-r : goal.invariant-loop-r

@@ -1,6 +1,6 @@
 use Rattle.std.proofs.Common.{ap, ◌+◌, ◌∙◌, arith}
 use Rattle.std.specs.Prelude.{option_map}
-use Rattle.verifier.specs.Rows.{kinds_of, table_of}
+use Rattle.verifier.specs.Private.Rows.{kinds_of, table_of}
 use Rattle.verifier.proofs.Following.{place_followed, below_on, closed_on, closed_past_none}
 use Rattle.verifier.proofs.GoodEdges.{registers_fit, element_fits, ends_within}
 use Rattle.verifier.proofs.Pushes.{same_both, on_both}

@@ -1,6 +1,6 @@
 use Rattle.std.proofs.Common.{◌+◌, ◌*◌, ◌-◌, length}
-use Rattle.verifier.specs.Rows.{table_of}
-use Rattle.verifier.specs.Walks.{table_rises, IsClosedBefore, IsBelowClosed}
+use Rattle.verifier.specs.Private.Rows.{table_of}
+use Rattle.verifier.specs.Private.Walks.{table_rises, IsClosedBefore, IsBelowClosed}
 use Rattle.verifier.proofs.walk.walk.Given as goal
 
 abbrev pub invariant-loop-place : goal.invariant-loop-place

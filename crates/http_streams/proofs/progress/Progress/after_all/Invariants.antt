@@ -1,5 +1,5 @@
 use Rattle.std.proofs.Common.{◌≡◌, ℕ, List, ◌++◌, take}
-use Rattle.http_streams.specs.Inner.Progress.{closes_with}
+use Rattle.http_streams.specs.Private.Progress.{closes_with}
 use Rattle.http_streams.proofs.progress.Progress.after_all.Given as goal
 
 -- what is still to come closes the head as it does after all bytes so far

@@ -1,6 +1,6 @@
 use Rattle.std.proofs.Common.{[], get_or, refl, ap, ◌∙◌}
 use Rattle.csv.specs.Records.{fields_of}
-use Rattle.kbart_rows.specs.Inner.Line.{cells_in}
+use Rattle.kbart_rows.specs.Private.Line.{cells_in}
 use Rattle.kbart_rows.proofs.LineCells.{field_or_empty, cells_of_field}
 use Rattle.kbart_rows.proofs.records.Records.line.Goals as goal
 

@@ -2,7 +2,7 @@ use Rattle.std.proofs.Common.{◌≡◌, ◌≤◌, ◌+◌, ◌∙◌, [], drop
 use Rattle.std.proofs.lemmas.List.{get_or-drop, length-drop}
 use Rattle.environment_model.specs.Environment.{byte_count, member_count}
 use Rattle.kbart_rows.specs.Cells.{Holdings, cell_bytes, named_cells, row_bytes}
-use Rattle.kbart_rows.specs.Inner.Line.{cells_in}
+use Rattle.kbart_rows.specs.Private.Line.{cells_in}
 use Rattle.kbart_rows.specs.declared.read.TheConstants.{MAX_ROW_BYTES}
 use Rattle.kbart_rows.proofs.FillingLemmas.{Reaches, reaches, reached_bytes, reached_members, row_cell_bytes, only_memory}
 use Rattle.kbart_rows.proofs.table.Table.fill.Goals as goal

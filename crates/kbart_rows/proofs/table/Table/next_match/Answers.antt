@@ -1,7 +1,7 @@
 use Rattle.std.proofs.Common.{◌≡◌, ◌∙◌, ◌+◌, ◌++◌, ◌∷◌, [], map, take, get_or, string_bytes, ap, sym}
 use Rattle.std.proofs.lemmas.List.{take_all, take_more, map-append}
 use Rattle.kbart_rows.specs.Identifiers.{first_from, identifier_columns}
-use Rattle.kbart_rows.specs.Inner.Kept.{lesser_of, rows_with}
+use Rattle.kbart_rows.specs.Private.Kept.{lesser_of, rows_with}
 use Rattle.kbart_rows.proofs.Matches.{matches, no_match, match_more, match_within}
 use Rattle.kbart_rows.proofs.table.Table.next_match.Goals as goal
 

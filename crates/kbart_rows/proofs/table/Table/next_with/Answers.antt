@@ -2,7 +2,7 @@ use Rattle.std.proofs.Common.{◌∙◌, [], drop, get_or, length, ap, sym, subs
 use Rattle.std.specs.List.Sorted.{IsNonDecreasing}
 use Rattle.kbart_rows.specs.Cells.{Holdings}
 use Rattle.kbart_rows.specs.Identifiers.{first_from, has_identifier, identifier_columns}
-use Rattle.kbart_rows.specs.Inner.Kept.{rows_with}
+use Rattle.kbart_rows.specs.Private.Kept.{rows_with}
 use Rattle.kbart_rows.proofs.Rows.{rising}
 use Rattle.kbart_rows.proofs.table.Table.next_with.Goals as goal
 

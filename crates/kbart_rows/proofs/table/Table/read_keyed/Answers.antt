@@ -1,7 +1,7 @@
 use Rattle.std.proofs.Common.{◌∙◌, [], ◌∷◌, codes, drop, get_or, ap, subst, arith}
 use Rattle.std.proofs.lemmas.List.{length-drop}
 use Rattle.kbart_rows.specs.Cells.{column_of}
-use Rattle.kbart_rows.specs.Inner.Kept.{rows_with}
+use Rattle.kbart_rows.specs.Private.Kept.{rows_with}
 use Rattle.kbart_rows.specs.Reading.{AllFit, AreLines}
 use Rattle.kbart_rows.proofs.ReadingLines.{header_first}
 use Rattle.kbart_rows.proofs.table.Table.read_keyed.Goals as goal

@@ -1,6 +1,6 @@
 use Rattle.std.proofs.Common.{◌≡◌, ◌+◌, ◌∷◌, drop, sym, ◌∙◌, rules}
 use Rattle.kev_read.specs.Pairs.{all_of}
-use Rattle.kev_read.specs.Inner.Layout.{key_value}
+use Rattle.kev_read.specs.Private.Layout.{key_value}
 use Rattle.kev_read.proofs.ValuesOfKey.{all_of_this_key, all_of_other_key}
 use Rattle.kev_read.proofs.values.ValuesIterator.next.Goals as goal
 

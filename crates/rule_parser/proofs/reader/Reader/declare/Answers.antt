@@ -2,7 +2,7 @@
 use Rattle.std.proofs.Common.{sym, ◌∙◌}
 use Rattle.std.proofs.lemmas.Bool.{iff_false}
 use Rattle.rule_parser.specs.Faults.{no_statement}
-use Rattle.rule_parser.specs.Progress.{begun_of}
+use Rattle.rule_parser.specs.Private.Progress.{so_far_of}
 use Rattle.rule_parser.proofs.ReaderLemmas.{no_list, line_faulty, list_out_of_order, declares}
 use Rattle.rule_parser.proofs.reader.Reader.declare.Goals as goal
 
@@ -13,7 +13,7 @@ returns-then-not-is_name-clause-err c =
 pub returns-then-not-takes_lists-clause-err : goal.returns-then-not-takes_lists-clause-err
 returns-then-not-takes_lists-clause-err c =
     line_faulty c.args.self.now _ _ _ _ c.new-then-not-takes_lists.ensures
-    (list_out_of_order (begun_of c.args.self.now) _ (c.is_name.ensures.0 c.if-not-is_name.false) (sym c.takes_lists.ensures ∙ c.if-not-takes_lists.true))
+    (list_out_of_order (so_far_of c.args.self.now) _ (c.is_name.ensures.0 c.if-not-is_name.false) (sym c.takes_lists.ensures ∙ c.if-not-takes_lists.true))
 
 pub returns-clause-ok : goal.returns-clause-ok
 returns-clause-ok c =

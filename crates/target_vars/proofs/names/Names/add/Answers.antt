@@ -1,5 +1,5 @@
 use Rattle.std.proofs.Common.{rules, ◌≡◌, ◌+◌, [], ◌∷◌, ◌++◌, length, insert, sym, ap, ◌∙◌, subst}
-use Rattle.target_vars.specs.NamesValue.{NamesValue, IsGap}
+use Rattle.target_vars.specs.Private.NamesValue.{NamesValue, IsGap}
 use Rattle.target_vars.specs.declared.names.NamePlace.{NamePlace}
 use Rattle.target_vars.proofs.NameOrder.{names_in-push, are_names-push}
 use Rattle.target_vars.proofs.names.Names.add.Goals as goal

@@ -1,7 +1,7 @@
 use Rattle.std.proofs.Common.{rules, ◌≡◌, ◌<◌, ◌≤◌, length, get_or, slice_get, Some, sym, ap, subst, ◌∙◌, arith}
 use Rattle.std.specs.declared.cmp.Ordering.TheVariants.{Equal}
 use Rattle.std.proofs.lemmas.Fn.{always_returns_same}
-use Rattle.target_vars.specs.NamesValue.{NamesValue, names_in, compared, IsGap}
+use Rattle.target_vars.specs.Private.NamesValue.{NamesValue, names_in, compared, IsGap}
 use Rattle.target_vars.proofs.NameOrder.{found, gap_at, Searched}
 use Rattle.target_vars.proofs.names.Names.find.Goals as goal
 

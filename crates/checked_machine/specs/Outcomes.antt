@@ -1,0 +1,17 @@
+-- What an answer says of a run.
+use Rattle.std.specs.Prelude.{◌≡◌, string_bytes}
+use Rattle.code_model.specs.Code.{Code}
+use Rattle.environment_model.specs.Environment.{Environment}
+use Rattle.machine_model.specs.Runs as run
+use Rattle.checked_machine.specs.declared.run.Checked.{Checked}
+use Rattle.checked_machine.specs.declared.run.Checked.TheVariants.{Link, NoLink, Stuck}
+
+abbrev pub outcome_of : Checked → run.Outcome
+outcome_of (Link link) = run.Link (string_bytes link)
+outcome_of NoLink = run.NoLink
+outcome_of (Stuck place) = run.Stuck place
+
+-- the run comes to this, and to nothing else
+pub record IsOutcome (c : Code) (v : Environment) (o : run.Outcome) : Type 0 where
+  pub comes : run.HasOutcome c v o
+  pub only : (other : run.Outcome) → run.HasOutcome c v other → other ≡ o

@@ -1,0 +1,4 @@
+-- Definitions that no contract of a public function cites.
+pub mod Frames
+pub mod Given
+pub mod Values

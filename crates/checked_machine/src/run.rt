@@ -1,0 +1,55 @@
+//! A run, from the start to where it comes to.
+
+ghost use Rattle.std.specs.Prelude.{◌≡◌, IfOk};
+ghost use Rattle.machine_model.specs.Next.{step_limit};
+ghost use Rattle.checked_machine.specs.Outcomes.{outcome_of, IsOutcome};
+
+use crate::frame::Frame;
+use crate::step::Stepped;
+use code_file::Code;
+use machine_laws::{course_is_decided, every_run_ends, step_is_decided};
+use std::alloc::{AllocError, Global};
+use target_vars::Env;
+
+/// Where a run comes to.
+#[derive(Debug, Drop)]
+pub enum Checked {
+    /// It ends with this link.
+    Link(String),
+    /// It ends without a link.
+    NoLink,
+    /// No step leads on from this place.
+    Stuck(usize),
+}
+
+/// No run takes more steps.
+fn step_limit(code: &Code, env: &Env) -> usize
+    ensures { result ≡ step_limit code.now env.now.entries }
+{
+    code.len() * (env.members() + 1)
+}
+
+/// Runs a code on an environment, with every test that the definitions of the machine make, and
+/// answers where the run comes to. Any code may be run, and every run ends.
+///
+/// A step takes constant work but for the bytes that it appends or compares; to look a name up is to
+/// compare it with the names of the environment. The only error is want of memory for the output.
+pub fn run_checked<'a>(alloc: Global, code: &'a Code, env: &'a Env) -> Result<Checked, AllocError>
+    ensures { IfOk result (λ answer. IsOutcome code.now env.now.entries (outcome_of answer)) }
+{
+    // The laws of the machine on which the answer rests.
+    step_is_decided();
+    every_run_ends();
+    course_is_decided();
+    let mut frame = Frame::start(alloc);
+    for _steps in 0..step_limit(code, env) {
+        match frame.step(code, env)? {
+            Stepped::Onward => {}
+            Stepped::Link => return Ok(Checked::Link(frame.output)),
+            Stepped::NoLink => return Ok(Checked::NoLink),
+            Stepped::Stuck(place) => return Ok(Checked::Stuck(place)),
+        }
+    }
+    // After as many steps as any run takes, none leads on.
+    Ok(Checked::Stuck(frame.place))
+}

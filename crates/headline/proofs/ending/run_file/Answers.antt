@@ -1,8 +1,0 @@
-use Rattle.std.proofs.Common.{Err, ap}
-use Rattle.headline.proofs.Safely.{is_cause}
-use Rattle.headline.proofs.ending.run_file.Goals as goal
-
-pub returns-clause-refused : goal.returns-clause-refused
-returns-clause-refused c =
-    is_cause c.args.bytes.now c.in_ok-code.code c.args.env.now c.in-Err.error c.in_ok-code.ensures.code c.in_ok-code.ensures.form c.in_ok-code.ensures.typable
-    (λ n same. (c.in-Err.ensures.over n).0 (ap Err same))

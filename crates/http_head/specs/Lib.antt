@@ -1,4 +1,0 @@
-pub mod Host
-pub mod Target
-pub mod Asking
-pub mod HeadEnd

@@ -1,0 +1,4 @@
+pub mod Host
+pub mod Target
+pub mod Routes
+pub mod HeadEnd

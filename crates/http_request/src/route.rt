@@ -1,0 +1,83 @@
+//! Routes: the page that a request gets, or why it gets none.
+
+ghost use Rattle.std.specs.Prelude.{◌≡◌, ◌≤◌, length};
+ghost use Rattle.http_request.specs.Routes as spec;
+
+use crate::target::{page_of, resource_of, split_query};
+
+/// A page of the menu.
+#[derive(Clone, Copy, Debug, PartialEq, Eq)]
+pub enum Page {
+    /// The links as HTML, at `/openurl`.
+    Html,
+    /// The links as plain text, at `/openurl.txt`.
+    Text,
+    /// The reasons of all targets, at `/report`.
+    Report,
+}
+
+/// The page of the menu that a request gets, or why it gets none.
+#[derive(Clone, Copy, Debug, PartialEq, Eq)]
+pub enum Route<'a> {
+    /// A page of the menu for the query, whose bytes are as they came.
+    Menu { page: Page, query: &'a [u8] },
+    /// Another path.
+    NotFound,
+    /// Another method than GET and HEAD.
+    MethodNotAllowed,
+    /// No head of a request, or one with a wrong number of Host fields or with another form of target.
+    BadRequest,
+    /// The head does not end within [`MAX_HEAD_BYTES`](http_streams::MAX_HEAD_BYTES) bytes.
+    HeadTooLarge,
+}
+
+/// A request, by its head (RFC 9112, section 3): its route, and whether the reply goes without its body, since the
+/// method is HEAD.
+#[derive(Clone, Copy, Debug, PartialEq, Eq)]
+pub struct HttpRequest<'a> {
+    pub route: Route<'a>,
+    pub without_body: bool,
+}
+
+// The route of a target.
+fn route_at(target: &[u8]) -> Route<'_>
+    ensures route { spec.route_value result ≡ spec.route_at target.now }
+    ensures query { spec.query_length (spec.route_value result) ≤ length target.now }
+{
+    let Some(resource) = resource_of(target) else {
+        return Route::BadRequest;
+    };
+    let (path, query) = split_query(resource);
+    match page_of(path) {
+        Some(page) => Route::Menu { page, query },
+        None => Route::NotFound,
+    }
+}
+
+// Whether a request of this minor version may have this number of Host fields.
+fn is_right_host_count(minor: u8, hosts: usize) -> bool
+    ensures { result ≡ spec.is_right_host_count minor hosts }
+{
+    hosts == 1 || (hosts == 0 && minor == 0)
+}
+
+/// Whether the method is HEAD.
+pub(crate) fn is_head(method: &[u8]) -> bool
+    ensures { result ≡ spec.is_head_method method.now }
+{
+    method == b"HEAD".as_slice()
+}
+
+/// The route of a method and a target, in a request of this minor version with this number of Host fields.
+pub(crate) fn route_of<'a>(method: &[u8], target: &'a [u8], minor: u8, hosts: usize) -> Route<'a>
+    ensures route { spec.route_value result ≡ spec.route_of method.now target.now minor hosts }
+    ensures query { spec.query_length (spec.route_value result) ≤ length target.now }
+{
+    if !is_right_host_count(minor, hosts) {
+        Route::BadRequest
+    } else if method != b"GET".as_slice() && !is_head(method) {
+        Route::MethodNotAllowed
+    } else {
+        route_at(target)
+    }
+}

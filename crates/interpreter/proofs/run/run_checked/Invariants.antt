@@ -1,8 +1,0 @@
-use Rattle.machine_model.specs.States.{Running}
-use Rattle.machine_model.specs.Runs.{After}
-use Rattle.interpreter.specs.Frames.{frame_of}
-use Rattle.interpreter.proofs.run.run_checked.Given as goal
-
--- one step for each turn
-abbrev pub invariant-loop-steps : goal.invariant-loop-steps
-invariant-loop-steps l = After l.code l.env.entries l._steps (Running (frame_of l.frame))

@@ -1,4 +1,0 @@
-pub mod Values
-pub mod Frames
-pub mod Given
-pub mod Outcomes

@@ -1,3 +1,0 @@
--- What private contracts cite, and no public one: how a request keeps its pairs.
-pub mod Layout
-pub mod KeyOrder

@@ -1,0 +1,251 @@
+-- Searches after some rounds: the rows that are left to them, and what was shown.
+use Rattle.std.proofs.Common.{◌≡◌, ℕ, zero, suc, ◌+◌, ◌-◌, ◌<◌, ◌≤◌, List, [], ◌∷◌, ◌++◌, Option, Some, None, Bool, true, false, refl, sym, ap, ◌∙◌, arith, length, map, nat_le, filter, drop, append_assoc}
+use Rattle.std.specs.Prelude.{◌||◌, if◌then◌else◌, is_some, max, option_and_then, slice_get}
+use Rattle.std.specs.List.{cons_option, filter_map, list_any}
+use Rattle.std.proofs.lemmas.Bool.{false≢true}
+use Rattle.std.proofs.lemmas.List.{drop-drop, length-drop}
+use Rattle.kev_read.specs.Pairs.{KeyValue}
+use Rattle.kbart_rows.specs.Identifiers.{first_from}
+use Rattle.menu.specs.Links.{is_link}
+use Rattle.registry.specs.Targets.{TargetValue}
+use Rattle.registry.specs.Entries.{matching_rows_of, resolution_of_row}
+use Rattle.link_menu.specs.StepLists.{HasSeenAll, HasSeenSome, step_lists_to_end, with_lists}
+use Rattle.link_menu.specs.RowsByRound.{ends_in_round, longest, rounds_of, step_lists_in_all_rounds, step_lists_in_rounds, steps_of_row, tried_rows, up_to_link}
+use Rattle.link_menu.specs.Private.Searches.{SearchValue, ends_next, is_open, started, after_next_row, after_row_at}
+use Rattle.link_menu.proofs.StepListLemmas.{first_of, rest_of, with_more, with_none}
+use Rattle.link_menu.proofs.TurnsOfAll.{max_less}
+
+-- ---- the rows that are left to a search
+
+abbrev pub AllFromStart : Type 0
+AllFromStart = (target : TargetValue) (pairs : List KeyValue) → filter (nat_le 0) (matching_rows_of target pairs) ≡ matching_rows_of target pairs
+
+abbrev pub NoneFrom : Type 0
+NoneFrom =
+    (target : TargetValue) (pairs : List KeyValue) (from : ℕ) → first_from from (matching_rows_of target pairs) ≡ None
+    → filter (nat_le from) (matching_rows_of target pairs) ≡ []
+
+abbrev pub FirstAndRest : Type 0
+FirstAndRest =
+    (target : TargetValue) (pairs : List KeyValue) (from row : ℕ) → first_from from (matching_rows_of target pairs) ≡ Some row
+    → filter (nat_le from) (matching_rows_of target pairs) ≡ row ∷ filter (nat_le (row + 1)) (matching_rows_of target pairs)
+
+-- a target, and rows that it still has to try
+abbrev pub Left : Type 0
+Left = TargetValue × List ℕ
+
+abbrev pub rows_left_at : List KeyValue → TargetValue → Option ℕ → List ℕ
+rows_left_at pairs target None = []
+rows_left_at pairs target (Some row) = up_to_link target pairs (row ∷ filter (nat_le (row + 1)) (matching_rows_of target pairs))
+
+abbrev pub left_of : List KeyValue → SearchValue → Left
+left_of pairs s = (s.target, rows_left_at pairs s.target s.next)
+
+abbrev pub left_after : ℕ → List KeyValue → TargetValue → Left
+left_after k pairs target = (target, drop k (tried_rows target pairs))
+
+abbrev pub one_less : Left → Left
+one_less left = (left.0, drop 1 left.1)
+
+abbrev pub rounds_left : List KeyValue → List SearchValue → ℕ
+rounds_left pairs searches = longest (map (λ left. left.1) (map (left_of pairs) searches))
+
+add_one : (k : ℕ) → k + 1 ≡ suc k
+add_one k = omega arith
+
+-- one more round
+drop_one : (k : ℕ) (pairs : List KeyValue) (targets : List TargetValue) → map one_less (map (left_after k pairs) targets) ≡ map (left_after (suc k) pairs) targets
+drop_one k pairs [] = refl
+drop_one k pairs (target ∷ targets) =
+    let rows = tried_rows target pairs in
+    ap (λ rest. (target, rest) ∷ map one_less (map (left_after k pairs) targets)) (drop-drop 1 k rows ∙ ap (λ m. drop m rows) (add_one k))
+    ∙ ap (λ lefts. left_after (suc k) pairs target ∷ lefts) (drop_one k pairs targets)
+
+module _ (all_from_start : AllFromStart) (none_from : NoneFrom) (first_and_rest : FirstAndRest) (pairs : List KeyValue) where
+  from_row : (target : TargetValue) (from : ℕ)
+      → rows_left_at pairs target (first_from from (matching_rows_of target pairs)) ≡ up_to_link target pairs (filter (nat_le from) (matching_rows_of target pairs))
+  from_row target from = by_next (first_from from (matching_rows_of target pairs)) refl
+    where
+      by_next : (next : Option ℕ) → first_from from (matching_rows_of target pairs) ≡ next
+          → rows_left_at pairs target next ≡ up_to_link target pairs (filter (nat_le from) (matching_rows_of target pairs))
+      by_next None is = ap (up_to_link target pairs) (sym (none_from target pairs from is))
+      by_next (Some row) is = ap (up_to_link target pairs) (sym (first_and_rest target pairs from row is))
+
+  left_at_start : (targets : List TargetValue) → map (left_of pairs) (map (started pairs) targets) ≡ map (left_after 0 pairs) targets
+  left_at_start [] = refl
+  left_at_start (target ∷ targets) =
+      ap (λ rows. (target, rows) ∷ map (left_of pairs) (map (started pairs) targets)) (from_row target 0 ∙ ap (up_to_link target pairs) (all_from_start target pairs))
+      ∙ ap (λ lefts. left_after 0 pairs target ∷ lefts) (left_at_start targets)
+
+  one_tried : (s : SearchValue) → left_of pairs (after_next_row pairs s) ≡ one_less (left_of pairs s)
+  one_tried s = by_next s.next refl
+    where
+      by_link : (row : ℕ) (b : Bool)
+          → rows_left_at pairs s.target (if b then None else first_from (row + 1) (matching_rows_of s.target pairs))
+          ≡ (if b then [] else up_to_link s.target pairs (filter (nat_le (row + 1)) (matching_rows_of s.target pairs)))
+      by_link row true = refl
+      by_link row false = from_row s.target (row + 1)
+
+      by_next : (next : Option ℕ) → s.next ≡ next → left_of pairs (after_row_at pairs s next) ≡ one_less (s.target, rows_left_at pairs s.target next)
+      by_next None is = ap (λ next. (s.target, rows_left_at pairs s.target next)) is
+      by_next (Some row) is = ap (λ rows. (s.target, rows)) (by_link row (is_link (resolution_of_row s.target pairs row)))
+
+  all_tried : (searches : List SearchValue) → map (left_of pairs) (map (after_next_row pairs) searches) ≡ map one_less (map (left_of pairs) searches)
+  all_tried [] = refl
+  all_tried (s ∷ searches) =
+      ap (λ left. left ∷ map (left_of pairs) (map (after_next_row pairs) searches)) (one_tried s)
+      ∙ ap (λ lefts. one_less (left_of pairs s) ∷ lefts) (all_tried searches)
+
+-- ---- the runs of the next round
+
+first_left : (k : ℕ) (rows : List ℕ) → slice_get (drop k rows) 0 ≡ slice_get rows k
+first_left zero rows = refl
+first_left (suc k) [] = refl
+first_left (suc k) (row ∷ rows) = first_left k rows
+
+module _ (pairs : List KeyValue) where
+  abbrev end_at : Left → Option ℕ
+  end_at left = option_and_then (steps_of_row left.0 pairs) (slice_get left.1 0)
+
+  end_of_search : (target : TargetValue) (next : Option ℕ) → option_and_then (steps_of_row target pairs) next ≡ end_at (target, rows_left_at pairs target next)
+  end_of_search target None = refl
+  end_of_search target (Some row) = refl
+
+  ends_of_searches : (searches : List SearchValue) → ends_next pairs searches ≡ filter_map end_at (map (left_of pairs) searches)
+  ends_of_searches [] = refl
+  ends_of_searches (s ∷ searches) =
+      ap (λ end. cons_option end (ends_next pairs searches)) (end_of_search s.target s.next)
+      ∙ ap (cons_option (end_at (left_of pairs s))) (ends_of_searches searches)
+
+  ends_after : (k : ℕ) (targets : List TargetValue) → filter_map end_at (map (left_after k pairs) targets) ≡ ends_in_round k targets pairs
+  ends_after k [] = refl
+  ends_after k (target ∷ targets) =
+      ap (λ row. cons_option (option_and_then (steps_of_row target pairs) row) (filter_map end_at (map (left_after k pairs) targets))) (first_left k (tried_rows target pairs))
+      ∙ ap (cons_option (option_and_then (steps_of_row target pairs) (slice_get (tried_rows target pairs) k))) (ends_after k targets)
+
+-- ---- how many rounds are left
+
+none_less : (k : ℕ) → 0 ≡ 0 - k
+none_less k = omega arith
+
+some_left : (rows rest : ℕ) → 0 < max (suc rows) rest
+some_left rows rest = omega arith
+
+others_left : (rest : ℕ) → 0 < rest → 0 < max 0 rest
+others_left rest more = omega (arith, more)
+
+none_left : (rest : ℕ) → rest ≡ 0 → max 0 rest ≡ 0
+none_left rest none = omega (arith, none)
+
+module _ (pairs : List KeyValue) where
+  longest_after : (k : ℕ) (targets : List TargetValue) → longest (map (λ left. left.1) (map (left_after k pairs) targets)) ≡ rounds_of targets pairs - k
+  unfolding longest
+  longest_after k [] = none_less k
+  longest_after k (target ∷ targets) =
+      let rows = tried_rows target pairs in
+      max_less (length (drop k rows)) (longest (map (λ left. left.1) (map (left_after k pairs) targets))) (length rows) (rounds_of targets pairs) k (length-drop k rows) (longest_after k targets)
+
+  while_open : (searches : List SearchValue) → list_any is_open searches ≡ true → 0 < rounds_left pairs searches
+  unfolding longest
+  while_open [] some = absurd (false≢true some)
+  while_open (s ∷ searches) some = by_next s.next (while_open searches) some
+    where
+      by_next : (next : Option ℕ) → (list_any is_open searches ≡ true → 0 < rounds_left pairs searches) → (is_some next || list_any is_open searches) ≡ true
+          → 0 < max (length (rows_left_at pairs s.target next)) (rounds_left pairs searches)
+      by_next None rest some = others_left (rounds_left pairs searches) (rest some)
+      by_next (Some row) rest some =
+          some_left (length (if is_link (resolution_of_row s.target pairs row) then [] else up_to_link s.target pairs (filter (nat_le (row + 1)) (matching_rows_of s.target pairs)))) (rounds_left pairs searches)
+
+  none_open : (searches : List SearchValue) → list_any is_open searches ≡ false → rounds_left pairs searches ≡ 0
+  unfolding longest
+  none_open [] none = refl
+  none_open (s ∷ searches) none = by_next s.next (none_open searches) none
+    where
+      by_next : (next : Option ℕ) → (list_any is_open searches ≡ false → rounds_left pairs searches ≡ 0) → (is_some next || list_any is_open searches) ≡ false
+          → max (length (rows_left_at pairs s.target next)) (rounds_left pairs searches) ≡ 0
+      by_next None rest none = none_left (rounds_left pairs searches) (rest none)
+      by_next (Some row) rest none = absurd (false≢true (sym none))
+
+-- ---- after some rounds
+
+-- k rounds were carried out, and all that they show was shown
+abbrev pub AfterRounds : List KeyValue → List TargetValue → List SearchValue → Option (List (List ℕ)) → Option (List (List ℕ)) → Type 0
+AfterRounds pairs targets searches told now =
+    (k : ℕ) × (map (left_of pairs) searches ≡ map (left_after k pairs) targets) × (k ≤ rounds_of targets pairs)
+    × (now ≡ with_lists told (step_lists_in_rounds k targets pairs))
+
+round_more : (rounds k left : ℕ) → left ≡ rounds - k → 0 < left → suc k ≤ rounds
+round_more rounds k left is some = omega (arith, is, some)
+
+round_less : (rounds k old new : ℕ) → old ≡ rounds - k → new ≡ rounds - suc k → 0 < old → new < old
+round_less rounds k old new was is some = omega (arith, was, is, some)
+
+no_round : (rounds k left : ℕ) → left ≡ rounds - k → left ≡ 0 → k ≤ rounds → k ≡ rounds
+no_round rounds k left is none le = omega (arith, is, none, le)
+
+module _ (pairs : List KeyValue) (targets : List TargetValue) (searches : List SearchValue) (told now : Option (List (List ℕ)))
+    (after : AfterRounds pairs targets searches told now) where
+  left_then : rounds_left pairs searches ≡ rounds_of targets pairs - after.0
+  left_then = ap (λ lefts. longest (map (λ left. left.1) lefts)) after.1 ∙ longest_after pairs after.0 targets
+
+  next_within : list_any is_open searches ≡ true → suc after.0 ≤ rounds_of targets pairs
+  next_within some = round_more (rounds_of targets pairs) after.0 (rounds_left pairs searches) left_then (while_open pairs searches some)
+
+  next_ends : ends_next pairs searches ≡ ends_in_round after.0 targets pairs
+  next_ends = ends_of_searches pairs searches ∙ ap (filter_map (end_at pairs)) after.1 ∙ ends_after pairs after.0 targets
+
+  pub all_rounds : list_any is_open searches ≡ false → HasSeenAll (step_lists_in_all_rounds targets pairs) told now
+  all_rounds none =
+      let all = no_round (rounds_of targets pairs) after.0 (rounds_left pairs searches) left_then (none_open pairs searches none) after.2 in
+      after.3 ∙ ap (λ k. with_lists told (step_lists_in_rounds k targets pairs)) all
+
+  pub some_rounds : HasSeenSome (step_lists_in_all_rounds targets pairs) told now
+  unfolding step_lists_in_rounds
+  some_rounds =
+      first_of (λ k. step_lists_in_rounds k targets pairs) (λ k. step_lists_to_end (ends_in_round k targets pairs)) (λ k. refl) after.0 (rounds_of targets pairs) told now after.2 after.3
+
+  pub part_of_round : (ends : List ℕ) (new : Option (List (List ℕ))) → list_any is_open searches ≡ true → ends ≡ ends_next pairs searches
+      → HasSeenSome (step_lists_to_end ends) now new → HasSeenSome (step_lists_in_all_rounds targets pairs) told new
+  unfolding step_lists_in_rounds
+  part_of_round ends new opened are seen =
+      let before = step_lists_in_rounds after.0 targets pairs in
+      let later =
+      rest_of (λ k. step_lists_in_rounds k targets pairs) (λ k. step_lists_to_end (ends_in_round k targets pairs)) (λ k. refl) (suc after.0) (rounds_of targets pairs) (next_within opened) in
+      let round : step_lists_to_end (ends_in_round after.0 targets pairs) ≡ seen.0 ++ seen.1 = ap step_lists_to_end (sym (are ∙ next_ends)) ∙ seen.2 in (
+        before ++ seen.0,
+        seen.1 ++ later.0,
+        later.1 ∙ ap (λ lists. (before ++ lists) ++ later.0) round ∙ apart before seen.0 seen.1 later.0,
+        seen.3 ∙ ap (λ lists. with_lists lists seen.0) after.3 ∙ with_more told before seen.0,
+      )
+    where
+      apart : (a b c d : List (List ℕ)) → (a ++ (b ++ c)) ++ d ≡ (a ++ b) ++ (c ++ d)
+      apart a b c d = simp append_assoc
+
+module _ (all_from_start : AllFromStart) (none_from : NoneFrom) (first_and_rest : FirstAndRest) (pairs : List KeyValue) (targets : List TargetValue) where
+  pub at_first : (told : Option (List (List ℕ))) → AfterRounds pairs targets (map (started pairs) targets) told told
+  unfolding step_lists_in_rounds
+  at_first told = (0, left_at_start all_from_start none_from first_and_rest pairs targets, omega arith, with_none told)
+
+  pub one_round : (searches : List SearchValue) (told now new : Option (List (List ℕ))) (ends : List ℕ) → AfterRounds pairs targets searches told now
+      → list_any is_open searches ≡ true → ends ≡ ends_next pairs searches → HasSeenAll (step_lists_to_end ends) now new
+      → AfterRounds pairs targets (map (after_next_row pairs) searches) told new
+  unfolding step_lists_in_rounds
+  one_round searches told now new ends after opened are seen =
+      let k = after.0 in
+      let before = step_lists_in_rounds k targets pairs in
+      let round = step_lists_to_end (ends_in_round k targets pairs) in (
+        suc k,
+        all_tried all_from_start none_from first_and_rest pairs searches ∙ ap (map one_less) after.1 ∙ drop_one k pairs targets,
+        next_within pairs targets searches told now after opened,
+        seen ∙ ap (λ es. with_lists now (step_lists_to_end es)) (are ∙ next_ends pairs targets searches told now after)
+            ∙ ap (λ lists. with_lists lists round) after.3 ∙ with_more told before round,
+      )
+
+  pub fewer_rounds : (searches : List SearchValue) (told now : Option (List (List ℕ))) → AfterRounds pairs targets searches told now
+      → list_any is_open searches ≡ true → rounds_left pairs (map (after_next_row pairs) searches) < rounds_left pairs searches
+  fewer_rounds searches told now after opened =
+      let k = after.0 in
+      let left = left_then pairs targets searches told now after in
+      let next = all_tried all_from_start none_from first_and_rest pairs searches ∙ ap (map one_less) after.1 ∙ drop_one k pairs targets in
+      let left_next = ap (λ lefts. longest (map (λ l. l.1) lefts)) next ∙ longest_after pairs (suc k) targets in
+      round_less (rounds_of targets pairs) k (rounds_left pairs searches) (rounds_left pairs (map (after_next_row pairs) searches)) left left_next (while_open pairs searches opened)

@@ -1,9 +1,0 @@
-use Rattle.std.proofs.Common.{ap, ◌∙◌}
-use Rattle.kbart_rows.specs.Identifiers.{first_from, ids_of, matching_rows}
-use Rattle.link_menu.proofs.asked.Asked.next_row.Goals as goal
-
-pub returns-clause-first : goal.returns-clause-first
-returns-clause-first c =
-    c.next_match.ensures.first
-    ∙ ap (λ table. first_from c.args.from (matching_rows table c.self.inside.ids)) c.table.ensures
-    ∙ ap (λ ids. first_from c.args.from (matching_rows c.args.target.now.table ids)) (c.self.invariant ∙ ap ids_of c.self.view_is)

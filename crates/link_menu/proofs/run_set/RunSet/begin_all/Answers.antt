@@ -1,0 +1,39 @@
+use Rattle.std.proofs.Common.{◌≡◌, length, map, take, ap, sym, ◌∙◌, subst}
+use Rattle.std.specs.List.{zip}
+use Rattle.std.specs.Iterator.Adapters.{zip_first, zip_second}
+use Rattle.std.specs.Slice.Iter.{iter_rest}
+use Rattle.std.proofs.lemmas.List.{length_push}
+use Rattle.std.proofs.lemmas.Slice.Zip.{zip_turn, zip_end}
+use Rattle.link_menu.specs.Private.RunSets.{IsRunSetOf}
+use Rattle.link_menu.proofs.RunSetLemmas.{one_more, pair_at, pairs_inside, all_pairs}
+use Rattle.link_menu.proofs.run_set.RunSet.begin_all.Goals as goal
+
+pub loop-code-preserved : goal.loop-code-preserved
+loop-code-preserved c =
+    let codes = c.args.codes.now in
+    let envs = c.args.envs.now in
+    let before = c.into_iter-code-iterator.result in
+    let so_far = c.loop-code.yielded in
+    let code = c.in-Some.code in
+    let env = c.in-Some.env in
+    let n = length so_far in
+    let first : iter_rest (zip_first before) ≡ codes = ap (λ z. iter_rest (zip_first z)) c.into_iter-code-iterator.ensures.into_iter_gives ∙ ap iter_rest c.zip-code-items.ensures.first ∙ c.iter.ensures.rest in
+    let second : iter_rest (zip_second before) ≡ envs = ap (λ z. iter_rest (zip_second z)) c.into_iter-code-iterator.ensures.into_iter_gives ∙ ap iter_rest c.zip-code-items.ensures.second ∙ c.iter-2.ensures.rest in
+    let turn = zip_turn codes envs so_far before c.loop-code.code-iterator c.next.new.self c.next.result first second c.loop-code.yielded_by (code, env) c.in-Some.is c.next.ensures.steps in
+    let more = c.in_ok-begin.ensures in
+    subst (λ m. IsRunSetOf (take m (zip (map (λ x. x.now) codes) envs)) c.begin.new.self) (sym (length_push so_far (code, env)))
+    (one_more (zip (map (λ x. x.now) codes) envs) n (code.now.now, env.now) c.loop-code.run_set c.begin.new.self
+    (pairs_inside (λ x. x.now) codes envs n turn.0 turn.1)
+    (pair_at (λ x. x.now) codes envs n code.now env.now turn.0 turn.1 turn.2 turn.3)
+    c.loop-code.invariant more.over_budget more.runs more.fresh)
+
+pub returns : goal.returns
+returns c =
+    let codes = c.args.codes.now in
+    let envs = c.args.envs.now in
+    let before = c.into_iter-code-iterator.result in
+    let so_far = c.loop-code.yielded in
+    let first : iter_rest (zip_first before) ≡ codes = ap (λ z. iter_rest (zip_first z)) c.into_iter-code-iterator.ensures.into_iter_gives ∙ ap iter_rest c.zip-code-items.ensures.first ∙ c.iter.ensures.rest in
+    let second : iter_rest (zip_second before) ≡ envs = ap (λ z. iter_rest (zip_second z)) c.into_iter-code-iterator.ensures.into_iter_gives ∙ ap iter_rest c.zip-code-items.ensures.second ∙ c.iter-2.ensures.rest in
+    let all = zip_end codes envs so_far before c.loop-code.code-iterator c.next.new.self c.next.result first second c.loop-code.yielded_by c.in-None.is c.next.ensures.steps in
+    subst (λ pairs. IsRunSetOf pairs c.loop-code.run_set) (all_pairs (λ x. x.now) codes envs (length so_far) all) c.loop-code.invariant

@@ -1,0 +1,7 @@
+use Rattle.std.proofs.Common.{length, map, take}
+use Rattle.std.specs.List.{zip}
+use Rattle.link_menu.specs.Private.RunSets.{IsRunSetOf}
+use Rattle.link_menu.proofs.run_set.RunSet.begin_all.Given as goal
+
+abbrev pub invariant-loop-code : goal.invariant-loop-code
+invariant-loop-code l = IsRunSetOf (take (length l.yielded) (zip (map (λ c. c.now) l.codes) l.envs)) l.run_set

@@ -1,0 +1,32 @@
+-- Runs that are begun together, and what is over budget beside them.
+use Rattle.std.specs.Prelude.{◌≡◌, ℕ, List, [], ◌∷◌, Option, Some, None, if◌then◌else◌, map}
+use Rattle.code_model.specs.Code.{Code}
+use Rattle.machine_model.specs.Runs.{Outcome}
+use Rattle.machine_model.specs.Next.{outcome_of}
+use Rattle.target_vars.specs.EnvValue.{EnvValue}
+use Rattle.verified_runs.specs.RunValue.{RunValue, most_bytes}
+use Rattle.registry.specs.Fates.{Fate, OverBudget, ended}
+use Rattle.link_menu.specs.declared.run_set.RunSet.{RunSet}
+use Rattle.link_menu.specs.Fates.{is_over_budget, runs_of}
+use Rattle.link_menu.specs.Private.Rounds.{AreFresh}
+
+-- the bound on bytes, where it is over budget
+abbrev pub excess_of : Code × EnvValue → Option ℕ
+excess_of p = if is_over_budget p.0 p.1 then Some (most_bytes p.0 p.1) else None
+
+-- each code is over budget on its environment, or its run is at its start
+pub record IsRunSetOf (pairs : List (Code × EnvValue)) (b : RunSet) : Type 0 where
+  pub over_budget : b.over_budget.items ≡ map excess_of pairs
+  pub runs : b.runs.items ≡ runs_of pairs
+  pub fresh : AreFresh b.runs.items
+
+-- what a run comes to in the end
+abbrev pub outcome_in_the_end : RunValue → Outcome
+outcome_in_the_end run = outcome_of run.code run.env.entries
+
+-- over budget, or the next outcome
+abbrev pub fates_in : List (Option ℕ) → List Outcome → List Fate
+fates_in [] outcomes = []
+fates_in (Some bytes ∷ over_budget) outcomes = OverBudget bytes ∷ fates_in over_budget outcomes
+fates_in (None ∷ over_budget) [] = []
+fates_in (None ∷ over_budget) (outcome ∷ outcomes) = ended outcome ∷ fates_in over_budget outcomes

@@ -1,0 +1,57 @@
+//! A watch that keeps what it was shown.
+
+ghost use Rattle.std.specs.Prelude.{◌≡◌, [], map};
+
+use crate::watch::Watch;
+use std::alloc::{AllocError, Global};
+use std::marker::Model;
+use verified_runs::Run;
+
+/// A watch that keeps, each time, how many steps each run has carried out. Contracts see its lists, in their order.
+#[derive(Drop)]
+pub struct Shown {
+    alloc: Global,
+    lists: Vec<Vec<u64>>,
+}
+
+impl Model for Shown {
+    ghost use Rattle.std.specs.Prelude.{ℕ, List, map};
+
+    ghost Value = { List (List ℕ) };
+
+    ghost view = { λ shown. map (λ list. list.items) shown.lists.items };
+}
+
+impl Shown {
+    /// A watch that was shown nothing. It takes no memory.
+    pub fn new(alloc: Global) -> Shown
+        ensures { result ≡ [] }
+    {
+        Shown {
+            alloc,
+            lists: Vec::new(alloc),
+        }
+    }
+
+    /// What it was shown. It takes no memory.
+    pub fn lists(&self) -> &[Vec<u64>]
+        ensures { map (λ list. list.items) result.now ≡ self.now }
+    {
+        self.lists.as_slice()
+    }
+}
+
+impl Watch for Shown {
+    ghost use Rattle.std.specs.Prelude.{Some};
+
+    ghost lists = { λ shown. Some shown };
+
+    fn seen(&mut self, runs: &[Run]) -> Result<(), AllocError> {
+        let steps = runs
+            .iter()
+            .map(|run| run.steps())
+            .collect::<Vec<u64>>(self.alloc)?;
+        self.lists.push(steps)?;
+        Ok(())
+    }
+}

@@ -1,0 +1,102 @@
+//! The menu of a registry and a request.
+
+ghost use Rattle.std.specs.Prelude.{◌≡◌, IfOk, OnErr, OnOk, map};
+ghost use Rattle.std.specs.List.{list_any};
+ghost use Rattle.registry.specs.Entries.{menu_of};
+ghost use Rattle.link_menu.specs.Fates.{said};
+ghost use Rattle.link_menu.specs.StepLists.{HasSeenAll, HasSeenSome};
+ghost use Rattle.link_menu.specs.RowsByRound.{step_lists_in_all_rounds};
+ghost use Rattle.link_menu.specs.Private.Searches as spec;
+
+use crate::batch::Batch;
+use crate::blind::Blind;
+use crate::citation::Citation;
+use crate::fate::Fate;
+use crate::rounds::round;
+use crate::target_search::TargetSearch;
+use crate::watch::Watch;
+use kev_read::Request;
+use menu::Menu;
+use registry::laws::{matching_rows_rise, rows_are_tried_in_order};
+use registry::{Registry, Target};
+use std::alloc::{AllocError, Global};
+
+/// The menu of a request: what each target of the registry gives for it, in their order. The matching rows of a target
+/// are tried in their order, and the first that gives a web link gives the target's link.
+///
+/// `AllocError` where a growth was refused.
+pub fn resolve(alloc: Global, registry: &Registry, request: &Request) -> Result<Menu, AllocError>
+    ensures { IfOk result (λ menu. menu ≡ menu_of registry.now request.now.pairs) }
+{
+    resolve_watched(alloc, registry, request, &mut Blind)
+}
+
+/// The menu of a request, with a watch that is shown the runs. It comes in rounds: in each, every target that has no web
+/// link yet tries its next matching row, all of them side by side, as [`round`] runs them. The watch is shown what each
+/// round shows, one round after another.
+///
+/// `AllocError` where a growth was refused; the watch then has seen what was shown until then.
+pub fn resolve_watched<W: Watch>(
+    alloc: Global,
+    registry: &Registry,
+    request: &Request,
+    watch: &mut W,
+) -> Result<Menu, AllocError>
+    ensures menu { IfOk result (λ menu. menu ≡ menu_of registry.now request.now.pairs) }
+    ensures shown { OnOk result (HasSeenAll (step_lists_in_all_rounds registry.now request.now.pairs) (W.lists watch.old) (W.lists watch.new)) }
+    ensures err { OnErr result (HasSeenSome (step_lists_in_all_rounds registry.now request.now.pairs) (W.lists watch.old) (W.lists watch.new)) }
+{
+    rows_are_tried_in_order();
+    matching_rows_rise();
+    let citation = Citation::new(alloc, request)?;
+    let mut searches = begin_all(alloc, registry.targets(), &citation)?;
+    while is_any_open(&searches) {
+        let batch = Batch::of(alloc, &searches, &citation)?;
+        let fates = round(alloc, &batch.codes, &batch.envs, watch)?;
+        take_over_all(searches.as_mut_slice(), fates, &citation);
+    }
+    menu_so_far(alloc, searches)
+}
+
+fn begin_all<'a>(
+    alloc: Global,
+    targets: &'a [Target],
+    citation: &Citation,
+) -> Result<Vec<TargetSearch<'a>>, AllocError>
+    ensures { IfOk result (λ searches. searches.items ≡ map (spec.started citation.now) targets.now) }
+{
+    targets
+        .iter()
+        .map(|target| TargetSearch::begin(target, citation))
+        .collect(alloc)
+}
+
+fn is_any_open(searches: &[TargetSearch]) -> bool
+    ensures { result ≡ list_any spec.is_open searches.now }
+{
+    searches.iter().any(|search| search.is_open())
+}
+
+/// Takes over the fates of one round, which are those of the searches that have a next row.
+fn take_over_all(searches: &mut [TargetSearch], fates: Vec<Fate>, citation: &Citation)
+    requires { map said fates.items ≡ spec.fates_next citation.now searches.old }
+    ensures { searches.new ≡ map (spec.after_next_row citation.now) searches.old }
+{
+    let mut fates = fates.into_iter();
+    for search in searches.iter_mut() {
+        if search.is_open() {
+            search.take_over(fates.next().unwrap(), citation);
+        }
+    }
+}
+
+/// The menu of the reasons so far.
+fn menu_so_far(alloc: Global, searches: Vec<TargetSearch>) -> Result<Menu, AllocError>
+    ensures { IfOk result (λ menu. menu ≡ map spec.entry_so_far searches.entry.items) }
+{
+    let mut entries = Vec::with_capacity(alloc, searches.len())?;
+    for search in searches {
+        entries.push(search.into_entry(alloc)?)?;
+    }
+    Ok(Menu::new(entries))
+}

@@ -1,0 +1,83 @@
+//! Runs that are begun together, and what is over budget beside them.
+
+ghost use Rattle.std.specs.Prelude.{◌≡◌, ◌++◌, [], ◌∷◌, IfOk, OnOk, length, map, count_by, is_none};
+ghost use Rattle.std.specs.List.{zip};
+ghost use Rattle.link_menu.specs.Fates.{runs_of, said};
+ghost use Rattle.link_menu.specs.Private.Rounds.{AreFresh};
+ghost use Rattle.link_menu.specs.Private.RunSets.{IsRunSetOf, excess_of, fates_in, outcome_in_the_end};
+
+use crate::fate::Fate;
+use machine_laws::course_is_decided;
+use std::alloc::{AllocError, Global};
+use target_vars::Env;
+use verified_runs::{PrepareError, Run, prepare};
+use verifier::Verified;
+
+/// Codes on environments whose runs are begun together.
+#[derive(Drop)]
+pub(crate) struct RunSet<'a> {
+    /// For each, in order, the bound on its bytes where that is over budget. All others have a run.
+    pub(crate) over_budget: Vec<Option<u64>>,
+    pub(crate) runs: Vec<Run<'a>>,
+}
+
+impl<'a> RunSet<'a> {
+    /// Begins the run of each code on its environment, but of those that are over budget.
+    ///
+    /// `AllocError` where a growth was refused.
+    pub(crate) fn begin_all(
+        alloc: Global,
+        codes: &[&'a Verified],
+        envs: &'a [Env],
+    ) -> Result<RunSet<'a>, AllocError>
+        requires { length codes.now ≡ length envs.now }
+        ensures { IfOk result (IsRunSetOf (zip (map (λ c. c.now) codes.now) envs.now)) }
+    {
+        let mut run_set = RunSet {
+            over_budget: Vec::new(alloc),
+            runs: Vec::new(alloc),
+        };
+        for (code, env) in codes.iter().zip(envs.iter()) {
+            run_set.begin(alloc, code, env)?;
+        }
+        Ok(run_set)
+    }
+
+    fn begin(&mut self, alloc: Global, code: &'a Verified, env: &'a Env) -> Result<(), AllocError>
+        ensures over_budget { OnOk result (self.new.over_budget.items ≡ self.old.over_budget.items ++ excess_of (code.now, env.now) ∷ []) }
+        ensures runs { OnOk result (self.new.runs.items ≡ self.old.runs.items ++ runs_of ((code.now, env.now) ∷ [])) }
+        ensures fresh { OnOk result (AreFresh (runs_of ((code.now, env.now) ∷ []))) }
+    {
+        course_is_decided();
+        let _accepted = code.code();
+        match prepare(alloc, code, env) {
+            Ok(run) => {
+                self.runs.push(run)?;
+                self.over_budget.push(None)?;
+            }
+            Err(PrepareError::OverBudget(bytes)) => self.over_budget.push(Some(bytes))?,
+            Err(PrepareError::NoMemory) => return Err(AllocError),
+        }
+        Ok(())
+    }
+
+    /// Carries out what is left of each run, and answers the fates in the order in which they were begun.
+    ///
+    /// `AllocError` where a growth was refused.
+    pub(crate) fn finish_all(self, alloc: Global) -> Result<Vec<Fate>, AllocError>
+        requires { count_by is_none self.over_budget.items ≡ length self.runs.items }
+        ensures { IfOk result (λ fates. map said fates.items ≡ fates_in self.entry.over_budget.items (map outcome_in_the_end self.entry.runs.items)) }
+    {
+        course_is_decided();
+        let RunSet { over_budget, runs } = self;
+        let mut fates = Vec::with_capacity(alloc, over_budget.len())?;
+        let mut runs = runs.into_iter();
+        for excess in &over_budget {
+            fates.push(match excess {
+                Some(bytes) => Fate::OverBudget(*bytes),
+                None => Fate::of(runs.next().unwrap().finish()),
+            })?;
+        }
+        Ok(fates)
+    }
+}

@@ -1,0 +1,88 @@
+//! The search for a target's link, row after row.
+
+ghost use Rattle.std.specs.Prelude.{◌≡◌, IfOk};
+ghost use Rattle.menu.specs.Links as links;
+ghost use Rattle.link_menu.specs.Fates.{said};
+ghost use Rattle.link_menu.specs.Private.Searches as spec;
+
+use crate::citation::Citation;
+use crate::fate::Fate;
+use menu::{MenuEntry, Resolution, Text};
+use registry::Target;
+use std::alloc::{AllocError, Global};
+use std::marker::Model;
+
+/// The search for a target's link. Contracts see the target, the row to be tried next, and the reason so far.
+#[derive(Drop)]
+pub(crate) struct TargetSearch<'a> {
+    pub(crate) target: &'a Target,
+    /// None where a row gave a link, or no more row matches.
+    pub(crate) next: Option<usize>,
+    pub(crate) resolution: Resolution,
+}
+
+impl<'a> Model for TargetSearch<'a> {
+    ghost use Rattle.std.specs.Prelude.{◌<◌, IfSome, length};
+    ghost use Rattle.link_menu.specs.Private.Searches.{SearchValue};
+
+    ghost Value = { SearchValue };
+
+    ghost view = { λ s. record { target = s.target.now; next = s.next; resolution = s.resolution } };
+
+    ghost invariant = { λ s. IfSome s.next (λ row. row < length s.target.now.table.rows) };
+}
+
+impl<'a> TargetSearch<'a> {
+    /// A search that has tried no row.
+    pub(crate) fn begin(target: &'a Target, citation: &Citation) -> TargetSearch<'a>
+        ensures { result ≡ spec.started citation.now target.now }
+    {
+        TargetSearch {
+            target,
+            next: citation.next_row(target, 0),
+            resolution: Resolution::NoRow,
+        }
+    }
+
+    pub(crate) fn is_open(&self) -> bool
+        ensures { result ≡ spec.is_open self.now }
+    {
+        self.next.is_some()
+    }
+
+    /// Takes over what became of the next row, and goes on to the one after it, unless it gave a link.
+    pub(crate) fn take_over(&mut self, fate: Fate, citation: &Citation)
+        ensures { self.new ≡ spec.after_fate citation.now self.old (said fate) }
+    {
+        let Some(row) = self.next else {
+            return;
+        };
+        let _rows = self.target.table().rows();
+        let resolution = fate.into_resolution(row);
+        self.next = if is_link(&resolution) {
+            None
+        } else {
+            citation.next_row(self.target, row + 1)
+        };
+        self.resolution = resolution;
+    }
+
+    /// The target's name, with the reason so far.
+    ///
+    /// `AllocError` where a growth was refused.
+    pub(crate) fn into_entry(self, alloc: Global) -> Result<MenuEntry, AllocError>
+        ensures { IfOk result (λ entry. entry ≡ spec.entry_so_far self.entry) }
+    {
+        let name = Text::new(String::from_str(alloc, self.target.name())?);
+        Ok(MenuEntry {
+            name,
+            resolution: self.resolution,
+        })
+    }
+}
+
+fn is_link(resolution: &Resolution) -> bool
+    ensures { result ≡ links.is_link resolution.now }
+{
+    matches!(resolution, Resolution::Link { .. })
+}
