@@ -1,0 +1,105 @@
+"""The crates of crates.txt that a program stands on: their order, how long each takes, and what is proved."""
+
+import hashlib
+import os
+
+PARTS = ("src", "specs", "proofs")
+# How much of the time of a proof the crates below add, per byte of their src/, and what each proof costs at least, in
+# bytes of src/. Compared with measured times, the bytes of src/ predict far better than those of specs/ and proofs/.
+BELOW = 0.03
+LEAST = 3000
+
+
+def read(root):
+    """Returns the line of each crate that crates.txt lists, by name, and its dependencies among them."""
+    lines = {}
+    with open(f"{root}/crates.txt", encoding="utf-8") as file:
+        for row in file:
+            row = row.partition("#")[0].strip()
+            if row:
+                lines[row.partition(":")[0].split()[0]] = row
+    words = {name: row.partition(":")[2].replace(",", " ").split() for name, row in lines.items()}
+    return lines, {name: [dep for dep in deps if dep in lines] for name, deps in words.items()}
+
+
+class Crates:
+    """A program and the crates that it stands on; `names` has each after those that it stands on, the program last."""
+
+    def __init__(self, root, program, kit):
+        self.root, self.program, self.kit = root, program, kit
+        self.lines, self.deps = read(root)
+        self.names, self.below = [], {}
+        self._visit(program)
+        size = {name: self._size(name) for name in self.names}
+        self.weight = {it: LEAST + size[it] + BELOW * sum(size[low] for low in self.below[it]) for it in self.names}
+        self.chain = self._chains()
+        self.own = {name: self.own_sum(name) for name in self.names}
+        self.sums = {}
+        for name in self.names:
+            parts = [kit, self.lines[name], self.own[name], *(self.sums[dep] for dep in self.deps[name])]
+            self.sums[name] = hashlib.sha256(repr(parts).encode()).hexdigest()
+
+    def _visit(self, name):
+        for dep in self.deps[name]:
+            if dep not in self.below:
+                self._visit(dep)
+        self.below[name] = {*self.deps[name]}.union(*(self.below[dep] for dep in self.deps[name]))
+        self.names.append(name)
+
+    def _chains(self):
+        """Returns, for each crate, the weight of the longest chain of crates from it up to the program."""
+        above = {name: 0 for name in self.names}
+        chain = {}
+        for name in reversed(self.names):
+            chain[name] = self.weight[name] + above[name]
+            for dep in self.deps[name]:
+                above[dep] = max(above[dep], chain[name])
+        return chain
+
+    def folder(self, name):
+        return f"{self.root}/crates/{name}"
+
+    def _size(self, name):
+        return sum(os.path.getsize(file) for file in files(self.folder(name), ("src",)))
+
+    def own_sum(self, name):
+        """Returns a sum of the crate's own sources."""
+        folder, found = self.folder(name), hashlib.sha256()
+        for path in files(folder, PARTS):
+            with open(path, "rb") as file:
+                text = file.read()
+            found.update(f"{path[len(folder):]} {len(text)}\n".encode() + text)
+        return found.hexdigest()
+
+    def is_proved(self, name):
+        """Returns whether the library that is built was proved from these sources, with this toolchain. `rt lib` tests
+        the same in up to a minute. The final build does not rely on this: rt tests there what it builds on."""
+        return name != self.program and _text(self._mark(name)) == self.sums[name]
+
+    def mark_proved(self, name):
+        """Notes that `rt lib` has proved the crate, unless its sources have changed since the start. rt removes the
+        note with the library."""
+        stamp = f"{self.folder(name)}/out/rlib/stamp"
+        if name != self.program and os.path.isfile(stamp) and self.own_sum(name) == self.own[name]:
+            with open(self._mark(name), "w", encoding="utf-8") as file:
+                file.write(self.sums[name])
+
+    def _mark(self, name):
+        return f"{self.folder(name)}/out/rlib/sum"
+
+
+def files(folder, parts):
+    """Returns the paths of the files in these parts of a crate's folder, sorted."""
+    found = []
+    for part in parts:
+        for below, _, names in os.walk(f"{folder}/{part}"):
+            found += [f"{below}/{name}" for name in names]
+    return sorted(found)
+
+
+def _text(path):
+    try:
+        with open(path, encoding="utf-8") as file:
+            return file.read()
+    except OSError:
+        return None
