@@ -1,5 +1,19 @@
 //! The menu of a registry and a request, and the runs that it takes, carried on side by side: turn by turn in any
 //! order, or all of them until each has ended.
+//!
+//! What becomes of one target, from left to right; a row without a link leads back to the next matching row:
+//!
+//! ```text
+//! TargetSearch ──> Batch ──> RunSet ──> Fate ──> Resolution ──> MenuEntry
+//! the next row     its code  its run,   what     a link, or     the target's
+//! that the         and its   or that    its run  why there      name and its
+//! Citation has     environ-  it is over  came    is none        resolution
+//!      ^           ment      budget     to           │
+//!      └──────────── no link, and a further row ─────┘
+//! ```
+//!
+//! All targets are searched side by side: a [`round`] tries one row of each. A [`Watch`] is shown the runs of a round
+//! after each turn; [`Shown`] keeps what it was shown, and [`Blind`] keeps nothing.
 #![tactic(auto)]
 
 mod batch;

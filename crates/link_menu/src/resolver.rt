@@ -90,7 +90,7 @@ fn take_over_all(searches: &mut [TargetSearch], fates: Vec<Fate>, citation: &Cit
     }
 }
 
-/// The menu of the reasons so far.
+/// The menu of the resolutions so far.
 fn menu_so_far(alloc: Global, searches: Vec<TargetSearch>) -> Result<Menu, AllocError>
     ensures { IfOk result (λ menu. menu ≡ map spec.entry_so_far searches.entry.items) }
 {

@@ -12,7 +12,7 @@ use registry::Target;
 use std::alloc::{AllocError, Global};
 use std::marker::Model;
 
-/// The search for a target's link. Contracts see the target, the row to be tried next, and the reason so far.
+/// The search for a target's link. Contracts see the target, the row to be tried next, and the resolution so far.
 #[derive(Drop)]
 pub(crate) struct TargetSearch<'a> {
     pub(crate) target: &'a Target,
@@ -67,7 +67,7 @@ impl<'a> TargetSearch<'a> {
         self.resolution = resolution;
     }
 
-    /// The target's name, with the reason so far.
+    /// The target's name, with the resolution so far.
     ///
     /// `AllocError` where a growth was refused.
     pub(crate) fn into_entry(self, alloc: Global) -> Result<MenuEntry, AllocError>

@@ -43,7 +43,7 @@ impl Text {
     }
 }
 
-/// Why a target's entry is as it is.
+/// What a target's rows led to: its link, or the reason why it has none.
 #[derive(Debug, Drop)]
 pub enum Resolution {
     /// A row of the target's table gave a link; rows count from 0.
@@ -63,7 +63,7 @@ pub enum Resolution {
 pub struct MenuEntry {
     /// The target's name.
     pub name: Text,
-    /// Its link, or why it has none.
+    /// What its rows led to.
     pub resolution: Resolution,
 }
 

@@ -18,7 +18,7 @@ use Rattle.link_menu.specs.Fates.{fate_of, runs_of}
 use Rattle.link_menu.specs.StepLists.{ends_of}
 use Rattle.link_menu.specs.RowsByRound.{steps_of_row}
 
--- a target, the matching row that is tried next, and the reason so far
+-- a target, the matching row that is tried next, and the resolution so far
 pub record SearchValue : Type 0 where
   pub target : TargetValue
   pub next : Option ℕ
@@ -60,7 +60,7 @@ pub record IsBatchOf (pairs : List KeyValue) (searches : List SearchValue) (batc
 
 -- ---- a row after another
 
--- the row came to the reason; behind a link there is no next one
+-- the row came to the resolution; after a link there is no next row
 abbrev pub after_row : List KeyValue → TargetValue → ℕ → Resolution → SearchValue
 after_row pairs target row resolution =
     record {
