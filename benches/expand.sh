@@ -52,6 +52,6 @@ if [ $# -gt 0 ]; then
     table "$scratch/before" "$1"
 fi
 mkdir "$scratch/now"
-git ls-files -z --cached --others --exclude-standard crates crates.txt | tar -c --null --ignore-failed-read -T - 2> "$scratch/left-out" | tar -x -C "$scratch/now"
+benches/copy_crates "$scratch/now"
 build "$scratch/now"
 table "$scratch/now" 'working tree'

@@ -5,7 +5,7 @@ set -eu
 cd "$(dirname "$0")/.."
 scratch=$(mktemp -d)
 trap 'rm -rf "$scratch"' EXIT
-git ls-files -z --cached --others --exclude-standard crates crates.txt | tar -c --null --ignore-failed-read -T - 2> "$scratch/left-out" | tar -x -C "$scratch"
+benches/copy_crates "$scratch"
 mkdir -p "$scratch/crates/runs_bench/src"
 cp benches/runs.rt.txt "$scratch/crates/runs_bench/src/main.rt"
 echo 'runs_bench: target_vars code_file interpreter verifier' >> "$scratch/crates.txt"

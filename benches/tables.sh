@@ -8,8 +8,7 @@ scratch=$(mktemp -d)
 trap 'rm -rf "$scratch"' EXIT
 
 mkdir "$scratch/now"
-git ls-files -z --cached --others --exclude-standard crates crates.txt |
-  tar -c --null --ignore-failed-read -T - 2> "$scratch/left-out" | tar -x -C "$scratch/now"
+benches/copy_crates "$scratch/now"
 mkdir -p "$scratch/now/crates/tables_bench/src"
 cp benches/tables.rt.txt "$scratch/now/crates/tables_bench/src/main.rt"
 echo 'tables_bench: kbart_rows kev_read' >> "$scratch/now/crates.txt"
