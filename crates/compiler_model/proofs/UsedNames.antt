@@ -81,7 +81,7 @@ guard_named lists (guard.Counts name low high) h = (h.0, (tt, (bound_named (IsLe
 guards_named : (lists : List Text) (gs : List Guard) → All (IsSoundGuard lists) gs → IsNamed (guards_block lists gs)
 guards_named lists [] h = tt
 guards_named lists (g ∷ gs) h =
-    (guard_named lists g (All-head (IsSoundGuard lists) g gs h).words, guards_named lists gs (All-tail (IsSoundGuard lists) g gs h))
+    (guard_named lists g (All-head (IsSoundGuard lists) g gs h).tokens, guards_named lists gs (All-tail (IsSoundGuard lists) g gs h))
 
 -- ---- expressions
 

@@ -59,12 +59,12 @@ pub fn run_arguments<
     let mut errors = Vec::with_capacity(rt.alloc(), 64 + fault.len())?;
     let answer = command(rt, arguments, &mut output, &mut errors);
     if is_out_of_memory(&errors) {
-        assert_eq!(rt; (answer, output.len()), (4, 0), "{words:?}");
+        assert_eq!(rt; (answer, output.len()), (4, 0), "{arguments:?}");
         return Err(AllocError.into());
     }
-    assert_eq!(rt; answer, status, "{words:?}");
-    assert_eq!(rt; output.as_slice(), printed.as_bytes(), "{words:?}");
-    assert_eq!(rt; errors.as_slice(), fault.as_bytes(), "{words:?}");
+    assert_eq!(rt; answer, status, "{arguments:?}");
+    assert_eq!(rt; output.as_slice(), printed.as_bytes(), "{arguments:?}");
+    assert_eq!(rt; errors.as_slice(), fault.as_bytes(), "{arguments:?}");
     Ok(())
 }
 

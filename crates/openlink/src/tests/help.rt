@@ -22,7 +22,7 @@ fn printed<
     if is_out_of_memory(&errors) {
         return Err(AllocError.into());
     }
-    assert_eq!(rt; (status, errors.len()), (0, 0), "{word}");
+    assert_eq!(rt; (status, errors.len()), (0, 0), "{argument}");
     Ok(String::from_utf8(output)?)
 }
 
@@ -35,7 +35,7 @@ fn names_each_command(rt: HostRuntime) -> Result<(), Fail> {
     }
     for argument in ["-h", "help"] {
         let same = printed(&rt, argument)?;
-        assert_eq!(rt; same.as_str(), help.as_str(), "{word}");
+        assert_eq!(rt; same.as_str(), help.as_str(), "{argument}");
     }
     Ok(())
 }
