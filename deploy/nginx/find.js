@@ -1,0 +1,672 @@
+// The front door of the link resolver: reads an OpenURL of any source, asks the program for its menu, and makes the
+// reader's page. An operator edits nothing here: labels and words are in targets.json.
+//
+// It runs in njs 0.7.9 and later. That version lacks for-of, destructuring, spread, default parameters, classes, Map and
+// `?.`, and it frees no memory before the reply is sent. So texts are joined from arrays, and cut before a regular
+// expression reads them.
+
+const VERSION = 'Z39.88-2004';
+const UTF8 = 'info:ofi/enc:UTF-8';
+const MOST_PAIRS = 300;
+const MOST_BYTES = 12000;
+
+// ---------------------------------------------------------------- Encoding
+
+// The bytes 80 to 9f of windows-1252, which is what browsers and vendors mean by Latin-1.
+const WINDOWS_1252 = '\u20ac\u0081\u201a\u0192\u201e\u2026\u2020\u2021\u02c6\u2030\u0160\u2039\u0152\u008d\u017d\u008f'
+    + '\u0090\u2018\u2019\u201c\u201d\u2022\u2013\u2014\u02dc\u2122\u0161\u203a\u0153\u009d\u017e\u0178';
+
+function windows1252(text) {
+    return text.replace(/%([0-9a-f]{2})/gi, function (escape, hex) {
+        const byte = parseInt(hex, 16);
+        return byte >= 0x80 && byte < 0xa0 ? WINDOWS_1252.charAt(byte - 0x80) : String.fromCharCode(byte);
+    });
+}
+
+function encode(text) {
+    if (/^[\w.~-]*$/.test(text)) return text;
+    try {
+        return encodeURIComponent(text);
+    } catch (e) {
+        return encodeURIComponent(text.replace(/[\ud800-\udfff]/g, '\ufffd'));
+    }
+}
+
+// ---------------------------------------------------------------- A query
+
+const NONE = [];
+
+function set(names) {
+    const members = Object.create(null);
+    names.split(' ').forEach(function (name) { members[name] = true; });
+    return members;
+}
+
+// The columns of a KBART table. An empty cell is undefined, so a request that could write one would choose the link.
+const COLUMNS = set('publication_title print_identifier online_identifier date_first_issue_online num_first_vol_online '
+    + 'num_first_issue_online date_last_issue_online num_last_vol_online num_last_issue_online title_url first_author '
+    + 'title_id embargo_info coverage_depth notes publisher_name publication_type date_monograph_published_print '
+    + 'date_monograph_published_online monograph_volume monograph_edition first_editor parent_publication_title_id '
+    + 'preceding_publication_title_id access_type');
+
+// The keys that find rows, with their forms in OpenURL 0.1. The program ignores '-' and spaces in their values.
+const NUMBER_KEYS = set('rft.issn rft.eissn rft.isbn issn eissn isbn');
+
+function isDropped(key, value) {
+    return value.trim() === '' || key.slice(0, 2) === 'x.' || COLUMNS[key] === true
+        || (key === 'rft_id' && /^(?:info:[\w-]+[\/:]|urn:\w+:|(?:doi|pmid|oclc):)\s*$/i.test(value))
+        || (NUMBER_KEYS[key] === true && /^any$/i.test(value.slice(0, 99).replace(/[- ]/g, '')));
+}
+
+// A query while the rules work on it. `pairs` are those of the request, `given` their values by key, `added` the values
+// that the rules put before them. Each pair is read once.
+function Query(args) {
+    let text = args.replace(/&(?:amp;)+/gi, '&');
+    if (text.indexOf('&') < 0) text = text.replace(/;(?=[\w.]+=)/g, '&');
+    this.pairs = [];
+    this.given = Object.create(null);
+    this.added = Object.create(null);
+    this.copied = Object.create(null);
+    this.isLatin1 = /(?:^|&)ctx_enc=[^&]{0,40}(?:8859-1|latin-?1|1252)(?:&|$)/i.test(text);
+    this.latin1Texts = 0;
+    let start = 0;
+    for (let count = 0; start < text.length && count < MOST_PAIRS;) {
+        const next = text.indexOf('&', start);
+        const end = next < 0 ? text.length : next;
+        if (this.read(text.slice(start, end))) count++;
+        start = end + 1;
+    }
+}
+
+// UTF-8, or windows-1252 where the text is not UTF-8 or the request declares Latin-1. A '%' of no escape is a '%'.
+Query.prototype.decode = function (raw) {
+    if (/^[\x21-\x24\x26-\x2a\x2c-\x7e]*$/.test(raw)) return raw;
+    const text = raw.replace(/\+/g, ' ');
+    if (!this.isLatin1 || !/%[89a-f]/i.test(raw)) {
+        try {
+            return decodeURIComponent(text.replace(/%(?![0-9a-f]{2})/gi, '%25'));
+        } catch (e) { /* not UTF-8 */ }
+    }
+    this.latin1Texts++;
+    return windows1252(text);
+};
+
+// Reads one pair and returns whether it has a value.
+Query.prototype.read = function (raw) {
+    const at = raw.indexOf('=');
+    if (at < 0 || at === raw.length - 1) return false;
+    const before = this.latin1Texts;
+    const key = this.decode(raw.slice(0, at));
+    const value = this.decode(raw.slice(at + 1));
+    if (isDropped(key, value)) return true;
+    const isPlain = this.latin1Texts === before && /^[\x21-\x7e]*$/.test(raw);
+    this.pairs.push({ key: key, text: isPlain ? raw : encode(key) + '=' + encode(value) });
+    if (this.given[key]) this.given[key].push(value);
+    else this.given[key] = [value];
+    return true;
+};
+
+Query.prototype.first = function (key) { return (this.added[key] || this.given[key] || NONE)[0] || ''; };
+Query.prototype.has = function (key) { return this.first(key) !== ''; };
+Query.prototype.all = function (key) { return (this.added[key] || NONE).concat(this.given[key] || NONE); };
+
+// Puts one more value before the request's.
+Query.prototype.add = function (key, value) {
+    if (this.added[key]) this.added[key].push(value);
+    else this.added[key] = [value];
+};
+
+// Makes a value the first of its key, the one that counts.
+Query.prototype.lead = function (key, value) {
+    if (this.first(key) !== value) this.added[key] = [value];
+};
+
+// Gives a key the values of another one, if it has none.
+Query.prototype.copy = function (from, to) {
+    if (!this.has(from) || this.has(to)) return;
+    this.added[to] = this.all(from);
+    this.copied[from] = true;
+};
+
+Query.prototype.drop = function (key) {
+    this.pairs = this.pairs.filter(function (pair) { return pair.key !== key; });
+    delete this.given[key];
+    delete this.added[key];
+};
+
+// The query as text, with `first` before it and without the keys of `omitted`. If it is too long, the pairs are left out
+// that a rule has copied or replaced, then pairs from the end.
+Query.prototype.text = function (first, omitted) {
+    const q = this;
+    const parts = first === '' ? [] : [first];
+    Object.keys(q.added).forEach(function (key) {
+        if (omitted[key] !== true) q.added[key].forEach(function (value) { parts.push(encode(key) + '=' + encode(value)); });
+    });
+    let pairs = q.pairs.filter(function (pair) { return omitted[pair.key] !== true; });
+    const bytes = function () {
+        return parts.reduce(function (sum, part) { return sum + part.length + 1; }, -1)
+            + pairs.reduce(function (sum, pair) { return sum + pair.text.length + 1; }, 0);
+    };
+    if (bytes() > MOST_BYTES) {
+        pairs = pairs.filter(function (pair) {
+            return !q.copied[pair.key] && (!q.added[pair.key] || pair.key === 'rft_id');
+        });
+    }
+    let length = bytes();
+    pairs.forEach(function (pair) { parts.push(pair.text); });
+    while (length > MOST_BYTES) length -= parts.pop().length + 1;
+    return parts.join('&');
+};
+
+// ---------------------------------------------------------------- The rules
+
+// In their order; each is a function of the query that the rules before it have left.
+const RULES = [
+    version,      // a version that is not OpenURL 1.0's is corrected
+    oldKeys,      // the keys of OpenURL 0.1 give those of 1.0
+    title,        // `title` is a book's, a dissertation's or a journal's
+    format,       // a request that does not say its format is a book's or a journal's
+    identifiers,  // DOIs, PubMed and OCLC numbers, ISSNs and ISBNs are found in any form
+    numbers,      // ISSNs and ISBNs are found in their values, and written as the standards do
+    date,         // a date becomes YEAR-MONTH-DAY, YEAR-MONTH or YEAR
+    page,         // the first page is found in the range of pages
+    encoding      // what was Latin-1 is UTF-8 now, and says so
+];
+
+function version(q) {
+    ['ctx_ver', 'url_ver'].forEach(function (key) {
+        if (!q.has(key) || q.first(key) === VERSION) return;
+        q.drop(key);
+        q.add(key, VERSION);
+    });
+}
+
+const OLD_KEYS = ('genre issn eissn isbn eisbn volume issue spage epage pages artnum date year atitle jtitle btitle stitle '
+    + 'au aulast aufirst auinit auinit1 aucorp part ssn quarter sici coden').split(' ');
+
+function oldKeys(q) {
+    OLD_KEYS.forEach(function (key) { q.copy(key, 'rft.' + key); });
+    q.copy('pid', 'rft_dat');
+    if (!q.has('sid') || q.has('rfr_id')) return;
+    q.add('rfr_id', 'info:sid/' + q.first('sid').replace(/^info:sid\//, ''));
+    q.copied.sid = true;
+}
+
+// What a request is for: a book, a dissertation or a journal. Conferences and proceedings may be either of two.
+function kindOf(q) {
+    const genre = q.first('rft.genre').trim().toLowerCase();
+    if (/^(?:book|bookitem|report|document)$/.test(genre)) return 'book';
+    if (/^(?:dissertation|journal)$/.test(genre)) return genre;
+    if (/^(?:article|issue|preprint)$/.test(genre)) return 'journal';
+    const hasIsbn = q.has('rft.isbn') || q.has('rft.eisbn');
+    const hasIssn = q.has('rft.issn') || q.has('rft.eissn');
+    return (hasIsbn && !hasIssn) || (q.has('rft.btitle') && !q.has('rft.jtitle')) ? 'book' : 'journal';
+}
+
+const TITLES = { book: 'rft.btitle', dissertation: 'rft.title', journal: 'rft.jtitle' };
+
+function title(q) {
+    if (q.has('rft.btitle') || q.has('rft.title') || q.has('rft.jtitle')) return;
+    q.copy('title', TITLES[kindOf(q)]);
+}
+
+function format(q) {
+    if (!q.has('rft_val_fmt') && q.pairs.length > 0) q.add('rft_val_fmt', 'info:ofi/fmt:kev:mtx:' + kindOf(q));
+}
+
+// The key, the beginning of the URI in OpenURL 1.0, and the forms in which sources send it.
+const IDENTIFIERS = [
+    ['x.doi', 'info:doi/',
+        /^(?:info:doi[\/:]|doi:|(?:https?:\/\/)?(?:dx\.|www\.)?doi\.org\/)?\s*(10\.[\d.]{4,20}\/\S+)$/i],
+    ['x.pmid', 'info:pmid/', /^(?:info:pmid[\/:]|pmid:)\s*(\d{1,9})$/i],
+    ['x.pmid', 'info:pmid/', /^https?:\/\/(?:www\.)?pubmed\.(?:gov|ncbi\.nlm\.nih\.gov)\/(\d{1,9})(?:[\/?#].*)?$/i],
+    ['x.pmid', 'info:pmid/', /^https?:\/\/(?:www\.)?ncbi\.nlm\.nih\.gov\/pubmed\/(?:\?term=)?(\d{1,9})(?:[\/?#].*)?$/i],
+    ['x.oclc', 'info:oclcnum/',
+        /^(?:info:oclcnum[\/:]|oclc(?:num)?:|https?:\/\/(?:www\.)?worldcat\.org\/oclc\/)\s*(?:\(OCoLC\))?(?:oc[mn])?(\d{1,12})$/i],
+    ['rft.issn', 'urn:ISSN:', /^(?:urn:)?issn:\s*(\d{4}-?\d{3}[\dx])$/i],
+    ['rft.isbn', 'urn:ISBN:', /^(?:urn:)?isbn:\s*([\d-]{9,17}[\dx])$/i]
+];
+
+// The identifier in a value, as [key, number, URI]; a bare number counts under `pmid`. Null if there is none.
+function identifierIn(value, key) {
+    let text = value.trim();
+    if (text.length > 500) return null;
+    if (/%[0-9a-f]{2}/i.test(text)) {
+        try { text = decodeURIComponent(text); } catch (e) { /* not encoded twice */ }
+    }
+    if (/^(?:rft\.)?pmid$/.test(key) && /^\d{1,9}$/.test(text)) text = 'pmid:' + text;
+    for (let i = 0; i < IDENTIFIERS.length; i++) {
+        const found = IDENTIFIERS[i][2].exec(text);
+        if (found === null) continue;
+        const number = IDENTIFIERS[i][0] === 'x.doi' ? found[1].replace(/(?<![.,])[.,]+$/, '') : found[1];
+        return [IDENTIFIERS[i][0], number, IDENTIFIERS[i][1] + number];
+    }
+    return null;
+}
+
+function identifiers(q) {
+    const known = Object.create(null);
+    const numbersOf = { 'rft.issn': [], 'rft.isbn': [] };
+    ['rft_id', 'id', 'rft.doi', 'doi', 'pmid', 'rft.pmid'].forEach(function (source) {
+        q.all(source).forEach(function (value) {
+            const found = identifierIn(value, source);
+            if (found === null) return;
+            if (numbersOf[found[0]]) numbersOf[found[0]].push(found[1]);
+            else if (!q.has(found[0])) q.add(found[0], found[1]);
+            const uri = found[2].toLowerCase();
+            if (source !== 'rft_id') {
+                q.copied[source] = true;
+                if (known[uri] !== true) q.add('rft_id', found[2]);
+            }
+            known[uri] = true;
+        });
+    });
+    if (numbersIn(q, ['rft.issn'], ISSN, 1).length === 0) {
+        numbersOf['rft.issn'].forEach(function (number) { q.add('rft.issn', number); });
+    }
+    if (numbersIn(q, ['rft.isbn'], ISBN, 1).length === 0) {
+        numbersOf['rft.isbn'].forEach(function (number) { q.add('rft.isbn', number); });
+    }
+}
+
+const DASHES = /[\u00ad\u2010-\u2015\u2043\u2212\ufe58\ufe63\uff0d]/g;
+const SPACES = /[\u00a0\u2000-\u200b\u202f\u205f\u3000\ufeff]/g;
+
+function plain(text) { return text.slice(0, 200).replace(DASHES, '-').replace(SPACES, ' ').trim(); }
+
+const ISSN = { form: /(?<![\d-])\d{4}[- ]?\d{3}[\dX](?![\d-])/gi, write: issn };
+const ISBN = { form: /(?<!\d)(?:97[89](?:[- ]?\d){10}|\d(?:[- ]?\d){8}[- ]?[\dX])(?!\d)/gi, write: isbn13 };
+
+function issn(digits) { return digits.slice(0, 4) + '-' + digits.slice(4); }
+
+function isbn13(digits) {
+    if (digits.length === 13) return digits;
+    const body = '978' + digits.slice(0, 9);
+    let sum = 0;
+    for (let i = 0; i < 12; i++) sum += Number(body.charAt(i)) * (i % 2 === 0 ? 1 : 3);
+    return body + (10 - sum % 10) % 10;
+}
+
+// The first `count` different numbers of a kind in the values of the keys.
+function numbersIn(q, keys, kind, count) {
+    const found = [];
+    keys.forEach(function (key) {
+        q.all(key).forEach(function (value) {
+            (plain(value).match(kind.form) || NONE).forEach(function (text) {
+                const number = kind.write(text.replace(/[- ]/g, '').toUpperCase());
+                if (found.length < count && found.indexOf(number) < 0) found.push(number);
+            });
+        });
+    });
+    return found;
+}
+
+function numbers(q) {
+    const issns = numbersIn(q, ['rft.issn', 'rft.eissn'], ISSN, 2);
+    const isbns = numbersIn(q, ['rft.isbn', 'rft.eisbn'], ISBN, 1);
+    [['issn', issns[0]], ['eissn', issns[1]], ['isbn', isbns[0]]].forEach(function (it) {
+        if (it[1] === undefined) return;
+        q.lead('rft.' + it[0], it[1]);
+        q.lead('x.' + it[0], it[1]);
+    });
+}
+
+const MONTHS = 'jan feb mar apr may jun jul aug sep oct nov dec'.split(' ');
+
+// The forms of a date, tried in this order, and what their groups are.
+const DATES = [
+    // 2013-08-01, 2013/08/01, 20130801, each with or without a time
+    [/^([12]\d{3})[-\/. ]?(\d\d)[-\/. ]?(\d\d)(?=\D|\d{4}(?:\d\d)?$|$)/, function (m) { return ymd(m[1], m[2], m[3]); }],
+    // 2013-08, 2013-8-1, 2013-08/2013-09
+    [/^([12]\d{3})[-\/. ](\d{1,2})(?:[-\/. ](\d{1,2}))?(?!\d)/, function (m) { return ymd(m[1], m[2], m[3]); }],
+    // 201308
+    [/^([12]\d{3})(\d\d)$/, function (m) { return ymd(m[1], m[2], 0); }],
+    // 25/12/2013, 12/25/2013
+    [/^(\d{1,2})[-\/.](\d{1,2})[-\/.]([12]\d{3})(?!\d)/, function (m) { return dayAndMonth(m[3], Number(m[1]), Number(m[2])); }],
+    // 08/2013
+    [/^(\d{1,2})[-\/.]([12]\d{3})$/, function (m) { return ymd(m[2], m[1], 0); }],
+    // Aug 2013, Winter 2012/2013
+    [/(?<!\d)([12]\d{3})(?!\d)/, function (m, text) { return ymd(m[1], monthIn(text), 0); }]
+];
+
+// Zero-padded; only the year if there is no such month, only the month if there is no such day.
+function ymd(year, month, day) {
+    if (!(month >= 1 && month <= 12)) return year;
+    const two = function (n) { return ('0' + Number(n)).slice(-2); };
+    return year + '-' + two(month) + (day >= 1 && day <= 31 ? '-' + two(day) : '');
+}
+
+// Two numbers that may both be months can't be told apart, so the year alone is certain.
+function dayAndMonth(year, a, b) {
+    if (a > 12 || a === b) return ymd(year, b, a);
+    return b > 12 ? ymd(year, a, b) : year;
+}
+
+function monthIn(text) {
+    const found = /\b(jan|feb|mar|apr|may|jun|jul|aug|sep|oct|nov|dec)(?:\b|uary|ruary|ch|il|e\b|y\b|ust|t\b|tember|ober|ember)/i.exec(text);
+    return found === null ? 0 : MONTHS.indexOf(found[1].toLowerCase()) + 1;
+}
+
+// The date in a text; '' if no year can be read.
+function dateOf(value) {
+    const text = plain(value);
+    for (let i = 0; i < DATES.length; i++) {
+        const found = DATES[i][0].exec(text);
+        if (found !== null) return DATES[i][1](found, text);
+    }
+    return '';
+}
+
+function date(q) {
+    const dates = q.all('rft.date').slice(0, 1).concat(q.all('rft.year').slice(0, 1)).map(dateOf).filter(Boolean);
+    if (dates.length > 0) q.lead('rft.date', dates[0]);
+    else q.drop('rft.date');
+}
+
+function page(q) {
+    if (q.has('rft.spage')) return;
+    const text = plain(q.first('rft.pages'));
+    const found = /^\W*(?:pages?|pp?)?[.:\s]*([ivxlcdm]+\b|[a-z]{0,3}\d+)/i.exec(text) || /([a-z]{0,3}\d+)/i.exec(text);
+    if (found !== null) q.add('rft.spage', found[1]);
+}
+
+function encoding(q) {
+    if ((!q.isLatin1 && q.latin1Texts === 0) || q.first('ctx_enc') === UTF8) return;
+    q.drop('ctx_enc');
+    q.add('ctx_enc', UTF8);
+}
+
+function queryOf(args) {
+    const q = new Query(args);
+    RULES.forEach(function (rule) { rule(q); });
+    return q;
+}
+
+const ROW_KEYS = set('rft.issn rft.eissn rft.isbn');
+const NO_KEYS = Object.create(null);
+
+function requestText(q) { return q.text('', NO_KEYS); }
+function anyText(q) { return q.text('rft.issn=ANY', ROW_KEYS); }
+
+// The query for targets with tables, and the one for targets that answer every request.
+function requestOf(args) { return requestText(queryOf(args)); }
+function anyOf(args) { return anyText(queryOf(args)); }
+
+// ---------------------------------------------------------------- The page
+
+// The words that targets.json does not have. `{}` is where the value goes.
+const WORDS = {
+    lang: 'en', dir: 'ltr', library: 'Library', heading: 'Find this item', noCitation: 'No reference was given.',
+    nothing: 'We found no full text online.', help: '', helpLink: '', links: 'Links',
+    volume: 'vol. {}', issue: 'no. {}', pages: 'p. {}', others: '{} and others',
+    doi: 'DOI {}', pmid: 'PubMed {}', issn: 'ISSN {}', isbn: 'ISBN {}',
+    unreadable: 'This request could not be read. Please go back and follow the link again.',
+    refused: 'This kind of request is not accepted here.',
+    missing: 'There is no such page.',
+    tooLong: 'This request is too long. Please go back and search with fewer words.',
+    busy: 'There are too many requests from your network. Please try again in a moment.',
+    unavailable: 'The service is being restarted. Please try again in a minute.'
+};
+
+function own(object, key) {
+    return object && Object.prototype.hasOwnProperty.call(object, key) ? object[key] : undefined;
+}
+
+// Text without control characters and noncharacters, which neither HTML nor a header field may hold.
+function clean(text) {
+    return String(text).replace(/[\u0000-\u001f\u007f-\u009f\u2028\u2029\ufdd0-\ufdef\ufffe\uffff]/g, ' ')
+        .replace(/\s+/g, ' ').trim();
+}
+
+function textOr(value, other) { return typeof value === 'string' && clean(value) !== '' ? clean(value) : other; }
+function word(site, name) { return textOr(own(own(site, 'words'), name), WORDS[name]); }
+function filled(site, name, value) { return word(site, name).split('{}').join(value); }
+
+const ENTITIES = { '&': '&amp;', '<': '&lt;', '>': '&gt;', '"': '&quot;', "'": '&#39;' };
+
+function escape(text) { return text.replace(/[&<>"']/g, function (c) { return ENTITIES[c]; }); }
+
+function isWeb(link) { return /^https?:\/\/[\x21-\x7e]+$/i.test(link); }
+
+// What the page and the JSON say of a request.
+function citationOf(q, site) {
+    const citation = {};
+    const put = function (name, keys) {
+        for (let i = 0; i < keys.length && !citation[name]; i++) {
+            const text = clean(q.first(keys[i]));
+            if (text !== '') citation[name] = text;
+        }
+    };
+    const authors = q.all('rft.au').map(clean).filter(Boolean);
+    const given = clean(q.first('rft.aufirst') || q.first('rft.auinit') || q.first('rft.auinit1'));
+    if (authors.length > 3) citation.author = filled(site, 'others', authors.slice(0, 3).join('; '));
+    else if (authors.length > 0) citation.author = authors.join('; ');
+    else put('author', ['rft.aulast', 'rft.aucorp']);
+    if (authors.length === 0 && q.has('rft.aulast') && given !== '') citation.author += ', ' + given;
+    put('title', ['rft.atitle', 'rft.btitle', 'rft.title']);
+    put('journal', ['rft.jtitle', 'rft.stitle', 'rft.btitle', 'rft.title']);
+    if (citation.journal === citation.title) delete citation.journal;
+    const year = /^\d{4}/.exec(q.first('rft.date'));
+    if (year !== null) citation.year = year[0];
+    put('volume', ['rft.volume']);
+    put('issue', ['rft.issue']);
+    put('pages', ['rft.pages', 'rft.spage', 'rft.artnum']);
+    ['doi', 'pmid', 'issn', 'isbn'].forEach(function (name) { put(name, ['x.' + name]); });
+    return citation;
+}
+
+function emptyGroups(site) {
+    const groups = [];
+    const named = own(site, 'groups') || NONE;
+    // (a preloaded array has no methods in njs 0.7.9)
+    for (let i = 0; i < named.length; i++) {
+        const name = textOr(own(named[i], 'name'), '');
+        if (name !== '') groups.push({ name: name, onlyWithout: own(named[i], 'onlyWithout'), links: [] });
+    }
+    return groups.length > 0 ? groups : [{ name: word(site, 'links'), links: [] }];
+}
+
+// All groups of the site with the links of a menu's text. A target without a group is in the first.
+function groupsOf(menu, site) {
+    const groups = emptyGroups(site);
+    menu.split('\n').forEach(function (line) {
+        const at = line.indexOf('\t');
+        const url = line.slice(at + 1);
+        if (at < 0 || !isWeb(url)) return;
+        const name = line.slice(0, at);
+        const target = own(own(site, 'targets'), name);
+        const group = textOr(own(target, 'group'), '');
+        const link = { target: name, label: textOr(own(target, 'label'), name), url: url };
+        const note = textOr(own(target, 'note'), '');
+        if (note !== '') link.note = note;
+        (groups.filter(function (g) { return g.name === group; })[0] || groups[0]).links.push(link);
+    });
+    return groups;
+}
+
+// The groups that a reader sees: those with links, except where `onlyWithout` names a group that has some.
+function shownGroups(groups) {
+    const full = groups.filter(function (g) { return g.links.length > 0; });
+    return full.filter(function (g) {
+        return !full.some(function (other) { return other.name === g.onlyWithout; });
+    }).map(function (g) { return { name: g.name, links: g.links }; });
+}
+
+function citationHtml(c, site) {
+    const parts = [];
+    const put = function (text, before, after) { if (text) parts.push(before + '<bdi>' + escape(text) + '</bdi>' + after); };
+    const named = function (name) { if (c[name]) put(filled(site, name, c[name]), '', ''); };
+    put(c.author, '', '');
+    put(c.title, '<strong>', '</strong>');
+    put(c.journal, '<cite>', '</cite>');
+    put(c.year, '', '');
+    ['volume', 'issue', 'pages'].forEach(named);
+    if (!c.title) {
+        if (c.doi || c.pmid) ['doi', 'pmid'].forEach(named);
+        else if (!c.journal) ['issn', 'isbn'].forEach(named);
+    }
+    return parts.length > 0 ? parts.join(', ') : escape(word(site, 'noCitation'));
+}
+
+function documentOf(title, body, site) {
+    const w = function (name) { return escape(word(site, name)); };
+    return ['<!DOCTYPE html>', '<html lang="' + w('lang') + '" dir="' + w('dir') + '">', '<head>', '<meta charset="utf-8">',
+        '<meta name="viewport" content="width=device-width, initial-scale=1">',
+        '<title>' + escape(title) + ' – ' + w('library') + '</title>', '<link rel="stylesheet" href="/menu.css">',
+        '</head>', '<body>', '<header>', '<p>' + w('library') + '</p>', '</header>', '<main>',
+        '<h1>' + w('heading') + '</h1>'].concat(body, ['</main>', '</body>', '</html>', '']).join('\n');
+}
+
+function helpHtml(site) {
+    const help = escape(word(site, 'help'));
+    const link = word(site, 'helpLink');
+    if (help === '') return [];
+    return ['<p class="help">' + (isWeb(link) ? '<a href="' + escape(link) + '">' + help + '</a>' : help) + '</p>'];
+}
+
+function linkHtml(link) {
+    return '<li><a href="' + escape(link.url) + '">' + escape(link.label) + '</a>'
+        + (link.note ? '\n<p>' + escape(link.note) + '</p>' : '') + '</li>';
+}
+
+function pageOf(citation, groups, site) {
+    const isEmpty = Object.keys(citation).length === 0;
+    let body = ['<p class="citation">' + citationHtml(citation, site) + '</p>'];
+    if (groups[0].links.length === 0) {
+        if (!isEmpty) body.push('<p class="nothing">' + escape(word(site, 'nothing')) + '</p>');
+        body = body.concat(helpHtml(site));
+    }
+    shownGroups(groups).forEach(function (g) {
+        body = body.concat(['<h2>' + escape(g.name) + '</h2>', '<ul>'], g.links.map(linkHtml), ['</ul>']);
+    });
+    return documentOf((citation.title || citation.journal || word(site, 'heading')).slice(0, 100), body, site);
+}
+
+const FAULTS = { 403: 'refused', 404: 'missing', 405: 'refused', 413: 'tooLong', 414: 'tooLong', 429: 'busy' };
+
+function faultOf(status, site) {
+    const name = FAULTS[status] || (status < 500 ? 'unreadable' : 'unavailable');
+    const body = ['<p class="nothing">' + escape(word(site, name)) + '</p>'].concat(helpHtml(site));
+    return documentOf(word(site, 'heading'), body, site);
+}
+
+// ---------------------------------------------------------------- nginx
+
+function siteOf() { return typeof targets === 'undefined' ? {} : targets; }
+
+function isJson(r) { return /^\/find\.json(?:\?|$)/.test(String(r.variables.request_uri)); }
+
+function send(r, status, type, text) {
+    r.headersOut['Content-Type'] = type;
+    r.return(status, text);
+}
+
+function sendPage(r, status, text) { send(r, status, 'text/html; charset=utf-8', text); }
+function sendJson(r, status, data) { send(r, status, 'application/json', JSON.stringify(data) + '\n'); }
+
+function sendFault(r, status, site) {
+    if (isJson(r)) sendJson(r, status, { error: status });
+    else sendPage(r, status, faultOf(status, site));
+}
+
+// The query of the address and of a form, as ASCII. Every other byte is escaped, line ends first of all: a subrequest's
+// arguments reach the program as they are.
+function argsOf(r) {
+    let bytes = r.rawVariables.args || Buffer.from('');
+    const type = String(r.headersIn['Content-Type']);
+    if (r.method === 'POST' && /^application\/x-www-form-urlencoded\b/i.test(type) && r.requestBuffer) {
+        bytes = bytes.length > 0 ? Buffer.concat([bytes, Buffer.from('&'), r.requestBuffer]) : r.requestBuffer;
+    }
+    const text = bytes.toString();
+    if (/^[\x21-\x7e]*$/.test(text)) return text;
+    const parts = [];
+    for (let i = 0; i < bytes.length; i++) {
+        const byte = bytes[i];
+        parts.push(byte > 0x20 && byte < 0x7f ? String.fromCharCode(byte) : '%' + ('0' + byte.toString(16)).slice(-2));
+    }
+    return parts.join('');
+}
+
+// Asks the program, and once more if no process can be reached: all of them are back within 400 ms of a restart.
+async function ask(r, args) {
+    const reply = await r.subrequest('/_menu', { args: args });
+    if (reply.status !== 502) return reply;
+    await new Promise(function (done) { setTimeout(done, 400); });
+    return r.subrequest('/_menu', { args: args });
+}
+
+// Both menus in one. A target of the first is not taken from the second again.
+function joined(first, second) {
+    const names = Object.create(null);
+    const nameOf = function (line) { return line.slice(0, line.indexOf('\t')); };
+    first.split('\n').forEach(function (line) { names[nameOf(line)] = true; });
+    return first + second.split('\n').filter(function (line) { return names[nameOf(line)] !== true; }).join('\n');
+}
+
+// The menu for a query: its status, text and number of links. Without a query nothing is asked.
+async function menuOf(r, q) {
+    let menu = { status: 200, text: '', links: 0 };
+    r.variables.openlink_source = q.first('rfr_id').replace(/[^\w:.\/-]/g, '_').slice(0, 60);
+    if (q.pairs.length > 0) {
+        const replies = await Promise.all([ask(r, requestText(q)), ask(r, anyText(q))]);
+        const worst = Math.max(replies[0].status, replies[1].status);
+        menu.status = worst === 200 ? 200 : worst >= 400 && worst < 500 ? 400 : 503;
+        if (worst === 200) menu.text = joined(replies[0].responseText || '', replies[1].responseText || '');
+    }
+    menu.links = menu.text.split('\n').filter(function (line) { return line !== ''; }).length;
+    r.variables.openlink_found = menu.status === 200 ? String(menu.links) : 'fault';
+    return menu;
+}
+
+// Reads the request and asks the program; then `reply` gets the query and the groups.
+async function answer(r, q, reply) {
+    const site = siteOf();
+    const menu = await menuOf(r, q);
+    if (menu.status !== 200) sendFault(r, menu.status, site);
+    else reply(citationOf(q, site), groupsOf(menu.text, site), site);
+}
+
+function find(r) {
+    return answer(r, queryOf(argsOf(r)), function (citation, groups, site) {
+        sendPage(r, 200, pageOf(citation, groups, site));
+    });
+}
+
+function json(r) {
+    return answer(r, queryOf(argsOf(r)), function (citation, groups) {
+        sendJson(r, 200, { citation: citation, groups: shownGroups(groups) });
+    });
+}
+
+function go(r) {
+    const q = queryOf(argsOf(r));
+    const isFirst = q.first('first') === '1';
+    q.drop('first');
+    return answer(r, q, function (citation, groups, site) {
+        const links = groups[0].links;
+        if (links.length === 1 || (isFirst && links.length > 0)) r.return(302, links[0].url);
+        else sendPage(r, 200, pageOf(citation, groups, site));
+    });
+}
+
+// The page in place of nginx's own text.
+function fault(r) { sendFault(r, Number(r.variables.status) || 503, siteOf()); }
+
+// An exception would close the connection without a byte. It becomes the page of a fault, without words of the site,
+// which may be its cause.
+function guarded(handler) {
+    return async function (r) {
+        try {
+            await handler(r);
+        } catch (e) {
+            r.variables.openlink_found = 'exception:' + clean(e.message).replace(/[^\w.]/g, '_').slice(0, 60);
+            sendFault(r, 503, {});
+        }
+    };
+}
+
+export default {
+    requestOf: requestOf, anyOf: anyOf, queryOf: queryOf, dateOf: dateOf, joined: joined, citationOf: citationOf,
+    groupsOf: groupsOf, shownGroups: shownGroups, pageOf: pageOf, faultOf: faultOf, words: WORDS,
+    find: guarded(find), json: guarded(json), go: guarded(go), fault: guarded(fault)
+};
