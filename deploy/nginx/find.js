@@ -9,6 +9,7 @@ const VERSION = 'Z39.88-2004';
 const UTF8 = 'info:ofi/enc:UTF-8';
 const MOST_PAIRS = 300;
 const MOST_BYTES = 12000;
+const MOST_VALUES = 20;
 
 // ---------------------------------------------------------------- Encoding
 
@@ -55,33 +56,31 @@ const NUMBER_KEYS = set('rft.issn rft.eissn rft.isbn issn eissn isbn');
 function isDropped(key, value) {
     return value.trim() === '' || key.slice(0, 2) === 'x.' || COLUMNS[key] === true
         || (key === 'rft_id' && /^(?:info:[\w-]+[\/:]|urn:\w+:|(?:doi|pmid|oclc):)\s*$/i.test(value))
-        || (NUMBER_KEYS[key] === true && /^any$/i.test(value.slice(0, 99).replace(/[- ]/g, '')));
+        || (NUMBER_KEYS[key] === true && /^[- ]*a[- ]*n[- ]*y[- ]*$/i.test(value));
 }
 
 // A query while the rules work on it. `pairs` are those of the request, `given` their values by key, `added` the values
-// that the rules put before them. Each pair is read once.
+// that the rules put before them, `addedKeys` the keys of these in their order. Each pair is read once.
 function Query(args) {
-    let text = args.replace(/&(?:amp;)+/gi, '&');
-    if (text.indexOf('&') < 0) text = text.replace(/;(?=[\w.]+=)/g, '&');
     this.pairs = [];
     this.given = Object.create(null);
     this.added = Object.create(null);
+    this.addedKeys = [];
     this.copied = Object.create(null);
-    this.isLatin1 = /(?:^|&)ctx_enc=[^&]{0,40}(?:8859-1|latin-?1|1252)(?:&|$)/i.test(text);
+    this.isLatin1 = /(?:^|[&;])ctx_enc=[^&;]{0,40}(?:8859-1|latin-?1|1252)(?:[&;]|$)/i.test(args);
     this.latin1Texts = 0;
-    let start = 0;
-    for (let count = 0; start < text.length && count < MOST_PAIRS;) {
-        const next = text.indexOf('&', start);
-        const end = next < 0 ? text.length : next;
-        if (this.read(text.slice(start, end))) count++;
-        start = end + 1;
+    const isOld = args.indexOf('&') < 0 && args.indexOf(';') >= 0;
+    const pieces = (isOld ? args.replace(/;(?=[\w.]+=)/g, '&') : args).split('&');
+    for (let i = 0, count = 0; i < pieces.length && count < MOST_PAIRS; i++) {
+        const piece = /^amp;/i.test(pieces[i]) ? pieces[i].replace(/^(?:amp;)+/i, '') : pieces[i];
+        if (this.read(piece)) count++;
     }
 }
 
 // UTF-8, or windows-1252 where the text is not UTF-8 or the request declares Latin-1. A '%' of no escape is a '%'.
 Query.prototype.decode = function (raw) {
     if (/^[\x21-\x24\x26-\x2a\x2c-\x7e]*$/.test(raw)) return raw;
-    const text = raw.replace(/\+/g, ' ');
+    const text = raw.split('+').join(' ');
     if (!this.isLatin1 || !/%[89a-f]/i.test(raw)) {
         try {
             return decodeURIComponent(text.replace(/%(?![0-9a-f]{2})/gi, '%25'));
@@ -108,54 +107,63 @@ Query.prototype.read = function (raw) {
 
 Query.prototype.first = function (key) { return (this.added[key] || this.given[key] || NONE)[0] || ''; };
 Query.prototype.has = function (key) { return this.first(key) !== ''; };
-Query.prototype.all = function (key) { return (this.added[key] || NONE).concat(this.given[key] || NONE); };
+// All values of a key, of a hostile request the first ones.
+Query.prototype.all = function (key) { return (this.added[key] || NONE).concat(this.given[key] || NONE).slice(0, MOST_VALUES); };
+
+Query.prototype.put = function (key, values) {
+    if (!this.added[key]) this.addedKeys.push(key);
+    this.added[key] = values;
+};
 
 // Puts one more value before the request's.
-Query.prototype.add = function (key, value) {
-    if (this.added[key]) this.added[key].push(value);
-    else this.added[key] = [value];
-};
+Query.prototype.add = function (key, value) { this.put(key, (this.added[key] || NONE).concat([value])); };
 
 // Makes a value the first of its key, the one that counts.
 Query.prototype.lead = function (key, value) {
-    if (this.first(key) !== value) this.added[key] = [value];
+    if (this.first(key) !== value) this.put(key, [value]);
 };
 
 // Gives a key the values of another one, if it has none.
 Query.prototype.copy = function (from, to) {
     if (!this.has(from) || this.has(to)) return;
-    this.added[to] = this.all(from);
+    this.put(to, this.all(from));
     this.copied[from] = true;
 };
 
 Query.prototype.drop = function (key) {
     this.pairs = this.pairs.filter(function (pair) { return pair.key !== key; });
+    this.addedKeys = this.addedKeys.filter(function (added) { return added !== key; });
     delete this.given[key];
     delete this.added[key];
 };
+
+function texts(pairs) { return pairs.map(function (pair) { return pair.text; }); }
+
+// The bytes of texts that are joined by '&'.
+function lengthOf(parts) {
+    let length = 0;
+    for (let i = 0; i < parts.length; i++) length += parts[i].length + 1;
+    return length - 1;
+}
 
 // The query as text, with `first` before it and without the keys of `omitted`. If it is too long, the pairs are left out
 // that a rule has copied or replaced, then pairs from the end.
 Query.prototype.text = function (first, omitted) {
     const q = this;
     const parts = first === '' ? [] : [first];
-    Object.keys(q.added).forEach(function (key) {
+    q.addedKeys.forEach(function (key) {
         if (omitted[key] !== true) q.added[key].forEach(function (value) { parts.push(encode(key) + '=' + encode(value)); });
     });
     let pairs = q.pairs.filter(function (pair) { return omitted[pair.key] !== true; });
-    const bytes = function () {
-        return parts.reduce(function (sum, part) { return sum + part.length + 1; }, -1)
-            + pairs.reduce(function (sum, pair) { return sum + pair.text.length + 1; }, 0);
-    };
-    if (bytes() > MOST_BYTES) {
+    if (lengthOf(parts) + lengthOf(texts(pairs)) > MOST_BYTES) {
         pairs = pairs.filter(function (pair) {
             return !q.copied[pair.key] && (!q.added[pair.key] || pair.key === 'rft_id');
         });
     }
-    let length = bytes();
-    pairs.forEach(function (pair) { parts.push(pair.text); });
-    while (length > MOST_BYTES) length -= parts.pop().length + 1;
-    return parts.join('&');
+    const all = parts.concat(texts(pairs));
+    let length = lengthOf(all);
+    while (length > MOST_BYTES) length -= all.pop().length + 1;
+    return all.join('&');
 };
 
 // ---------------------------------------------------------------- The rules
@@ -304,42 +312,45 @@ function numbersIn(q, keys, kind, count) {
 function numbers(q) {
     const issns = numbersIn(q, ['rft.issn', 'rft.eissn'], ISSN, 2);
     const isbns = numbersIn(q, ['rft.isbn', 'rft.eisbn'], ISBN, 1);
-    [['issn', issns[0]], ['eissn', issns[1]], ['isbn', isbns[0]]].forEach(function (it) {
-        if (it[1] === undefined) return;
-        q.lead('rft.' + it[0], it[1]);
-        q.lead('x.' + it[0], it[1]);
-    });
+    const lead = function (name, number) {
+        if (!number) return;
+        q.lead('rft.' + name, number);
+        q.lead('x.' + name, number);
+    };
+    lead('issn', issns[0]);
+    lead('eissn', issns[1]);
+    lead('isbn', isbns[0]);
 }
 
 const MONTHS = 'jan feb mar apr may jun jul aug sep oct nov dec'.split(' ');
 
-// The forms of a date, tried in this order, and what their groups are.
+// The forms of a date, tried in this order, and the reader of what their groups are. (In njs 0.7.9 a function expression
+// in an array makes its index, as a constant of the whole program, a text: so the readers are declared functions.)
 const DATES = [
-    // 2013-08-01, 2013/08/01, 20130801, each with or without a time
-    [/^([12]\d{3})[-\/. ]?(\d\d)[-\/. ]?(\d\d)(?=\D|\d{4}(?:\d\d)?$|$)/, function (m) { return ymd(m[1], m[2], m[3]); }],
-    // 2013-08, 2013-8-1, 2013-08/2013-09
-    [/^([12]\d{3})[-\/. ](\d{1,2})(?:[-\/. ](\d{1,2}))?(?!\d)/, function (m) { return ymd(m[1], m[2], m[3]); }],
-    // 201308
-    [/^([12]\d{3})(\d\d)$/, function (m) { return ymd(m[1], m[2], 0); }],
-    // 25/12/2013, 12/25/2013
-    [/^(\d{1,2})[-\/.](\d{1,2})[-\/.]([12]\d{3})(?!\d)/, function (m) { return dayAndMonth(m[3], Number(m[1]), Number(m[2])); }],
-    // 08/2013
-    [/^(\d{1,2})[-\/.]([12]\d{3})$/, function (m) { return ymd(m[2], m[1], 0); }],
-    // Aug 2013, Winter 2012/2013
-    [/(?<!\d)([12]\d{3})(?!\d)/, function (m, text) { return ymd(m[1], monthIn(text), 0); }]
+    [/^([12]\d{3})[-\/. ]?(\d\d)[-\/. ]?(\d\d)(?=\D|\d{4}(?:\d\d)?$|$)/, yearFirst],  // 2013-08-01, 20130801, with a time
+    [/^([12]\d{3})[-\/. ](\d{1,2})(?:[-\/. ](\d{1,2}))?(?!\d)/, yearFirst],  // 2013-08, 2013/8/1, 2013-08/2013-09
+    [/^([12]\d{3})(\d\d)$/, yearFirst],                                      // 201308
+    [/^(\d{1,2})[-\/.](\d{1,2})[-\/.]([12]\d{3})(?!\d)/, yearLast],         // 25/12/2013, 12/25/2013
+    [/^()(\d{1,2})[-\/.]([12]\d{3})$/, yearLast],                            // 08/2013
+    [/(?<!\d)([12]\d{3})(?!\d)/, yearInText]                                // Aug 2013, Winter 2012/2013
 ];
+
+function yearFirst(found) { return ymd(found[1], found[2], found[3]); }
+function yearInText(found, text) { return ymd(found[1], monthIn(text), 0); }
+
+// Two numbers that may both be months can't be told apart, so the year alone is certain.
+function yearLast(found) {
+    const a = Number(found[1]);
+    const b = Number(found[2]);
+    if (a === 0 || a > 12 || a === b) return ymd(found[3], b, a);
+    return b > 12 ? ymd(found[3], a, b) : found[3];
+}
 
 // Zero-padded; only the year if there is no such month, only the month if there is no such day.
 function ymd(year, month, day) {
     if (!(month >= 1 && month <= 12)) return year;
     const two = function (n) { return ('0' + Number(n)).slice(-2); };
     return year + '-' + two(month) + (day >= 1 && day <= 31 ? '-' + two(day) : '');
-}
-
-// Two numbers that may both be months can't be told apart, so the year alone is certain.
-function dayAndMonth(year, a, b) {
-    if (a > 12 || a === b) return ymd(year, b, a);
-    return b > 12 ? ymd(year, a, b) : year;
 }
 
 function monthIn(text) {
