@@ -1,0 +1,140 @@
+// Requests and the pairs that the front door puts before them. A case is: what it is, the request, the added pairs, and
+// the request's pairs that are kept, where not all of them are. In the added pairs, '+' is a space, and J, B and D are
+// the formats of a journal, a book and a dissertation.
+const SEPARATORS = [
+    ['Google Scholar, escaped as in HTML', 'sid=google&amp;issn=2901-0012&amp;volume=3',
+        'rft.issn=2901-0012 rft.volume=3 rfr_id=info:sid/google rft_val_fmt=J x.issn=2901-0012',
+        'sid=google&issn=2901-0012&volume=3'],
+    ['escaped twice', 'rft_val_fmt=x&amp;amp;rft.volume=3', '', 'rft_val_fmt=x&rft.volume=3'],
+    ['semicolons', 'rft_val_fmt=x;rft.volume=3;rft.atitle=a;b', '', 'rft_val_fmt=x&rft.volume=3&rft.atitle=a;b'],
+    ['a semicolon in a value', 'rft_val_fmt=x&rft.atitle=a;b=c', ''],
+    ['Primo, empty keys', 'rft_val_fmt=x&rft.isbn=&rft.volume&rft.isbn=9781234560102&rft.au=+',
+        'x.isbn=9781234560102', 'rft_val_fmt=x&rft.isbn=9781234560102'],
+    ['no pair', '&&&', '', '']
+];
+
+const DROPPED = [
+    ['a prefix alone', 'rft_val_fmt=x&rft_id=info%3Apmid%2F&rft_id=info:doi/', '', 'rft_val_fmt=x'],
+    ['keys of the front door', 'rft_val_fmt=x&x.doi=10.1/x&%78.issn=2901-0012', '', 'rft_val_fmt=x'],
+    ['columns', 'rft_val_fmt=x&title_url=https://e.org/&title%5Fid=3&access_type=F', '', 'rft_val_fmt=x'],
+    ['ANY', 'rft_val_fmt=x&rft.issn=ANY&rft.eissn=any&rft.isbn=%41ny&issn=ANY&isbn=Any', '', 'rft_val_fmt=x'],
+    ['ANY as the program reads it', 'rft_val_fmt=x&rft.issn=A-N-Y&rft.isbn=+a+n+y+', '', 'rft_val_fmt=x'],
+    ['ANY elsewhere', 'rft_val_fmt=x&rft.atitle=any', '']
+];
+
+const VERSIONS = [
+    ['as it should be', 'ctx_ver=Z39.88-2004&rft_val_fmt=x', ''],
+    ['Wikipedia, mistyped', 'ctx_ver=Z39.88-2003&rft_val_fmt=x', 'ctx_ver=Z39.88-2004', 'rft_val_fmt=x'],
+    ['both', 'url_ver=1&ctx_ver=z39.88-2004&rft_val_fmt=x', 'ctx_ver=Z39.88-2004 url_ver=Z39.88-2004', 'rft_val_fmt=x']
+];
+
+const OLD = [
+    ['EBSCO', 'genre=article&issn=29010012&title=Annals+of+Tidal+Studies&volume=12&issue=3&date=20030501&atitle=Storm+surges'
+        + '&spage=101&pages=101-118&sid=EBSCO:Academic+Search&aulast=Smith',
+        'rft.genre=article rft.issn=2901-0012 rft.volume=12 rft.issue=3 rft.spage=101 rft.pages=101-118 rft.date=2003-05-01'
+        + ' rft.atitle=Storm+surges rft.aulast=Smith rfr_id=info:sid/EBSCO:Academic+Search'
+        + ' rft.jtitle=Annals+of+Tidal+Studies rft_val_fmt=J x.issn=2901-0012'],
+    ['Web of Science', 'sid=ISI:WoS&genre=article&aulast=Smith&auinit=J&stitle=ANN+TIDAL+STUD&pid=%3Cut%3E1%3C/ut%3E',
+        'rft.genre=article rft.stitle=ANN+TIDAL+STUD rft.aulast=Smith rft.auinit=J rft_dat=<ut>1</ut> rfr_id=info:sid/ISI:WoS'
+        + ' rft_val_fmt=J'],
+    ['Ovid, a book', 'sid=OVID:books&genre=book&isbn=978-1-234-56010-2&title=Harbours',
+        'rft.genre=book rft.isbn=9781234560102 rfr_id=info:sid/OVID:books rft.btitle=Harbours rft_val_fmt=B'
+        + ' x.isbn=9781234560102'],
+    ['RefWorks, ISBN without genre', 'isbn=9781234560102&title=Harbours', 'rft.isbn=9781234560102 rft.btitle=Harbours'
+        + ' rft_val_fmt=B x.isbn=9781234560102'],
+    ['both numbers', 'isbn=9781234560102&issn=2901-0012&title=Tides', 'rft.issn=2901-0012 rft.isbn=9781234560102'
+        + ' rft.jtitle=Tides rft_val_fmt=J x.issn=2901-0012 x.isbn=9781234560102'],
+    ['ProQuest, a dissertation', 'genre=dissertation&title=On+Silt&au=Berg', 'rft.genre=dissertation rft.au=Berg'
+        + ' rft.title=On+Silt rft_val_fmt=D'],
+    ['ProQuest, a proceeding', 'genre=proceeding&isbn=9781234563189&title=Dredging', 'rft.genre=proceeding'
+        + ' rft.isbn=9781234563189 rft.btitle=Dredging rft_val_fmt=B x.isbn=9781234563189'],
+    ['Alma, both versions at once', 'rft.jtitle=Tides&title=Other&volume=3&rft.volume=4&sid=a&rfr_id=info:sid/b',
+        'rft_val_fmt=J'],
+    ['all authors', 'au=Smith&au=Li&rft_val_fmt=x', 'rft.au=Smith rft.au=Li'],
+    ['a source with its prefix', 'sid=info:sid/google&rft_val_fmt=x', 'rfr_id=info:sid/google'],
+    ['a book title alone', 'rft.btitle=Harbours', 'rft_val_fmt=B']
+];
+
+const IDENTIFIERS = [
+    ['PubMed LinkOut', 'sid=Entrez:PubMed&id=pmid:99990001', 'rfr_id=info:sid/Entrez:PubMed rft_val_fmt=J x.pmid=99990001'
+        + ' rft_id=info:pmid/99990001'],
+    ['Crossref', 'sid=crossref&id=doi:10.5555/tidal.2003&pid=x', 'rft_dat=x rfr_id=info:sid/crossref rft_val_fmt=J'
+        + ' x.doi=10.5555/tidal.2003 rft_id=info:doi/10.5555/tidal.2003'],
+    ['Scopus, encoded twice', 'rft_val_fmt=x&rft_id=info%253Adoi%252F10.5555%252Fa%2528b%2529', 'x.doi=10.5555/a(b)'],
+    ['Zotero', 'rft_val_fmt=x&rft_id=info%3Adoi%2F10.5555%2Fa&rft_id=urn%3AISBN%3A978-1-234-56010-2',
+        'x.doi=10.5555/a rft.isbn=9781234560102 x.isbn=9781234560102'],
+    ['Wikipedia', 'rft_val_fmt=x&rft_id=https%3A%2F%2Fdoi.org%2F10.5555%2Fa&rft_id=info%3Apmid%2F7',
+        'x.doi=10.5555/a x.pmid=7'],
+    ['WorldCat', 'rft_val_fmt=x&rft_id=info%3Aoclcnum%2F123&rft_id=urn%3AISSN%3A2901-0012&rft.eissn=2908-0142',
+        'x.oclc=123 rft.issn=2901-0012 x.issn=2901-0012 x.eissn=2908-0142'],
+    ['an address of PubMed', 'rft_val_fmt=x&rft_id=https://pubmed.ncbi.nlm.nih.gov/7/&id=http://www.ncbi.nlm.nih.gov/pubmed/8',
+        'x.pmid=7 rft_id=info:pmid/8'],
+    ['old addresses of DOIs', 'rft_val_fmt=x&id=http://dx.doi.org/10.5555/a.', 'x.doi=10.5555/a rft_id=info:doi/10.5555/a'],
+    ['bare numbers', 'rft_val_fmt=x&pmid=7&doi=10.5555/a,&rft.doi=doi:10.5555/A', 'x.doi=10.5555/A'
+        + ' rft_id=info:doi/10.5555/A rft_id=info:pmid/7 x.pmid=7'],
+    ['the same one twice', 'rft_val_fmt=x&rft_id=info:doi/10.5555/A&doi=10.5555/a', 'x.doi=10.5555/A'],
+    ['a number that is there', 'rft_val_fmt=x&rft.issn=2901-0012&rft_id=urn:ISSN:2908-0142', 'x.issn=2901-0012'],
+    ['others', 'rft_val_fmt=x&id=oai:arXiv.org:1&rft_id=https://e.org/10.5555/a', '']
+];
+
+const NUMBERS = [
+    ['no hyphen, a small x', 'rft_val_fmt=x&rft.issn=2943081x', 'rft.issn=2943-081X x.issn=2943-081X'],
+    ['a dash, a word, a no-break space', 'rft_val_fmt=x&rft.issn=ISSN%C2%A02901%E2%80%910012',
+        'rft.issn=2901-0012 x.issn=2901-0012'],
+    ['ProQuest, several', 'rft_val_fmt=x&rft.issn=29010012,+29080142', 'rft.issn=2901-0012 x.issn=2901-0012'
+        + ' rft.eissn=2908-0142 x.eissn=2908-0142'],
+    ['the online one alone', 'rft_val_fmt=x&rft.eissn=2971-1312', 'rft.issn=2971-1312 x.issn=2971-1312'],
+    ['ten digits', 'rft_val_fmt=x&rft.isbn=0-19-853453-1+(pbk.)', 'rft.isbn=9780198534532 x.isbn=9780198534532'],
+    ['ten digits and X', 'rft_val_fmt=x&rft.isbn=080442957x', 'rft.isbn=9780804429573 x.isbn=9780804429573'],
+    ['several books', 'rft_val_fmt=x&rft.isbn=n/a&rft.isbn=9781234560102+9781234560874',
+        'rft.isbn=9781234560102 x.isbn=9781234560102'],
+    ['no number', 'rft_val_fmt=x&rft.issn=unknown&rft.isbn=123', ''],
+    ['an ISBN as ISSN', 'rft_val_fmt=x&rft.issn=9781234560102', '']
+];
+
+const DATES = [
+    ['YYYYMMDD', 'rft_val_fmt=x&rft.date=20130801', 'rft.date=2013-08-01'],
+    ['slashes', 'rft_val_fmt=x&rft.date=2013/08/01', 'rft.date=2013-08-01'],
+    ['YYYYMM', 'rft_val_fmt=x&rft.date=201308', 'rft.date=2013-08'],
+    ['no month', 'rft_val_fmt=x&rft.date=20130000', 'rft.date=2013'],
+    ['a month by name', 'rft_val_fmt=x&rft.date=Aug+2013', 'rft.date=2013-08'],
+    ['a range', 'rft_val_fmt=x&rft.date=2013-08/2013-09', 'rft.date=2013-08'],
+    ['years', 'rft_val_fmt=x&rft.date=2013-2014', 'rft.date=2013'],
+    ['a season', 'rft_val_fmt=x&rft.date=Winter+2012/2013', 'rft.date=2012'],
+    ['a time', 'rft_val_fmt=x&rft.date=2013-08-01T10:15:00Z', 'rft.date=2013-08-01'],
+    ['a time without marks', 'rft_val_fmt=x&rft.date=20130801101500', 'rft.date=2013-08-01'],
+    ['day or month', 'rft_val_fmt=x&rft.date=08/01/2013', 'rft.date=2013'],
+    ['day first', 'rft_val_fmt=x&rft.date=25/12/2013', 'rft.date=2013-12-25'],
+    ['month first', 'rft_val_fmt=x&rft.date=12/25/2013', 'rft.date=2013-12-25'],
+    ['month and year', 'rft_val_fmt=x&rft.date=08/2013', 'rft.date=2013-08'],
+    ['as the standard writes it', 'rft_val_fmt=x&rft.date=2013-08-01', ''],
+    ['a year', 'rft_val_fmt=x&rft.date=2013', ''],
+    ['a year that is guessed', 'rft_val_fmt=x&rft.date=c2013', 'rft.date=2013'],
+    ['rft.year', 'rft_val_fmt=x&rft.year=2013', 'rft.date=2013'],
+    ['no year', 'rft_val_fmt=x&rft.date=in+press', '', 'rft_val_fmt=x'],
+    ['no year but in rft.year', 'rft_val_fmt=x&rft.date=in+press&rft.year=2013', 'rft.date=2013'],
+    ['a month of no year', 'rft_val_fmt=x&rft.date=2013-13-45', 'rft.date=2013']
+];
+
+const PAGES = [
+    ['numbers', 'rft_val_fmt=x&rft.pages=101-118', 'rft.spage=101'],
+    ['letters', 'rft_val_fmt=x&rft.pages=e1004', 'rft.spage=e1004'],
+    ['a supplement', 'rft_val_fmt=x&rft.pages=pp.+S12-S20', 'rft.spage=S12'],
+    ['Roman', 'rft_val_fmt=x&rft.pages=xii-xx', 'rft.spage=xii'],
+    ['one that is there', 'rft_val_fmt=x&rft.pages=101-118&rft.spage=102', ''],
+    ['none', 'rft_val_fmt=x&rft.pages=n/a', '']
+];
+
+const ENCODINGS = [
+    ['declared', 'ctx_enc=info:ofi/enc:ISO-8859-1&rft_val_fmt=x&rft.atitle=Caf%E9+%96', 'ctx_enc=info:ofi/enc:UTF-8',
+        'rft_val_fmt=x&rft.atitle=Caf%C3%A9%20%E2%80%93'],
+    ['declared, and not true', 'ctx_enc=info%3Aofi%2Fenc%3AISO-8859-1&rft_val_fmt=x&rft.atitle=Cafe',
+        'ctx_enc=info:ofi/enc:UTF-8', 'rft_val_fmt=x&rft.atitle=Cafe'],
+    ['not declared', 'rft_val_fmt=x&rft.atitle=Caf%E9&rft.jtitle=%C3%A9', 'ctx_enc=info:ofi/enc:UTF-8',
+        'rft_val_fmt=x&rft.atitle=Caf%C3%A9&rft.jtitle=%C3%A9'],
+    ['UTF-8', 'ctx_enc=info:ofi/enc:UTF-8&rft_val_fmt=x&rft.atitle=Caf%C3%A9', ''],
+    ['a line end, raw', 'rft_val_fmt=x&rft.atitle=a\r\nHost: b', '', 'rft_val_fmt=x&rft.atitle=a%0D%0AHost%3A%20b'],
+    ['no escape', 'rft_val_fmt=x&rft.atitle=100%', '']
+];
+
+export default { SEPARATORS, DROPPED, VERSIONS, OLD, IDENTIFIERS, NUMBERS, DATES, PAGES, ENCODINGS };

@@ -1,0 +1,115 @@
+// The unit tests of find.js: the cases of cases.js, requests of good form, limits, and speed. Runs in njs and in node,
+// in a folder with find.js; prints each failure, and a last line that counts. `sample` is written by checks/front_door.
+import door from './find.js';
+import cases from './cases.js';
+import sample from './sample.js';
+
+const FORMATS = { J: 'info:ofi/fmt:kev:mtx:journal', B: 'info:ofi/fmt:kev:mtx:book', D: 'info:ofi/fmt:kev:mtx:dissertation' };
+let count = 0;
+let failures = 0;
+
+function expect(name, got, wanted) {
+    count++;
+    if (got === wanted) return;
+    failures++;
+    console.log('FAILED ' + name + '\n  gives  ' + got + '\n  wanted ' + wanted);
+}
+
+function written(pair) {
+    const at = pair.indexOf('=');
+    const value = pair.slice(at + 1).split('+').join(' ');
+    return pair.slice(0, at) + '=' + encodeURIComponent(pair.slice(0, at) === 'rft_val_fmt' ? FORMATS[value] : value);
+}
+
+// Without the row keys, as anyOf leaves them out.
+function other(text) {
+    return ['rft.issn=ANY'].concat(text.split('&').filter(function (pair) {
+        return pair !== '' && !/^rft\.(issn|eissn|isbn)=/.test(decodeURIComponent(pair.split('=')[0]) + '=');
+    })).join('&');
+}
+
+function testCases() {
+    Object.keys(cases).forEach(function (rule) {
+        expect(rule + ' has three cases', cases[rule].length >= 3, true);
+        cases[rule].forEach(function (it) {
+            const added = it[2].split(' ').filter(Boolean).map(written);
+            const kept = it.length > 3 ? it[3] : it[1];
+            const wanted = added.concat(kept === '' ? [] : [kept]).join('&');
+            expect(rule + ': ' + it[0], door.requestOf(it[1]), wanted);
+            expect(rule + ': ' + it[0] + ', for any', door.anyOf(it[1]), other(wanted));
+        });
+    });
+}
+
+// The pairs of a request of good form come out unchanged and in order, after added ones.
+function testGoodForm() {
+    sample.forEach(function (request) {
+        const out = door.requestOf(request);
+        expect('good form', out.slice(-request.length - 1), '&' + request);
+        out.slice(0, -request.length - 1).split('&').forEach(function (pair) {
+            expect('added to good form: ' + pair, /^(x\.(issn|eissn|isbn|doi|pmid)|rft\.(issn|isbn))=/.test(pair), true);
+        });
+    });
+}
+
+function repeated(text, times) {
+    const parts = [];
+    while (parts.length < times) parts.push(text);
+    return parts.join('');
+}
+
+function testLimits() {
+    const long = 'title=' + repeated('a', 7000) + '&issn=2901-0012&rft.genre=article';
+    const out = door.requestOf(long);
+    expect('a long title goes once', out.length < 12000 && /rft\.jtitle=a{7000}&/.test(out) && !/&title=/.test(out), true);
+    expect('a long title keeps the rest', /^rft\.issn=2901-0012&.*&rft\.genre=article$/.test(out), true);
+    const tail = door.requestOf('rft_val_fmt=x&rft.volume=3&' + repeated('rft.au=' + repeated('b', 70) + '&', 200));
+    expect('pairs at the end go', tail.length <= 12000 && tail.length > 11900 && /^rft_val_fmt=x&rft\.volume=3&/.test(tail), true);
+    expect('pairs are read up to 300', door.requestOf(repeated('a=1&', 400)).split('&').length, 301);
+    expect('nothing', door.requestOf('') + '|' + door.anyOf(''), '|rft.issn=ANY');
+    ['%', '=', '&=', 'a', '%E9=%E9', repeated('%E9', 4000), '=' + repeated('%', 4000), 'title=' + repeated('%E9', 2600)].forEach(function (text) {
+        expect('hostile: ' + text.slice(0, 20), /^[\x21-\x7e]*$/.test(door.requestOf(text)) && door.requestOf(text).length <= 12000, true);
+    });
+}
+
+function testMenus() {
+    expect('menus are joined', door.joined('a\tx\nb\ty\n', 'b\tz\nc\tw\n'), 'a\tx\nb\ty\nc\tw');
+    const site = { groups: [{ name: 'A' }, { name: 'B', onlyWithout: 'A' }], targets: { b: { group: 'B', label: 'Bee', note: 'n' }, constructor: {} } };
+    const shown = function (menu) { return JSON.stringify(door.shownGroups(door.groupsOf(menu, site))); };
+    expect('a group that another one hides', shown('b\thttp://b/\na\thttp://a/\n'),
+        '[{"name":"A","links":[{"target":"a","label":"a","url":"http://a/"}]}]');
+    expect('a group alone', shown('b\thttp://b/\n'), '[{"name":"B","links":[{"target":"b","label":"Bee","url":"http://b/","note":"n"}]}]');
+    expect('links that are none', shown('a\tjavascript:x\na\thttp://a/ b\na\thttp://\u00e9/\nx\n'), '[]');
+    expect('names of every object', shown('constructor\thttp://c/\ntoString\thttp://t/\n').split('"target"').length, 3);
+}
+
+// The time of a request in milliseconds: the best of many runs, since the machine may be busy.
+function best(request) {
+    let least = Infinity;
+    for (let run = 0; run < 30; run++) {
+        const start = Date.now();
+        for (let i = 0; i < 5; i++) door.requestOf(request);
+        least = Math.min(least, (Date.now() - start) / 5);
+    }
+    return least;
+}
+
+function expectUnder(name, request, most) {
+    const time = best(request);
+    expect(name + ' takes under ' + most + ' ms', time < most ? 'yes' : time + ' ms', 'yes');
+}
+
+function testSpeed() {
+    const usual = sample[0];
+    expectUnder('a usual request', usual, 1);
+    expectUnder('a request of 8 KB', (usual + '&rft.description=' + repeated('word+and%2C+', 700)).slice(0, 8192), 10);
+    expectUnder('a request of 8 KB and 300 pairs', repeated('rft.issn=1234-567&', 455), 10);
+}
+
+testCases();
+testGoodForm();
+testLimits();
+testMenus();
+testSpeed();
+testCases();
+console.log((failures === 0 ? 'ok ' : 'FAILED ') + count);

@@ -1,0 +1,390 @@
+"""The tests of the front door; checks/front_door starts it at the top of the repository."""
+import concurrent.futures, json, os, re, shutil, signal, subprocess, sys, tempfile, threading, time
+from urllib.parse import quote
+import targets
+from running import Site
+
+HERE = os.path.dirname(os.path.abspath(__file__))
+ARTICLE = "sid=google&issn=2901-0012&volume=12&issue=3&spage=101&date=2003&atitle=Storm+surges&title=Annals+of+Tidal+Studies"
+HOSTILE = "</title><script>alert(1)</script>\"'><img src=x onerror=alert(1)>&amp;\r\nX-Evil: 1\u202e\u0000\ufffe\u2028é"
+counts = {"tests": 0, "failures": 0}
+
+
+def expect(name, got, wanted=True):
+    counts["tests"] += 1
+    if got != wanted:
+        counts["failures"] += 1
+        print(f"checks/front_door: {name}: got {str(got)[:600]!r}, wanted {str(wanted)[:600]!r}", file=sys.stderr)
+
+
+def test_rules():
+    """The unit tests, in njs and in node if there is one."""
+    folder = tempfile.mkdtemp()
+    for name in ("cases.js", "rules.js"):
+        shutil.copy(f"{HERE}/{name}", folder)
+    shutil.copy("deploy/nginx/find.js", folder)
+    library = "examples/library"
+    queries = sorted(name for name in os.listdir(library) if name.endswith(".query"))
+    queries.remove("article.query")
+    sample = []
+    for name in ["article.query", *queries]:
+        with open(f"{library}/{name}") as file:
+            sample.append(file.read().strip())
+    with open(f"{folder}/sample.js", "w") as file:
+        file.write(f"export default {json.dumps(sample)};\n")
+    with open(f"{folder}/package.json", "w") as file:
+        file.write('{"type": "module"}\n')
+    for command in (["njs", "-p", folder, f"{folder}/rules.js"], ["node", f"{folder}/rules.js"]):
+        if shutil.which(command[0]):
+            done = subprocess.run(command, capture_output=True, text=True)
+            lines = done.stdout.strip().split("\n")
+            expect(f"the rules in {command[0]}", (done.returncode, lines[-1][:3], done.stderr), (0, "ok ", ""))
+            if lines[-1][:3] != "ok ":
+                print(done.stdout, file=sys.stderr)
+            else:
+                counts["tests"] += int(lines[-1][3:])
+    shutil.rmtree(folder)
+
+
+SLIPS = [
+    (b'{"groups": [{"name": "A"}],\n "targets": {"a": {"label": "x",}}}', "line 2, column"),
+    (b'{"groups": [{"name": "A"}]\n', "line 2, column 1"),
+    (b'\xef\xbb\xbf{"groups": [{"name": "A"}]}', "line 1: begins with a byte order mark"),
+    (b'{"groups": [{"name": "A"}],\n"words": {"library": "B\xfccher"}}', "line 2: not UTF-8"),
+    (b'[]', "not an object"),
+    (b'{"groups": []}', "groups is not a list of groups"),
+    (b'{"groups": [{"name": "A", "onlyWithout": "B"}]}', "group 1: onlyWithout is no group"),
+    (b'{"groups": [{"label": "A"}]}', "group 1 has no name"),
+    (b'{"groups": [{"name": "A"}], "targets": {"a": {"group": "B"}}}', 'target "a": no group "B"'),
+    (b'{"groups": [{"name": "A"}], "targets": {"a b": {}}}', 'target "a b": no target can have this name'),
+    (b'{"groups": [{"name": "A"}], "words": {"libary": "x"}}', 'words: unknown name "libary"'),
+    (b'{"groups": [{"name": "A"}], "words": {"library": 3}}', "words: library is not a text"),
+]
+
+
+def test_targets():
+    expect("targets.json", targets.faults_in("deploy/nginx/targets.json"), [])
+    with open("deploy/nginx/targets.json") as file:
+        expect("targets.json has every word", set(json.load(file)["words"]), targets.words())
+    for data, fault in SLIPS:
+        expect(f"targets.json: {fault}", any(fault in found for found in targets.faults_of(data)))
+
+
+def test_style():
+    """The contrast of each text with its background, in light and in dark."""
+    def light(colour):
+        parts = [int(colour[i:i + 2], 16) / 255 for i in (1, 3, 5)]
+        parts = [part / 12.92 if part <= 0.04045 else ((part + 0.055) / 1.055) ** 2.4 for part in parts]
+        return 0.2126 * parts[0] + 0.7152 * parts[1] + 0.0722 * parts[2]
+
+    with open("deploy/nginx/menu.css") as file:
+        schemes = re.findall(r":root \{(.*?)\}", file.read())
+    expect("menu.css has two sets of colours", len(schemes), 2)
+    for scheme in schemes:
+        colours = dict(re.findall(r"--(\w+): (#[0-9a-f]{6})", scheme))
+        for ink in ("ink", "link"):
+            for paper in ("paper", "soft"):
+                pair = sorted((light(colours[ink]), light(colours[paper])))
+                expect(f"contrast of {colours[ink]} on {colours[paper]}", (pair[1] + 0.05) / (pair[0] + 0.05) >= 4.5)
+
+
+def names_in(reply):
+    return " ".join(link["target"] for group in json.loads(reply.text)["groups"] for link in group["links"])
+
+
+def test_requests(site):
+    """Requests as real sources send them: each gets the targets that a reader expects."""
+    with open(f"{HERE}/requests.tsv") as file:
+        for line in file:
+            source, query, wanted = line.rstrip("\n").split("\t")
+            reply = site.get(f"/find.json?{query}")
+            expect(source, (reply.status, names_in(reply)), (200, wanted))
+
+
+def tidy(name, text):
+    done = subprocess.run(["tidy", "-e", "-q", "-utf8"], input=text.encode(), capture_output=True)
+    expect(f"tidy: {name}", (done.returncode, done.stdout + done.stderr), (0, b""))
+
+
+def order_of(text):
+    """The headings, citation, notices and links of a page, in the order of the text."""
+    return re.findall(r'<(h1|h2|p class="\w+"|a href="[^"]*")>', text)
+
+
+def test_page(site):
+    reply = site.get(f"/find?{ARTICLE}")
+    expect("the page", (reply.status, reply.headers["Content-Type"]), (200, "text/html; charset=utf-8"))
+    tidy("a page with links", reply.text)
+    for part in ('<html lang="en" dir="ltr">', '<meta name="viewport"', "<title>Storm surges – Example University Library</title>",
+                 "<strong><bdi>Storm surges</bdi></strong>", "<cite><bdi>Annals of Tidal Studies</bdi></cite>", "vol. 12", "no. 3",
+                 "p. 101", "2003"):
+        expect(f"the page has {part}", part in reply.text)
+    expect("one h1", reply.text.count("<h1>"), 1)
+    expect("order", order_of(reply.text), ["h1", 'p class="citation"', "h2",
+           'a href="https://press.example.com/2908-0142/12/3/101"', 'a href="https://aggregator.example.net/titles/17"', "h2",
+           'a href="https://catalogue.example.org/search?index=number&amp;term=2901-0012"', "h2",
+           'a href="https://search.example.org/?q=Storm%20surges"'])
+    reply = site.get("/find?issn=3006-1962&atitle=Notes+on+tar&date=1921")
+    tidy("a page without full text", reply.text)
+    expect("without full text", order_of(reply.text), ["h1", 'p class="citation"', 'p class="nothing"', 'p class="help"',
+           'a href="https://library.example.edu/ask"', "h2",
+           'a href="https://loans.example.org/article?issn=3006-1962&amp;title=Notes%20on%20tar"', "h2",
+           'a href="https://search.example.org/?q=Notes%20on%20tar"'])
+    expect("an identifier alone", "DOI 10.5555/a" in site.get("/find?id=doi:10.5555/a").text)
+    expect("a PubMed number alone", "PubMed 7" in site.get("/find?id=pmid:7").text)
+    for query in ("", "?", "?&&", "?rft.isbn="):
+        reply = site.get(f"/find{query}")
+        expect(f"no reference: {query}", (reply.status, "No reference was given." in reply.text, "<h2>" in reply.text), (200, True, False))
+    tidy("no reference", reply.text)
+    reply = site.get("/find?rft.genre=unnamed&rft.atitle=x")
+    expect("a target without a label", ">toString</a>" in reply.text and reply.text.index("toString") < reply.text.index("More about it"))
+    expect("HEAD", (site.get(f"/find?{ARTICLE}", "HEAD").status, site.get(f"/find?{ARTICLE}", "HEAD").body), (200, b""))
+    expect("style", site.get("/menu.css").headers["Content-Type"], "text/css")
+
+
+def test_json(site):
+    reply = site.get(f"/find.json?{ARTICLE}")
+    expect("JSON", (reply.status, reply.headers["Content-Type"], reply.headers["Access-Control-Allow-Origin"]),
+           (200, "application/json", "*"))
+    expect("JSON as a whole", json.loads(reply.text), {
+        "citation": {"title": "Storm surges", "journal": "Annals of Tidal Studies", "year": "2003", "volume": "12", "issue": "3",
+                     "pages": "101", "issn": "2901-0012"},
+        "groups": [
+            {"name": "Full text", "links": [
+                {"target": "tidal-press", "label": "Tidal Press", "url": "https://press.example.com/2908-0142/12/3/101"},
+                {"target": "aggregate-net", "label": "AggregateNet", "url": "https://aggregator.example.net/titles/17"}]},
+            {"name": "In the library", "links": [{"target": "catalogue", "label": "Library catalogue",
+                                                  "url": "https://catalogue.example.org/search?index=number&term=2901-0012"}]},
+            {"name": "More about it", "links": [{"target": "web-search", "label": "Search the web",
+                                                 "url": "https://search.example.org/?q=Storm%20surges"}]}]})
+    note = json.loads(site.get("/find.json?issn=2943-081X&date=2012").text)["groups"][0]["links"][0]
+    expect("a note", note["note"], "Off campus, sign in with your library card")
+    expect("nothing found", json.loads(site.get("/find.json?rft.genre=article").text), {"citation": {}, "groups": []})
+    expect("no query", json.loads(site.get("/find.json").text), {"citation": {}, "groups": []})
+    expect("a page has no origin", site.get("/find").headers["Access-Control-Allow-Origin"], None)
+
+
+def test_go(site):
+    def go(query):
+        reply = site.get(f"/go?{query}")
+        return reply.status, reply.headers["Location"]
+
+    one = "https://proxy.example.org/login?qurl=https%3A%2F%2Festuary.example.com%2Fjournals%2Feb"
+    expect("one link", go("issn=2943-081X&date=2012"), (302, one))
+    expect("two links", go(ARTICLE), (200, None))
+    expect("the first of two", go(f"{ARTICLE}&first=1"), (302, "https://press.example.com/2908-0142/12/3/101"))
+    expect("first=0", go(f"first=0&{ARTICLE}"), (200, None))
+    expect("no full text", go("first=1&issn=3006-1962&atitle=x"), (200, None))
+    expect("no query", go(""), (200, None))
+    reply = site.get("/go?first=1&issn=2943-081X&date=2012&volume=a%0d%0aX-Evil:1&issue=1&spage=1")
+    expect("a redirect with line ends", (reply.status, reply.headers["X-Evil"]), (302, None))
+
+
+KEYS = ("rft.atitle rft.jtitle rft.btitle rft.title rft.stitle rft.au rft.aulast rft.aufirst rft.aucorp rft.date rft.volume rft.issue"
+        " rft.pages rft.spage rft.artnum rft.issn rft.eissn rft.isbn rft_id rfr_id rft.genre title id doi pmid sid pid date issn"
+        " isbn ctx_ver ctx_enc rft_val_fmt first x.doi title_url").split()
+
+
+def test_hostile(site):
+    for key in KEYS:
+        for value in (HOSTILE, HOSTILE[::-1], "%" * 50, "\\u003cscript\\u003e", "$&$1{}"):
+            query = f"{key}={quote(value)}&issn=2901-0012&id=doi:10.5555/{quote(value[:9])}"
+            reply = site.get(f"/find?{query}")
+            expect(f"hostile {key}", (reply.status, "<script" in reply.text, "<img" in reply.text, reply.headers["X-Evil"]),
+                   (200, False, False, None))
+            expect(f"hostile {key}: control characters", re.findall("[\x00-\x09\x0b-\x1f\x7f-\x9f\ufffe\u2028]", reply.text), [])
+            json.loads(site.get(f"/find.json?{query}").text)
+        tidy(f"hostile {key}", site.get(f"/find?{key}={quote(HOSTILE)}&rft.volume=1").text)
+    reply = site.send(b"GET /find?rft.atitle=\xe9\xff\x01<script> HTTP/1.1\r\nHost: a\r\nConnection: close\r\n\r\n")
+    expect("raw bytes", reply[:12] in (b"HTTP/1.1 200", b"HTTP/1.1 400") and b"<script>" not in reply)
+    body = b"rft.atitle=a\r\nHost: b\r\n\r\nGET /report HTTP/1.1\xe9&issn=2901-0012"
+    reply = site.get("/find.json", "POST", body, {"Content-Type": "application/x-www-form-urlencoded"})
+    expect("a form with line ends", (reply.status, json.loads(reply.text)["citation"]["title"]),
+           (200, "a Host: b GET /report HTTP/1.1é"))
+
+
+def test_hostile_labels(site):
+    path = site.path("openlink/targets.json")
+    words = {name: HOSTILE for name in targets.words()}
+    with open(path, "w") as file:
+        json.dump({"words": words, "groups": [{"name": HOSTILE}, {"name": "B" + HOSTILE}], "targets": {
+            "tidal-press": {"label": HOSTILE, "note": HOSTILE}, "catalogue": {"label": HOSTILE, "group": "B" + HOSTILE}}}, file)
+    site.reload()
+    for query in (ARTICLE, "", "id=doi:10.1000/a"):
+        reply = site.get(f"/find?{query}")
+        expect("hostile labels", (reply.status, "<script" in reply.text, "<img" in reply.text, "&lt;script&gt;" in reply.text),
+               (200, False, False, True))
+    # Members of wrong types that the module has to survive.
+    for data in ({}, {"words": 3, "groups": {}, "targets": []}, {"groups": [3, {"name": {}}], "targets": {"tidal-press": 7}},
+                 {"groups": [{"name": "A", "onlyWithout": "A"}], "words": {"heading": None}}, [], "x"):
+        with open(path, "w") as file:
+            json.dump(data, file)
+        site.reload()
+        reply = site.get(f"/find?{ARTICLE}")
+        expect(f"slips: {data}", (reply.status, "<h1>Find this item</h1>" in reply.text), (200, True))
+        tidy(f"slips: {data}", reply.text)
+    with open(path, "w") as file:
+        file.write("{")
+    expect("nginx refuses a targets.json that is no JSON", site.test_configuration()[0] != 0)
+    shutil.copy("deploy/nginx/targets.json", path)
+    site.reload()
+
+
+def test_faults(site):
+    form = {"Content-Type": "application/x-www-form-urlencoded"}
+    for target, method, body, status in (("/none", "GET", None, 404), ("/find", "DELETE", None, 403), ("/go", "POST", b"", 403),
+                                         ("/openurl", "POST", b"", 403), ("/report", "GET", None, 404), ("/_menu", "GET", None, 404),
+                                         ("/fault", "GET", None, 404), ("/find", "TRACE", None, 405),
+                                         ("/find", "POST", b"a" * 9000, 413), ("/find?" + "a" * 9000, "GET", None, 414)):
+        reply = site.get(target, method, body, form)
+        expect(f"{method} {target[:20]}", (reply.status, "<h1>Find this item</h1>" in reply.text, "nginx" in reply.text), (status, True, False))
+        tidy(f"{method} {target[:20]}", reply.text)
+    expect("a long cookie", site.get("/find", headers={"Cookie": "a" * 9000}).status, 400)
+    expect("a cookie", site.get("/find", headers={"Cookie": "a" * 7000}).status, 200)
+    expect("no request", b"<h1>Find this item</h1>" in site.send(b"\x01\x02\r\n\r\n"))
+    reply = site.get("/find.json", "DELETE")
+    expect("a fault as JSON", (reply.status, json.loads(reply.text)), (403, {"error": 403}))
+    for path in ("/find", "/openurl"):
+        reply = site.get(f"{path}/?a=b")
+        expect(f"{path}/", (reply.status, reply.headers["Location"]), (301, f"{path}?a=b"))
+    for target in ("/find", "/none", f"/find.json?{ARTICLE}"):
+        headers = site.get(target).headers
+        expect(f"headers of {target[:10]}", [headers[name] for name in ("X-Content-Type-Options", "Referrer-Policy", "Cache-Control", "X-Robots-Tag")],
+               ["nosniff", "strict-origin", "private, no-store", "noindex, nofollow"])
+        expect(f"content policy of {target[:10]}", headers["Content-Security-Policy"].startswith("default-src 'none'; style-src 'self';"))
+
+
+def test_form(site):
+    form = {"Content-Type": "application/x-www-form-urlencoded; charset=UTF-8"}
+    for target in ("/find", "/find.json"):
+        expect(f"a form to {target}", site.get(target, "POST", ARTICLE.encode(), form).text, site.get(f"{target}?{ARTICLE}").text)
+    half = len("sid=google&issn=2901-0012")
+    expect("a form and a query", site.get(f"/find?{ARTICLE[:half]}", "POST", ARTICLE[half + 1:].encode(), form).text,
+           site.get(f"/find?{ARTICLE}").text)
+    expect("8 KB", site.get("/find", "POST", ("atitle=" + "%C3%A9" * 1300 + "&" + ARTICLE).encode()[:8192], form).status, 200)
+    expect("another kind of body", "No reference" in site.get("/find", "POST", ARTICLE.encode(), {"Content-Type": "text/plain"}).text)
+
+
+def test_passed_on(site):
+    for query in ("rft.issn=2901-0012&rft.volume=%2d12", "rft.issn=2901-0012;..%2f&rft%2edate=2003", "ctx_ver=wrong", ""):
+        for path in ("/openurl", "/openurl.txt"):
+            expect(f"{path}?{query}", site.get(f"{path}?{query}").body if query != "ctx_ver=wrong" else b"",
+                   site.get(f"{path}?{query}", port=site.ports[0]).body if query != "ctx_ver=wrong" else b"")
+    report = site.get("/report?rft.issn=2901-0012", port=site.report_port)
+    expect("the report", (report.status, "catalogue\tlink 0\n" in report.text), (200, True))
+
+
+def test_limit(site):
+    """Twenty requests of one address at a time; the next one gets a page with status 429."""
+    import socket
+    head = b"POST /find HTTP/1.1\r\nHost: a\r\nContent-Type: application/x-www-form-urlencoded\r\nContent-Length: 10\r\n\r\n"
+    peers = [socket.create_connection(("127.0.0.1", site.port), 5) for _ in range(20)]
+    for peer in peers:
+        peer.sendall(head)
+    time.sleep(0.2)
+    reply = site.get("/find")
+    expect("the request after twenty", (reply.status, "too many requests" in reply.text), (429, True))
+    for peer in peers:
+        peer.close()
+    time.sleep(0.1)
+    expect("after them", site.get("/find").status, 200)
+
+
+def readers(site, seconds, count=4):
+    """The status, start and duration of each request that readers send one after the other."""
+    end = time.time() + seconds
+    results = []
+
+    def read():
+        while time.time() < end:
+            start = time.time()
+            results.append((site.get(f"/find?{ARTICLE}").status, start, time.time() - start))
+            time.sleep(0.01)
+
+    with concurrent.futures.ThreadPoolExecutor(count) as pool:
+        for done in [pool.submit(read) for _ in range(count)]:
+            done.result()
+    return results
+
+
+def with_readers(site, seconds, act):
+    actor = threading.Timer(0.3, act)
+    actor.start()
+    results = readers(site, seconds)
+    actor.join()
+    return results
+
+
+def test_processes(site):
+    def restart_all():
+        for process in site.processes.values():
+            process.kill()
+        for process in site.processes.values():
+            process.wait()
+        for port in site.ports:
+            site.start_process(port)
+
+    one = site.ports[0]
+    results = with_readers(site, 1, lambda: site.processes[one].kill())
+    expect("one process killed", {status for status, _, _ in results}, {200})
+    site.processes[one].wait()
+    site.start_process(one)
+    results = with_readers(site, 2.5, restart_all)
+    faults = [start for status, start, _ in results if status != 200]
+    expect("all processes restarted", not faults or max(faults) - min(faults) < 1)
+    site.wait_for(one)
+    results = with_readers(site, 4.5, lambda: site.processes[one].send_signal(signal.SIGSTOP))
+    site.processes[one].send_signal(signal.SIGCONT)
+    expect("one process stopped", ({status for status, _, _ in results}, max(took for _, _, took in results) < 4), ({200}, True))
+    for process in site.processes.values():
+        process.kill()
+        process.wait()
+    reply = site.get(f"/find?{ARTICLE}")
+    expect("no process", (reply.status, "The service is being restarted." in reply.text), (503, True))
+    tidy("no process", reply.text)
+    reply = site.get(f"/find.json?{ARTICLE}")
+    expect("no process, as JSON", (reply.status, json.loads(reply.text)), (503, {"error": 503}))
+    expect("no process, passed on", site.get(f"/openurl?{ARTICLE}").status in (502, 503, 504))
+
+
+def test_logs(site):
+    with open(site.path("log/openlink.log")) as file:
+        lines = file.read().split("\n")[:-1]
+    form = re.compile(r"\S+ \d{3} \S+ \S.* [\d.]+ found=(\d*|fault) from=[\w:.\/-]*")
+    expect("the log", [line for line in lines if not form.fullmatch(line)][:3], [])
+    print([l for l in lines if "found=4" in l][:2], lines[:2])
+    expect("the log has links and sources", any(re.search(r" 200 GET /find [\d.]+ found=4 from=info:sid/google$", line) for line in lines))
+    expect("the log has no query", [line for line in lines if "issn" in line], [])
+    for name in ("openlink-error.log", "error.log", "start.log"):
+        if os.path.exists(site.path(f"log/{name}")):
+            with open(site.path(f"log/{name}")) as file:
+                expect(name, file.read(), "")
+
+
+def main():
+    if len(sys.argv) > 1:
+        faults = [fault for path in sys.argv[1:] for fault in targets.faults_in(path)]
+        print("\n".join(faults) or "ok")
+        return 1 if faults else 0
+    start = time.time()
+    test_rules()
+    test_targets()
+    test_style()
+    site = Site()
+    try:
+        status, text = site.test_configuration()
+        expect("nginx -t", (status, text if status else ""), (0, ""))
+        site.start()
+        for test in (test_requests, test_page, test_json, test_go, test_hostile, test_form, test_passed_on, test_faults, test_limit,
+                     test_hostile_labels, test_processes, test_logs):
+            begin = time.time()
+            test(site)
+            print(test.__name__, round(time.time() - begin, 1))
+    finally:
+        site.stop()
+    if counts["failures"] == 0:
+        print(f"checks/front_door: {counts['tests']} tests in {time.time() - start:.0f} s")
+    return 1 if counts["failures"] else 0
+
+
+sys.exit(main())

@@ -1,0 +1,169 @@
+"""Starts nginx with the front door and the program behind it, in a temporary folder and on free ports of loopback."""
+import http.client, os, re, shutil, signal, socket, subprocess, tempfile, time
+
+PROGRAM = os.path.abspath("crates/openlink/out/openlink")
+LIBRARY = {
+    "open-shelf": "OpenShelf_Global_AllTitles_2026-11-01",
+    "tidal-press": "TidalPress_Global_AllTitles_2026-11-01",
+    "coastal-law": "CoastalLawSociety_Global_Journals_2026-10-15",
+    "estuary-online": "EstuaryOnline_ExampleLibrary_Subscribed_2026-11-01",
+    "north-sea-archive": "NorthSeaArchive_Global_AllTitles_2026-09-30",
+    "book-house": "BookHouse_ExampleLibrary_Purchased_2026-11-01",
+    "aggregate-net": "AggregateNet_Global_CoastalComplete_2026-11-01",
+    "catalogue": "ExampleLibrary_Shelves_AllTitles_2026-11-20",
+}
+# Targets that answer every request that has what their links need.
+FOR_EVERY_REQUEST = {
+    "interlibrary-loan": "rule\nwhen given x.issn\nlink https://loans.example.org/article?issn={x.issn}&title={rft.atitle}\n"
+    "\nrule\nwhen given x.isbn\nlink https://loans.example.org/book?isbn={x.isbn}\n",
+    "doi-resolver": "rule\nwhen given x.doi\nlink https://doi.example.org/{x.doi}\n",
+    "pubmed": "rule\nwhen given x.pmid\nlink https://pubmed.example.org/{x.pmid}/\n",
+    "web-search": "rule\nwhen given rft.atitle\nlink https://search.example.org/?q={rft.atitle}\n",
+    "toString": "rule\nwhen rft.genre is \"unnamed\"\nlink https://unnamed.example.org/{rft.atitle}\n",
+}
+MAIN = """load_module /usr/lib/nginx/modules/ngx_http_js_module.so;
+{user}worker_processes 1;
+worker_rlimit_nofile 8192;
+pid {folder}/nginx.pid;
+error_log {folder}/log/error.log crit;
+events {{ worker_connections 2048; }}
+http {{
+    include /etc/nginx/mime.types;
+    client_body_temp_path {folder}/temp;
+    proxy_temp_path {folder}/temp;
+    fastcgi_temp_path {folder}/temp;
+    uwsgi_temp_path {folder}/temp;
+    scgi_temp_path {folder}/temp;
+    include {folder}/openlink.conf;
+}}
+"""
+
+
+def free_ports(count):
+    sockets = [socket.create_server(("127.0.0.1", 0)) for _ in range(count)]
+    ports = [peer.getsockname()[1] for peer in sockets]
+    for peer in sockets:
+        peer.close()
+    return ports
+
+
+class Reply:
+    def __init__(self, status, headers, body):
+        self.status, self.headers, self.body = status, headers, body
+        self.text = body.decode("utf-8", "replace")
+
+
+class Site:
+    def __init__(self, processes=4):
+        self.folder = tempfile.mkdtemp(prefix="front_door.")
+        self.port, self.report_port, *self.ports = free_ports(2 + processes)
+        self.processes = {}
+        self.nginx = None
+        for name in ("log", "temp", "targets"):
+            os.mkdir(f"{self.folder}/{name}")
+        shutil.copytree("deploy/nginx", f"{self.folder}/openlink")
+        self.write_registry()
+        self.write_configuration()
+
+    def path(self, name):
+        return f"{self.folder}/{name}"
+
+    def write_registry(self):
+        lines = []
+        for name, table in LIBRARY.items():
+            lines.append((name, f"examples/library/{name}.rules", os.path.abspath(f"examples/library/{table}.txt")))
+        for name, rules in FOR_EVERY_REQUEST.items():
+            with open(self.path(f"targets/{name}.rules"), "w") as file:
+                file.write(rules)
+            lines.append((name, self.path(f"targets/{name}.rules"), os.path.abspath("deploy/tables/ANY.tsv")))
+        with open(self.path("registry.tsv"), "w") as registry:
+            for name, rules, table in lines:
+                code = self.path(f"targets/{name}.olk")
+                subprocess.run([PROGRAM, "compile", rules, code], check=True, stdout=subprocess.DEVNULL)
+                registry.write(f"{name}\t{code}\t{table}\n")
+
+    def write_configuration(self):
+        """The site as it is copied, with the paths and ports of this folder."""
+        with open("deploy/nginx/openlink.conf") as file:
+            text = file.read()
+        servers = "".join(f"    server 127.0.0.1:{port} max_fails=0;\n" for port in self.ports)
+        text, count = re.subn(r"(    server 127\.0\.0\.1:\d+ max_fails=0;\n)+", servers, text)
+        assert count == 1, "openlink.conf has no list of processes"
+        for old, new in (("/etc/nginx/openlink/", self.path("openlink/")), ("/var/log/nginx/", self.path("log/")),
+                         ("listen 80;", f"listen 127.0.0.1:{self.port};"), ("127.0.0.1:8079", f"127.0.0.1:{self.report_port}")):
+            assert old in text, f"openlink.conf has no {old}"
+            text = text.replace(old, new)
+        with open(self.path("openlink.conf"), "w") as file:
+            file.write(text)
+        with open(self.path("nginx.conf"), "w") as file:
+            file.write(MAIN.format(folder=self.folder, user="user root;\n" if os.getuid() == 0 else ""))
+
+    def command(self, *words):
+        return ["nginx", "-c", self.path("nginx.conf"), "-p", self.folder, *words]
+
+    def test_configuration(self):
+        done = subprocess.run(self.command("-t", "-e", self.path("log/test.log")), capture_output=True, text=True)
+        return done.returncode, done.stderr
+
+    def start_process(self, port):
+        self.processes[port] = subprocess.Popen([PROGRAM, "serve", self.path("registry.tsv"), str(port), "1000000"],
+                                                stdout=subprocess.DEVNULL)
+
+    def start(self):
+        for port in self.ports:
+            self.start_process(port)
+        self.nginx = subprocess.Popen(self.command("-g", "daemon off;", "-e", self.path("log/start.log")))
+        for port in (*self.ports, self.port):
+            self.wait_for(port)
+
+    def wait_for(self, port):
+        for _ in range(200):
+            try:
+                socket.create_connection(("127.0.0.1", port), 1).close()
+                return
+            except OSError:
+                time.sleep(0.02)
+        raise SystemExit(f"checks/front_door: nothing listens at port {port}")
+
+    def reload(self):
+        """Reads the configuration again, and waits until a new worker serves."""
+        before = self.workers()
+        self.nginx.send_signal(signal.SIGHUP)
+        for _ in range(200):
+            after = self.workers()
+            if after and not after & before:
+                return
+            time.sleep(0.02)
+        raise SystemExit("checks/front_door: nginx did not reload")
+
+    def workers(self):
+        done = subprocess.run(["ps", "-o", "pid=", "--ppid", str(self.nginx.pid)], capture_output=True, text=True)
+        return set(done.stdout.split())
+
+    def get(self, target, method="GET", body=None, headers=None, port=None):
+        peer = http.client.HTTPConnection("127.0.0.1", port or self.port, timeout=15)
+        try:
+            peer.request(method, target, body, headers or {})
+            reply = peer.getresponse()
+            return Reply(reply.status, reply.headers, reply.read())
+        finally:
+            peer.close()
+
+    def send(self, data):
+        """The whole reply to these bytes."""
+        with socket.create_connection(("127.0.0.1", self.port), 15) as peer:
+            peer.sendall(data)
+            parts = []
+            while part := peer.recv(65536):
+                parts.append(part)
+            return b"".join(parts)
+
+    def stop(self):
+        for process in [*self.processes.values(), self.nginx]:
+            if process and process.poll() is None:
+                process.send_signal(signal.SIGCONT)
+                process.terminate()
+        for process in [*self.processes.values(), self.nginx]:
+            if process:
+                process.wait(10)
+        shutil.rmtree(self.folder, ignore_errors=True)
