@@ -187,14 +187,14 @@ KEYS = ("rft.atitle rft.jtitle rft.btitle rft.title rft.stitle rft.au rft.aulast
 
 def test_hostile(site):
     for key in KEYS:
-        for value in (HOSTILE, HOSTILE[::-1], "%" * 50, "\\u003cscript\\u003e", "$&$1{}"):
+        for value in (HOSTILE, "%" * 20 + "$&$1{}" + HOSTILE[::-1]):
             query = f"{key}={quote(value)}&issn=2901-0012&id=doi:10.5555/{quote(value[:9])}"
             reply = site.get(f"/find?{query}")
             expect(f"hostile {key}", (reply.status, "<script" in reply.text, "<img" in reply.text, reply.headers["X-Evil"]),
                    (200, False, False, None))
             expect(f"hostile {key}: control characters", re.findall("[\x00-\x09\x0b-\x1f\x7f-\x9f\ufffe\u2028]", reply.text), [])
-            json.loads(site.get(f"/find.json?{query}").text)
-        tidy(f"hostile {key}", site.get(f"/find?{key}={quote(HOSTILE)}&rft.volume=1").text)
+        json.loads(site.get(f"/find.json?{query}").text)
+        tidy(f"hostile {key}", reply.text)
     reply = site.send(b"GET /find?rft.atitle=\xe9\xff\x01<script> HTTP/1.1\r\nHost: a\r\nConnection: close\r\n\r\n")
     expect("raw bytes", reply[:12] in (b"HTTP/1.1 200", b"HTTP/1.1 400") and b"<script>" not in reply)
     body = b"rft.atitle=a\r\nHost: b\r\n\r\nGET /report HTTP/1.1\xe9&issn=2901-0012"
@@ -350,10 +350,9 @@ def test_processes(site):
 def test_logs(site):
     with open(site.path("log/openlink.log")) as file:
         lines = file.read().split("\n")[:-1]
-    form = re.compile(r"\S+ \d{3} \S+ \S.* [\d.]+ found=(\d*|fault) from=[\w:.\/-]*")
+    form = re.compile(r"\S+ \d{3} \S+ \S.* [\d.]+ found=(\d+/\d+)? from=[\w:.\/-]*")
     expect("the log", [line for line in lines if not form.fullmatch(line)][:3], [])
-    print([l for l in lines if "found=4" in l][:2], lines[:2])
-    expect("the log has links and sources", any(re.search(r" 200 GET /find [\d.]+ found=4 from=info:sid/google$", line) for line in lines))
+    expect("the log has links and sources", any(re.search(r" 200 GET /find [\d.]+ found=2/5 from=info:sid/google$", line) for line in lines))
     expect("the log has no query", [line for line in lines if "issn" in line], [])
     for name in ("openlink-error.log", "error.log", "start.log"):
         if os.path.exists(site.path(f"log/{name}")):
@@ -377,9 +376,7 @@ def main():
         site.start()
         for test in (test_requests, test_page, test_json, test_go, test_hostile, test_form, test_passed_on, test_faults, test_limit,
                      test_hostile_labels, test_processes, test_logs):
-            begin = time.time()
             test(site)
-            print(test.__name__, round(time.time() - begin, 1))
     finally:
         site.stop()
     if counts["failures"] == 0:

@@ -36,6 +36,7 @@ function encode(text) {
 // ---------------------------------------------------------------- A query
 
 const NONE = [];
+const NO_KEYS = Object.create(null);
 
 function set(names) {
     const members = Object.create(null);
@@ -269,12 +270,10 @@ function identifiers(q) {
             known[uri] = true;
         });
     });
-    if (numbersIn(q, ['rft.issn'], ISSN, 1).length === 0) {
-        numbersOf['rft.issn'].forEach(function (number) { q.add('rft.issn', number); });
-    }
-    if (numbersIn(q, ['rft.isbn'], ISBN, 1).length === 0) {
-        numbersOf['rft.isbn'].forEach(function (number) { q.add('rft.isbn', number); });
-    }
+    Object.keys(numbersOf).forEach(function (key) {
+        if (numbersOf[key].length === 0 || numbersIn(q, [key], key === 'rft.issn' ? ISSN : ISBN, 1).length > 0) return;
+        q.put(key, numbersOf[key].concat(q.added[key] || NONE));
+    });
 }
 
 const DASHES = /[\u00ad\u2010-\u2015\u2043\u2212\ufe58\ufe63\uff0d]/g;
@@ -394,12 +393,10 @@ function queryOf(args) {
 }
 
 const ROW_KEYS = set('rft.issn rft.eissn rft.isbn');
-const NO_KEYS = Object.create(null);
 
+// The query for targets with a table of their own, and the one for targets that answer every request.
 function requestText(q) { return q.text('', NO_KEYS); }
 function anyText(q) { return q.text('rft.issn=ANY', ROW_KEYS); }
-
-// The query for targets with tables, and the one for targets that answer every request.
 function requestOf(args) { return requestText(queryOf(args)); }
 function anyOf(args) { return anyText(queryOf(args)); }
 
@@ -614,27 +611,21 @@ function joined(first, second) {
     return first + second.split('\n').filter(function (line) { return names[nameOf(line)] !== true; }).join('\n');
 }
 
-// The menu for a query: its status, text and number of links. Without a query nothing is asked.
-async function menuOf(r, q) {
-    let menu = { status: 200, text: '', links: 0 };
+// Asks the program, unless the query is empty, and gives the citation and the groups to `reply`.
+async function answer(r, q, reply) {
+    const site = siteOf();
+    let menu = '';
     r.variables.openlink_source = q.first('rfr_id').replace(/[^\w:.\/-]/g, '_').slice(0, 60);
     if (q.pairs.length > 0) {
         const replies = await Promise.all([ask(r, requestText(q)), ask(r, anyText(q))]);
         const worst = Math.max(replies[0].status, replies[1].status);
-        menu.status = worst === 200 ? 200 : worst >= 400 && worst < 500 ? 400 : 503;
-        if (worst === 200) menu.text = joined(replies[0].responseText || '', replies[1].responseText || '');
+        if (worst !== 200) return sendFault(r, worst >= 400 && worst < 500 ? 400 : 503, site);
+        menu = joined(replies[0].responseText || '', replies[1].responseText || '');
     }
-    menu.links = menu.text.split('\n').filter(function (line) { return line !== ''; }).length;
-    r.variables.openlink_found = menu.status === 200 ? String(menu.links) : 'fault';
-    return menu;
-}
-
-// Reads the request and asks the program; then `reply` gets the query and the groups.
-async function answer(r, q, reply) {
-    const site = siteOf();
-    const menu = await menuOf(r, q);
-    if (menu.status !== 200) sendFault(r, menu.status, site);
-    else reply(citationOf(q, site), groupsOf(menu.text, site), site);
+    const groups = groupsOf(menu, site);
+    const all = groups.reduce(function (sum, group) { return sum + group.links.length; }, 0);
+    r.variables.openlink_found = groups[0].links.length + '/' + all;
+    reply(citationOf(q, site), groups, site);
 }
 
 function find(r) {
