@@ -1,0 +1,140 @@
+"""The front door of deploy/ as an operator installs it, for the scripts that measure it.
+
+`enter()` runs the script again in network, mount and process namespaces of its own. There the ports of the site and all
+addresses of 127.0.0.0/8 are free, /etc/nginx is a copy with deploy/nginx in it, and every process ends with the script.
+It needs root. `Door` starts nginx and the processes of the program, with the sample library.
+"""
+import os, re, resource, shutil, signal, subprocess, sys, tempfile, threading, time
+
+TOP = os.path.dirname(os.path.dirname(os.path.abspath(__file__)))
+INSIDE = "FRONT_DOOR_NAMESPACES"
+
+
+def enter():
+    """Returns inside the namespaces, or ends the script where the machine has no nginx with njs or refuses them."""
+    if os.environ.get(INSIDE):
+        subprocess.run(["ip", "link", "set", "lo", "up"], check=True)
+        return
+    missing = [name for name in ("nginx", "ip", "unshare", "taskset") if not shutil.which(name)]
+    if not os.path.exists("/usr/lib/nginx/modules/ngx_http_js_module.so"):
+        missing.append("the module njs")
+    if os.geteuid() != 0:
+        missing.append("root")
+    if missing:
+        sys.exit(f"skipped: this takes {', '.join(missing)}")
+    namespaces = ["--net", "--mount", "--pid", "--fork", "--kill-child", "--mount-proc"]
+    words = ["unshare", *namespaces, sys.executable, os.path.abspath(sys.argv[0]), *sys.argv[1:]]
+    os.execvpe("unshare", words, {**os.environ, INSIDE: "1"})
+
+
+def cores():
+    """Two cores for nginx and the program and the others for the clients, or all for both where there are less than four."""
+    every = sorted(os.sched_getaffinity(0))
+    return (every[:2], every[2:]) if len(every) >= 4 else (every, every)
+
+
+def on_cores(numbers, *words):
+    return ["taskset", "--cpu-list", ",".join(map(str, numbers)), *words]
+
+
+def kibibytes(pid, field):
+    with open(f"/proc/{pid}/status") as status:
+        return next(int(line.split()[1]) for line in status if line.startswith(field + ":"))
+
+
+def processor_seconds(pid):
+    with open(f"/proc/{pid}/stat") as stat:
+        fields = stat.read().rsplit(")", 1)[1].split()
+    return (int(fields[11]) + int(fields[12])) / os.sysconf("SC_CLK_TCK")
+
+
+class Door:
+    """nginx and a supervised process of the program on each port of the site's upstream."""
+
+    def __init__(self, program, site, worker_connections=4096):
+        self.folder = tempfile.mkdtemp()
+        os.chmod(self.folder, 0o755)
+        self.nginx = None
+        self.ended = False
+        self.servers, self.clients = cores()
+        self.program = os.path.abspath(program)
+        os.chdir(TOP)
+        subprocess.run(["examples/library/build", self.program, f"{self.folder}/library"], check=True, stdout=subprocess.DEVNULL)
+        self.install(os.path.abspath(site), worker_connections)
+        self.processes = {port: None for port in self.ports}
+        for port in self.ports:
+            threading.Thread(target=self.supervise, args=(port,), daemon=True).start()
+
+    def install(self, site, worker_connections):
+        etc = f"{self.folder}/nginx"
+        shutil.copytree("/etc/nginx", etc, symlinks=True)
+        for part in ("conf.d", "sites-enabled", "openlink"):
+            shutil.rmtree(f"{etc}/{part}", ignore_errors=True)
+            os.mkdir(f"{etc}/{part}")
+        shutil.copy(f"{site}/openlink.conf", f"{etc}/conf.d")
+        for name in ("find.js", "targets.json", "menu.css"):
+            shutil.copy(f"{site}/{name}", f"{etc}/openlink")
+        with open(f"{etc}/nginx.conf", "r+") as file:
+            text = re.sub(r"worker_connections \d+", f"worker_connections {worker_connections}", file.read())
+            file.seek(0)
+            file.write(f"worker_rlimit_nofile {4 * worker_connections};\n" + text)
+            file.truncate()
+        subprocess.run(["mount", "--bind", etc, "/etc/nginx"], check=True)
+        for place in ("/var/log/nginx", "/var/lib/nginx", "/run"):
+            subprocess.run(["mount", "-t", "tmpfs", "none", place], check=True)
+        with open(f"{site}/openlink.conf") as file:
+            self.ports = [int(it) for it in re.findall(r"^\s*server 127\.0\.0\.1:(\d+)", file.read(), re.M)]
+        assert self.ports, "the upstream of openlink.conf names no process"
+
+    def supervise(self, port):
+        """As the unit does: a process that ends is started again after 100 ms."""
+        words = on_cores(self.servers, self.program, "serve", f"{self.folder}/library/registry.tsv", str(port), "1000000")
+        while not self.ended:
+            self.processes[port] = subprocess.Popen(words, stdout=subprocess.DEVNULL)
+            self.processes[port].wait()
+            time.sleep(0.1)
+
+    def start_nginx(self):
+        """Starts nginx, with the limits that systemd gives it on Debian: its peak of memory is then that of one trial."""
+        self.stop_nginx()
+        hard = min(524288, resource.getrlimit(resource.RLIMIT_NOFILE)[1])
+        words = ["prlimit", f"--nofile=1024:{hard}", "nginx", "-g", "daemon off;"]
+        self.nginx = subprocess.Popen(on_cores(self.servers, *words))
+        time.sleep(0.7)
+        assert self.nginx.poll() is None, "nginx did not start"
+
+    def stop_nginx(self):
+        if self.nginx:
+            self.nginx.send_signal(signal.SIGTERM)
+            self.nginx.wait()
+
+    def workers(self):
+        with open(f"/proc/{self.nginx.pid}/task/{self.nginx.pid}/children") as children:
+            return [int(it) for it in children.read().split()]
+
+    def program_pids(self):
+        return [process.pid for process in self.processes.values()]
+
+    def peak_of_workers(self):
+        """The most memory that a worker of nginx has had, in MB."""
+        return max(kibibytes(pid, "VmHWM") for pid in self.workers()) * 1024 / 1e6
+
+    def seconds_of_nginx(self):
+        return sum(processor_seconds(pid) for pid in self.workers())
+
+    def seconds_of_program(self):
+        return sum(processor_seconds(pid) for pid in self.program_pids())
+
+    def end(self):
+        self.ended = True
+        self.stop_nginx()
+        for pid in self.program_pids():
+            os.kill(pid, signal.SIGKILL)
+        shutil.rmtree(self.folder, ignore_errors=True)
+
+
+def others():
+    """What else runs, for a figure's note: the load before the script's own, and the machine's processor."""
+    with open("/proc/cpuinfo") as file:
+        name = next(line.split(":", 1)[1].strip() for line in file if line.startswith("model name"))
+    return f"{name}, {os.cpu_count()} cores; load average before the first trial: {os.getloadavg()[0]:.1f}"
