@@ -43,9 +43,39 @@ def kibibytes(pid, field):
 
 
 def processor_seconds(pid):
-    with open(f"/proc/{pid}/stat") as stat:
-        fields = stat.read().rsplit(")", 1)[1].split()
-    return (int(fields[11]) + int(fields[12])) / os.sysconf("SC_CLK_TCK")
+    """What a process of one thread has used."""
+    with open(f"/proc/{pid}/schedstat") as file:
+        return int(file.read().split()[0]) / 1e9
+
+
+def hostile_queries(size=7900):
+    """Queries that make a request line of about that many bytes, by what they repeat: the forms that cost the most."""
+    article = "rft.issn=2901-0012&rft.eissn=2908-0142&rft.date=2003-05&rft.volume=12&rft.issue=3&rft.spage=101&"
+    size -= 20
+
+    def same(unit, by="&", start=article):
+        return start + by.join([unit] * ((size - len(start)) // len(unit + by)))
+
+    def numbered(form):
+        whole = article + "&".join(form % i for i in range(size))
+        return whole[: whole.rindex("&", 0, size)]
+
+    return {
+        "keys of one's own": numbered("k%d=1"),
+        "one key": same("a=1"),
+        "one key, `&amp;`": same("a=1", "&amp;"),
+        "authors": numbered("rft.au=%%C3%%A9%d"),
+        "DOIs in `rft_id`": numbered("rft_id=info:doi/10.1/%d"),
+        "DOIs in `id`, encoded twice": numbered("id=doi:10.1%%252F%d."),
+        "addresses in one `rft_id`": same("https%3A%2F%2Fdoi.org%2F10.", "", "rft_id="),
+        "ISBNs": same("rft.isbn=978-1-234-56010-2"),
+        "ISSNs in one value": same("ISSN+1234-5679", "+", "rft.issn="),
+        "Latin-1 in one value": same("%E9", "", "rft.atitle="),
+        "dashes in one value": same("%E2%80%90", "", "rft.jtitle="),
+        "letters in `rft.pages`": same("x", "", "rft.pages="),
+        "seasons in `date`": same("Winter+2012%2F", "", "date="),
+        "tags in `title`": same("%3Cb%3E", "", "title="),
+    }
 
 
 class Door:
