@@ -21,7 +21,7 @@ def enter():
     if os.geteuid() != 0:
         missing.append("root")
     if missing:
-        sys.exit(f"skipped: this takes {', '.join(missing)}")
+        sys.exit(f"skipped: this needs {', '.join(missing)}")
     namespaces = ["--net", "--mount", "--pid", "--fork", "--kill-child", "--mount-proc"]
     words = ["unshare", *namespaces, sys.executable, os.path.abspath(sys.argv[0]), *sys.argv[1:]]
     os.execvpe("unshare", words, {**os.environ, INSIDE: "1"})
