@@ -86,7 +86,7 @@ function testMenus() {
 // The time of a request in milliseconds: the best of many runs, since the machine may be busy.
 function best(request) {
     let least = Infinity;
-    for (let run = 0; run < 30; run++) {
+    for (let run = 0; run < 50; run++) {
         const start = Date.now();
         for (let i = 0; i < 5; i++) door.requestOf(request);
         least = Math.min(least, (Date.now() - start) / 5);

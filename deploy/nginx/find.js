@@ -1,9 +1,9 @@
 // The front door of the link resolver: reads an OpenURL of any source, asks the program for its menu, and makes the
 // reader's page. An operator edits nothing here: labels and words are in targets.json.
 //
-// It runs in njs 0.7.9 and later. That version lacks for-of, destructuring, spread, default parameters, classes, Map and
-// `?.`, and it frees no memory before the reply is sent. So texts are joined from arrays, and cut before a regular
-// expression reads them.
+// It runs in njs 0.7.9 and later. That version lacks for-of, destructuring, spread, default parameters, classes and Map,
+// and it frees no memory before the reply is sent: texts are joined from arrays, and cut before a regular expression
+// reads them. A function expression in an array literal turns the number of its place into a text everywhere.
 
 const VERSION = 'Z39.88-2004';
 const UTF8 = 'info:ofi/enc:UTF-8';
@@ -37,11 +37,8 @@ function encode(text) {
 
 const NONE = [];
 const NO_KEYS = Object.create(null);
-
 function set(names) {
-    const members = Object.create(null);
-    names.split(' ').forEach(function (name) { members[name] = true; });
-    return members;
+    return names.split(' ').reduce(function (all, name) { all[name] = true; return all; }, Object.create(null));
 }
 
 // The columns of a KBART table. An empty cell is undefined, so a request that could write one would choose the link.
@@ -53,7 +50,6 @@ const COLUMNS = set('publication_title print_identifier online_identifier date_f
 
 // The keys that find rows, with their forms in OpenURL 0.1. The program ignores '-' and spaces in their values.
 const NUMBER_KEYS = set('rft.issn rft.eissn rft.isbn issn eissn isbn');
-
 function isDropped(key, value) {
     return value.trim() === '' || key.slice(0, 2) === 'x.' || COLUMNS[key] === true
         || (key === 'rft_id' && /^(?:info:[\w-]+[\/:]|urn:\w+:|(?:doi|pmid|oclc):)\s*$/i.test(value))
@@ -80,8 +76,8 @@ function Query(args) {
 
 // UTF-8, or windows-1252 where the text is not UTF-8 or the request declares Latin-1. A '%' of no escape is a '%'.
 Query.prototype.decode = function (raw) {
-    if (/^[\x21-\x24\x26-\x2a\x2c-\x7e]*$/.test(raw)) return raw;
-    const text = raw.split('+').join(' ');
+    const text = raw.indexOf('+') < 0 ? raw : raw.split('+').join(' ');
+    if (text.indexOf('%') < 0) return text;
     if (!this.isLatin1 || !/%[89a-f]/i.test(raw)) {
         try {
             return decodeURIComponent(text.replace(/%(?![0-9a-f]{2})/gi, '%25'));
@@ -96,11 +92,12 @@ Query.prototype.read = function (raw) {
     const at = raw.indexOf('=');
     if (at < 0 || at === raw.length - 1) return false;
     const before = this.latin1Texts;
-    const key = this.decode(raw.slice(0, at));
-    const value = this.decode(raw.slice(at + 1));
+    const hasEscapes = !/^[\x21-\x24\x26-\x2a\x2c-\x7e]*$/.test(raw);
+    const key = hasEscapes ? this.decode(raw.slice(0, at)) : raw.slice(0, at);
+    const value = hasEscapes ? this.decode(raw.slice(at + 1)) : raw.slice(at + 1);
     if (isDropped(key, value)) return true;
-    const isPlain = this.latin1Texts === before && /^[\x21-\x7e]*$/.test(raw);
-    this.pairs.push({ key: key, text: isPlain ? raw : encode(key) + '=' + encode(value) });
+    const isKept = !hasEscapes || (this.latin1Texts === before && /^[\x21-\x7e]*$/.test(raw));
+    this.pairs.push({ key: key, text: isKept ? raw : encode(key) + '=' + encode(value) });
     if (this.given[key]) this.given[key].push(value);
     else this.given[key] = [value];
     return true;
@@ -111,18 +108,13 @@ Query.prototype.has = function (key) { return this.first(key) !== ''; };
 // All values of a key, of a hostile request the first ones.
 Query.prototype.all = function (key) { return (this.added[key] || NONE).concat(this.given[key] || NONE).slice(0, MOST_VALUES); };
 
+// Gives a key values before the request's: these, one more, or one that is the first of all, which counts.
 Query.prototype.put = function (key, values) {
     if (!this.added[key]) this.addedKeys.push(key);
     this.added[key] = values;
 };
-
-// Puts one more value before the request's.
 Query.prototype.add = function (key, value) { this.put(key, (this.added[key] || NONE).concat([value])); };
-
-// Makes a value the first of its key, the one that counts.
-Query.prototype.lead = function (key, value) {
-    if (this.first(key) !== value) this.put(key, [value]);
-};
+Query.prototype.lead = function (key, value) { if (this.first(key) !== value) this.put(key, [value]); };
 
 // Gives a key the values of another one, if it has none.
 Query.prototype.copy = function (from, to) {
@@ -131,40 +123,38 @@ Query.prototype.copy = function (from, to) {
     this.copied[from] = true;
 };
 
+// Leaves out all values of a key, or all but one.
 Query.prototype.drop = function (key) {
     this.pairs = this.pairs.filter(function (pair) { return pair.key !== key; });
     this.addedKeys = this.addedKeys.filter(function (added) { return added !== key; });
     delete this.given[key];
     delete this.added[key];
 };
+Query.prototype.set = function (key, value) {
+    this.drop(key);
+    this.add(key, value);
+};
 
 function texts(pairs) { return pairs.map(function (pair) { return pair.text; }); }
-
-// The bytes of texts that are joined by '&'.
-function lengthOf(parts) {
-    let length = 0;
-    for (let i = 0; i < parts.length; i++) length += parts[i].length + 1;
-    return length - 1;
-}
 
 // The query as text, with `first` before it and without the keys of `omitted`. If it is too long, the pairs are left out
 // that a rule has copied or replaced, then pairs from the end.
 Query.prototype.text = function (first, omitted) {
     const q = this;
-    const parts = first === '' ? [] : [first];
+    const front = first === '' ? [] : [first];
     q.addedKeys.forEach(function (key) {
-        if (omitted[key] !== true) q.added[key].forEach(function (value) { parts.push(encode(key) + '=' + encode(value)); });
+        if (omitted[key] !== true) q.added[key].forEach(function (value) { front.push(encode(key) + '=' + encode(value)); });
     });
-    let pairs = q.pairs.filter(function (pair) { return omitted[pair.key] !== true; });
-    if (lengthOf(parts) + lengthOf(texts(pairs)) > MOST_BYTES) {
-        pairs = pairs.filter(function (pair) {
+    const pairs = q.pairs.filter(function (pair) { return omitted[pair.key] !== true; });
+    let parts = front.concat(texts(pairs));
+    if (parts.join('&').length > MOST_BYTES) {
+        parts = front.concat(texts(pairs.filter(function (pair) {
             return !q.copied[pair.key] && (!q.added[pair.key] || pair.key === 'rft_id');
-        });
+        })));
     }
-    const all = parts.concat(texts(pairs));
-    let length = lengthOf(all);
-    while (length > MOST_BYTES) length -= all.pop().length + 1;
-    return all.join('&');
+    let length = parts.join('&').length;
+    while (length > MOST_BYTES) length -= parts.pop().length + 1;
+    return parts.join('&');
 };
 
 // ---------------------------------------------------------------- The rules
@@ -184,17 +174,14 @@ const RULES = [
 
 function version(q) {
     ['ctx_ver', 'url_ver'].forEach(function (key) {
-        if (!q.has(key) || q.first(key) === VERSION) return;
-        q.drop(key);
-        q.add(key, VERSION);
+        if (q.has(key) && q.first(key) !== VERSION) q.set(key, VERSION);
     });
 }
 
 const OLD_KEYS = ('genre issn eissn isbn eisbn volume issue spage epage pages artnum date year atitle jtitle btitle stitle '
     + 'au aulast aufirst auinit auinit1 aucorp part ssn quarter sici coden').split(' ');
-
 function oldKeys(q) {
-    OLD_KEYS.forEach(function (key) { q.copy(key, 'rft.' + key); });
+    OLD_KEYS.forEach(function (key) { if (q.given[key]) q.copy(key, 'rft.' + key); });
     q.copy('pid', 'rft_dat');
     if (!q.has('sid') || q.has('rfr_id')) return;
     q.add('rfr_id', 'info:sid/' + q.first('sid').replace(/^info:sid\//, ''));
@@ -213,7 +200,6 @@ function kindOf(q) {
 }
 
 const TITLES = { book: 'rft.btitle', dissertation: 'rft.title', journal: 'rft.jtitle' };
-
 function title(q) {
     if (q.has('rft.btitle') || q.has('rft.title') || q.has('rft.jtitle')) return;
     q.copy('title', TITLES[kindOf(q)]);
@@ -228,8 +214,8 @@ const IDENTIFIERS = [
     ['x.doi', 'info:doi/',
         /^(?:info:doi[\/:]|doi:|(?:https?:\/\/)?(?:dx\.|www\.)?doi\.org\/)?\s*(10\.[\d.]{4,20}\/\S+)$/i],
     ['x.pmid', 'info:pmid/', /^(?:info:pmid[\/:]|pmid:)\s*(\d{1,9})$/i],
-    ['x.pmid', 'info:pmid/', /^https?:\/\/(?:www\.)?pubmed\.(?:gov|ncbi\.nlm\.nih\.gov)\/(\d{1,9})(?:[\/?#].*)?$/i],
-    ['x.pmid', 'info:pmid/', /^https?:\/\/(?:www\.)?ncbi\.nlm\.nih\.gov\/pubmed\/(?:\?term=)?(\d{1,9})(?:[\/?#].*)?$/i],
+    ['x.pmid', 'info:pmid/',
+        /^https?:\/\/(?:www\.)?(?:pubmed\.gov|pubmed\.ncbi\.nlm\.nih\.gov|ncbi\.nlm\.nih\.gov\/pubmed)\/(?:\?term=)?(\d{1,9})(?:[\/?#].*)?$/i],
     ['x.oclc', 'info:oclcnum/',
         /^(?:info:oclcnum[\/:]|oclc(?:num)?:|https?:\/\/(?:www\.)?worldcat\.org\/oclc\/)\s*(?:\(OCoLC\))?(?:oc[mn])?(\d{1,12})$/i],
     ['rft.issn', 'urn:ISSN:', /^(?:urn:)?issn:\s*(\d{4}-?\d{3}[\dx])$/i],
@@ -278,12 +264,13 @@ function identifiers(q) {
 
 const DASHES = /[\u00ad\u2010-\u2015\u2043\u2212\ufe58\ufe63\uff0d]/g;
 const SPACES = /[\u00a0\u2000-\u200b\u202f\u205f\u3000\ufeff]/g;
-
-function plain(text) { return text.slice(0, 200).replace(DASHES, '-').replace(SPACES, ' ').trim(); }
+function plain(value) {
+    const text = value.slice(0, 200);
+    return (/^[ -~]*$/.test(text) ? text : text.replace(DASHES, '-').replace(SPACES, ' ')).trim();
+}
 
 const ISSN = { form: /(?<![\d-])\d{4}[- ]?\d{3}[\dX](?![\d-])/gi, write: issn };
 const ISBN = { form: /(?<!\d)(?:97[89](?:[- ]?\d){10}|\d(?:[- ]?\d){8}[- ]?[\dX])(?!\d)/gi, write: isbn13 };
-
 function issn(digits) { return digits.slice(0, 4) + '-' + digits.slice(4); }
 
 function isbn13(digits) {
@@ -311,20 +298,13 @@ function numbersIn(q, keys, kind, count) {
 function numbers(q) {
     const issns = numbersIn(q, ['rft.issn', 'rft.eissn'], ISSN, 2);
     const isbns = numbersIn(q, ['rft.isbn', 'rft.eisbn'], ISBN, 1);
-    const lead = function (name, number) {
-        if (!number) return;
-        q.lead('rft.' + name, number);
-        q.lead('x.' + name, number);
-    };
-    lead('issn', issns[0]);
-    lead('eissn', issns[1]);
-    lead('isbn', isbns[0]);
+    const found = { issn: issns[0], eissn: issns[1], isbn: isbns[0] };
+    Object.keys(found).forEach(function (name) {
+        if (found[name]) ['rft.', 'x.'].forEach(function (form) { q.lead(form + name, found[name]); });
+    });
 }
 
-const MONTHS = 'jan feb mar apr may jun jul aug sep oct nov dec'.split(' ');
-
-// The forms of a date, tried in this order, and the reader of what their groups are. (In njs 0.7.9 a function expression
-// in an array makes its index, as a constant of the whole program, a text: so the readers are declared functions.)
+// The forms of a date, tried in this order, and the reader of what their groups are.
 const DATES = [
     [/^([12]\d{3})[-\/. ]?(\d\d)[-\/. ]?(\d\d)(?=\D|\d{4}(?:\d\d)?$|$)/, yearFirst],  // 2013-08-01, 20130801, with a time
     [/^([12]\d{3})[-\/. ](\d{1,2})(?:[-\/. ](\d{1,2}))?(?!\d)/, yearFirst],  // 2013-08, 2013/8/1, 2013-08/2013-09
@@ -354,7 +334,7 @@ function ymd(year, month, day) {
 
 function monthIn(text) {
     const found = /\b(jan|feb|mar|apr|may|jun|jul|aug|sep|oct|nov|dec)(?:\b|uary|ruary|ch|il|e\b|y\b|ust|t\b|tember|ober|ember)/i.exec(text);
-    return found === null ? 0 : MONTHS.indexOf(found[1].toLowerCase()) + 1;
+    return found === null ? 0 : 'janfebmaraprmayjunjulaugsepoctnovdec'.indexOf(found[1].toLowerCase()) / 3 + 1;
 }
 
 // The date in a text; '' if no year can be read.
@@ -381,9 +361,7 @@ function page(q) {
 }
 
 function encoding(q) {
-    if ((!q.isLatin1 && q.latin1Texts === 0) || q.first('ctx_enc') === UTF8) return;
-    q.drop('ctx_enc');
-    q.add('ctx_enc', UTF8);
+    if ((q.isLatin1 || q.latin1Texts > 0) && q.first('ctx_enc') !== UTF8) q.set('ctx_enc', UTF8);
 }
 
 function queryOf(args) {
@@ -429,11 +407,8 @@ function clean(text) {
 function textOr(value, other) { return typeof value === 'string' && clean(value) !== '' ? clean(value) : other; }
 function word(site, name) { return textOr(own(own(site, 'words'), name), WORDS[name]); }
 function filled(site, name, value) { return word(site, name).split('{}').join(value); }
-
 const ENTITIES = { '&': '&amp;', '<': '&lt;', '>': '&gt;', '"': '&quot;', "'": '&#39;' };
-
 function escape(text) { return text.replace(/[&<>"']/g, function (c) { return ENTITIES[c]; }); }
-
 function isWeb(link) { return /^https?:\/\/[\x21-\x7e]+$/i.test(link); }
 
 // What the page and the JSON say of a request.
@@ -447,10 +422,11 @@ function citationOf(q, site) {
     };
     const authors = q.all('rft.au').map(clean).filter(Boolean);
     const given = clean(q.first('rft.aufirst') || q.first('rft.auinit') || q.first('rft.auinit1'));
+    const last = clean(q.first('rft.aulast'));
     if (authors.length > 3) citation.author = filled(site, 'others', authors.slice(0, 3).join('; '));
     else if (authors.length > 0) citation.author = authors.join('; ');
-    else put('author', ['rft.aulast', 'rft.aucorp']);
-    if (authors.length === 0 && q.has('rft.aulast') && given !== '') citation.author += ', ' + given;
+    else if (last !== '') citation.author = given === '' ? last : last + ', ' + given;
+    else put('author', ['rft.aucorp']);
     put('title', ['rft.atitle', 'rft.btitle', 'rft.title']);
     put('journal', ['rft.jtitle', 'rft.stitle', 'rft.btitle', 'rft.title']);
     if (citation.journal === citation.title) delete citation.journal;
@@ -501,18 +477,12 @@ function shownGroups(groups) {
 }
 
 function citationHtml(c, site) {
-    const parts = [];
-    const put = function (text, before, after) { if (text) parts.push(before + '<bdi>' + escape(text) + '</bdi>' + after); };
-    const named = function (name) { if (c[name]) put(filled(site, name, c[name]), '', ''); };
-    put(c.author, '', '');
-    put(c.title, '<strong>', '</strong>');
-    put(c.journal, '<cite>', '</cite>');
-    put(c.year, '', '');
-    ['volume', 'issue', 'pages'].forEach(named);
-    if (!c.title) {
-        if (c.doi || c.pmid) ['doi', 'pmid'].forEach(named);
-        else if (!c.journal) ['issn', 'isbn'].forEach(named);
-    }
+    const text = function (value) { return value ? '<bdi>' + escape(value) + '</bdi>' : ''; };
+    const named = function (name) { return c[name] ? text(filled(site, name, c[name])) : ''; };
+    const numbers = c.title ? [] : c.doi || c.pmid ? ['doi', 'pmid'] : c.journal ? [] : ['issn', 'isbn'];
+    const parts = [text(c.author), c.title ? '<strong>' + text(c.title) + '</strong>' : '',
+        c.journal ? '<cite>' + text(c.journal) + '</cite>' : '', text(c.year)]
+        .concat(['volume', 'issue', 'pages'].concat(numbers).map(named)).filter(Boolean);
     return parts.length > 0 ? parts.join(', ') : escape(word(site, 'noCitation'));
 }
 
@@ -526,22 +496,19 @@ function documentOf(title, body, site) {
 }
 
 function helpHtml(site) {
-    const help = escape(word(site, 'help'));
+    const help = word(site, 'help');
     const link = word(site, 'helpLink');
-    if (help === '') return [];
-    return ['<p class="help">' + (isWeb(link) ? '<a href="' + escape(link) + '">' + help + '</a>' : help) + '</p>'];
+    return help === '' ? [] : ['<p class="help">' + (isWeb(link) ? anchor(link, help) : escape(help)) + '</p>'];
 }
 
-function linkHtml(link) {
-    return '<li><a href="' + escape(link.url) + '">' + escape(link.label) + '</a>'
-        + (link.note ? '\n<p>' + escape(link.note) + '</p>' : '') + '</li>';
-}
+function anchor(url, text) { return '<a href="' + escape(url) + '">' + escape(text) + '</a>'; }
+function linkHtml(l) { return '<li>' + anchor(l.url, l.label) + (l.note ? '\n<p>' + escape(l.note) + '</p>' : '') + '</li>'; }
+function notice(name, site) { return '<p class="nothing">' + escape(word(site, name)) + '</p>'; }
 
 function pageOf(citation, groups, site) {
-    const isEmpty = Object.keys(citation).length === 0;
     let body = ['<p class="citation">' + citationHtml(citation, site) + '</p>'];
     if (groups[0].links.length === 0) {
-        if (!isEmpty) body.push('<p class="nothing">' + escape(word(site, 'nothing')) + '</p>');
+        if (Object.keys(citation).length > 0) body.push(notice('nothing', site));
         body = body.concat(helpHtml(site));
     }
     shownGroups(groups).forEach(function (g) {
@@ -551,29 +518,26 @@ function pageOf(citation, groups, site) {
 }
 
 const FAULTS = { 403: 'refused', 404: 'missing', 405: 'refused', 413: 'tooLong', 414: 'tooLong', 429: 'busy' };
-
 function faultOf(status, site) {
     const name = FAULTS[status] || (status < 500 ? 'unreadable' : 'unavailable');
-    const body = ['<p class="nothing">' + escape(word(site, name)) + '</p>'].concat(helpHtml(site));
-    return documentOf(word(site, 'heading'), body, site);
+    return documentOf(word(site, 'heading'), [notice(name, site)].concat(helpHtml(site)), site);
 }
 
 // ---------------------------------------------------------------- nginx
 
 function siteOf() { return typeof targets === 'undefined' ? {} : targets; }
-
-function isJson(r) { return /^\/find\.json(?:\?|$)/.test(String(r.variables.request_uri)); }
-
-function send(r, status, type, text) {
-    r.headersOut['Content-Type'] = type;
+function sendPage(r, status, text) {
+    r.headersOut['Content-Type'] = 'text/html; charset=utf-8';
     r.return(status, text);
 }
 
-function sendPage(r, status, text) { send(r, status, 'text/html; charset=utf-8', text); }
-function sendJson(r, status, data) { send(r, status, 'application/json', JSON.stringify(data) + '\n'); }
+function sendJson(r, status, data) {
+    r.headersOut['Content-Type'] = 'application/json';
+    r.return(status, JSON.stringify(data) + '\n');
+}
 
 function sendFault(r, status, site) {
-    if (isJson(r)) sendJson(r, status, { error: status });
+    if (/^\/find\.json(?:\?|$)/.test(String(r.variables.request_uri))) sendJson(r, status, { error: status });
     else sendPage(r, status, faultOf(status, site));
 }
 
@@ -625,29 +589,23 @@ async function answer(r, q, reply) {
     const groups = groupsOf(menu, site);
     const all = groups.reduce(function (sum, group) { return sum + group.links.length; }, 0);
     r.variables.openlink_found = groups[0].links.length + '/' + all;
-    reply(citationOf(q, site), groups, site);
+    reply(r, citationOf(q, site), groups, site);
 }
 
-function find(r) {
-    return answer(r, queryOf(argsOf(r)), function (citation, groups, site) {
-        sendPage(r, 200, pageOf(citation, groups, site));
-    });
-}
+function replyPage(r, citation, groups, site) { sendPage(r, 200, pageOf(citation, groups, site)); }
+function replyJson(r, citation, groups) { sendJson(r, 200, { citation: citation, groups: shownGroups(groups) }); }
+function find(r) { return answer(r, queryOf(argsOf(r)), replyPage); }
+function json(r) { return answer(r, queryOf(argsOf(r)), replyJson); }
 
-function json(r) {
-    return answer(r, queryOf(argsOf(r)), function (citation, groups) {
-        sendJson(r, 200, { citation: citation, groups: shownGroups(groups) });
-    });
-}
-
+// The first link, if there is one alone in the first group or `first=1` asks for it; otherwise the page.
 function go(r) {
     const q = queryOf(argsOf(r));
     const isFirst = q.first('first') === '1';
     q.drop('first');
-    return answer(r, q, function (citation, groups, site) {
+    return answer(r, q, function (r, citation, groups, site) {
         const links = groups[0].links;
         if (links.length === 1 || (isFirst && links.length > 0)) r.return(302, links[0].url);
-        else sendPage(r, 200, pageOf(citation, groups, site));
+        else replyPage(r, citation, groups, site);
     });
 }
 
