@@ -1,9 +1,9 @@
 // The front door of the link resolver: reads an OpenURL of any source, asks the program for its menu, and makes the
 // reader's page. An operator edits nothing here: labels and words are in targets.json.
 //
-// It runs in njs 0.7.9 and later. That version lacks for-of, destructuring, spread, default parameters, classes and Map,
-// and it frees no memory before the reply is sent: texts are joined from arrays, and cut before a regular expression
-// reads them. A function expression in an array literal turns the number of its place into a text everywhere.
+// It runs in njs 0.7.9 and later. That version lacks for-of, destructuring, spread, default parameters and classes, and
+// it frees no memory before the reply is sent: texts are joined from arrays, and cut before a regular expression reads
+// them. A function expression in an array literal turns the number of its place into a text, everywhere.
 
 const VERSION = 'Z39.88-2004';
 const UTF8 = 'info:ofi/enc:UTF-8';
@@ -12,7 +12,6 @@ const MOST_BYTES = 12000;
 const MOST_VALUES = 20;
 
 // ---------------------------------------------------------------- Encoding
-
 // The bytes 80 to 9f of windows-1252, which is what browsers and vendors mean by Latin-1.
 const WINDOWS_1252 = '\u20ac\u0081\u201a\u0192\u201e\u2026\u2020\u2021\u02c6\u2030\u0160\u2039\u0152\u008d\u017d\u008f'
     + '\u0090\u2018\u2019\u201c\u201d\u2022\u2013\u2014\u02dc\u2122\u0161\u203a\u0153\u009d\u017e\u0178';
@@ -24,21 +23,12 @@ function windows1252(text) {
     });
 }
 
-function encode(text) {
-    if (/^[\w.~-]*$/.test(text)) return text;
-    try {
-        return encodeURIComponent(text);
-    } catch (e) {
-        return encodeURIComponent(text.replace(/[\ud800-\udfff]/g, '\ufffd'));
-    }
-}
+function encode(text) { return /^[\w.~-]*$/.test(text) ? text : encodeURIComponent(text); }
 
 // ---------------------------------------------------------------- A query
-
 const NONE = [];
-const NO_KEYS = Object.create(null);
 function set(names) {
-    return names.split(' ').reduce(function (all, name) { all[name] = true; return all; }, Object.create(null));
+    return names.split(' ').reduce((all, name) => { all[name] = true; return all; }, Object.create(null));
 }
 
 // The columns of a KBART table. An empty cell is undefined, so a request that could write one would choose the link.
@@ -98,15 +88,16 @@ Query.prototype.read = function (raw) {
     if (isDropped(key, value)) return true;
     const isKept = !hasEscapes || (this.latin1Texts === before && /^[\x21-\x7e]*$/.test(raw));
     this.pairs.push({ key: key, text: isKept ? raw : encode(key) + '=' + encode(value) });
-    if (this.given[key]) this.given[key].push(value);
-    else this.given[key] = [value];
+    (this.given[key] = this.given[key] || []).push(value);
     return true;
 };
 
 Query.prototype.first = function (key) { return (this.added[key] || this.given[key] || NONE)[0] || ''; };
 Query.prototype.has = function (key) { return this.first(key) !== ''; };
 // All values of a key, of a hostile request the first ones.
-Query.prototype.all = function (key) { return (this.added[key] || NONE).concat(this.given[key] || NONE).slice(0, MOST_VALUES); };
+Query.prototype.all = function (key) {
+    return (this.added[key] || NONE).concat(this.given[key] || NONE).slice(0, MOST_VALUES);
+};
 
 // Gives a key values before the request's: these, one more, or one that is the first of all, which counts.
 Query.prototype.put = function (key, values) {
@@ -115,18 +106,16 @@ Query.prototype.put = function (key, values) {
 };
 Query.prototype.add = function (key, value) { this.put(key, (this.added[key] || NONE).concat([value])); };
 Query.prototype.lead = function (key, value) { if (this.first(key) !== value) this.put(key, [value]); };
-
 // Gives a key the values of another one, if it has none.
 Query.prototype.copy = function (from, to) {
     if (!this.has(from) || this.has(to)) return;
     this.put(to, this.all(from));
     this.copied[from] = true;
 };
-
 // Leaves out all values of a key, or all but one.
 Query.prototype.drop = function (key) {
-    this.pairs = this.pairs.filter(function (pair) { return pair.key !== key; });
-    this.addedKeys = this.addedKeys.filter(function (added) { return added !== key; });
+    this.pairs = this.pairs.filter((pair) => pair.key !== key);
+    this.addedKeys = this.addedKeys.filter((added) => added !== key);
     delete this.given[key];
     delete this.added[key];
 };
@@ -135,22 +124,22 @@ Query.prototype.set = function (key, value) {
     this.add(key, value);
 };
 
-function texts(pairs) { return pairs.map(function (pair) { return pair.text; }); }
+function texts(pairs) { return pairs.map((pair) => pair.text); }
 
-// The query as text, with `first` before it and without the keys of `omitted`. If it is too long, the pairs are left out
-// that a rule has copied or replaced, then pairs from the end.
+// The query as text, with `first` before it and without the keys of `omitted`. If it is too long, those pairs are left
+// out that a rule has copied or replaced, then pairs from the end.
 Query.prototype.text = function (first, omitted) {
     const q = this;
     const front = first === '' ? [] : [first];
-    q.addedKeys.forEach(function (key) {
-        if (omitted[key] !== true) q.added[key].forEach(function (value) { front.push(encode(key) + '=' + encode(value)); });
+    q.addedKeys.forEach((key) => {
+        if (omitted[key] === true) return;
+        q.added[key].forEach((value) => { front.push(encode(key) + '=' + encode(value)); });
     });
-    const pairs = q.pairs.filter(function (pair) { return omitted[pair.key] !== true; });
+    const pairs = q.pairs.filter((pair) => omitted[pair.key] !== true);
     let parts = front.concat(texts(pairs));
     if (parts.join('&').length > MOST_BYTES) {
-        parts = front.concat(texts(pairs.filter(function (pair) {
-            return !q.copied[pair.key] && (!q.added[pair.key] || pair.key === 'rft_id');
-        })));
+        const isNeeded = (pair) => !q.copied[pair.key] && (!q.added[pair.key] || pair.key === 'rft_id');
+        parts = front.concat(texts(pairs.filter(isNeeded)));
     }
     let length = parts.join('&').length;
     while (length > MOST_BYTES) length -= parts.pop().length + 1;
@@ -158,7 +147,6 @@ Query.prototype.text = function (first, omitted) {
 };
 
 // ---------------------------------------------------------------- The rules
-
 // In their order; each is a function of the query that the rules before it have left.
 const RULES = [
     version,      // a version that is not OpenURL 1.0's is corrected
@@ -173,15 +161,13 @@ const RULES = [
 ];
 
 function version(q) {
-    ['ctx_ver', 'url_ver'].forEach(function (key) {
-        if (q.has(key) && q.first(key) !== VERSION) q.set(key, VERSION);
-    });
+    ['ctx_ver', 'url_ver'].forEach((key) => { if (q.has(key) && q.first(key) !== VERSION) q.set(key, VERSION); });
 }
 
-const OLD_KEYS = ('genre issn eissn isbn eisbn volume issue spage epage pages artnum date year atitle jtitle btitle stitle '
-    + 'au aulast aufirst auinit auinit1 aucorp part ssn quarter sici coden').split(' ');
+const OLD_KEYS = ('genre issn eissn isbn eisbn volume issue spage epage pages artnum date year atitle jtitle btitle '
+    + 'stitle au aulast aufirst auinit auinit1 aucorp part ssn quarter sici coden').split(' ');
 function oldKeys(q) {
-    OLD_KEYS.forEach(function (key) { if (q.given[key]) q.copy(key, 'rft.' + key); });
+    OLD_KEYS.forEach((key) => { if (q.given[key]) q.copy(key, 'rft.' + key); });
     q.copy('pid', 'rft_dat');
     if (!q.has('sid') || q.has('rfr_id')) return;
     q.add('rfr_id', 'info:sid/' + q.first('sid').replace(/^info:sid\//, ''));
@@ -215,9 +201,9 @@ const IDENTIFIERS = [
         /^(?:info:doi[\/:]|doi:|(?:https?:\/\/)?(?:dx\.|www\.)?doi\.org\/)?\s*(10\.[\d.]{4,20}\/\S+)$/i],
     ['x.pmid', 'info:pmid/', /^(?:info:pmid[\/:]|pmid:)\s*(\d{1,9})$/i],
     ['x.pmid', 'info:pmid/',
-        /^https?:\/\/(?:www\.)?(?:pubmed\.gov|pubmed\.ncbi\.nlm\.nih\.gov|ncbi\.nlm\.nih\.gov\/pubmed)\/(?:\?term=)?(\d{1,9})(?:[\/?#].*)?$/i],
+        /^https?:\/\/(?:www\.)?(?:pubmed\.gov|(?:pubmed\.)?ncbi\.nlm\.nih\.gov(?:\/pubmed)?)\/(?:\?term=)?(\d{1,9})\b/i],
     ['x.oclc', 'info:oclcnum/',
-        /^(?:info:oclcnum[\/:]|oclc(?:num)?:|https?:\/\/(?:www\.)?worldcat\.org\/oclc\/)\s*(?:\(OCoLC\))?(?:oc[mn])?(\d{1,12})$/i],
+        /^(?:info:oclcnum[\/:]|oclc(?:num)?:|https?:\/\/(?:www\.)?worldcat\.org\/oclc\/)\s*(?:\(\w+\))?(?:oc[mn])?(\d{1,12})$/i],
     ['rft.issn', 'urn:ISSN:', /^(?:urn:)?issn:\s*(\d{4}-?\d{3}[\dx])$/i],
     ['rft.isbn', 'urn:ISBN:', /^(?:urn:)?isbn:\s*([\d-]{9,17}[\dx])$/i]
 ];
@@ -242,8 +228,8 @@ function identifierIn(value, key) {
 function identifiers(q) {
     const known = Object.create(null);
     const numbersOf = { 'rft.issn': [], 'rft.isbn': [] };
-    ['rft_id', 'id', 'rft.doi', 'doi', 'pmid', 'rft.pmid'].forEach(function (source) {
-        q.all(source).forEach(function (value) {
+    ['rft_id', 'id', 'rft.doi', 'doi', 'pmid', 'rft.pmid'].forEach((source) => {
+        q.all(source).forEach((value) => {
             const found = identifierIn(value, source);
             if (found === null) return;
             if (numbersOf[found[0]]) numbersOf[found[0]].push(found[1]);
@@ -256,7 +242,7 @@ function identifiers(q) {
             known[uri] = true;
         });
     });
-    Object.keys(numbersOf).forEach(function (key) {
+    Object.keys(numbersOf).forEach((key) => {
         if (numbersOf[key].length === 0 || numbersIn(q, [key], key === 'rft.issn' ? ISSN : ISBN, 1).length > 0) return;
         q.put(key, numbersOf[key].concat(q.added[key] || NONE));
     });
@@ -284,9 +270,9 @@ function isbn13(digits) {
 // The first `count` different numbers of a kind in the values of the keys.
 function numbersIn(q, keys, kind, count) {
     const found = [];
-    keys.forEach(function (key) {
-        q.all(key).forEach(function (value) {
-            (plain(value).match(kind.form) || NONE).forEach(function (text) {
+    keys.forEach((key) => {
+        q.all(key).forEach((value) => {
+            (plain(value).match(kind.form) || NONE).forEach((text) => {
                 const number = kind.write(text.replace(/[- ]/g, '').toUpperCase());
                 if (found.length < count && found.indexOf(number) < 0) found.push(number);
             });
@@ -299,14 +285,14 @@ function numbers(q) {
     const issns = numbersIn(q, ['rft.issn', 'rft.eissn'], ISSN, 2);
     const isbns = numbersIn(q, ['rft.isbn', 'rft.eisbn'], ISBN, 1);
     const found = { issn: issns[0], eissn: issns[1], isbn: isbns[0] };
-    Object.keys(found).forEach(function (name) {
-        if (found[name]) ['rft.', 'x.'].forEach(function (form) { q.lead(form + name, found[name]); });
+    Object.keys(found).forEach((name) => {
+        if (found[name]) ['rft.', 'x.'].forEach((form) => { q.lead(form + name, found[name]); });
     });
 }
 
 // The forms of a date, tried in this order, and the reader of what their groups are.
 const DATES = [
-    [/^([12]\d{3})[-\/. ]?(\d\d)[-\/. ]?(\d\d)(?=\D|\d{4}(?:\d\d)?$|$)/, yearFirst],  // 2013-08-01, 20130801, with a time
+    [/^([12]\d{3})[-\/. ]?(\d\d)[-\/. ]?(\d\d)(?=\D|\d{4}(?:\d\d)?$|$)/, yearFirst],  // 2013-08-01, 20130801T1015
     [/^([12]\d{3})[-\/. ](\d{1,2})(?:[-\/. ](\d{1,2}))?(?!\d)/, yearFirst],  // 2013-08, 2013/8/1, 2013-08/2013-09
     [/^([12]\d{3})(\d\d)$/, yearFirst],                                      // 201308
     [/^(\d{1,2})[-\/.](\d{1,2})[-\/.]([12]\d{3})(?!\d)/, yearLast],         // 25/12/2013, 12/25/2013
@@ -328,12 +314,13 @@ function yearLast(found) {
 // Zero-padded; only the year if there is no such month, only the month if there is no such day.
 function ymd(year, month, day) {
     if (!(month >= 1 && month <= 12)) return year;
-    const two = function (n) { return ('0' + Number(n)).slice(-2); };
+    const two = (n) => ('0' + Number(n)).slice(-2);
     return year + '-' + two(month) + (day >= 1 && day <= 31 ? '-' + two(day) : '');
 }
 
 function monthIn(text) {
-    const found = /\b(jan|feb|mar|apr|may|jun|jul|aug|sep|oct|nov|dec)(?:\b|uary|ruary|ch|il|e\b|y\b|ust|t\b|tember|ober|ember)/i.exec(text);
+    const name = /\b(jan|feb|mar|apr|may|jun|jul|aug|sep|oct|nov|dec)(?:\b|r?uary|ch|il|e\b|y\b|ust|t|ober|ember)/i;
+    const found = name.exec(text);
     return found === null ? 0 : 'janfebmaraprmayjunjulaugsepoctnovdec'.indexOf(found[1].toLowerCase()) / 3 + 1;
 }
 
@@ -366,20 +353,19 @@ function encoding(q) {
 
 function queryOf(args) {
     const q = new Query(args);
-    RULES.forEach(function (rule) { rule(q); });
+    RULES.forEach((rule) => { rule(q); });
     return q;
 }
 
 const ROW_KEYS = set('rft.issn rft.eissn rft.isbn');
 
 // The query for targets with a table of their own, and the one for targets that answer every request.
-function requestText(q) { return q.text('', NO_KEYS); }
+function requestText(q) { return q.text('', NONE); }
 function anyText(q) { return q.text('rft.issn=ANY', ROW_KEYS); }
 function requestOf(args) { return requestText(queryOf(args)); }
 function anyOf(args) { return anyText(queryOf(args)); }
 
 // ---------------------------------------------------------------- The page
-
 // The words that targets.json does not have. `{}` is where the value goes.
 const WORDS = {
     lang: 'en', dir: 'ltr', library: 'Library', heading: 'Find this item', noCitation: 'No reference was given.',
@@ -387,63 +373,56 @@ const WORDS = {
     volume: 'vol. {}', issue: 'no. {}', pages: 'p. {}', others: '{} and others',
     doi: 'DOI {}', pmid: 'PubMed {}', issn: 'ISSN {}', isbn: 'ISBN {}',
     unreadable: 'This request could not be read. Please go back and follow the link again.',
-    refused: 'This kind of request is not accepted here.',
-    missing: 'There is no such page.',
+    refused: 'This kind of request is not accepted here.', missing: 'There is no such page.',
     tooLong: 'This request is too long. Please go back and search with fewer words.',
     busy: 'There are too many requests from your network. Please try again in a moment.',
     unavailable: 'The service is being restarted. Please try again in a minute.'
 };
 
-function own(object, key) {
-    return object && Object.prototype.hasOwnProperty.call(object, key) ? object[key] : undefined;
-}
+const HAS = Object.prototype.hasOwnProperty;
+function own(object, key) { return object && HAS.call(object, key) ? object[key] : undefined; }
 
 // Text without control characters and noncharacters, which neither HTML nor a header field may hold.
-function clean(text) {
-    return String(text).replace(/[\u0000-\u001f\u007f-\u009f\u2028\u2029\ufdd0-\ufdef\ufffe\uffff]/g, ' ')
-        .replace(/\s+/g, ' ').trim();
-}
-
+const CONTROLS = /[\u0000-\u001f\u007f-\u009f\u2028\u2029\ufdd0-\ufdef\ufffe\uffff]/g;
+function clean(text) { return String(text).replace(CONTROLS, ' ').replace(/\s+/g, ' ').trim(); }
 function textOr(value, other) { return typeof value === 'string' && clean(value) !== '' ? clean(value) : other; }
 function word(site, name) { return textOr(own(own(site, 'words'), name), WORDS[name]); }
 function filled(site, name, value) { return word(site, name).split('{}').join(value); }
 const ENTITIES = { '&': '&amp;', '<': '&lt;', '>': '&gt;', '"': '&quot;', "'": '&#39;' };
-function escape(text) { return text.replace(/[&<>"']/g, function (c) { return ENTITIES[c]; }); }
+function escape(text) { return text.replace(/[&<>"']/g, (c) => ENTITIES[c]); }
 function isWeb(link) { return /^https?:\/\/[\x21-\x7e]+$/i.test(link); }
 
-// What the page and the JSON say of a request.
-function citationOf(q, site) {
-    const citation = {};
-    const put = function (name, keys) {
-        for (let i = 0; i < keys.length && !citation[name]; i++) {
-            const text = clean(q.first(keys[i]));
-            if (text !== '') citation[name] = text;
-        }
-    };
+function authorOf(q, site) {
     const authors = q.all('rft.au').map(clean).filter(Boolean);
     const given = clean(q.first('rft.aufirst') || q.first('rft.auinit') || q.first('rft.auinit1'));
     const last = clean(q.first('rft.aulast'));
-    if (authors.length > 3) citation.author = filled(site, 'others', authors.slice(0, 3).join('; '));
-    else if (authors.length > 0) citation.author = authors.join('; ');
-    else if (last !== '') citation.author = given === '' ? last : last + ', ' + given;
-    else put('author', ['rft.aucorp']);
-    put('title', ['rft.atitle', 'rft.btitle', 'rft.title']);
-    put('journal', ['rft.jtitle', 'rft.stitle', 'rft.btitle', 'rft.title']);
+    if (authors.length > 3) return filled(site, 'others', authors.slice(0, 3).join('; '));
+    if (authors.length > 0) return authors.join('; ');
+    return last === '' ? clean(q.first('rft.aucorp')) : given === '' ? last : last + ', ' + given;
+}
+
+// What the page and the JSON say of a request, and the keys that it is taken from.
+const CITED = {
+    title: 'rft.atitle rft.btitle rft.title', journal: 'rft.jtitle rft.stitle rft.btitle rft.title', year: 'rft.date',
+    volume: 'rft.volume', issue: 'rft.issue', pages: 'rft.pages rft.spage rft.artnum',
+    doi: 'x.doi', pmid: 'x.pmid', issn: 'x.issn', isbn: 'x.isbn'
+};
+function citationOf(q, site) {
+    const citation = {};
+    const author = authorOf(q, site);
+    if (author !== '') citation.author = author;
+    Object.keys(CITED).forEach((name) => {
+        const found = CITED[name].split(' ').map((key) => clean(q.first(key))).filter(Boolean);
+        if (found.length > 0) citation[name] = name === 'year' ? found[0].slice(0, 4) : found[0];
+    });
     if (citation.journal === citation.title) delete citation.journal;
-    const year = /^\d{4}/.exec(q.first('rft.date'));
-    if (year !== null) citation.year = year[0];
-    put('volume', ['rft.volume']);
-    put('issue', ['rft.issue']);
-    put('pages', ['rft.pages', 'rft.spage', 'rft.artnum']);
-    ['doi', 'pmid', 'issn', 'isbn'].forEach(function (name) { put(name, ['x.' + name]); });
     return citation;
 }
 
 function emptyGroups(site) {
     const groups = [];
     const named = own(site, 'groups') || NONE;
-    // (a preloaded array has no methods in njs 0.7.9)
-    for (let i = 0; i < named.length; i++) {
+    for (let i = 0; i < named.length; i++) {  // a preloaded array has no methods in njs 0.7.9
         const name = textOr(own(named[i], 'name'), '');
         if (name !== '') groups.push({ name: name, onlyWithout: own(named[i], 'onlyWithout'), links: [] });
     }
@@ -453,7 +432,7 @@ function emptyGroups(site) {
 // All groups of the site with the links of a menu's text. A target without a group is in the first.
 function groupsOf(menu, site) {
     const groups = emptyGroups(site);
-    menu.split('\n').forEach(function (line) {
+    menu.split('\n').forEach((line) => {
         const at = line.indexOf('\t');
         const url = line.slice(at + 1);
         if (at < 0 || !isWeb(url)) return;
@@ -461,24 +440,22 @@ function groupsOf(menu, site) {
         const target = own(own(site, 'targets'), name);
         const group = textOr(own(target, 'group'), '');
         const link = { target: name, label: textOr(own(target, 'label'), name), url: url };
-        const note = textOr(own(target, 'note'), '');
-        if (note !== '') link.note = note;
-        (groups.filter(function (g) { return g.name === group; })[0] || groups[0]).links.push(link);
+        if (textOr(own(target, 'note'), '') !== '') link.note = clean(target.note);
+        (groups.filter((g) => g.name === group)[0] || groups[0]).links.push(link);
     });
     return groups;
 }
 
 // The groups that a reader sees: those with links, except where `onlyWithout` names a group that has some.
 function shownGroups(groups) {
-    const full = groups.filter(function (g) { return g.links.length > 0; });
-    return full.filter(function (g) {
-        return !full.some(function (other) { return other.name === g.onlyWithout; });
-    }).map(function (g) { return { name: g.name, links: g.links }; });
+    const full = groups.filter((g) => g.links.length > 0);
+    return full.filter((g) => !full.some((other) => other.name === g.onlyWithout))
+        .map((g) => ({ name: g.name, links: g.links }));
 }
 
 function citationHtml(c, site) {
-    const text = function (value) { return value ? '<bdi>' + escape(value) + '</bdi>' : ''; };
-    const named = function (name) { return c[name] ? text(filled(site, name, c[name])) : ''; };
+    const text = (value) => value ? '<bdi>' + escape(value) + '</bdi>' : '';
+    const named = (name) => c[name] ? text(filled(site, name, c[name])) : '';
     const numbers = c.title ? [] : c.doi || c.pmid ? ['doi', 'pmid'] : c.journal ? [] : ['issn', 'isbn'];
     const parts = [text(c.author), c.title ? '<strong>' + text(c.title) + '</strong>' : '',
         c.journal ? '<cite>' + text(c.journal) + '</cite>' : '', text(c.year)]
@@ -487,9 +464,9 @@ function citationHtml(c, site) {
 }
 
 function documentOf(title, body, site) {
-    const w = function (name) { return escape(word(site, name)); };
-    return ['<!DOCTYPE html>', '<html lang="' + w('lang') + '" dir="' + w('dir') + '">', '<head>', '<meta charset="utf-8">',
-        '<meta name="viewport" content="width=device-width, initial-scale=1">',
+    const w = (name) => escape(word(site, name));
+    return ['<!DOCTYPE html>', '<html lang="' + w('lang') + '" dir="' + w('dir') + '">', '<head>',
+        '<meta charset="utf-8">', '<meta name="viewport" content="width=device-width, initial-scale=1">',
         '<title>' + escape(title) + ' – ' + w('library') + '</title>', '<link rel="stylesheet" href="/menu.css">',
         '</head>', '<body>', '<header>', '<p>' + w('library') + '</p>', '</header>', '<main>',
         '<h1>' + w('heading') + '</h1>'].concat(body, ['</main>', '</body>', '</html>', '']).join('\n');
@@ -502,7 +479,8 @@ function helpHtml(site) {
 }
 
 function anchor(url, text) { return '<a href="' + escape(url) + '">' + escape(text) + '</a>'; }
-function linkHtml(l) { return '<li>' + anchor(l.url, l.label) + (l.note ? '\n<p>' + escape(l.note) + '</p>' : '') + '</li>'; }
+function noteHtml(note) { return note ? '<p>' + escape(note) + '</p>' : ''; }
+function linkHtml(link) { return '<li>' + anchor(link.url, link.label) + noteHtml(link.note) + '</li>'; }
 function notice(name, site) { return '<p class="nothing">' + escape(word(site, name)) + '</p>'; }
 
 function pageOf(citation, groups, site) {
@@ -511,7 +489,7 @@ function pageOf(citation, groups, site) {
         if (Object.keys(citation).length > 0) body.push(notice('nothing', site));
         body = body.concat(helpHtml(site));
     }
-    shownGroups(groups).forEach(function (g) {
+    shownGroups(groups).forEach((g) => {
         body = body.concat(['<h2>' + escape(g.name) + '</h2>', '<ul>'], g.links.map(linkHtml), ['</ul>']);
     });
     return documentOf((citation.title || citation.journal || word(site, 'heading')).slice(0, 100), body, site);
@@ -524,18 +502,13 @@ function faultOf(status, site) {
 }
 
 // ---------------------------------------------------------------- nginx
-
 function siteOf() { return typeof targets === 'undefined' ? {} : targets; }
-function sendPage(r, status, text) {
-    r.headersOut['Content-Type'] = 'text/html; charset=utf-8';
+function send(r, status, type, text) {
+    r.headersOut['Content-Type'] = type;
     r.return(status, text);
 }
-
-function sendJson(r, status, data) {
-    r.headersOut['Content-Type'] = 'application/json';
-    r.return(status, JSON.stringify(data) + '\n');
-}
-
+function sendPage(r, status, text) { send(r, status, 'text/html; charset=utf-8', text); }
+function sendJson(r, status, data) { send(r, status, 'application/json', JSON.stringify(data) + '\n'); }
 function sendFault(r, status, site) {
     if (/^\/find\.json(?:\?|$)/.test(String(r.variables.request_uri))) sendJson(r, status, { error: status });
     else sendPage(r, status, faultOf(status, site));
@@ -551,12 +524,10 @@ function argsOf(r) {
     }
     const text = bytes.toString();
     if (/^[\x21-\x7e]*$/.test(text)) return text;
-    const parts = [];
-    for (let i = 0; i < bytes.length; i++) {
-        const byte = bytes[i];
-        parts.push(byte > 0x20 && byte < 0x7f ? String.fromCharCode(byte) : '%' + ('0' + byte.toString(16)).slice(-2));
-    }
-    return parts.join('');
+    return bytes.toString('hex').replace(/../g, (hex) => {
+        const byte = parseInt(hex, 16);
+        return byte > 0x20 && byte < 0x7f ? String.fromCharCode(byte) : '%' + hex;
+    });
 }
 
 // Asks the program, and once more if no process can be reached: all of them are back within 400 ms of a restart.
@@ -570,9 +541,9 @@ async function ask(r, args) {
 // Both menus in one. A target of the first is not taken from the second again.
 function joined(first, second) {
     const names = Object.create(null);
-    const nameOf = function (line) { return line.slice(0, line.indexOf('\t')); };
-    first.split('\n').forEach(function (line) { names[nameOf(line)] = true; });
-    return first + second.split('\n').filter(function (line) { return names[nameOf(line)] !== true; }).join('\n');
+    const nameOf = (line) => line.slice(0, line.indexOf('\t'));
+    first.split('\n').forEach((line) => { names[nameOf(line)] = true; });
+    return first + second.split('\n').filter((line) => names[nameOf(line)] !== true).join('\n');
 }
 
 // Asks the program, unless the query is empty, and gives the citation and the groups to `reply`.
@@ -587,7 +558,7 @@ async function answer(r, q, reply) {
         menu = joined(replies[0].responseText || '', replies[1].responseText || '');
     }
     const groups = groupsOf(menu, site);
-    const all = groups.reduce(function (sum, group) { return sum + group.links.length; }, 0);
+    const all = groups.reduce((sum, group) => sum + group.links.length, 0);
     r.variables.openlink_found = groups[0].links.length + '/' + all;
     reply(r, citationOf(q, site), groups, site);
 }
@@ -612,8 +583,7 @@ function go(r) {
 // The page in place of nginx's own text.
 function fault(r) { sendFault(r, Number(r.variables.status) || 503, siteOf()); }
 
-// An exception would close the connection without a byte. It becomes the page of a fault, without words of the site,
-// which may be its cause.
+// An exception would close the connection without a byte. The page has no words of the site: they may be the cause.
 function guarded(handler) {
     return async function (r) {
         try {
@@ -626,7 +596,6 @@ function guarded(handler) {
 }
 
 export default {
-    requestOf: requestOf, anyOf: anyOf, queryOf: queryOf, dateOf: dateOf, joined: joined, citationOf: citationOf,
-    groupsOf: groupsOf, shownGroups: shownGroups, pageOf: pageOf, faultOf: faultOf, words: WORDS,
+    requestOf: requestOf, anyOf: anyOf, joined: joined, groupsOf: groupsOf, shownGroups: shownGroups,
     find: guarded(find), json: guarded(json), go: guarded(go), fault: guarded(fault)
 };
