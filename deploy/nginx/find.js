@@ -203,7 +203,7 @@ const IDENTIFIERS = [
     ['x.pmid', 'info:pmid/',
         /^https?:\/\/(?:www\.)?(?:pubmed\.gov|(?:pubmed\.)?ncbi\.nlm\.nih\.gov(?:\/pubmed)?)\/(?:\?term=)?(\d{1,9})\b/i],
     ['x.oclc', 'info:oclcnum/',
-        /^(?:info:oclcnum[\/:]|oclc(?:num)?:|https?:\/\/(?:www\.)?worldcat\.org\/oclc\/)\s*(?:\(\w+\))?(?:oc[mn])?(\d{1,12})$/i],
+        /^(?:info:oclcnum[\/:]|oclc(?:num)?:|https?:\/\/\w*\.?worldcat\.org\/oclc\/)\s*(?:\(\w+\))?(?:oc\w)?(\d{1,12})$/i],
     ['rft.issn', 'urn:ISSN:', /^(?:urn:)?issn:\s*(\d{4}-?\d{3}[\dx])$/i],
     ['rft.isbn', 'urn:ISBN:', /^(?:urn:)?isbn:\s*([\d-]{9,17}[\dx])$/i]
 ];
@@ -254,7 +254,6 @@ function plain(value) {
     const text = value.slice(0, 200);
     return (/^[ -~]*$/.test(text) ? text : text.replace(DASHES, '-').replace(SPACES, ' ')).trim();
 }
-
 const ISSN = { form: /(?<![\d-])\d{4}[- ]?\d{3}[\dX](?![\d-])/gi, write: issn };
 const ISBN = { form: /(?<!\d)(?:97[89](?:[- ]?\d){10}|\d(?:[- ]?\d){8}[- ]?[\dX])(?!\d)/gi, write: isbn13 };
 function issn(digits) { return digits.slice(0, 4) + '-' + digits.slice(4); }
