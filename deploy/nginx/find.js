@@ -374,7 +374,7 @@ const WORDS = {
     unreadable: 'This request could not be read. Please go back and follow the link again.',
     refused: 'This kind of request is not accepted here.', missing: 'There is no such page.',
     tooLong: 'This request is too long. Please go back and search with fewer words.',
-    busy: 'There are too many requests from your network. Please try again in a moment.',
+    busy: 'There are too many requests just now. Please try again in a moment.',
     unavailable: 'The service is being restarted. Please try again in a minute.'
 };
 
