@@ -1,29 +1,40 @@
 // The front door of the link resolver: reads an OpenURL of any source, asks the program for its menu, and makes the
 // reader's page. An operator edits nothing here: labels and words are in targets.json.
 //
-// It runs in njs 0.7.9 and later. That version lacks for-of, destructuring, spread, default parameters and classes, and
-// it frees no memory before the reply is sent: texts are joined from arrays, and cut before a regular expression reads
-// them. A function expression in an array literal turns the number of its place into a text, everywhere.
+// It runs in njs 0.7.9 and later. That version lacks for-of, destructuring, spread, default parameters and classes. It
+// frees no memory before the reply is sent, and `test`, `exec`, `match` and `replace` take 5 KB where nothing matches,
+// but `search` takes none: so it goes first. A function expression in an array literal turns its index into a text.
 
-const VERSION = 'Z39.88-2004';
-const UTF8 = 'info:ofi/enc:UTF-8';
 const MOST_PAIRS = 300;
 const MOST_BYTES = 12000;
-const MOST_VALUES = 20;
-
+const MOST_VALUES = 20;  // of one key
 // ---------------------------------------------------------------- Encoding
+const ASCII = /^[\x21-\x7e]*$/;
+const UNRESERVED = /^[\w.~-]*$/;
+const NO_ESCAPE = /^[\x21-\x24\x26-\x2a\x2c-\x7e]*$/;
+const LATIN_1 = /(?:^|[&;])ctx_enc=[^&;]{0,40}(?:8859-1|latin-?1|1252)(?:[&;]|$)/i;
+const HIGH = /%[89a-f]/i;
+const STRAY = /%(?![0-9a-f]{2})/i;
+const ANY = /^[- ]*a[- ]*n[- ]*y[- ]*$/i;
+const PREFIX = /^(?:info:[\w-]+[\/:]|urn:\w+:|(?:doi|pmid|oclc):)\s*$/i;
 // The bytes 80 to 9f of windows-1252, which is what browsers and vendors mean by Latin-1.
 const WINDOWS_1252 = '\u20ac\u0081\u201a\u0192\u201e\u2026\u2020\u2021\u02c6\u2030\u0160\u2039\u0152\u008d\u017d\u008f'
     + '\u0090\u2018\u2019\u201c\u201d\u2022\u2013\u2014\u02dc\u2122\u0161\u203a\u0153\u009d\u017e\u0178';
 
+const HEX = /^[0-9a-f]{2}/i;
 function windows1252(text) {
-    return text.replace(/%([0-9a-f]{2})/gi, function (escape, hex) {
-        const byte = parseInt(hex, 16);
-        return byte >= 0x80 && byte < 0xa0 ? WINDOWS_1252.charAt(byte - 0x80) : String.fromCharCode(byte);
-    });
+    return text.split('%').map((part, i) => {
+        if (i === 0 || !is(HEX, part)) return (i === 0 ? '' : '%') + part;
+        const byte = parseInt(part.slice(0, 2), 16);
+        const char = byte >= 0x80 && byte < 0xa0 ? WINDOWS_1252.charAt(byte - 0x80) : String.fromCharCode(byte);
+        return char + part.slice(2);
+    }).join('');
 }
 
-function encode(text) { return /^[\w.~-]*$/.test(text) ? text : encodeURIComponent(text); }
+const HAS = Object.prototype.hasOwnProperty;
+function own(object, key) { return object && HAS.call(object, key) ? object[key] : undefined; }
+function is(form, text) { return text.search(form) >= 0; }
+function encode(text) { return is(UNRESERVED, text) ? text : encodeURIComponent(text); }
 
 // ---------------------------------------------------------------- A query
 const NONE = [];
@@ -42,8 +53,8 @@ const COLUMNS = set('publication_title print_identifier online_identifier date_f
 const NUMBER_KEYS = set('rft.issn rft.eissn rft.isbn issn eissn isbn');
 function isDropped(key, value) {
     return value.trim() === '' || key.slice(0, 2) === 'x.' || COLUMNS[key] === true
-        || (key === 'rft_id' && /^(?:info:[\w-]+[\/:]|urn:\w+:|(?:doi|pmid|oclc):)\s*$/i.test(value))
-        || (NUMBER_KEYS[key] === true && /^[- ]*a[- ]*n[- ]*y[- ]*$/i.test(value));
+        || (key === 'rft_id' && is(PREFIX, value))
+        || (NUMBER_KEYS[key] === true && is(ANY, value));
 }
 
 // A query while the rules work on it. `pairs` are those of the request, `given` their values by key, `added` the values
@@ -54,12 +65,13 @@ function Query(args) {
     this.added = Object.create(null);
     this.addedKeys = [];
     this.copied = Object.create(null);
-    this.isLatin1 = /(?:^|[&;])ctx_enc=[^&;]{0,40}(?:8859-1|latin-?1|1252)(?:[&;]|$)/i.test(args);
+    this.isLatin1 = is(LATIN_1, args);
     this.latin1Texts = 0;
     const isOld = args.indexOf('&') < 0 && args.indexOf(';') >= 0;
     const pieces = (isOld ? args.replace(/;(?=[\w.]+=)/g, '&') : args).split('&');
     for (let i = 0, count = 0; i < pieces.length && count < MOST_PAIRS; i++) {
-        const piece = /^amp;/i.test(pieces[i]) ? pieces[i].replace(/^(?:amp;)+/i, '') : pieces[i];
+        let piece = pieces[i];
+        while (piece.slice(0, 4).toLowerCase() === 'amp;') piece = piece.slice(4);
         if (this.read(piece)) count++;
     }
 }
@@ -68,9 +80,9 @@ function Query(args) {
 Query.prototype.decode = function (raw) {
     const text = raw.indexOf('+') < 0 ? raw : raw.split('+').join(' ');
     if (text.indexOf('%') < 0) return text;
-    if (!this.isLatin1 || !/%[89a-f]/i.test(raw)) {
+    if (!this.isLatin1 || !is(HIGH, raw)) {
         try {
-            return decodeURIComponent(text.replace(/%(?![0-9a-f]{2})/gi, '%25'));
+            return decodeURIComponent(is(STRAY, text) ? text.replace(/%(?![0-9a-f]{2})/gi, '%25') : text);
         } catch (e) { /* not UTF-8 */ }
     }
     this.latin1Texts++;
@@ -82,11 +94,11 @@ Query.prototype.read = function (raw) {
     const at = raw.indexOf('=');
     if (at < 0 || at === raw.length - 1) return false;
     const before = this.latin1Texts;
-    const hasEscapes = !/^[\x21-\x24\x26-\x2a\x2c-\x7e]*$/.test(raw);
+    const hasEscapes = !is(NO_ESCAPE, raw);
     const key = hasEscapes ? this.decode(raw.slice(0, at)) : raw.slice(0, at);
     const value = hasEscapes ? this.decode(raw.slice(at + 1)) : raw.slice(at + 1);
     if (isDropped(key, value)) return true;
-    const isKept = !hasEscapes || (this.latin1Texts === before && /^[\x21-\x7e]*$/.test(raw));
+    const isKept = !hasEscapes || (this.latin1Texts === before && is(ASCII, raw));
     this.pairs.push({ key: key, text: isKept ? raw : encode(key) + '=' + encode(value) });
     (this.given[key] = this.given[key] || []).push(value);
     return true;
@@ -112,7 +124,6 @@ Query.prototype.copy = function (from, to) {
     this.put(to, this.all(from));
     this.copied[from] = true;
 };
-// Leaves out all values of a key, or all but one.
 Query.prototype.drop = function (key) {
     this.pairs = this.pairs.filter((pair) => pair.key !== key);
     this.addedKeys = this.addedKeys.filter((added) => added !== key);
@@ -160,9 +171,8 @@ const RULES = [
     encoding      // what was Latin-1 is UTF-8 now, and says so
 ];
 
-function version(q) {
-    ['ctx_ver', 'url_ver'].forEach((key) => { if (q.has(key) && q.first(key) !== VERSION) q.set(key, VERSION); });
-}
+function correct(q, key, value) { if (q.has(key) && q.first(key) !== value) q.set(key, value); }
+function version(q) { ['ctx_ver', 'url_ver'].forEach((key) => { correct(q, key, 'Z39.88-2004'); }); }
 
 const OLD_KEYS = ('genre issn eissn isbn eisbn volume issue spage epage pages artnum date year atitle jtitle btitle '
     + 'stitle au aulast aufirst auinit auinit1 aucorp part ssn quarter sici coden').split(' ');
@@ -174,23 +184,22 @@ function oldKeys(q) {
     q.copied.sid = true;
 }
 
+const KINDS = { book: 'book', bookitem: 'book', report: 'book', document: 'book', dissertation: 'dissertation',
+    article: 'journal', journal: 'journal', issue: 'journal', preprint: 'journal' };
+const TITLES = { book: 'rft.btitle', dissertation: 'rft.title', journal: 'rft.jtitle' };
 // What a request is for: a book, a dissertation or a journal. Conferences and proceedings may be either of two.
 function kindOf(q) {
-    const genre = q.first('rft.genre').trim().toLowerCase();
-    if (/^(?:book|bookitem|report|document)$/.test(genre)) return 'book';
-    if (/^(?:dissertation|journal)$/.test(genre)) return genre;
-    if (/^(?:article|issue|preprint)$/.test(genre)) return 'journal';
+    const kind = own(KINDS, q.first('rft.genre').trim().toLowerCase());
+    if (kind) return kind;
     const hasIsbn = q.has('rft.isbn') || q.has('rft.eisbn');
     const hasIssn = q.has('rft.issn') || q.has('rft.eissn');
     return (hasIsbn && !hasIssn) || (q.has('rft.btitle') && !q.has('rft.jtitle')) ? 'book' : 'journal';
 }
 
-const TITLES = { book: 'rft.btitle', dissertation: 'rft.title', journal: 'rft.jtitle' };
 function title(q) {
     if (q.has('rft.btitle') || q.has('rft.title') || q.has('rft.jtitle')) return;
     q.copy('title', TITLES[kindOf(q)]);
 }
-
 function format(q) {
     if (!q.has('rft_val_fmt') && q.pairs.length > 0) q.add('rft_val_fmt', 'info:ofi/fmt:kev:mtx:' + kindOf(q));
 }
@@ -201,24 +210,24 @@ const IDENTIFIERS = [
         /^(?:info:doi[\/:]|doi:|(?:https?:\/\/)?(?:dx\.|www\.)?doi\.org\/)?\s*(10\.[\d.]{4,20}\/\S+)$/i],
     ['x.pmid', 'info:pmid/', /^(?:info:pmid[\/:]|pmid:)\s*(\d{1,9})$/i],
     ['x.pmid', 'info:pmid/',
-        /^https?:\/\/(?:www\.)?(?:pubmed\.gov|(?:pubmed\.)?ncbi\.nlm\.nih\.gov(?:\/pubmed)?)\/(?:\?term=)?(\d{1,9})\b/i],
+        /^https?:\/\/(?:www\.)?(?:pubmed\.gov|(?:pubmed\.)?ncbi\.nlm\.nih\.gov(?:\/pubmed)?)\/(?:\?term=)?(\d+)\b/i],
     ['x.oclc', 'info:oclcnum/',
-        /^(?:info:oclcnum[\/:]|oclc(?:num)?:|https?:\/\/\w*\.?worldcat\.org\/oclc\/)\s*(?:\(\w+\))?(?:oc\w)?(\d{1,12})$/i],
+        /^(?:info:oclcnum[\/:]|oclc(?:num)?:|https?:\/\/\w*\.?worldcat\.org\/oclc\/)(?:\(\w+\))?(?:oc\w)?(\d+)$/i],
     ['rft.issn', 'urn:ISSN:', /^(?:urn:)?issn:\s*(\d{4}-?\d{3}[\dx])$/i],
     ['rft.isbn', 'urn:ISBN:', /^(?:urn:)?isbn:\s*([\d-]{9,17}[\dx])$/i]
 ];
 
-// The identifier in a value, as [key, number, URI]; a bare number counts under `pmid`. Null if there is none.
+// The identifier in a value as [key, number, URI], or null. Under `pmid` a bare number counts.
 function identifierIn(value, key) {
     let text = value.trim();
     if (text.length > 500) return null;
-    if (/%[0-9a-f]{2}/i.test(text)) {
+    if (text.indexOf('%') >= 0) {
         try { text = decodeURIComponent(text); } catch (e) { /* not encoded twice */ }
     }
-    if (/^(?:rft\.)?pmid$/.test(key) && /^\d{1,9}$/.test(text)) text = 'pmid:' + text;
+    if ((key === 'pmid' || key === 'rft.pmid') && is(/^\d{1,9}$/, text)) text = 'pmid:' + text;
     for (let i = 0; i < IDENTIFIERS.length; i++) {
+        if (!is(IDENTIFIERS[i][2], text)) continue;
         const found = IDENTIFIERS[i][2].exec(text);
-        if (found === null) continue;
         const number = IDENTIFIERS[i][0] === 'x.doi' ? found[1].replace(/(?<![.,])[.,]+$/, '') : found[1];
         return [IDENTIFIERS[i][0], number, IDENTIFIERS[i][1] + number];
     }
@@ -229,16 +238,12 @@ function identifiers(q) {
     const known = Object.create(null);
     const numbersOf = { 'rft.issn': [], 'rft.isbn': [] };
     ['rft_id', 'id', 'rft.doi', 'doi', 'pmid', 'rft.pmid'].forEach((source) => {
-        q.all(source).forEach((value) => {
-            const found = identifierIn(value, source);
-            if (found === null) return;
+        q.all(source).map((value) => identifierIn(value, source)).filter(Boolean).forEach((found) => {
             if (numbersOf[found[0]]) numbersOf[found[0]].push(found[1]);
             else if (!q.has(found[0])) q.add(found[0], found[1]);
             const uri = found[2].toLowerCase();
-            if (source !== 'rft_id') {
-                q.copied[source] = true;
-                if (known[uri] !== true) q.add('rft_id', found[2]);
-            }
+            if (source !== 'rft_id') q.copied[source] = true;
+            if (source !== 'rft_id' && known[uri] !== true) q.add('rft_id', found[2]);
             known[uri] = true;
         });
     });
@@ -252,7 +257,7 @@ const DASHES = /[\u00ad\u2010-\u2015\u2043\u2212\ufe58\ufe63\uff0d]/g;
 const SPACES = /[\u00a0\u2000-\u200b\u202f\u205f\u3000\ufeff]/g;
 function plain(value) {
     const text = value.slice(0, 200);
-    return (/^[ -~]*$/.test(text) ? text : text.replace(DASHES, '-').replace(SPACES, ' ')).trim();
+    return (is(/^[ -~]*$/, text) ? text : text.replace(DASHES, '-').replace(SPACES, ' ')).trim();
 }
 const ISSN = { form: /(?<![\d-])\d{4}[- ]?\d{3}[\dX](?![\d-])/gi, write: issn };
 const ISBN = { form: /(?<!\d)(?:97[89](?:[- ]?\d){10}|\d(?:[- ]?\d){8}[- ]?[\dX])(?!\d)/gi, write: isbn13 };
@@ -271,8 +276,9 @@ function numbersIn(q, keys, kind, count) {
     const found = [];
     keys.forEach((key) => {
         q.all(key).forEach((value) => {
-            (plain(value).match(kind.form) || NONE).forEach((text) => {
-                const number = kind.write(text.replace(/[- ]/g, '').toUpperCase());
+            const text = plain(value);
+            if (is(kind.form, text)) text.match(kind.form).forEach((it) => {
+                const number = kind.write(it.split('-').join('').split(' ').join('').toUpperCase());
                 if (found.length < count && found.indexOf(number) < 0) found.push(number);
             });
         });
@@ -319,16 +325,15 @@ function ymd(year, month, day) {
 
 function monthIn(text) {
     const name = /\b(jan|feb|mar|apr|may|jun|jul|aug|sep|oct|nov|dec)(?:\b|r?uary|ch|il|e\b|y\b|ust|t|ober|ember)/i;
-    const found = name.exec(text);
-    return found === null ? 0 : 'janfebmaraprmayjunjulaugsepoctnovdec'.indexOf(found[1].toLowerCase()) / 3 + 1;
+    const months = 'janfebmaraprmayjunjulaugsepoctnovdec';
+    return is(name, text) ? months.indexOf(name.exec(text)[1].toLowerCase()) / 3 + 1 : 0;
 }
 
 // The date in a text; '' if no year can be read.
 function dateOf(value) {
     const text = plain(value);
     for (let i = 0; i < DATES.length; i++) {
-        const found = DATES[i][0].exec(text);
-        if (found !== null) return DATES[i][1](found, text);
+        if (is(DATES[i][0], text)) return DATES[i][1](DATES[i][0].exec(text), text);
     }
     return '';
 }
@@ -338,18 +343,15 @@ function date(q) {
     if (dates.length > 0) q.lead('rft.date', dates[0]);
     else q.drop('rft.date');
 }
-
 function page(q) {
     if (q.has('rft.spage')) return;
     const text = plain(q.first('rft.pages'));
     const found = /^\W*(?:pages?|pp?)?[.:\s]*([ivxlcdm]+\b|[a-z]{0,3}\d+)/i.exec(text) || /([a-z]{0,3}\d+)/i.exec(text);
     if (found !== null) q.add('rft.spage', found[1]);
 }
-
 function encoding(q) {
-    if ((q.isLatin1 || q.latin1Texts > 0) && q.first('ctx_enc') !== UTF8) q.set('ctx_enc', UTF8);
+    if (q.isLatin1 || q.latin1Texts > 0) q.set('ctx_enc', 'info:ofi/enc:UTF-8');
 }
-
 function queryOf(args) {
     const q = new Query(args);
     RULES.forEach((rule) => { rule(q); });
@@ -378,18 +380,18 @@ const WORDS = {
     unavailable: 'The service is being restarted. Please try again in a minute.'
 };
 
-const HAS = Object.prototype.hasOwnProperty;
-function own(object, key) { return object && HAS.call(object, key) ? object[key] : undefined; }
-
 // Text without control characters and noncharacters, which neither HTML nor a header field may hold.
 const CONTROLS = /[\u0000-\u001f\u007f-\u009f\u2028\u2029\ufdd0-\ufdef\ufffe\uffff]/g;
-function clean(text) { return String(text).replace(CONTROLS, ' ').replace(/\s+/g, ' ').trim(); }
+function clean(value) {
+    const text = is(CONTROLS, value) ? value.replace(CONTROLS, ' ') : value;
+    return (is(/\s\s/, text) ? text.replace(/\s+/g, ' ') : text).trim();
+}
 function textOr(value, other) { return typeof value === 'string' && clean(value) !== '' ? clean(value) : other; }
 function word(site, name) { return textOr(own(own(site, 'words'), name), WORDS[name]); }
 function filled(site, name, value) { return word(site, name).split('{}').join(value); }
 const ENTITIES = { '&': '&amp;', '<': '&lt;', '>': '&gt;', '"': '&quot;', "'": '&#39;' };
-function escape(text) { return text.replace(/[&<>"']/g, (c) => ENTITIES[c]); }
-function isWeb(link) { return /^https?:\/\/[\x21-\x7e]+$/i.test(link); }
+function escape(text) { return is(/[&<>"']/, text) ? text.replace(/[&<>"']/g, (c) => ENTITIES[c]) : text; }
+function isWeb(link) { return is(/^https?:\/\/[\x21-\x7e]+$/i, link); }
 
 function authorOf(q, site) {
     const authors = q.all('rft.au').map(clean).filter(Boolean);
@@ -467,8 +469,8 @@ function documentOf(title, body, site) {
     return ['<!DOCTYPE html>', '<html lang="' + w('lang') + '" dir="' + w('dir') + '">', '<head>',
         '<meta charset="utf-8">', '<meta name="viewport" content="width=device-width, initial-scale=1">',
         '<title>' + escape(title) + ' – ' + w('library') + '</title>', '<link rel="stylesheet" href="/menu.css">',
-        '</head>', '<body>', '<header>', '<p>' + w('library') + '</p>', '</header>', '<main>',
-        '<h1>' + w('heading') + '</h1>'].concat(body, ['</main>', '</body>', '</html>', '']).join('\n');
+        '</head>', '<body>', '<header><p>' + w('library') + '</p></header>', '<main>', '<h1>' + w('heading') + '</h1>']
+        .concat(body, ['</main>', '</body>', '</html>', '']).join('\n');
 }
 
 function helpHtml(site) {
@@ -476,7 +478,6 @@ function helpHtml(site) {
     const link = word(site, 'helpLink');
     return help === '' ? [] : ['<p class="help">' + (isWeb(link) ? anchor(link, help) : escape(help)) + '</p>'];
 }
-
 function anchor(url, text) { return '<a href="' + escape(url) + '">' + escape(text) + '</a>'; }
 function noteHtml(note) { return note ? '<p>' + escape(note) + '</p>' : ''; }
 function linkHtml(link) { return '<li>' + anchor(link.url, link.label) + noteHtml(link.note) + '</li>'; }
@@ -517,12 +518,12 @@ function sendFault(r, status, site) {
 // arguments reach the program as they are.
 function argsOf(r) {
     let bytes = r.rawVariables.args || Buffer.from('');
-    const type = String(r.headersIn['Content-Type']);
-    if (r.method === 'POST' && /^application\/x-www-form-urlencoded\b/i.test(type) && r.requestBuffer) {
+    const isForm = is(/^application\/x-www-form-urlencoded\b/i, String(r.headersIn['Content-Type']));
+    if (r.method === 'POST' && isForm && r.requestBuffer) {
         bytes = bytes.length > 0 ? Buffer.concat([bytes, Buffer.from('&'), r.requestBuffer]) : r.requestBuffer;
     }
     const text = bytes.toString();
-    if (/^[\x21-\x7e]*$/.test(text)) return text;
+    if (is(ASCII, text)) return text;
     return bytes.toString('hex').replace(/../g, (hex) => {
         const byte = parseInt(hex, 16);
         return byte > 0x20 && byte < 0x7f ? String.fromCharCode(byte) : '%' + hex;
@@ -566,7 +567,6 @@ function replyPage(r, citation, groups, site) { sendPage(r, 200, pageOf(citation
 function replyJson(r, citation, groups) { sendJson(r, 200, { citation: citation, groups: shownGroups(groups) }); }
 function find(r) { return answer(r, queryOf(argsOf(r)), replyPage); }
 function json(r) { return answer(r, queryOf(argsOf(r)), replyJson); }
-
 // The first link, if there is one alone in the first group or `first=1` asks for it; otherwise the page.
 function go(r) {
     const q = queryOf(argsOf(r));
@@ -588,7 +588,7 @@ function guarded(handler) {
         try {
             await handler(r);
         } catch (e) {
-            r.variables.openlink_found = 'exception:' + clean(e.message).replace(/[^\w.]/g, '_').slice(0, 60);
+            r.variables.openlink_found = 'exception:' + clean(String(e.message)).replace(/[^\w.]/g, '_').slice(0, 60);
             sendFault(r, 503, {});
         }
     };
