@@ -1,5 +1,5 @@
-// The unit tests of find.js: the cases of cases.js, requests of good form, limits, and speed. Runs in njs and in node,
-// in a folder with find.js; prints each failure, and a last line that counts. `sample` is written by checks/front_door.
+// The unit tests of find.js: the cases of cases.js, requests of good form, limits and menus. Runs in njs and in node,
+// in a folder with find.js and sample.js, which run.py writes; prints each failure, and a last line that counts.
 import door from './find.js';
 import cases from './cases.js';
 import sample from './sample.js';
@@ -83,33 +83,43 @@ function testMenus() {
     expect('names of every object', shown('constructor\thttp://c/\ntoString\thttp://t/\n').split('"target"').length, 3);
 }
 
-// The time of a request in milliseconds: the best of many runs, since the machine may be busy.
-function best(request) {
-    let least = Infinity;
-    for (let run = 0; run < 50; run++) {
-        const start = Date.now();
-        for (let i = 0; i < 5; i++) door.requestOf(request);
-        least = Math.min(least, (Date.now() - start) / 5);
-    }
-    return least;
+// A request of nginx whose subrequests get these statuses; -1 throws.
+function requestWith(uri, statuses) {
+    return {
+        variables: { request_uri: uri }, rawVariables: { args: Buffer.from('issn=2901-0012') }, headersIn: {}, headersOut: {},
+        method: 'GET', asked: 0,
+        subrequest: function () {
+            const status = statuses[this.asked++];
+            if (status < 0) throw new Error('no\nreply');
+            return Promise.resolve({ status: status, responseText: 'a\thttp://a/\n' });
+        },
+        return: function (status, text) { this.replied = status + ' ' + /(<h1>|<a href="[^"]*"|.error.:...|.citation.)|$/.exec(text)[0]; }
+    };
 }
 
-function expectUnder(name, request, most) {
-    const time = best(request);
-    expect(name + ' takes under ' + most + ' ms', time < most ? 'yes' : time + ' ms', 'yes');
+async function expectReply(name, handler, request, wanted) {
+    await handler(request);
+    expect(name, request.replied + ', asked ' + request.asked, wanted);
 }
 
-function testSpeed() {
-    const usual = sample[0];
-    expectUnder('a usual request', usual, 1);
-    expectUnder('a request of 8 KB', (usual + '&rft.description=' + repeated('word+and%2C+', 700)).slice(0, 8192), 10);
-    expectUnder('a request of 8 KB and 300 pairs', repeated('rft.issn=1234-567&', 455), 10);
+async function testRetries() {
+    await expectReply('asked again', door.json, requestWith('/find.json?', [502, 200, 200]), '200 "citation", asked 3');
+    await expectReply('asked again in vain', door.find, requestWith('/find?', [502, 502, 502, 502]), '503 <h1>, asked 4');
+}
+
+async function testReplies() {
+    await expectReply('both menus', door.find, requestWith('/find?', [200, 200]), '200 <h1>, asked 2');
+    if (typeof njs === 'undefined') await testRetries();  // the njs command line has no timers
+    await expectReply('not asked again', door.json, requestWith('/find.json', [504, 200]), '503 "error":503, asked 2');
+    await expectReply('refused', door.go, requestWith('/go?', [400, 200]), '400 <h1>, asked 2');
+    const broken = requestWith('/find?', [200, -1]);
+    await expectReply('an exception', door.find, broken, '503 <h1>, asked 2');
+    expect('an exception in the log', broken.variables.openlink_found, 'exception:no_reply');
 }
 
 testCases();
 testGoodForm();
 testLimits();
 testMenus();
-testSpeed();
 testCases();
-console.log((failures === 0 ? 'ok ' : 'FAILED ') + count);
+testReplies().then(() => { console.log((failures === 0 ? 'ok ' : 'FAILED ') + count); });

@@ -17,9 +17,8 @@ def expect(name, got, wanted=True):
         print(f"checks/front_door: {name}: got {str(got)[:600]!r}, wanted {str(wanted)[:600]!r}", file=sys.stderr)
 
 
-def test_rules():
+def test_rules(folder):
     """The unit tests, in njs and in node if there is one."""
-    folder = tempfile.mkdtemp()
     for name in ("cases.js", "rules.js"):
         shutil.copy(f"{HERE}/{name}", folder)
     shutil.copy("deploy/nginx/find.js", folder)
@@ -44,7 +43,30 @@ def test_rules():
                 print(done.stdout, file=sys.stderr)
             else:
                 counts["tests"] += int(lines[-1][3:])
-    shutil.rmtree(folder)
+
+
+SPEED = """import door from './find.js';
+import sample from './sample.js';
+const requests = { usual: sample[0], long: (sample[0] + '&rft.description=' + 'word+and%2C+'.repeat(700)).slice(0, 8192),
+    many: 'rft.issn=1234-567&'.repeat(455), latin: 'atitle=%E9&'.repeat(740) };
+for (let i = 0; i < COUNT; i++) door.requestOf(requests.NAME);
+"""
+
+
+def test_speed(folder):
+    """The processor time of a request in njs: a usual one below 1 ms, one of 8 KB below 10 ms."""
+    def took(name, count):
+        with open(f"{folder}/speed.js", "w") as file:
+            file.write(SPEED.replace("NAME", name).replace("COUNT", str(count)))
+        child = subprocess.Popen(["njs", "-p", folder, f"{folder}/speed.js"])
+        _, status, usage = os.wait4(child.pid, 0)
+        child.returncode = status
+        expect(f"speed of {name}", status, 0)
+        return usage.ru_utime + usage.ru_stime
+
+    for name, most in (("usual", 1), ("long", 10), ("many", 10), ("latin", 10)):
+        time_of_one = (took(name, 200) - took(name, 0)) * 1000 / 200
+        expect(f"a request, {name}: {time_of_one:.2f} ms", time_of_one < most)
 
 
 SLIPS = [
@@ -329,14 +351,19 @@ def test_processes(site):
     results = with_readers(site, 1, lambda: site.processes[one].kill())
     expect("one process killed", {status for status, _, _ in results}, {200})
     site.processes[one].wait()
+    start = time.time()
     site.start_process(one)
-    results = with_readers(site, 2.5, restart_all)
-    faults = [start for status, start, _ in results if status != 200]
-    expect("all processes restarted", not faults or max(faults) - min(faults) < 1)
     site.wait_for(one)
-    results = with_readers(site, 4.5, lambda: site.processes[one].send_signal(signal.SIGSTOP))
+    # On a busy machine, all limits of time are longer by some starts of a process, which takes 0.05 s on an idle one.
+    slack = 5 * (time.time() - start)
+    results = with_readers(site, 2.5 + slack, restart_all)
+    faults = [start for status, start, _ in results if status != 200]
+    expect("all processes restarted", not faults or max(faults) - min(faults) < 1 + slack)
+    site.wait_for(one)
+    results = with_readers(site, 4.5 + slack, lambda: site.processes[one].send_signal(signal.SIGSTOP))
     site.processes[one].send_signal(signal.SIGCONT)
-    expect("one process stopped", ({status for status, _, _ in results}, max(took for _, _, took in results) < 4), ({200}, True))
+    expect("one process stopped", {status for status, _, _ in results}, {200})
+    expect("the slowest of them", max(took for _, _, took in results) < 4 + slack)
     for process in site.processes.values():
         process.kill()
         process.wait()
@@ -367,7 +394,9 @@ def main():
         print("\n".join(faults) or "ok")
         return 1 if faults else 0
     start = time.time()
-    test_rules()
+    with tempfile.TemporaryDirectory() as folder:
+        test_rules(folder)
+        test_speed(folder)
     test_targets()
     test_style()
     site = Site()

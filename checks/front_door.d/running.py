@@ -117,7 +117,7 @@ class Site:
             self.wait_for(port)
 
     def wait_for(self, port):
-        for _ in range(200):
+        for _ in range(1500):
             try:
                 socket.create_connection(("127.0.0.1", port), 1).close()
                 return
@@ -129,7 +129,7 @@ class Site:
         """Reads the configuration again, and waits until a new worker serves."""
         before = self.workers()
         self.nginx.send_signal(signal.SIGHUP)
-        for _ in range(200):
+        for _ in range(1500):
             after = self.workers()
             if after and not after & before:
                 return
@@ -141,7 +141,7 @@ class Site:
         return set(done.stdout.split())
 
     def get(self, target, method="GET", body=None, headers=None, port=None):
-        peer = http.client.HTTPConnection("127.0.0.1", port or self.port, timeout=15)
+        peer = http.client.HTTPConnection("127.0.0.1", port or self.port, timeout=30)
         try:
             peer.request(method, target, body, headers or {})
             reply = peer.getresponse()
@@ -151,7 +151,7 @@ class Site:
 
     def send(self, data):
         """The whole reply to these bytes."""
-        with socket.create_connection(("127.0.0.1", self.port), 15) as peer:
+        with socket.create_connection(("127.0.0.1", self.port), 30) as peer:
             peer.sendall(data)
             parts = []
             while part := peer.recv(65536):
