@@ -5,7 +5,7 @@ WORDS = r"const WORDS = \{(.*?)\n\};"
 
 
 def words():
-    """The names of the words that find.js knows."""
+    """The names that `words` may have: those that find.js reads."""
     with open("deploy/nginx/find.js") as file:
         text = re.search(WORDS, file.read(), re.S).group(1)
     return set(re.findall(r"(\w+): '", text))

@@ -54,7 +54,7 @@ IsRunFault bytes query fault.NoLink = IsRun bytes query outcome.NoLink
 IsRunFault bytes query fault.Memory = (code : Code) × IsCodeFile bytes code
 IsRunFault bytes query other = ⊥
 
--- the line that the arguments behind `run` print
+-- the line that the arguments after `run` print
 abbrev pub IsRunLine : List Text → Text → Type 0
 IsRunLine = LinksOfFile (λ bytes query link. IsRun bytes query (Link link))
 

@@ -14,7 +14,7 @@ pub record IsListing (bytes text : Text) : Type 0 where
   pub file : IsCodeFile bytes code
   pub listed : text ≡ listing code
 
--- what is printed of the arguments behind `show`
+-- what is printed of the arguments after `show`
 abbrev pub IsShowLine : List Text → Text → Type 0
 IsShowLine = TellsOfFile IsListing
 

@@ -47,7 +47,7 @@ pub record IsVerdict (bytes text : Text) : Type 0 where
 abbrev pub IsVerifyFault : Text → Fault → Type 0
 IsVerifyFault bytes fault = (e : LoadError) × IsLoadFault bytes e × (fault ≡ load_fault e)
 
--- what is printed of the arguments behind `verify`
+-- what is printed of the arguments after `verify`
 abbrev pub IsVerifyLine : List Text → Text → Type 0
 IsVerifyLine = TellsOfFile IsVerdict
 

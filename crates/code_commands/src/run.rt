@@ -63,7 +63,7 @@ pub fn run_file<'a, F: Read + Drop>(
     run_query(alloc, &bytes, query)
 }
 
-/// The line that the arguments behind `run` print: the path of a code file, and a query.
+/// The line that the arguments after `run` print: the path of a code file, and a query.
 ///
 /// The fault is `Usage` for other arguments, or one of `run_file`.
 pub fn run_line<'a, R: Files + AllocGlobal>(

@@ -38,7 +38,7 @@ pub fn show_file<'a, F: Read + Drop>(
     show_code(alloc, &bytes)
 }
 
-/// The lines that the arguments behind `show` print: the path of a code file.
+/// The lines that the arguments after `show` print: the path of a code file.
 ///
 /// The fault is `Usage` for other arguments, or one of `show_file`.
 pub fn show_lines<'a, R: Files + AllocGlobal>(

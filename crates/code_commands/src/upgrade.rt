@@ -39,7 +39,7 @@ pub fn upgrade_file<'a, F: Read + Drop>(
     upgrade_code(alloc, &bytes)
 }
 
-/// The line that the arguments behind `upgrade` print, which counts the bytes of the new file, once that is in its place.
+/// The line that the arguments after `upgrade` print, which counts the bytes of the new file, once that is in its place.
 ///
 /// The fault is `Usage` where the arguments are not two paths; one of `upgrade_file`; or that of the file at the second path,
 /// which then is as it was.

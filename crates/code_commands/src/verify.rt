@@ -66,7 +66,7 @@ pub fn verify_file<'a, F: Read + Drop>(
     verify_code(alloc, &bytes)
 }
 
-/// The lines that the arguments behind `verify` print: the path of a code file.
+/// The lines that the arguments after `verify` print: the path of a code file.
 ///
 /// The fault is `Usage` for other arguments, or one of `verify_file`.
 pub fn verify_lines<'a, R: Files + AllocGlobal>(

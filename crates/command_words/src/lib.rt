@@ -1,4 +1,4 @@
-//! The arguments of a command line, told apart.
+//! The arguments of a command line, read.
 #![tactic(auto)]
 
 ghost use Rattle.std.specs.Prelude.{◌≡◌, ◌≢◌, ◌∷◌, [], length, IfSome, IfNone};
@@ -6,7 +6,7 @@ ghost use Rattle.std.specs.Option.{option_map};
 ghost use Rattle.text_model.specs.Texts.{texts_of};
 ghost use Rattle.command_words.specs.Arguments.{behind_name};
 
-/// The arguments behind a command's name, if the arguments begin with it.
+/// The arguments after a command's name, if the arguments begin with it.
 pub fn behind<'w, 'a>(arguments: &'w [&'a str], name: &str) -> Option<&'w [&'a str]>
     ensures { option_map (λ rest. texts_of rest.now) result ≡ behind_name name.now (texts_of arguments.now) }
 {

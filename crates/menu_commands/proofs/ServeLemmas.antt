@@ -1,4 +1,4 @@
--- What the arguments behind `serve` are not, and what comes of the service that they ask for.
+-- What the arguments after `serve` are not, and what comes of the service that they ask for.
 use Rattle.std.proofs.Common.{Bor, ◌≡◌, ◌≢◌, ◌⊎◌, ◌+◌, ℕ, ◌<◌, ◌≤◌, length, get_or, List, [], ◌∷◌, subst, arith}
 use Rattle.text_model.specs.Texts.{Text, texts_of}
 use Rattle.registry.specs.Targets.{TargetValue}

@@ -63,7 +63,7 @@ fn registry_fault<'a>(error: RegistryError, path: &'a str) -> Fault<'a>
     }
 }
 
-/// The lines that the arguments behind `resolve` print: the path of a registry file, and a query.
+/// The lines that the arguments after `resolve` print: the path of a registry file, and a query.
 ///
 /// The fault is `Usage` for other arguments, one of `open_registry`, or else one of `resolve_query`.
 pub fn resolve_lines<'a, R: Files + RandomSource + AllocGlobal>(

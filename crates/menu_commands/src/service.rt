@@ -24,7 +24,7 @@ const MAX_PORT: u32 = 65_535;
 /// So many connections are served at most.
 const MAX_COUNT: u32 = 1_000_000;
 
-/// The arguments behind `serve`.
+/// The arguments after `serve`.
 #[derive(Drop)]
 struct ServeArguments<'a> {
     registry: &'a str,
@@ -33,7 +33,7 @@ struct ServeArguments<'a> {
     count: u32,
 }
 
-/// The arguments behind `serve`, if they are a path, a port and a count of connections.
+/// The arguments after `serve`, if they are a path, a port and a count of connections.
 fn serve_arguments<'a>(arguments: &[&'a str]) -> Option<ServeArguments<'a>>
     ensures some { IfSome result (λ told. AreServeArguments (texts_of arguments.now) told.registry.now told.port_text.now told.port told.count) }
     ensures none { IfNone result (NoServeArguments (texts_of arguments.now)) }
@@ -81,7 +81,7 @@ fn listening_line(alloc: Global, port: u32) -> Result<String, AllocError>
     format!(in alloc; "listening 127.0.0.1:{port}\n")
 }
 
-/// Serves the registry at the port for as many connections as the arguments behind `serve` say, once it has printed where, and
+/// Serves the registry at the port for as many connections as the arguments after `serve` say, once it has printed where, and
 /// answers how they went.
 ///
 /// The arguments are the path of a registry file, a port up to 65,535 (0: a free one) and a number of connections from 1 to

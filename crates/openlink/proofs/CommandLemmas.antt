@@ -1,4 +1,4 @@
--- From the arguments behind a command's name to the arguments of the command.
+-- From the arguments after a command's name to the arguments of the command.
 use Rattle.std.proofs.Common.{◌≡◌, List, [], ◌∷◌, Bool, true, false, Some, None, refl, sym, subst}
 use Rattle.std.specs.Prelude.{codes, if◌then◌else◌}
 use Rattle.std.specs.Str.{bytes_eq}
@@ -46,7 +46,7 @@ no_name arguments expand link compile run resolve verify show upgrade serve told
     refl)
     told
 
--- what holds of a name and the arguments behind it holds of the arguments
+-- what holds of a name and the arguments after it holds of the arguments
 pub prints_behind : (name : Text) (arguments rest : List Text) (text : Text) → Some rest ≡ behind_name name arguments → Prints (name ∷ rest) text → Prints arguments text
 prints_behind name arguments rest text e p = subst (λ ws. Prints ws text) (sym (named name arguments rest e)) p
 

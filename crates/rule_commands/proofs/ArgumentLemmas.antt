@@ -1,4 +1,4 @@
--- The arguments behind `expand` are told apart in one way.
+-- The arguments after `expand` are told apart in one way.
 use Rattle.std.proofs.Common.{◌≡◌, List, [], ◌∷◌, ◌++◌, length, true, false, refl, sym, ◌∙◌, ap}
 use Rattle.std.specs.Prelude.{◌≢◌, codes}
 use Rattle.std.specs.Borrow.{Bor}
@@ -13,7 +13,7 @@ two_arguments rest template query e = ap length e
 option_in_front : (rest : List Text) (name : Text) (arguments : List Text) → rest ≡ codes "--list" ∷ name ∷ arguments → begins_with_option rest ≡ true
 option_in_front rest name arguments e = ap begins_with_option e
 
--- options, and then arguments that begin with none and are not two, are not the arguments behind `expand`
+-- options, and then arguments that begin with none and are not two, are not the arguments after `expand`
 only_options : (done rest lists : List Text) (template query : Text) → begins_with_option rest ≡ false → (length rest ≡ 2 → ⊥) → template ≢ codes "--list"
     → list_options done ++ rest ≡ list_options lists ++ template ∷ query ∷ [] → ⊥
 only_options [] rest [] template query e h n w = h (two_arguments rest template query w)

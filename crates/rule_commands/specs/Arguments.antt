@@ -1,4 +1,4 @@
--- The arguments behind `expand`.
+-- The arguments after `expand`.
 use Rattle.std.specs.Prelude.{◌≡◌, ◌≢◌, List, [], ◌∷◌, ◌++◌, codes, Bool, false}
 use Rattle.std.specs.List.{flat_map}
 use Rattle.std.specs.Str.{bytes_eq}
@@ -8,7 +8,7 @@ use Rattle.text_model.specs.Texts.{Text}
 abbrev pub list_options : List Text → List Text
 list_options names = flat_map (λ name. codes "--list" ∷ name ∷ []) names
 
--- the arguments behind `expand`: options, a template and a query; an argument `--list` in front is always the option
+-- the arguments after `expand`: options, a template and a query; an argument `--list` in front is always the option
 pub record AreExpandArguments (arguments lists : List Text) (template query : Text) : Type 0 where
   pub whole : arguments ≡ list_options lists ++ template ∷ query ∷ []
   pub no_option : template ≢ codes "--list"

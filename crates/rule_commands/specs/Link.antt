@@ -31,7 +31,7 @@ IsLinkFault bytes query fault.NoLink = IsMeaning bytes query None
 IsLinkFault bytes query fault.Memory = Unit {0}
 IsLinkFault bytes query other = ⊥
 
--- the line that the arguments behind `link` print
+-- the line that the arguments after `link` print
 abbrev pub IsLinkLine : List Text → Text → Type 0
 IsLinkLine = LinksOfFile (λ bytes query link. IsMeaning bytes query (Some link))
 

@@ -1,4 +1,4 @@
-//! The arguments behind `expand`, told apart.
+//! The arguments after `expand`, read.
 
 ghost use Rattle.text_model.specs.Texts.{texts_of};
 ghost use Rattle.std.specs.Prelude.{◌≡◌, ◌⊎◌, ◌∷◌, codes, true, drop, IfOk, IfErr};
@@ -7,7 +7,7 @@ ghost use Rattle.rule_commands.specs.Arguments.{AreExpandArguments, NoExpandArgu
 use command_faults::Fault;
 use std::alloc::Global;
 
-/// The arguments behind `expand`.
+/// The arguments after `expand`.
 #[derive(Debug, Drop)]
 pub struct ExpandArguments<'a> {
     pub lists: Vec<&'a str>,

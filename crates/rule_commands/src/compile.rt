@@ -42,7 +42,7 @@ pub fn compile_file<'a, F: Read + Drop>(
     compile_rules(alloc, &bytes)
 }
 
-/// The line that the arguments behind `compile` print, which counts the bytes of the code file, once that is in its place.
+/// The line that the arguments after `compile` print, which counts the bytes of the code file, once that is in its place.
 ///
 /// The fault is `Usage` where the arguments are not two paths; one of `compile_file`; or that of the file at the second path,
 /// which then is as it was.

@@ -26,7 +26,7 @@ pub fn expand_query<'a>(
     Ok(expand(alloc, &template, &env)?)
 }
 
-/// The line that the arguments behind `expand` print: options `--list NAME`, a template and a query. A template has at most
+/// The line that the arguments after `expand` print: options `--list NAME`, a template and a query. A template has at most
 /// 8,192 bytes, a query 65,536.
 ///
 /// The fault is `Usage` for other arguments, the first of the template, or else that of the query; or want of memory.

@@ -46,7 +46,7 @@ pub fn link_file<'a, F: Read + Drop>(
     link_query(alloc, &bytes, query)
 }
 
-/// The line that the arguments behind `link` print: the path of a rule file, and a query.
+/// The line that the arguments after `link` print: the path of a rule file, and a query.
 ///
 /// The fault is `Usage` for other arguments, or one of `link_file`.
 pub fn link_line<'a, R: Files + AllocGlobal>(
