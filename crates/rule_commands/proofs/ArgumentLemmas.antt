@@ -1,4 +1,4 @@
--- The arguments after `expand` are told apart in one way.
+-- The arguments after `expand` are read in one way.
 use Rattle.std.proofs.Common.{◌≡◌, List, [], ◌∷◌, ◌++◌, length, true, false, refl, sym, ◌∙◌, ap}
 use Rattle.std.specs.Prelude.{◌≢◌, codes}
 use Rattle.std.specs.Borrow.{Bor}

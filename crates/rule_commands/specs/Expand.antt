@@ -44,7 +44,7 @@ pub record IsExpandRefusal (arguments : List Text) (fault : Fault) : Type 0 wher
   pub told_apart : AreExpandArguments arguments lists template query
   pub refused : IsExpandFault template query fault
 
--- why the arguments after `expand` print nothing; the names of the options take memory before all arguments are told apart
+-- why the arguments after `expand` print nothing; the names of the options take memory before all arguments are read
 abbrev pub FailsToExpand : List Text → Fault → Type 0
 FailsToExpand arguments fault =
     ((fault ≡ Memory) × (begins_with_option arguments ≡ true)) ⊎ ((fault ≡ Usage) × NoExpandArguments arguments) ⊎ IsExpandRefusal arguments fault
