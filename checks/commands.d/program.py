@@ -1,0 +1,64 @@
+"""The built program, run in a temporary folder, and what it gives there."""
+import os, subprocess, sys, tempfile
+
+PATH = os.path.abspath("crates/openlink/out/openlink")
+USAGE = "usage"
+
+
+def as_bytes(text):
+    return text if isinstance(text, bytes) else text.encode()
+
+
+class Program:
+    """One test: its folder, which its files and the paths of its arguments are in, and how its runs went."""
+
+    def __init__(self, test):
+        self.test, self.runs, self.failures = test, 0, 0
+
+    def __enter__(self):
+        self.room = tempfile.TemporaryDirectory()
+        self.folder = self.room.name
+        return self
+
+    def __exit__(self, *_):
+        self.room.cleanup()
+
+    def write(self, name, content):
+        with open(f"{self.folder}/{name}", "wb") as file:
+            file.write(as_bytes(content))
+
+    def read(self, name):
+        with open(f"{self.folder}/{name}", "rb") as file:
+            return file.read()
+
+    def has(self, name):
+        return os.path.lexists(f"{self.folder}/{name}")
+
+    def differ(self, what):
+        self.failures += 1
+        print(f"checks/commands: {self.test}: {what}", file=sys.stderr)
+
+    def expect(self, what, got, wanted=True):
+        if got != wanted:
+            self.differ(f"{what}: got {str(got)[:600]!r}, wanted {str(wanted)[:600]!r}")
+
+    def run(self, arguments, **how):
+        """The status, standard output and standard error."""
+        self.runs += 1
+        done = subprocess.run([PATH, *arguments], cwd=self.folder, stdin=subprocess.DEVNULL, capture_output=True, timeout=60, **how)
+        return done.returncode, done.stdout, done.stderr
+
+    def gives(self, arguments, status, printed, fault):
+        self.expect(f"openlink {str(arguments)[:200]}", self.run(arguments), (status, as_bytes(printed), as_bytes(fault)))
+
+    def prints(self, arguments, line):
+        """Status 0, the line or lines, and nothing else."""
+        self.gives(arguments, 0, as_bytes(line) + b"\n", "")
+
+    def finds_no_link(self, arguments):
+        """Status 1, and nothing printed."""
+        self.gives(arguments, 1, "", "")
+
+    def fails(self, arguments, status, fault):
+        """The status, nothing on standard output, and the line of the fault, without `openlink: ` before it."""
+        self.gives(arguments, status, "", as_bytes("openlink: ") + as_bytes(fault) + b"\n")

@@ -1,0 +1,25 @@
+"""Runs each function `test_..` of each file beside this one, in a temporary folder of its own; checks/commands starts it."""
+import importlib, os, sys
+from program import Program
+
+HERE = os.path.dirname(os.path.abspath(__file__))
+NO_TESTS = ("run", "program", "assembler")
+
+names = sys.argv[1:] or sorted(name[:-3] for name in os.listdir(HERE) if name.endswith(".py") and name[:-3] not in NO_TESTS)
+runs = failures = 0
+for name in names:
+    module = importlib.import_module(name)
+    tests = [test for test in vars(module) if test.startswith("test_")]
+    if not tests:
+        failures += 1
+        print(f"checks/commands: {name} has no test", file=sys.stderr)
+    for test in tests:
+        with Program(f"{name}, {test}") as program:
+            getattr(module, test)(program)
+        if not program.runs:
+            program.differ("ran nothing")
+        runs += program.runs
+        failures += program.failures
+if failures == 0:
+    print(f"checks/commands: {runs} runs")
+sys.exit(1 if failures else 0)
