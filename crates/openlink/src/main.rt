@@ -4,8 +4,6 @@
 mod arguments;
 mod commands;
 mod help;
-#[cfg(test)]
-mod tests;
 
 use crate::arguments::{argument_texts, program_arguments};
 use crate::commands::{command, report};

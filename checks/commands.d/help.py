@@ -1,0 +1,45 @@
+"""What the program says of itself, and arguments that are no command."""
+
+COMMANDS = ["expand", "link", "compile", "verify", "show", "upgrade", "run", "resolve", "serve"]
+
+NO_COMMANDS = [
+    [],
+    ["unfold", "{x}", "x=1"],
+    ["--help", "expand"],
+    ["expand", "--help"],
+    ["help", "serve"],
+    ["-h", "-h"],
+    ["--version", "1"],
+    ["version"],
+    ["-V"],
+    ["--Help"],
+    ["--help "],
+    [""],
+]
+
+
+def printed(program, argument):
+    """What the one argument prints, with status 0 and no fault."""
+    status, output, errors = program.run([argument])
+    program.expect(f"status and fault of openlink {argument}", (status, errors), (0, b""))
+    return output.decode()
+
+
+def test_help_names_each_command(program):
+    text = printed(program, "--help")
+    for name in COMMANDS:
+        program.expect(f"the help names {name}", f"\n  openlink {name} " in text)
+    for argument in "-h", "help":
+        program.expect(f"openlink {argument}", printed(program, argument), text)
+
+
+def test_version(program):
+    line = printed(program, "--version")
+    program.expect("the line begins and ends", (line[:9], line[-1:]), ("openlink ", "\n"))
+    for part in line[9:-1].split("."):
+        program.expect(f"{part!r} is a number", part.isascii() and part.isdigit())
+
+
+def test_no_commands(program):
+    for arguments in NO_COMMANDS:
+        program.fails(arguments, 2, "usage")

@@ -1,0 +1,43 @@
+"""Standard output and standard error that fail, after some bytes or at once."""
+import os, resource, signal
+
+HELLO = ["expand", "{hello}", "hello=Hello+World%21"]
+LINE = b"Hello%20World%21\n"
+DEVICE = b"openlink: device: -\n"
+
+# How many bytes the output takes before it fails, the status and the fault. The line has 17 bytes.
+ROOMS = [
+    (0, 4, DEVICE),
+    (3, 4, DEVICE),
+    (16, 4, DEVICE),
+    (17, 0, b""),
+]
+
+
+def run_into(program, path, room, stream, arguments):
+    """Runs the program with a file in the place of standard output (1) or standard error (2), and writes of files beyond
+    `room` bytes refused."""
+
+    def replace():
+        os.dup2(file.fileno(), stream)
+        signal.signal(signal.SIGXFSZ, signal.SIG_IGN)
+        resource.setrlimit(resource.RLIMIT_FSIZE, (room, room))
+
+    with open(path, "wb") as file:
+        return program.run(arguments, preexec_fn=replace)
+
+
+def test_output_fails_within_the_line(program):
+    for room, status, fault in ROOMS:
+        given = run_into(program, f"{program.folder}/narrow", room, 1, HELLO)
+        program.expect(f"an output of {room} bytes", (*given, program.read("narrow")), (status, b"", fault, LINE[:room]))
+
+
+def test_errors_fail_too(program):
+    given = run_into(program, f"{program.folder}/narrow", 3, 2, [])
+    program.expect("errors of 3 bytes", (*given, program.read("narrow")), (2, b"", b"", b"ope"))
+
+
+def test_a_device_that_is_full(program):
+    program.expect("a full output", run_into(program, "/dev/full", 17, 1, HELLO), (4, b"", DEVICE))
+    program.expect("full errors", run_into(program, "/dev/full", 17, 2, []), (2, b"", b""))
