@@ -15,8 +15,7 @@ ROOMS = [
 
 
 def run_into(program, path, room, stream, arguments):
-    """Runs the program with a file in the place of standard output (1) or standard error (2), and writes of files beyond
-    `room` bytes refused."""
+    """Runs the program with a file of at most `room` bytes as its standard output (1) or standard error (2)."""
 
     def replace():
         os.dup2(file.fileno(), stream)
@@ -30,12 +29,14 @@ def run_into(program, path, room, stream, arguments):
 def test_output_fails_within_the_line(program):
     for room, status, fault in ROOMS:
         given = run_into(program, f"{program.folder}/narrow", room, 1, HELLO)
-        program.expect(f"an output of {room} bytes", (*given, program.read("narrow")), (status, b"", fault, LINE[:room]))
+        program.expect(f"an output of {room} bytes", given, (status, b"", fault))
+        program.expect(f"its first {room} bytes", program.read("narrow"), LINE[:room])
 
 
 def test_errors_fail_too(program):
     given = run_into(program, f"{program.folder}/narrow", 3, 2, [])
-    program.expect("errors of 3 bytes", (*given, program.read("narrow")), (2, b"", b"", b"ope"))
+    program.expect("errors of 3 bytes", given, (2, b"", b""))
+    program.expect("the 3 bytes", program.read("narrow"), b"ope")
 
 
 def test_a_device_that_is_full(program):

@@ -22,7 +22,8 @@ def make_targets(program):
     program.write("alpha.rules", ALPHA)
     program.write("beta.rules", BETA)
     for name in "alpha", "beta":
-        program.expect(f"the status of compile {name}.rules", program.run(["compile", f"{name}.rules", f"{name}.olk"])[0], 0)
+        status, _, _ = program.run(["compile", f"{name}.rules", f"{name}.olk"])
+        program.expect(f"the status of compile {name}.rules", status, 0)
     program.write("table.txt", TABLE)
 
 
