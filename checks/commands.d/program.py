@@ -2,7 +2,6 @@
 import os, subprocess, sys, tempfile
 
 PATH = os.path.abspath("crates/openlink/out/openlink")
-USAGE = "usage"
 
 
 def as_bytes(text):
@@ -28,6 +27,9 @@ class Program:
             file.write(as_bytes(content))
 
     def read(self, name):
+        """The bytes of a file, or None where there is none."""
+        if not os.path.isfile(f"{self.folder}/{name}"):
+            return None
         with open(f"{self.folder}/{name}", "rb") as file:
             return file.read()
 
@@ -45,7 +47,8 @@ class Program:
     def run(self, arguments, **how):
         """The status, standard output and standard error."""
         self.runs += 1
-        done = subprocess.run([PATH, *arguments], cwd=self.folder, stdin=subprocess.DEVNULL, capture_output=True, timeout=60, **how)
+        how = {"cwd": self.folder, "stdin": subprocess.DEVNULL, "capture_output": True, "timeout": 60, **how}
+        done = subprocess.run([PATH, *arguments], **how)
         return done.returncode, done.stdout, done.stderr
 
     def gives(self, arguments, status, printed, fault):

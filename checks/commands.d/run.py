@@ -5,9 +5,9 @@ from program import Program
 HERE = os.path.dirname(os.path.abspath(__file__))
 NO_TESTS = ("run", "program", "assembler")
 
-names = sys.argv[1:] or sorted(name[:-3] for name in os.listdir(HERE) if name.endswith(".py") and name[:-3] not in NO_TESTS)
+subjects = {name[:-3] for name in os.listdir(HERE) if name.endswith(".py")} - {*NO_TESTS}
 runs = failures = 0
-for name in names:
+for name in sys.argv[1:] or sorted(subjects):
     module = importlib.import_module(name)
     tests = [test for test in vars(module) if test.startswith("test_")]
     if not tests:
