@@ -52,7 +52,8 @@ class Program:
         return done.returncode, done.stdout, done.stderr
 
     def gives(self, arguments, status, printed, fault):
-        self.expect(f"openlink {str(arguments)[:200]}", self.run(arguments), (status, as_bytes(printed), as_bytes(fault)))
+        wanted = (status, as_bytes(printed), as_bytes(fault))
+        self.expect(f"openlink {str(arguments)[:200]}", self.run(arguments), wanted)
 
     def prints(self, arguments, line):
         """Status 0, the line or lines, and nothing else."""

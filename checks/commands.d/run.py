@@ -1,4 +1,4 @@
-"""Runs each function `test_..` of each file beside this one, in a temporary folder of its own; checks/commands starts it."""
+"""Runs each function `test_..` of the files beside this one, each in a temporary folder; checks/commands starts it."""
 import importlib, os, sys
 from program import Program
 
