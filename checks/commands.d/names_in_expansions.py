@@ -1,0 +1,67 @@
+"""Triplets in names, which are not decoded and are written as they are (RFC 6570, 2.3 and 3.2.7 to 3.2.9)."""
+# Expressions with the name %41 where it is a text, `x`, and where it is empty.
+TEXTS = [
+    ("{%41}", "x", ""), ("{+%41}", "x", ""), ("{#%41}", "#x", "#"), ("{.%41}", ".x", "."), ("{/%41}", "/x", "/"),
+    ("{;%41}", ";%41=x", ";%41"), ("{?%41}", "?%41=x", "?%41="), ("{&%41}", "&%41=x", "&%41="),
+    ("{;%41*}", ";%41=x", ";%41"), ("{?%41*}", "?%41=x", "?%41="), ("{&%41*}", "&%41=x", "&%41="),
+    ("{;%41:1}", ";%41=x", ";%41"), ("{?%41:1}", "?%41=x", "?%41="), ("{&%41:1}", "&%41=x", "&%41="),
+    ("{?b,%41,c}", "?%41=x", "?%41="),
+]
+
+# The same where it is a list, of `a` and `b`, and of an empty text alone.
+LISTS = [
+    ("{%41}", "a,b", ""), ("{+%41}", "a,b", ""), ("{#%41}", "#a,b", "#"), ("{.%41}", ".a,b", "."),
+    ("{/%41}", "/a,b", "/"), ("{%41*}", "a,b", ""), ("{.%41*}", ".a.b", "."), ("{/%41*}", "/a/b", "/"),
+    ("{;%41}", ";%41=a,b", ";%41="), ("{?%41}", "?%41=a,b", "?%41="), ("{&%41}", "&%41=a,b", "&%41="),
+    ("{;%41*}", ";%41=a;%41=b", ";%41"), ("{?%41*}", "?%41=a&%41=b", "?%41="), ("{&%41*}", "&%41=a&%41=b", "&%41="),
+]
+
+# Templates and queries; the names are not equal.
+UNEQUAL = [
+    ("{%41}", "A=x"), ("{A}", "%2541=x"), ("{%41}", "%41=x"), ("{%41}", "a=x"), ("{%41}", "%252541=x"),
+    ("{%aa}", "%25AA=x"), ("{%AA}", "%25aa=x"), ("{%Aa}", "%25aA=x"), ("{x}", "X=x"), ("{X}", "x=x"),
+    ("{rft.au}", "RFT.AU=x"), ("{a.b}", "a=x"), ("{%C3%A9}", "%C3%A9=x"), ("{%2C}", ",=x"), ("{a%2Eb}", "a.b=x"),
+    ("{a.b}", "a%252Eb=x"),
+]
+
+
+def test_texts(program):
+    for template, expansion, empty in TEXTS:
+        program.prints(["expand", template, "%2541=x"], expansion)
+        program.prints(["expand", template, "%2541="], empty)
+        program.prints(["expand", template, "A=x"], "")
+
+
+def test_lists(program):
+    for template, expansion, empty in LISTS:
+        program.prints(["expand", "--list", "%41", template, "%2541=a&%2541=b"], expansion)
+        program.prints(["expand", "--list", "%41", template, "%2541="], empty)
+
+
+def test_all_triplets(program):
+    """One expression with all triplets as names, of each spelling of their digits."""
+    for spelling in ("{:02X}", "{:02x}"):
+        names = ["%" + spelling.format(byte) for byte in range(256)]
+        query = "&".join(f"{name.replace('%', '%25')}={at}" for at, name in enumerate(names))
+        pairs = [f"{name}={at}" for at, name in enumerate(names)]
+        for operator, separator in [("?", "&"), ("&", "&"), (";", ";")]:
+            program.prints(["expand", "{" + operator + ",".join(names) + "}", query], operator + separator.join(pairs))
+        program.prints(["expand", "{" + ",".join(names) + "}", query], ",".join(map(str, range(256))))
+        # Names decoded, as the query has them, are other names.
+        program.prints(["expand", "{?" + ",".join(names) + "}", query.replace("%25", "%")], "")
+
+
+def test_names_in_rules(program):
+    """Rules write names as templates do."""
+    for template, expansion, _ in TEXTS:
+        program.write("rules", f"rule\nwhen has %41\nlink {template}\n")
+        program.prints(["link", "rules", "%2541=x"], expansion)
+        program.finds_no_link(["link", "rules", "A=x"])
+        program.run(["compile", "rules", "code"])
+        program.prints(["run", "code", "%2541=x"], expansion)
+        program.finds_no_link(["run", "code", "A=x"])
+
+
+def test_unequal_names(program):
+    for template, query in UNEQUAL:
+        program.prints(["expand", template, query], "")
