@@ -1,0 +1,90 @@
+"""The limits of what rules are compiled to: names, literals, instructions, bytes; the first one passed is named."""
+import itertools
+
+LIMITS = [256, 1024, 4096, 65536]
+FAULTS = ["TooManyNames", "TooManyLiterals", "TooManyInstructions", "FileTooLong"]
+
+
+def rules_of(names, literals, instructions, size):
+    """Rules whose code has just that many names, literals, instructions and bytes.
+
+    The first rule has a guard `has`, of two instructions, for each name, and more of them for its first name.
+    Its end, and FAIL after all rules, are two; the link of each other rule is a literal and two instructions."""
+    left = instructions - 2 - 2 * names - 2 * literals
+    lines = [f"when has {1000 + at}" for at in range(names)] + ["when has 1000"] * (left // 2)
+    # A rule with an empty link has one instruction.
+    rules = ["rule", *lines, "link "] + ["rule", "link "] * (left % 2)
+    texts = size - 10 - (2 + 4) * names - 3 * literals - 8 * instructions
+    length, longer = divmod(texts, literals)
+    for at in range(literals):
+        rules += ["rule", "link " + f"{at:04}".ljust(length + (at < longer), "x")]
+    return "\n".join(rules) + "\n"
+
+
+def test_first_limit_passed(program):
+    """Each limit kept and passed by one, with each other."""
+    for passed in itertools.product((0, 1), repeat=4):
+        sizes = [limit + over for limit, over in zip(LIMITS, passed)]
+        program.write("rules", rules_of(*sizes))
+        if any(passed):
+            program.fails(["compile", "rules", "code"], 3, f"compile: {FAULTS[passed.index(1)]}")
+        else:
+            program.prints(["compile", "rules", "code"], "65536 bytes")
+            listing = program.run(["show", "code"])[1]
+            program.expect("the head", listing.split(b"\n")[0], b"OLK1 names 256 literals 1024 instructions 4096")
+
+
+def guards(first, last):
+    return "".join(f'when a is "{number}"\n' for number in range(first, last + 1))
+
+
+def link(times, text):
+    """A rule with a link of as many `b{a}` and of as many `{a}`."""
+    return "rule\nlink " + "b{a}" * times + "{a}" * text + "\n"
+
+
+def pages(*lengths):
+    """A rule for each length, with a link of that many letters; each has 19 bytes more in the code."""
+    return "".join(f"rule\nlink {letter * length}\n" for letter, length in zip("bcdefghij", lengths))
+
+
+# Rules, and the fault or the bytes of the code.
+RULES = [
+    # 1,023 texts, an empty literal less than there may be, and the link: 4,095 instructions.
+    ("rule\n" + guards(1000, 2022) + "link b\n", 10 + 3 + 1023 * 7 + 4 + 8 * 4095),
+    ("rule\n" + guards(1000, 2023) + "link b\n", "TooManyLiterals"),
+    ("rule\n" + guards(1000, 2022) + guards(1000, 1000) + "link b\n", "TooManyInstructions"),
+    # Six parts of text, 584 expressions of seven instructions, HALT and FAIL: 4,096.
+    (link(6, 578), 10 + 3 + 3 + 4 + 4 + 4 + 8 * 4096),
+    (link(7, 577), "TooManyInstructions"),
+    (link(0, 584), 10 + 3 + 3 + 4 + 4 + 8 * 4090),
+    (link(0, 585), "TooManyInstructions"),
+    (pages(8170, 8170, 8170, 8171, 8171, 8171, 8171, 8172), 65536),
+    (pages(8170, 8170, 8170, 8171, 8171, 8171, 8172, 8172), "FileTooLong"),
+    (pages(*[8192] * 7, 8021), 65535),
+    (pages(*[8192] * 7, 8022), 65536),
+    (pages(*[8192] * 7, 8023), "FileTooLong"),
+    (rules_of(257, 1025, 4096, 65536), "TooManyNames"),
+]
+
+
+def test_rules(program):
+    for rules, outcome in RULES:
+        program.write("rules", rules)
+        if isinstance(outcome, int):
+            program.prints(["compile", "rules", "code"], f"{outcome} bytes")
+            program.expect("bytes of the file", len(program.read("code")), outcome)
+            program.expect("verify", program.run(["verify", "code"])[0], 0)
+        else:
+            program.fails(["compile", "rules", "none"], 3, f"compile: {outcome}")
+            program.expect("a code of refused rules", program.has("none"), False)
+
+
+def test_links_at_the_limits(program):
+    """Code at a limit runs."""
+    program.write("rules", RULES[0][0])
+    program.run(["compile", "rules", "code"])
+    program.finds_no_link(["run", "code", "a=1000"])
+    program.write("rules", link(6, 578))
+    program.run(["compile", "rules", "code"])
+    program.prints(["run", "code", "a=x"], "bx" * 6 + "x" * 578)
