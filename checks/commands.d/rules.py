@@ -154,6 +154,8 @@ COVERAGE = (
 
 SEVERAL = "rule\nwhen rft.au counts 2 to *\nlink http://e.org/{rft.au}"
 
+TWO_GUARDS = "# two guards\r\nrule\r\nwhen has a\r\n\r\nwhen lacks b\r\nlink {a}"
+
 # A rule file, a query, and the link, or None.
 LINKS = [
     # A coverage bounds the year.
@@ -170,6 +172,10 @@ LINKS = [
     ("rule\nwhen has x\nwhen lacks x\nlink a\nrule\nlink b", "", "b"),
     ("list 12\nrule\nlink ", "", ""),
     ("", "", None),
+    # Comments and blank lines are none, and CR LF ends lines.
+    (TWO_GUARDS, "a=1", "1"),
+    (TWO_GUARDS, "a=1&b=1", None),
+    (TWO_GUARDS, "", None),
 ]
 
 

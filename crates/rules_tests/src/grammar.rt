@@ -1,10 +1,131 @@
-mod faults;
-mod trees;
+use crate::parsed;
+use std::alloc::Global;
+use std::test::Fail;
+use uri_grammar::{
+    Op, Part, Spec, Specs, Template, TemplateError, TemplateErrorKind, Text, is_name,
+};
 
-use std::alloc::{AllocError, Global};
+fn has_literal(template: &Template, part: usize, wanted: &str) -> bool {
+    match template.parts().get(part) {
+        Some(Part::Literal(text)) => text.as_str() == wanted,
+        _ => false,
+    }
+}
 
-/// `{`, a name of so many bytes, and what follows it.
-fn with_name(alloc: Global, bytes: usize, after: &str) -> Result<String, AllocError> {
-    let name = "n".repeat(alloc, bytes)?;
-    format!(in alloc; "{{{name}{after}")
+// A template, how many parts it has, the place of a literal among them, and its text.
+const LITERALS: &[(&str, usize, usize, &str)] = &[
+    ("é/{x}", 2, 0, "%C3%A9/"),
+    ("it's%41%c3", 1, 0, "it's%41%c3"),
+    ("?{x,empty}", 2, 0, "?"),
+    ("{rft.au*}/{rft_id}", 3, 1, "/"),
+    ("{+path:6}here", 2, 1, "here"),
+    ("X{.empty}{#x}", 3, 0, "X"),
+    ("\u{E1000}\u{10FFFD}", 1, 0, "%F3%A1%80%80%F4%8F%BF%BD"),
+];
+
+#[test]
+fn literals(rt: HostRuntime) -> Result<(), Fail> {
+    for &(text, parts, part, wanted) in LITERALS {
+        let template = parsed(rt.alloc(), text)?;
+        assert_eq!(rt; template.text(), text);
+        assert_eq!(rt; template.parts().len(), parts);
+        assert!(rt; has_literal(&template, part, wanted), "{text}");
+    }
+    Ok(())
+}
+
+/// The variable at a place of an expression, and the expression's operator.
+fn variable(template: &Template, part: usize, place: usize) -> Option<(Op, &Spec)> {
+    match template.parts().get(part)? {
+        Part::Expression { op, specs } => Some((*op, specs.as_slice().get(place)?)),
+        Part::Literal(_) => None,
+    }
+}
+
+fn is_variable(found: Option<(Op, &Spec)>, op: Op, name: &str, cut: u16, explode: bool) -> bool {
+    match found {
+        Some((of, spec)) => {
+            of == op && spec.name.as_str() == name && spec.cut == cut && spec.explode == explode
+        }
+        None => false,
+    }
+}
+
+// A template, the place of an expression, its operator, the place of a variable in it, its name, prefix and explode.
+const VARIABLES: &[(&str, usize, Op, usize, &str, u16, bool)] = &[
+    ("{hello}", 0, Op::Simple, 0, "hello", 0, false),
+    ("é/{x}", 1, Op::Simple, 0, "x", 0, false),
+    ("?{x,empty}", 1, Op::Simple, 0, "x", 0, false),
+    ("?{x,empty}", 1, Op::Simple, 1, "empty", 0, false),
+    ("{/list*,path:4}", 0, Op::Slash, 0, "list", 0, true),
+    ("{/list*,path:4}", 0, Op::Slash, 1, "path", 4, false),
+    ("{?rft.au*}", 0, Op::Question, 0, "rft.au", 0, true),
+    ("{rft.au*}/{rft_id}", 0, Op::Simple, 0, "rft.au", 0, true),
+    ("{rft.au*}/{rft_id}", 2, Op::Simple, 0, "rft_id", 0, false),
+    ("{+path:6}here", 0, Op::Plus, 0, "path", 6, false),
+    ("X{.empty}{#x}", 1, Op::Dot, 0, "empty", 0, false),
+    ("X{.empty}{#x}", 2, Op::Hash, 0, "x", 0, false),
+    ("{;v}{&v}", 0, Op::Semicolon, 0, "v", 0, false),
+    ("{;v}{&v}", 1, Op::Ampersand, 0, "v", 0, false),
+    ("{a:9999}{b:10}{c:250}", 0, Op::Simple, 0, "a", 9999, false),
+    ("{a:9999}{b:10}{c:250}", 1, Op::Simple, 0, "b", 10, false),
+    ("{a:9999}{b:10}{c:250}", 2, Op::Simple, 0, "c", 250, false),
+    ("{%41.b_9}", 0, Op::Simple, 0, "%41.b_9", 0, false),
+];
+
+#[test]
+fn variables(rt: HostRuntime) -> Result<(), Fail> {
+    for &(text, part, op, place, name, cut, explode) in VARIABLES {
+        let template = parsed(rt.alloc(), text)?;
+        let found = variable(&template, part, place);
+        assert!(rt; is_variable(found, op, name, cut, explode), "{text}");
+    }
+    Ok(())
+}
+
+#[test]
+fn names(rt: HostRuntime) {
+    assert!(rt; is_name("rft.au") && !is_name("a..b"));
+}
+
+#[test]
+fn parts_give_back_what_they_hold(rt: HostRuntime) -> Result<(), Fail> {
+    let name = Text::new(String::from_str(rt.alloc(), "a")?);
+    let mut list = Vec::new(rt.alloc());
+    list.push(Spec {
+        name,
+        cut: 3,
+        explode: false,
+    })?;
+    let specs = Specs::new(list);
+    assert_eq!(rt; specs.as_slice().len(), 1);
+    for spec in specs.into_vec() {
+        assert_eq!(rt; spec.cut, 3);
+        assert_eq!(rt; spec.name.into_string().as_str(), "a");
+    }
+    Ok(())
+}
+
+/// The kind of the first fault of a text; none where it has no fault.
+fn fault_of(alloc: Global, text: &str) -> Option<TemplateErrorKind> {
+    match parsed(alloc, text) {
+        Ok(_) => None,
+        Err(e) => Some(e.kind),
+    }
+}
+
+const NO_MEMORY: TemplateError = TemplateError {
+    kind: TemplateErrorKind::NoMemory,
+    at: 0,
+};
+
+#[test]
+fn errors_say_kind_and_place(rt: HostRuntime) -> Result<(), Fail> {
+    assert_eq!(rt;
+        fault_of(rt.alloc(), "{a"),
+        Some(TemplateErrorKind::Unclosed)
+    );
+    let printed = format!(in rt.alloc(); "{NO_MEMORY}")?;
+    assert_eq!(rt; printed.as_str(), "NoMemory at 0");
+    Ok(())
 }

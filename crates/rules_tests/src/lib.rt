@@ -1,5 +1,5 @@
-//! What no contract says of texts in links, templates and rules: examples from outside, printed texts, and that each limit
-//! is reached.
+//! What no contract says of texts in links, templates and rules, and the program does not show: trees, parts of texts, other
+//! variables, lists of rules; and each public call once.
 #![tactic(auto)]
 
 #[cfg(test)]
@@ -14,23 +14,22 @@ mod texts;
 #[cfg(test)]
 use std::alloc::Global;
 #[cfg(test)]
-use std::test::Fail;
+use target_vars::{Env, VarsError};
 #[cfg(test)]
-use target_vars::Env;
+use uri_grammar::{Template, TemplateError};
 
-/// Names with a text, or with a member of their list.
+/// The environment of one text.
 #[cfg(test)]
-type Pairs<'a> = &'a [(&'a str, &'a str)];
-
-/// The environment of these texts, and of lists with these members.
-#[cfg(test)]
-fn environment(alloc: Global, texts: Pairs<'_>, members: Pairs<'_>) -> Result<Env, Fail> {
+fn environment(alloc: Global) -> Result<Env, VarsError> {
     let mut env = Env::new(alloc);
-    for &(name, text) in texts {
-        env.put_text(name, text)?;
+    match env.put_text("x", "a") {
+        Ok(_) => Ok(env),
+        Err(e) => Err(e),
     }
-    for &(name, member) in members {
-        env.add_member(name, member)?;
-    }
-    Ok(env)
+}
+
+/// The template of a text, or its first fault, without what the contract says of it.
+#[cfg(test)]
+fn parsed(alloc: Global, text: &str) -> Result<Template, TemplateError> {
+    Template::parse(alloc, text)
 }

@@ -1,20 +1,73 @@
-mod faults;
-mod guards;
-mod links;
-
-use crate::{Pairs, environment};
-use rule_parser::{Rules, meaning};
-use std::alloc::Global;
+use crate::environment;
+use rule_parser::{RuleError, RuleErrorKind, Rules, meaning};
+use std::alloc::{AllocError, Global};
 use std::test::Fail;
+use target_vars::Env;
 
-/// The link that rules give for texts and members of lists.
-fn link(
-    alloc: Global,
-    rules: &str,
-    texts: Pairs<'_>,
-    members: Pairs<'_>,
-) -> Result<Option<String>, Fail> {
-    let rules = Rules::parse(alloc, rules.as_bytes())?;
-    let env = environment(alloc, texts, members)?;
-    Ok(meaning(alloc, &rules, &env)?)
+/// The rules of a text, or its first fault, without what the contract says of it.
+fn parsed(alloc: Global, text: &[u8]) -> Result<Rules, RuleError> {
+    Rules::parse(alloc, text)
+}
+
+fn link(alloc: Global, rules: &Rules, env: &Env) -> Result<Option<String>, AllocError> {
+    meaning(alloc, rules, env)
+}
+
+const LISTS: &[&str] = &["rft.au", "rft_id", "x"];
+
+/// The names that are lists come once, in the order of their bytes.
+fn lists_come_once(alloc: Global, rules: &Rules) -> Result<bool, AllocError> {
+    let lists = rules.lists(alloc)?;
+    Ok(lists.as_slice() == LISTS)
+}
+
+/// There is one rule, of two guards and this template.
+fn has_rule(rules: &Rules, template: &str) -> bool {
+    match rules.rules() {
+        [rule] => rule.guards.as_slice().len() == 2 && rule.template.text() == template,
+        _ => false,
+    }
+}
+
+const TEXT: &[u8] =
+    b"list x\nlist rft.au\nlist x\nrule\nwhen lacks x\nwhen lacks y\nlink http://e.org/";
+
+// The environment has a text of the name x, which the rules declare as a list.
+#[test]
+fn rules_are_what_their_lines_say(rt: HostRuntime) -> Result<(), Fail> {
+    let rules = parsed(rt.alloc(), TEXT)?;
+    assert!(rt; rules.is_list("x") && !rules.is_list("y"));
+    assert!(rt; has_rule(&rules, "http://e.org/"));
+    assert!(rt; lists_come_once(rt.alloc(), &rules)?);
+    let env = environment(rt.alloc())?;
+    let link = link(rt.alloc(), &rules, &env)?;
+    assert_eq!(rt; link.as_deref(), Some("http://e.org/"));
+    Ok(())
+}
+
+/// The first fault of a rule text; none where it has no fault.
+fn fault_of(alloc: Global, text: &[u8]) -> Option<RuleError> {
+    match parsed(alloc, text) {
+        Ok(_) => None,
+        Err(e) => Some(e),
+    }
+}
+
+const MISUSED: RuleError = RuleError {
+    kind: RuleErrorKind::KindMismatch,
+    line: 3,
+};
+
+const NO_MEMORY: RuleError = RuleError {
+    kind: RuleErrorKind::NoMemory,
+    line: 0,
+};
+
+#[test]
+fn errors_say_line_and_kind(rt: HostRuntime) -> Result<(), Fail> {
+    let fault = fault_of(rt.alloc(), b"list counts\nrule\nwhen x holds \"x\"\nlink a");
+    assert_eq!(rt; fault, Some(MISUSED));
+    let printed = format!(in rt.alloc(); "{NO_MEMORY}")?;
+    assert_eq!(rt; printed.as_str(), "line 0: NoMemory");
+    Ok(())
 }

@@ -1,86 +1,46 @@
-ghost use Rattle.std.specs.Prelude.{◌≤◌, length};
-
-use std::alloc::{AllocError, Global};
-use std::process::Abort;
+use std::alloc::AllocError;
 use std::test::Fail;
 use text_model::Writing;
 use uri_text::{cut, encode, encode_u, encode_ur, leading_number};
 
-const LONGEST: usize = 100;
-
+/// Writes `&` in the room that is there; whether no room was added.
 #[tactic(auto, using(text_model::proofs::Written::length_laws))]
-fn written(alloc: Global, text: &[u8], writing: Writing) -> Result<String, AllocError>
-    requires { length text.now ≤ LONGEST }
-{
-    let mut out = String::new(alloc);
-    out.reserve(3 * LONGEST)?;
-    encode(&mut out, text, writing);
-    Ok(out)
+fn appends_u(out: &mut String) -> Result<bool, AllocError> {
+    out.reserve(3)?;
+    let room = out.capacity();
+    encode_u(out, b"&");
+    Ok(out.capacity() == room)
 }
 
-/// The text is written so.
-fn writes<R: Abort + AllocGlobal>(
-    rt: &R,
-    text: &str,
-    writing: Writing,
-    wanted: &str,
-) -> Result<(), Fail> {
-    assert!(rt; text.len() <= LONGEST);
-    let out = written(rt.alloc(), text.as_bytes(), writing)?;
-    assert_eq!(rt; out.as_str(), wanted);
-    Ok(())
+/// The same with reserved characters as they are.
+#[tactic(auto, using(text_model::proofs::Written::length_laws))]
+fn appends_ur(out: &mut String) -> Result<bool, AllocError> {
+    out.reserve(3)?;
+    let room = out.capacity();
+    encode_ur(out, b"&");
+    Ok(out.capacity() == room)
 }
 
-// A text, as U writes it, and as UR does.
-const WRITTEN: [(&str, &str, &str); 11] = [
-    ("", "", ""),
-    ("Hello World!", "Hello%20World%21", "Hello%20World!"),
-    ("/foo/bar", "%2Ffoo%2Fbar", "/foo/bar"),
-    ("50%", "50%25", "50%25"),
-    ("%41%4", "%2541%254", "%41%254"),
-    ("%c3%A9", "%25c3%25A9", "%c3%A9"),
-    ("%%41", "%25%2541", "%25%41"),
-    ("é", "%C3%A9", "%C3%A9"),
-    ("\u{7f}\n", "%7F%0A", "%7F%0A"),
-    (
-        "-._~:/?#[]@!$&'()*+,;=",
-        "-._~%3A%2F%3F%23%5B%5D%40%21%24%26%27%28%29%2A%2B%2C%3B%3D",
-        "-._~:/?#[]@!$&'()*+,;=",
-    ),
-    (
-        "\"<>\\^`{|}",
-        "%22%3C%3E%5C%5E%60%7B%7C%7D",
-        "%22%3C%3E%5C%5E%60%7B%7C%7D",
-    ),
-];
-
-#[test]
-fn texts_are_written(rt: HostRuntime) -> Result<(), Fail> {
-    for (text, by_u, by_ur) in WRITTEN {
-        writes(&rt, text, Writing::U, by_u)?;
-        writes(&rt, text, Writing::UR, by_ur)?;
-    }
-    Ok(())
+/// The same in the way that is asked for.
+#[tactic(auto, using(text_model::proofs::Written::length_laws))]
+fn appends(out: &mut String, writing: Writing) -> Result<bool, AllocError> {
+    out.reserve(3)?;
+    let room = out.capacity();
+    encode(out, b"&", writing);
+    Ok(out.capacity() == room)
 }
 
 #[test]
-#[tactic(auto, using(text_model::proofs::Written::length_laws))]
 fn writing_appends_in_the_room_that_is_there(rt: HostRuntime) -> Result<(), Fail> {
     let mut out = String::from_str(rt.alloc(), "a=")?;
-    out.reserve(3)?;
-    let room = out.capacity();
-    encode_u(&mut out, b"&");
-    assert_eq!(rt; out.capacity(), room);
-    out.reserve(3)?;
-    let room = out.capacity();
-    encode_ur(&mut out, b"&");
-    assert_eq!(rt; out.capacity(), room);
-    assert_eq!(rt; out.as_str(), "a=%26&");
+    assert!(rt; appends_u(&mut out)? && appends_ur(&mut out)?);
+    assert!(rt; appends(&mut out, Writing::U)? && appends(&mut out, Writing::UR)?);
+    assert_eq!(rt; out.as_str(), "a=%26&%26&");
     Ok(())
 }
 
 // A text, a number of items, and the text cut to so many: code points, and with triplets as one item each.
-const CUT: [(&str, usize, &str, &str); 10] = [
+const CUT: &[(&str, usize, &str, &str)] = &[
     ("value", 3, "val", "val"),
     ("value", 30, "value", "value"),
     ("value", 0, "", ""),
@@ -93,15 +53,21 @@ const CUT: [(&str, usize, &str, &str); 10] = [
     ("%C3%A9", 1, "%", "%C3"),
 ];
 
+fn cuts(text: &str, n: usize, by_triplets: bool, wanted: &str) -> bool {
+    cut(text.as_bytes(), n, by_triplets) == wanted.as_bytes()
+}
+
 #[test]
 fn texts_are_cut(rt: HostRuntime) {
-    for (text, n, by_points, by_triplets) in CUT {
-        assert_eq!(rt; cut(text.as_bytes(), n, false), by_points.as_bytes());
-        assert_eq!(rt; cut(text.as_bytes(), n, true), by_triplets.as_bytes());
+    for &(text, n, by_points, by_triplets) in CUT {
+        assert!(rt;
+            cuts(text, n, false, by_points) && cuts(text, n, true, by_triplets),
+            "{text}"
+        );
     }
 }
 
-const LEADING_NUMBERS: [(&[u8], Option<u32>); 9] = [
+const LEADING_NUMBERS: &[(&[u8], Option<u32>)] = &[
     (b"", None),
     (b"a1", None),
     (b"-5", None),
@@ -115,7 +81,7 @@ const LEADING_NUMBERS: [(&[u8], Option<u32>); 9] = [
 
 #[test]
 fn leading_numbers(rt: HostRuntime) {
-    for (text, number) in LEADING_NUMBERS {
+    for &(text, number) in LEADING_NUMBERS {
         assert_eq!(rt; leading_number(text), number, "{text:?}");
     }
 }
