@@ -1,77 +1,73 @@
-use crate::{has_counts, has_members, has_texts, nearly_full};
+use crate::{enter, has_counts, has_members, has_texts};
 use std::alloc::Global;
-use std::process::Abort;
 use std::test::Fail;
-use target_vars::{Env, MAX_BYTES, Members, VarsError};
-
-/// How many bytes and members there are.
-fn has_size<R: Abort>(rt: &R, env: &Env, bytes: usize, members: usize) {
-    assert_eq!(rt; (env.bytes(), env.members()), (bytes, members));
-}
-
-/// A text of so many letters is put, or refused.
-fn put_long<R: Abort + AllocGlobal>(
-    rt: &R,
-    env: &mut Env,
-    letters: usize,
-    wanted: Result<bool, VarsError>,
-) -> Result<(), Fail> {
-    let text = "x".repeat(rt.alloc(), letters)?;
-    assert_eq!(rt; env.put_text("long", &text), wanted);
-    Ok(())
-}
+use target_vars::{Env, Members, VarsError};
 
 /// What is put or added: whether it is a member, its name, its text, and whether it is taken.
-const FIRST: [(bool, &str, &str, bool); 4] = [
+type Given = (bool, &'static str, &'static str, bool);
+
+/// An environment of texts and members, and whether just those were taken that are said to be.
+fn environment(alloc: Global, given: &[Given]) -> Result<(Env, bool), VarsError> {
+    let mut env = Env::new(alloc);
+    let mut as_said = true;
+    for &(is_member, name, text, is_taken) in given {
+        if enter(&mut env, is_member, name, text)? != is_taken {
+            as_said = false;
+        }
+    }
+    Ok((env, as_said))
+}
+
+/// The environment has so many bytes and members.
+fn has_size(env: &Env, bytes: usize, members: usize) -> bool {
+    env.bytes() == bytes && env.members() == members
+}
+
+const FIRST: &[Given] = &[
     (false, "a", "x", true),
     (false, "a", "y", false),
     (true, "a", "z", false),
     (true, "b", "q", true),
 ];
 
-/// Puts texts and adds members.
-fn takes<R: Abort>(rt: &R, env: &mut Env, cases: &[(bool, &str, &str, bool)]) {
-    for &(is_member, name, text, is_taken) in cases {
-        let answer = if is_member {
-            env.add_member(name, text)
-        } else {
-            env.put_text(name, text)
-        };
-        assert_eq!(rt; answer, Ok(is_taken));
+#[test]
+fn first_text_stays(rt: HostRuntime) -> Result<(), Fail> {
+    let (env, as_said) = environment(rt.alloc(), FIRST)?;
+    assert!(rt; as_said && has_size(&env, 2, 1));
+    assert!(rt; has_texts(&env, &[("a", Some("x")), ("b", None)]));
+    assert!(rt; has_counts(&env, &[("a", 0)]) && has_members(&env, &[("b", 0, Some("q"))]));
+    Ok(())
+}
+
+/// Puts a text of so many letters; whether it is taken, and not too large.
+fn put_long(alloc: Global, env: &mut Env, letters: usize) -> Result<bool, Fail> {
+    let text = "x".repeat(alloc, letters)?;
+    match enter(env, false, "long", &text) {
+        Ok(is_taken) => Ok(is_taken),
+        Err(VarsError::TooLarge) => Ok(false),
+        Err(e) => Err(e.into()),
     }
 }
 
 #[test]
-fn first_text_stays(rt: HostRuntime) -> Result<(), Fail> {
-    let mut env = Env::new(rt.alloc());
-    takes(&rt, &mut env, &FIRST);
-    has_texts(&rt, &env, &[("a", Some("x")), ("b", None)]);
-    has_counts(&rt, &env, &[("a", 0)]);
-    has_members(&rt, &env, &[("b", 0, Some("q"))]);
-    has_size(&rt, &env, 2, 1);
-    Ok(())
-}
-
-#[test]
 fn room_is_what_is_left(rt: HostRuntime) -> Result<(), Fail> {
-    let mut env = Env::new(rt.alloc());
-    takes(&rt, &mut env, &FIRST);
-    put_long(&rt, &mut env, 1_048_575, Err(VarsError::TooLarge))?;
-    has_texts(&rt, &env, &[("long", None)]);
-    has_size(&rt, &env, 2, 1);
-    put_long(&rt, &mut env, 1_048_574, Ok(true))?;
-    has_size(&rt, &env, 1_048_576, 1);
+    let (mut env, _) = environment(rt.alloc(), FIRST)?;
+    assert!(rt; !put_long(rt.alloc(), &mut env, 1_048_575)?);
+    assert!(rt; has_texts(&env, &[("long", None)]) && has_size(&env, 2, 1));
+    assert!(rt; put_long(rt.alloc(), &mut env, 1_048_574)?);
+    assert!(rt; has_size(&env, 1_048_576, 1));
     Ok(())
 }
 
 #[test]
 fn whole_size(rt: HostRuntime) -> Result<(), Fail> {
     let mut env = Env::new(rt.alloc());
-    put_long(&rt, &mut env, 1_048_577, Err(VarsError::TooLarge))?;
-    put_long(&rt, &mut env, 1_048_576, Ok(true))
+    assert!(rt; !put_long(rt.alloc(), &mut env, 1_048_577)?);
+    assert!(rt; put_long(rt.alloc(), &mut env, 1_048_576)?);
+    Ok(())
 }
 
-const IN_TURN: [(bool, &str, &str, bool); 5] = [
+const IN_TURN: &[Given] = &[
     (false, "a", "x", true),
     (true, "l", "p", true),
     (false, "b", "y", true),
@@ -79,40 +75,55 @@ const IN_TURN: [(bool, &str, &str, bool); 5] = [
     (true, "l", "q", true),
 ];
 
-const TEXT_PLACES: [(&str, Option<(u32, u32)>); 4] = [
+const TEXT_PLACES: &[(&str, Option<(u32, u32)>)] = &[
     ("a", Some((0, 1))),
     ("b", Some((2, 1))),
     ("l", None),
     ("c", None),
 ];
 
-const MEMBER_PLACES: [(&str, (u32, u32)); 4] = [
+const MEMBER_PLACES: &[(&str, (u32, u32))] = &[
     ("l", (0, 2)),
     ("m", (2, 1)),
     ("a", (0, 0)),
     ("c", (0, 0)),
 ];
 
-fn has_places<R: Abort>(rt: &R, env: &Env) {
-    for (name, place) in TEXT_PLACES {
-        assert_eq!(rt; (name, env.text_at(name)), (name, place));
+const SPANS: &[(usize, (u32, u32))] = &[(0, (1, 1)), (1, (4, 1)), (2, (3, 1))];
+
+fn has_text_places(env: &Env) -> bool {
+    for &(name, place) in TEXT_PLACES {
+        if env.text_at(name) != place {
+            return false;
+        }
     }
-    for (name, places) in MEMBER_PLACES {
-        assert_eq!(rt; (name, env.members_at(name)), (name, places));
+    true
+}
+
+fn has_member_places(env: &Env) -> bool {
+    for &(name, places) in MEMBER_PLACES {
+        if env.members_at(name) != places {
+            return false;
+        }
     }
+    true
+}
+
+fn has_spans(env: &Env) -> bool {
+    for &(place, span) in SPANS {
+        if place >= env.members() || env.span(place) != span {
+            return false;
+        }
+    }
+    true
 }
 
 #[test]
 fn buffer_and_spans(rt: HostRuntime) -> Result<(), Fail> {
-    let mut env = Env::new(rt.alloc());
-    takes(&rt, &mut env, &IN_TURN);
-    assert_eq!(rt; env.buffer(), "xpyrq".as_bytes());
-    has_places(&rt, &env);
-    assert_eq!(rt; env.members(), 3);
-    assert_eq!(rt;
-        (env.span(0), env.span(1), env.span(2)),
-        ((1, 1), (4, 1), (3, 1))
-    );
+    let (env, as_said) = environment(rt.alloc(), IN_TURN)?;
+    assert!(rt; as_said && env.buffer() == "xpyrq".as_bytes());
+    assert!(rt; has_text_places(&env) && has_member_places(&env));
+    assert!(rt; env.members() == 3 && has_spans(&env));
     Ok(())
 }
 
@@ -120,16 +131,16 @@ fn buffer_and_spans(rt: HostRuntime) -> Result<(), Fail> {
 fn too_many_members(rt: HostRuntime) -> Result<(), Fail> {
     let mut env = Env::new(rt.alloc());
     for _ in 0..65_535 {
-        assert_eq!(rt; env.add_member("a", ""), Ok(true));
+        assert!(rt; enter(&mut env, true, "a", "")?);
     }
-    assert_eq!(rt; env.add_member("a", ""), Err(VarsError::TooLarge));
-    assert_eq!(rt; env.add_member("b", ""), Err(VarsError::TooLarge));
-    has_counts(&rt, &env, &[("a", 65_535)]);
-    has_size(&rt, &env, 0, 65_535);
+    for name in ["a", "b"].as_slice() {
+        assert_eq!(rt; enter(&mut env, true, name, ""), Err(VarsError::TooLarge));
+    }
+    assert!(rt; has_counts(&env, &[("a", 65_535)]) && has_size(&env, 0, 65_535));
     Ok(())
 }
 
-const ADDED: [(bool, &str, &str, bool); 6] = [
+const ADDED: &[Given] = &[
     (true, "rft.au", "Müller", true),
     (true, "rft_id", "info:doi/10.1000/182", true),
     (true, "rft.au", "佐藤", true),
@@ -138,7 +149,7 @@ const ADDED: [(bool, &str, &str, bool); 6] = [
     (false, "rft.au", "late", false),
 ];
 
-const LISTED: [(&str, usize, Option<&str>); 8] = [
+const LISTED: &[(&str, usize, Option<&str>)] = &[
     ("rft.au", 0, Some("Müller")),
     ("rft.au", 1, Some("佐藤")),
     ("rft.au", 2, Some("Ångström")),
@@ -151,15 +162,13 @@ const LISTED: [(&str, usize, Option<&str>); 8] = [
 
 #[test]
 fn members_stand_in_the_order_in_which_they_came(rt: HostRuntime) -> Result<(), Fail> {
-    let mut env = Env::new(rt.alloc());
-    takes(&rt, &mut env, &ADDED);
-    has_members(&rt, &env, &LISTED);
-    has_counts(&rt, &env, &[("rft.au", 3), ("rft_id", 2)]);
-    has_size(&rt, &env, 43, 5);
+    let (env, as_said) = environment(rt.alloc(), ADDED)?;
+    assert!(rt; as_said && has_size(&env, 43, 5));
+    assert!(rt; has_members(&env, LISTED) && has_counts(&env, &[("rft.au", 3), ("rft_id", 2)]));
     Ok(())
 }
 
-const NAMES: [&str; 8] = [
+const NAMES: &[&str] = &[
     "rft.title",
     "",
     "rft",
@@ -170,97 +179,92 @@ const NAMES: [&str; 8] = [
     "rft.au",
 ];
 
-const OTHER_NAMES: [&str; 5] = ["b", "rft.", "rft.b", "zz", "\u{0}"];
+const OTHER_NAMES: &[&str] = &["b", "rft.", "rft.b", "zz", "\u{0}"];
 
-/// Each name is put with itself as its text.
-fn put_names<R: Abort>(rt: &R, env: &mut Env) {
-    for name in NAMES {
-        assert_eq!(rt; env.text(name), None);
-        assert_eq!(rt; env.put_text(name, name), Ok(true));
+/// Puts each name with itself as its text; whether none was there.
+fn put_names(env: &mut Env) -> Result<bool, VarsError> {
+    let mut is_new = true;
+    for &name in NAMES {
+        is_new = is_new && env.text(name).is_none() && enter(env, false, name, name)?;
     }
+    Ok(is_new)
+}
+
+/// The name is there with itself as its text, and nothing else is taken for it.
+fn keeps(env: &mut Env, name: &str) -> Result<bool, VarsError> {
+    let is_taken = enter(env, false, name, "late")? || enter(env, true, name, "late")?;
+    Ok(!is_taken && env.text(name) == Some(name))
 }
 
 #[test]
 fn names_are_found_in_whichever_order_they_came(rt: HostRuntime) -> Result<(), Fail> {
     let mut env = Env::new(rt.alloc());
-    put_names(&rt, &mut env);
-    for name in NAMES {
-        assert_eq!(rt; env.text(name), Some(name));
-        assert_eq!(rt; env.put_text(name, "late"), Ok(false));
-        assert_eq!(rt; env.add_member(name, "late"), Ok(false));
+    assert!(rt; put_names(&mut env)?);
+    for &name in NAMES {
+        assert!(rt; keeps(&mut env, name)?, "{name}");
     }
-    for other in OTHER_NAMES {
-        assert_eq!(rt; (env.text(other), env.count(other)), (None, 0));
+    for &other in OTHER_NAMES {
+        assert!(rt;
+            env.text(other).is_none() && env.count(other) == 0,
+            "{other}"
+        );
     }
     Ok(())
 }
 
-/// The members are these, one by one.
-fn are<R: Abort>(rt: &R, members: Members<'_>, wanted: &[&str]) {
-    assert_eq!(rt;
-        (members.len(), members.is_empty()),
-        (wanted.len(), wanted.is_empty())
-    );
+const TITLE: &[Given] = &[
+    (false, "rft.title", "Typee", true),
+    (true, "rft_id", "info:doi/10.1000/182", true),
+    (true, "rft.au", "Melville", true),
+    (true, "rft.au", "Hawthorne", true),
+];
+
+/// The member at a place, which comes first when so many are split off.
+fn split<'a>(members: Members<'a>, place: usize) -> Option<&'a str> {
     let mut left = members;
-    for &text in wanted {
-        let Some((first, others)) = left.split_first() else {
-            return assert!(rt; false);
-        };
-        assert_eq!(rt; first, text);
-        left = others;
+    for _ in 0..place {
+        left = left.split_first()?.1;
     }
-    assert!(rt; left.is_empty() && left.split_first().is_none());
+    Some(left.split_first()?.0)
 }
 
-/// The members are these, taken by an iterator.
-fn come<R: Abort>(rt: &R, members: Members<'_>, wanted: &[&str]) {
-    let mut members = members.into_iter();
-    for &text in wanted {
-        assert_eq!(rt; members.next(), Some(text));
+// A place, and the author there.
+const AUTHORS: &[(usize, Option<&str>)] = &[
+    (0, Some("Melville")),
+    (1, Some("Hawthorne")),
+    (2, None),
+];
+
+fn are_authors(members: Members<'_>) -> bool {
+    let mut coming = members.into_iter();
+    for &(place, author) in AUTHORS {
+        if members.get(place) != author
+            || split(members, place) != author
+            || coming.next() != author
+        {
+            return false;
+        }
     }
-    assert_eq!(rt; members.next(), None);
+    members.len() == 2 && !members.is_empty()
 }
 
-/// A text, and lists of one and of two members.
-fn title(alloc: Global) -> Result<Env, Fail> {
-    let mut env = Env::new(alloc);
-    env.put_text("rft.title", "Typee")?;
-    env.add_member("rft_id", "info:doi/10.1000/182")?;
-    env.add_member("rft.au", "Melville")?;
-    env.add_member("rft.au", "Hawthorne")?;
-    Ok(env)
+fn are_none(members: Members<'_>) -> bool {
+    members.len() == 0 && members.is_empty() && members.split_first().is_none()
 }
-
-const AUTHORS: [&str; 2] = ["Melville", "Hawthorne"];
 
 #[test]
 fn lists_are_lent(rt: HostRuntime) -> Result<(), Fail> {
-    let env = title(rt.alloc())?;
-    let authors = env.list("rft.au");
-    assert_eq!(rt; (authors.get(1), authors.get(2)), (Some("Hawthorne"), None));
-    are(&rt, authors, &AUTHORS);
-    come(&rt, authors, &AUTHORS);
+    let (env, as_said) = environment(rt.alloc(), TITLE)?;
+    assert!(rt; as_said && are_authors(env.list("rft.au")));
+    assert!(rt;
+        are_none(env.list("rft.title")) && are_none(env.list("x")) && are_none(Members::none())
+    );
     Ok(())
 }
-
-#[test]
-fn other_names_have_no_members(rt: HostRuntime) -> Result<(), Fail> {
-    let env = title(rt.alloc())?;
-    are(&rt, env.list("rft.title"), &[]);
-    are(&rt, env.list("x"), &[]);
-    are(&rt, Members::none(), &[]);
-    Ok(())
-}
-
-const PRINTED_KINDS: [(VarsError, &str); 2] = [
-    (VarsError::TooLarge, "TooLarge"),
-    (VarsError::NoMemory, "NoMemory"),
-];
 
 #[test]
 fn errors_print_their_kind(rt: HostRuntime) -> Result<(), Fail> {
-    for (kind, printed) in PRINTED_KINDS {
-        assert_eq!(rt; format!(in rt.alloc(); "{kind}")?.as_str(), printed);
-    }
+    let printed = format!(in rt.alloc(); "{} {}", VarsError::TooLarge, VarsError::NoMemory)?;
+    assert_eq!(rt; printed.as_str(), "TooLarge NoMemory");
     Ok(())
 }
