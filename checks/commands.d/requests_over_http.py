@@ -1,0 +1,125 @@
+"""Requests to a service with one target: which page they ask for, or why they are refused."""
+from service import IN_ITS_YEARS, JOURNAL, register, replies, reply, to_head
+
+HTML = reply("200 OK", "html", "<!DOCTYPE html>\n<title>Links</title>\n<p>No links</p>\n")
+TEXT = reply("200 OK", "plain", "")
+REPORT = reply("200 OK", "plain", "alpha\tno row\n")
+BAD = reply("400 Bad Request", "plain", "bad request\n")
+NOT_FOUND = reply("404 Not Found", "plain", "not found\n")
+TOO_LARGE = reply("431 Request Header Fields Too Large", "plain", "head too large\n")
+TOO_MANY_PAIRS = reply("400 Bad Request", "plain", "query: too many pairs\n")
+WRONG_VERSION = reply("400 Bad Request", "plain", "query: wrong version\n")
+METHOD = (b"HTTP/1.1 405 Method Not Allowed\r\nContent-Type: text/plain; charset=utf-8\r\n"
+          b"Content-Length: 19\r\nConnection: close\r\nAllow: GET, HEAD\r\n\r\nmethod not allowed\n")
+
+
+def gives(program, requests):
+    register(program, [("alpha", IN_ITS_YEARS, JOURNAL)])
+    replies(program, requests)
+
+
+# A method with a target, in a request with one Host field, and the reply.
+TARGETS = [
+    ("HEAD http://a/openurl.txt?x", TEXT),
+    ("GET hTTp://?x", BAD),
+    ("GET http:///openurl", BAD),
+    ("GET http://a", NOT_FOUND),
+    ("GET http://a?/openurl", NOT_FOUND),
+    ("GET http:/", BAD),
+    ("GET ftp://a/openurl", BAD),
+    ("GET *", BAD),
+    ("OPTIONS *", METHOD),
+    ("POST /openurl", METHOD),
+    ("get /openurl", METHOD),
+    ("GET /x", NOT_FOUND),
+    ("GET /openurl/", NOT_FOUND),
+    ("GET /%6fpenurl", NOT_FOUND),
+    ("GET /%6Fpenurl", NOT_FOUND),
+    ("GET /OPENURL", NOT_FOUND),
+    ("GET  /openurl", BAD),
+    ("GET http:///x", BAD),
+    ("GET /openurl?ctx_ver=1", WRONG_VERSION),
+    ("GET /report?url_ver=1", WRONG_VERSION),
+]
+
+
+def test_methods_and_targets(program):
+    gives(program, [(f"{line} HTTP/1.1\r\nHost: a\r\n\r\n", wanted) for line, wanted in TARGETS])
+
+
+# A request, and the reply. With no byte there is no reply.
+REQUESTS = [
+    (b"GET /openurl?a=b%20c?d HTTP/1.1\r\nHost: a\r\n\r\nmore", HTML),
+    (b"\r\n\nGET /openurl.txt HTTP/1.1\nhost:\r\n\n", TEXT),
+    (b"GET /report? HTTP/1.1\r\nA: b\r\nHOST: a\r\n\r\n", REPORT),
+    (b"GET HTTPS://a:80/report HTTP/1.0\r\n\r\n", REPORT),
+    (b"POST /openurl HTTP/1.1\r\n\r\n", BAD),
+    (b"POST * HTTP/1.1\r\n\r\n", BAD),
+    (b"GET /openurl HTTP/1.1\r\n\r\n", BAD),
+    (b"GET /openurl HTTP/1.0\r\n\r\n", HTML),
+    (b"get /x HTTP/1.0\r\n\r\n", METHOD),
+    (b"GET /openurl HTTP/1.1\r\nHost: a\r\nHost: a\r\n\r\n", BAD),
+    (b"GET /openurl HTTP/1.0\r\nHost: a\r\nhost: a\r\n\r\n", BAD),
+    (b"GET /openurl HTTP/1.1\r\nHost: a\r\nhosT: b\r\nHOST: c\r\n\r\n", BAD),
+    (b"GET /x HTTP/1.1\r\nHost: a\r\nHost: a\r\n\r\n", BAD),
+    (b"GET /openurl HTTP/1.1\r\nHosts: a\r\n\r\n", BAD),
+    (b"GET /openurl HTTP/1.1\r\nHost: a\r\n", BAD),
+    (b"GET /openurl HTTP/2.0\r\nHost: a\r\n\r\n", BAD),
+    (b"\r\nGET /x?ctx_ver=1 HTTP/1.1\nHost: a\n\n", NOT_FOUND),
+    (b"", b""),
+]
+
+
+def test_whole_requests(program):
+    gives(program, REQUESTS)
+
+
+# A request whose head has the method HEAD has no body in its reply; where there is no head, the method is not known.
+TO_HEAD = [
+    (b"HEAD /x HTTP/1.1\r\nHost: a\r\n\r\n", to_head(NOT_FOUND)),
+    (b"HEAD /x HTTP/1.1\r\n\r\n", to_head(BAD)),
+    (b"head /x HTTP/1.1\r\nHost: a\r\n\r\n", METHOD),
+    (b"GET /x HTTP/1.1\r\nHost: a\r\n\r\n", NOT_FOUND),
+    (b"HEAD /x HTTP/1.1\r\nHost: a\r\n", BAD),
+    (b"HEAD /x HTTP/1.1\r\n", BAD),
+    (b"HEAD http://a/openurl.txt?ctx_ver=1 HTTP/1.0\r\n\r\n", to_head(WRONG_VERSION)),
+]
+
+
+def test_replies_without_a_body(program):
+    gives(program, TO_HEAD)
+
+
+# The start of a request, what follows it, how often, the end, and the reply. The first, of 16,384 bytes, is open; the
+# second has a byte fewer; the third has 16,384 bytes, and its head has ended and is none of the grammar.
+LONG = [
+    ("GET / HTTP/1.1\r\nX: ", "x", 16_384 - 19, "", TOO_LARGE),
+    ("GET / HTTP/1.1\r\nX: ", "x", 16_384 - 20, "", BAD),
+    ("GET / HTTP/1.1\r\nX ", "x", 16_384 - 22, "\r\n\r\n", BAD),
+    ("GET / HTTP/1.1\r\nX: ", "x", 16_384 - 32, "\r\nHost: a\r\n\r\n", NOT_FOUND),
+]
+
+# The same, with fields beside Host: a head has 128 of them at most.
+FIELDS = [
+    ("GET /report HTTP/1.1\r\nHost: a\r\n", "A: b\r\n", 0, "\r\n", REPORT),
+    ("GET /report HTTP/1.1\r\nHost: a\r\n", "A: b\r\n", 127, "\r\n", REPORT),
+    ("GET /report HTTP/1.1\r\nHost: a\r\n", "A: b\r\n", 128, "\r\n", BAD),
+    ("GET /x HTTP/1.1\r\nHost: a\r\n", "A: b\r\n", 128, "\r\n", BAD),
+]
+
+# The same, with a query of 4,097 pairs.
+PAIRS = [
+    ("GET /openurl?a", "&a", 4096, " HTTP/1.1\r\nHost: a\r\n\r\n", TOO_MANY_PAIRS),
+]
+
+
+def test_limits(program):
+    for cases in LONG, FIELDS, PAIRS:
+        gives(program, [(start + piece * count + end, wanted) for start, piece, count, end, wanted in cases])
+
+
+REQUEST = b"GET /x HTTP/1.1\r\nHost: a\r\n\r\n"
+
+
+def test_a_request_that_ends_too_soon(program):
+    gives(program, [(REQUEST[:end], BAD) for end in range(1, 28)] + [(REQUEST, NOT_FOUND)])
