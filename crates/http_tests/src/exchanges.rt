@@ -1,85 +1,95 @@
-//! Exchanges: what is replied, and what of it goes out.
+//! Exchanges with peers that send and take little at a time, or fail.
 
-mod hostile;
-mod pages;
-mod refusals;
-
-use http_front::{Served, serve_one};
-use http_streams::Tape;
+use crate::{REPLY, REQUEST};
+use http_front::{ServeError, Served, serve_one};
+use http_streams::{PieceIn, PieceOut};
 use registry::Registry;
-use std::alloc::{AllocError, Global};
 use std::process::Abort;
 use std::test::Fail;
 
-/// A reply: its status with the phrase, the type of its body, the length that it tells, and the body that is sent.
-#[derive(Clone, Copy)]
-struct Reply {
-    status: u16,
-    phrase: &'static str,
-    kind: &'static str,
-    length: usize,
-    body: &'static str,
-}
-
-const BAD_REQUEST: Reply = Reply {
-    status: 400,
-    phrase: "Bad Request",
-    kind: "plain",
-    length: 12,
-    body: "bad request\n",
-};
-
-impl Reply {
-    /// The same to the method HEAD.
-    fn to_head(self) -> Reply {
-        Reply { body: "", ..self }
-    }
-
-    /// The reply as it is written.
-    fn printed(&self, alloc: Global) -> Result<String, AllocError> {
-        let Reply {
-            status,
-            phrase,
-            kind,
-            length,
-            body,
-        } = *self;
-        format!(in alloc;
-            "HTTP/1.1 {status} {phrase}\r\nContent-Type: text/{kind}; charset=utf-8\r\n\
-            Content-Length: {length}\r\nConnection: close\r\n\r\n{body}"
-        )
-    }
-}
-
-/// How the exchange of a request went, and the tape with what was written.
-fn served(alloc: Global, registry: &Registry, request: &[u8]) -> Result<(Served, Tape), Fail> {
-    let mut input = Tape::new(alloc, request)?;
-    let mut output = Tape::new(alloc, b"")?;
-    let served = serve_one(alloc, &mut input, &mut output, registry)?;
-    Ok((served, output))
-}
-
-/// The request has a reply with this status and these bytes.
-fn gets<R: Abort + AllocGlobal>(
+/// The request's input gives and its output takes so many bytes at a time, and they fail so: how the exchange goes then,
+/// and what is written.
+fn exchanges<R: Abort + AllocGlobal>(
     rt: &R,
-    registry: &Registry,
     request: &[u8],
-    status: u16,
-    reply: &[u8],
+    piece: usize,
+    fails: (Option<usize>, Option<usize>),
+    wanted: Result<Served, ServeError>,
+    written: &[u8],
 ) -> Result<(), Fail> {
-    let (went, output) = served(rt.alloc(), registry, request)?;
-    assert_eq!(rt; went, Served::Replied(status), "to {request:?}");
-    assert_eq!(rt; output.written(), reply, "to {request:?}");
+    let registry = Registry::new(rt.alloc());
+    let mut input = PieceIn::new(rt.alloc(), request, piece.max(1), fails.0)?;
+    let mut output = PieceOut::new(rt.alloc(), piece.max(1), fails.1)?;
+    let served = serve_one(rt.alloc(), &mut input, &mut output, &registry);
+    assert_eq!(rt; served, wanted, "in pieces of {piece}");
+    assert_eq!(rt; output.written(), written, "in pieces of {piece}");
     Ok(())
 }
 
-/// The request has this reply.
-fn has_reply<R: Abort + AllocGlobal>(
-    rt: &R,
-    registry: &Registry,
-    request: &[u8],
-    reply: Reply,
-) -> Result<(), Fail> {
-    let printed = reply.printed(rt.alloc())?;
-    gets(rt, registry, request, reply.status, printed.as_bytes())
+#[test]
+fn in_pieces(rt: HostRuntime) -> Result<(), Fail> {
+    let replied = Ok(Served::Replied(404));
+    for piece in [1, 2, 3, 28] {
+        exchanges(&rt, REQUEST, piece, (None, None), replied, REPLY)?;
+    }
+    Ok(())
+}
+
+#[test]
+fn a_read_fails(rt: HostRuntime) -> Result<(), Fail> {
+    for fail_at in 0..28 {
+        let fault = Err(ServeError::ReadFault);
+        exchanges(&rt, REQUEST, 1, (Some(fail_at), None), fault, b"")?;
+    }
+    // After so many reads the head has ended, and no more are made.
+    let replied = Ok(Served::Replied(404));
+    exchanges(&rt, REQUEST, 1, (Some(28), None), replied, REPLY)
+}
+
+#[test]
+fn a_write_fails(rt: HostRuntime) -> Result<(), Fail> {
+    for fail_at in 0..116usize {
+        let fault = Err(ServeError::WriteFault(fail_at));
+        exchanges(
+            &rt,
+            REQUEST,
+            1,
+            (None, Some(fail_at)),
+            fault,
+            &REPLY[..fail_at],
+        )?;
+    }
+    Ok(())
+}
+
+/// A page of a menu, whose registry has no target.
+const PAGE: &[u8] =
+    b"HTTP/1.1 200 OK\r\nContent-Type: text/html; charset=utf-8\r\nContent-Length: 53\r\n\
+    Connection: close\r\n\r\n<!DOCTYPE html>\n<title>Links</title>\n<p>No links</p>\n";
+
+/// Requests, how their exchanges go, and what is written.
+const EXCHANGES: [(&[u8], Served, &[u8]); 2] = [
+    (b"", Served::Nothing, b""),
+    (b"GET /openurl HTTP/1.0\r\n\r\n", Served::Replied(200), PAGE),
+];
+
+#[test]
+fn nothing_and_a_page(rt: HostRuntime) -> Result<(), Fail> {
+    for (request, served, written) in EXCHANGES {
+        exchanges(&rt, request, 28, (None, None), Ok(served), written)?;
+    }
+    Ok(())
+}
+
+const PRINTED: [(ServeError, &str); 2] = [
+    (ServeError::ReadFault, "ReadFault"),
+    (ServeError::WriteFault(115), "WriteFault after 115 bytes"),
+];
+
+#[test]
+fn faults_are_printed(rt: HostRuntime) -> Result<(), Fail> {
+    for (fault, printed) in PRINTED {
+        assert_eq!(rt; format!(in rt.alloc(); "{fault}")?.as_str(), printed);
+    }
+    Ok(())
 }

@@ -1,21 +1,16 @@
-//! Over real sockets on loopback.
+//! How connections on loopback are counted.
 
-use crate::{REPLY, REQUEST};
+use crate::REQUEST;
 use http_service::{Counts, serve_on, serve_within};
 use registry::Registry;
-use std::io::{self, Read, Write};
+use std::alloc::Global;
+use std::io::{self, Write};
 use std::net::{Net, SocketAddr, TcpListener, TcpStream};
-use std::process::Abort;
 use std::test::Fail;
 use std::time::Duration;
 
-fn counts(replied: u32, nothing: u32, faults: u32) -> Counts {
-    Counts {
-        replied,
-        nothing,
-        faults,
-    }
-}
+/// What peers send: one closes the connection at once, one is silent before its head has ended.
+const SENT: [&[u8]; 5] = [b"", b"GET /x HTTP/1.1\r\n", REQUEST, REQUEST, REQUEST];
 
 /// A peer that has sent these bytes.
 fn peer<R: Net<Stream = TcpStream>>(
@@ -28,41 +23,59 @@ fn peer<R: Net<Stream = TcpStream>>(
     Ok(stream)
 }
 
-/// The peer gets the reply, and nothing more.
-fn has_come<R: Abort>(rt: &R, stream: &TcpStream) -> io::Result<()> {
-    let mut stream = stream;
-    let mut reply = [0; 116];
-    stream.read_exact(&mut reply)?;
-    assert_eq!(rt; reply.as_slice(), REPLY.as_slice());
-    assert_eq!(rt; stream.read(&mut reply)?, 0);
-    Ok(())
+/// Peers that have sent this; those that have sent nothing have gone.
+fn peers<R: Net<Stream = TcpStream> + AllocGlobal>(
+    rt: &R,
+    place: SocketAddr,
+) -> Result<Vec<TcpStream>, Fail> {
+    let mut peers = Vec::new(rt.alloc());
+    for bytes in SENT {
+        let peer = peer(rt, place, bytes)?;
+        if !bytes.is_empty() {
+            peers.push(peer)?;
+        }
+    }
+    Ok(peers)
 }
 
-#[test]
-fn replies_over_a_socket(rt: HostRuntime) -> Result<(), Fail> {
-    let listener = TcpListener::bind(&rt, "127.0.0.1:0")?;
-    let client = peer(&rt, listener.local_addr()?, REQUEST)?;
-    let registry = Registry::new(rt.alloc());
-    let served = serve_on(rt.alloc(), &listener, 1, &registry)?;
-    assert_eq!(rt; served, counts(1, 0, 0));
-    has_come(&rt, &client)?;
-    Ok(())
+/// How so many connections went, where a read may take so many milliseconds, if it is said: replies, nothing, faults.
+fn counted(
+    alloc: Global,
+    listener: &TcpListener,
+    count: u32,
+    wait: Option<u64>,
+) -> io::Result<(u32, u32, u32)> {
+    let registry = Registry::new(alloc);
+    let Counts {
+        replied,
+        nothing,
+        faults,
+    } = match wait {
+        Some(millis) => serve_within(
+            alloc,
+            listener,
+            count,
+            &registry,
+            Duration::from_millis(millis),
+        )?,
+        None => serve_on(alloc, listener, count, &registry)?,
+    };
+    Ok((replied, nothing, faults))
 }
+
+/// So many connections, how many milliseconds a read may take, and how they are counted. No time-out is taken of 0.
+const COUNTED: [(u32, Option<u64>, (u32, u32, u32)); 3] = [
+    (3, Some(50), (1, 1, 1)),
+    (1, Some(0), (0, 0, 1)),
+    (1, None, (1, 0, 0)),
+];
 
 #[test]
 fn counts_each_way(rt: HostRuntime) -> Result<(), Fail> {
     let listener = TcpListener::bind(&rt, "127.0.0.1:0")?;
-    let registry = Registry::new(rt.alloc());
-    let place = listener.local_addr()?;
-    drop(peer(&rt, place, b"")?);
-    let _silent = peer(&rt, place, b"GET /x HTTP/1.1\r\n")?;
-    let _good = peer(&rt, place, REQUEST)?;
-    let wait = Duration::from_millis(50);
-    let served = serve_within(rt.alloc(), &listener, 3, &registry, wait)?;
-    assert_eq!(rt; served, counts(1, 1, 1));
-    // No time-out is taken of 0.
-    let _late = peer(&rt, place, REQUEST)?;
-    let served = serve_within(rt.alloc(), &listener, 1, &registry, Duration::ZERO)?;
-    assert_eq!(rt; served, counts(0, 0, 1));
+    let _peers = peers(&rt, listener.local_addr()?)?;
+    for (count, wait, wanted) in COUNTED {
+        assert_eq!(rt; counted(rt.alloc(), &listener, count, wait)?, wanted);
+    }
     Ok(())
 }
