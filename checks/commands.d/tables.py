@@ -62,8 +62,8 @@ IDENTIFIERS = (
     "\xe9-1\t\n"
 )
 
-# All columns of NISO RP-9-2014, with a byte order mark and CR LF: a journal, a book by volume, and a title that moved in
-# between to another publisher.
+# All columns of NISO RP-9-2014, with a byte order mark and CR LF: a journal, a book by volume, and a title that moved
+# in between to another publisher.
 KBART = (
     "\ufeffpublication_title\tprint_identifier\tonline_identifier\t"
     "date_first_issue_online\tnum_first_vol_online\tnum_first_issue_online\t"
@@ -172,8 +172,8 @@ def test_cells(program):
         links(program, query, f"http://e.org/{row}")
 
 
-# A table, one of its rows, which has the identifier 7, the name of a column, and its cell there, or None. One case for each
-# choice of the profile.
+# A table, one of its rows, which has the identifier 7, the name of a column, and its cell there, or None. One case for
+# each choice of the profile.
 LINES_AND_CELLS = [
     # Any order of columns, and those without a meaning.
     ("other\ttitle_url\tprint_identifier\n1\tu\t7\n", 0, "other", "1"),

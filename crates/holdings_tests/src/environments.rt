@@ -49,21 +49,30 @@ fn put_long(alloc: Global, env: &mut Env, letters: usize) -> Result<bool, Fail> 
     }
 }
 
-#[test]
-fn room_is_what_is_left(rt: HostRuntime) -> Result<(), Fail> {
-    let (mut env, _) = environment(rt.alloc(), FIRST)?;
-    assert!(rt; !put_long(rt.alloc(), &mut env, 1_048_575)?);
-    assert!(rt; has_texts(&env, &[("long", None)]) && has_size(&env, 2, 1));
-    assert!(rt; put_long(rt.alloc(), &mut env, 1_048_574)?);
-    assert!(rt; has_size(&env, 1_048_576, 1));
-    Ok(())
+/// A length is too large and changes nothing, and the next smaller one fills the environment.
+fn has_room(alloc: Global, env: &mut Env, too_large: usize, largest: usize) -> Result<bool, Fail> {
+    let bytes = env.bytes();
+    let is_refused = !put_long(alloc, env, too_large)?
+        && env.bytes() == bytes
+        && env.text("long").is_none();
+    Ok(put_long(alloc, env, largest)? && is_refused && env.bytes() == 1_048_576)
 }
 
+// What is there, the bytes and the members of that, a length that is too large by one, and the largest.
+const ROOMS: &[(&[Given], usize, usize, usize, usize)] = &[
+    (FIRST, 2, 1, 1_048_575, 1_048_574),
+    (&[], 0, 0, 1_048_577, 1_048_576),
+];
+
 #[test]
-fn whole_size(rt: HostRuntime) -> Result<(), Fail> {
-    let mut env = Env::new(rt.alloc());
-    assert!(rt; !put_long(rt.alloc(), &mut env, 1_048_577)?);
-    assert!(rt; put_long(rt.alloc(), &mut env, 1_048_576)?);
+fn room_is_what_is_left(rt: HostRuntime) -> Result<(), Fail> {
+    for &(given, bytes, members, too_large, largest) in ROOMS {
+        let (mut env, _) = environment(rt.alloc(), given)?;
+        assert!(rt; has_size(&env, bytes, members));
+        assert!(rt;
+            has_room(rt.alloc(), &mut env, too_large, largest)? && env.members() == members
+        );
+    }
     Ok(())
 }
 
@@ -168,47 +177,57 @@ fn members_stand_in_the_order_in_which_they_came(rt: HostRuntime) -> Result<(), 
     Ok(())
 }
 
-const NAMES: &[&str] = &[
-    "rft.title",
-    "",
-    "rft",
-    "rft.a",
-    "é",
-    "rft.titles",
-    "a",
-    "rft.au",
+const NAMES: &[Given] = &[
+    (false, "rft.title", "rft.title", true),
+    (false, "", "", true),
+    (false, "rft", "rft", true),
+    (false, "rft.a", "rft.a", true),
+    (false, "é", "é", true),
+    (false, "rft.titles", "rft.titles", true),
+    (false, "a", "a", true),
+    (false, "rft.au", "rft.au", true),
+    (false, "rft.title", "late", false),
+    (true, "rft.title", "late", false),
+    (false, "", "late", false),
+    (true, "", "late", false),
+    (false, "rft", "late", false),
+    (true, "rft", "late", false),
+    (false, "rft.a", "late", false),
+    (true, "rft.a", "late", false),
+    (false, "é", "late", false),
+    (true, "é", "late", false),
+    (false, "rft.titles", "late", false),
+    (true, "rft.titles", "late", false),
+    (false, "a", "late", false),
+    (true, "a", "late", false),
+    (false, "rft.au", "late", false),
+    (true, "rft.au", "late", false),
 ];
 
 const OTHER_NAMES: &[&str] = &["b", "rft.", "rft.b", "zz", "\u{0}"];
 
-/// Puts each name with itself as its text; whether none was there.
-fn put_names(env: &mut Env) -> Result<bool, VarsError> {
-    let mut is_new = true;
-    for &name in NAMES {
-        is_new = is_new && env.text(name).is_none() && enter(env, false, name, name)?;
+fn has_names(env: &Env) -> bool {
+    for &(_, name, text, is_taken) in NAMES {
+        if is_taken && env.text(name) != Some(text) {
+            return false;
+        }
     }
-    Ok(is_new)
+    true
 }
 
-/// The name is there with itself as its text, and nothing else is taken for it.
-fn keeps(env: &mut Env, name: &str) -> Result<bool, VarsError> {
-    let is_taken = enter(env, false, name, "late")? || enter(env, true, name, "late")?;
-    Ok(!is_taken && env.text(name) == Some(name))
+fn has_no_others(env: &Env) -> bool {
+    for &name in OTHER_NAMES {
+        if env.text(name).is_some() || env.count(name) != 0 {
+            return false;
+        }
+    }
+    true
 }
 
 #[test]
 fn names_are_found_in_whichever_order_they_came(rt: HostRuntime) -> Result<(), Fail> {
-    let mut env = Env::new(rt.alloc());
-    assert!(rt; put_names(&mut env)?);
-    for &name in NAMES {
-        assert!(rt; keeps(&mut env, name)?, "{name}");
-    }
-    for &other in OTHER_NAMES {
-        assert!(rt;
-            env.text(other).is_none() && env.count(other) == 0,
-            "{other}"
-        );
-    }
+    let (env, as_said) = environment(rt.alloc(), NAMES)?;
+    assert!(rt; as_said && has_names(&env) && has_no_others(&env));
     Ok(())
 }
 

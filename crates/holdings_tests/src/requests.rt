@@ -5,7 +5,7 @@ use std::test::Fail;
 use target_vars::{Env, VarsError};
 
 /// A query's request, without what the contract says of it.
-fn read(alloc: Global, query: &[u8]) -> Result<Request, KevError> {
+pub fn read(alloc: Global, query: &[u8]) -> Result<Request, KevError> {
     read_kev(alloc, query)
 }
 
@@ -14,15 +14,16 @@ fn fill(request: &Request, declared: &[&str], env: &mut Env) -> Result<(), VarsE
     request.fill(declared, env)
 }
 
-const VALUES: &[&str] = &["1", "3"];
+fn has_values(request: &Request) -> bool {
+    let mut values = request.all("x");
+    values.next() == Some("1") && values.next() == Some("3") && values.next().is_none()
+}
 
 #[test]
 fn filters_the_pairs(rt: HostRuntime) -> Result<(), Fail> {
     let request = read(rt.alloc(), b"x=1&y=2&x=3&%74%3D=1")?;
-    let values: Vec<&str> = request.all("x").collect(rt.alloc())?;
-    assert_eq!(rt; values.as_slice(), VALUES);
-    assert_eq!(rt; request.first("t="), Some("1"));
-    assert_eq!(rt; request.first("z"), None);
+    assert!(rt; has_values(&request));
+    assert!(rt; request.first("t=") == Some("1") && request.first("z").is_none());
     Ok(())
 }
 
@@ -44,18 +45,27 @@ fn counts_the_pairs(rt: HostRuntime) -> Result<(), Fail> {
     Ok(())
 }
 
+const QUERY: &[u8] = b"c=1&a=2&b=3&a=4&bb=5&c=6&b=7&=8";
+
 const DECLARED: &[(&str, usize)] = &[("a", 2), ("b", 0), ("bb", 0), ("c", 2), ("", 1), ("z", 0)];
 
+const LAST_OF_LIST: &[(&str, usize, Option<&str>)] = &[("c", 1, Some("6"))];
+
+const FIRST_TEXT: &[(&str, Option<&str>)] = &[("b", Some("3"))];
+
 const LISTS: &[&str] = &["c", "z", "a", "", "c"];
+
+fn has_lists(env: &Env) -> bool {
+    has_counts(env, DECLARED) && has_members(env, LAST_OF_LIST) && has_texts(env, FIRST_TEXT)
+}
 
 // The name of a list may be empty.
 #[test]
 fn fills_each_declared_list(rt: HostRuntime) -> Result<(), Fail> {
-    let request = read(rt.alloc(), b"c=1&a=2&b=3&a=4&bb=5&c=6&b=7&=8")?;
+    let request = read(rt.alloc(), QUERY)?;
     let mut env = Env::new(rt.alloc());
     fill(&request, LISTS, &mut env)?;
-    assert!(rt; has_counts(&env, DECLARED));
-    assert!(rt; has_members(&env, &[("c", 1, Some("6"))]) && has_texts(&env, &[("b", Some("3"))]));
+    assert!(rt; has_lists(&env));
     Ok(())
 }
 

@@ -1,7 +1,8 @@
+use crate::requests::read as read_query;
 use crate::{enter, has_texts, nearly_full};
 use kbart_rows::{Ids, Keys, Table, TableError};
-use kev_read::read_kev;
-use std::alloc::Global;
+use kev_read::Request;
+use std::alloc::{AllocError, Global};
 use std::test::Fail;
 use target_vars::{Env, VarsError};
 
@@ -10,17 +11,19 @@ fn read(alloc: Global, bytes: &[u8]) -> Result<Table, TableError> {
     Table::read(alloc, bytes)
 }
 
-/// What filling a row answers; `None` where there is no such row.
-fn filled(table: &Table, row: usize, env: &mut Env) -> Option<Result<(), VarsError>> {
-    if row < table.rows() {
-        Some(table.fill(row, env))
-    } else {
-        None
+/// Fills a row; whether there is such a row.
+fn fills(table: &Table, row: usize, env: &mut Env) -> Result<bool, VarsError> {
+    if row >= table.rows() {
+        return Ok(false);
+    }
+    match table.fill(row, env) {
+        Ok(()) => Ok(true),
+        Err(e) => Err(e),
     }
 }
 
-fn ids_of(alloc: Global, query: &[u8]) -> Result<Ids, Fail> {
-    Ok(Ids::of(alloc, &read_kev(alloc, query)?)?)
+fn ids_of(alloc: Global, request: &Request) -> Result<Ids, AllocError> {
+    Ids::of(alloc, request)
 }
 
 const TITLES: &[u8] =
@@ -42,7 +45,8 @@ fn finds_titles(table: &Table, ids: &Ids) -> bool {
 
 #[test]
 fn finds_each_row_of_an_identifier(rt: HostRuntime) -> Result<(), Fail> {
-    let ids = ids_of(rt.alloc(), b"rft.issn=1234567x")?;
+    let request = read_query(rt.alloc(), b"rft.issn=1234567x")?;
+    let ids = ids_of(rt.alloc(), &request)?;
     assert!(rt; finds_titles(&read(rt.alloc(), TITLES)?, &ids));
     let keys = Keys::new(3, 0xFFFF_FFFF_FFFF_FFFF);
     assert!(rt; finds_titles(&Table::read_keyed(rt.alloc(), TITLES, keys)?, &ids));
@@ -66,12 +70,15 @@ const CELLS: &[(&[u8], usize, &str, Option<&str>)] = &[
     (b"print_identifier\n", 0, "print_identifier", None),
 ];
 
+fn has_cell(table: &Table, rows: usize, name: &str, cell: Option<&str>) -> bool {
+    table.rows() == rows && table.cell(0, name) == cell
+}
+
 #[test]
 fn reads_lines_and_cells(rt: HostRuntime) -> Result<(), Fail> {
     for &(bytes, rows, name, cell) in CELLS {
         let table = read(rt.alloc(), bytes)?;
-        assert_eq!(rt; table.rows(), rows, "{name}");
-        assert!(rt; table.cell(0, name) == cell, "{name}");
+        assert!(rt; has_cell(&table, rows, name, cell), "{bytes:?}");
     }
     Ok(())
 }
@@ -80,32 +87,41 @@ fn reads_lines_and_cells(rt: HostRuntime) -> Result<(), Fail> {
 fn fills_a_row_into_an_environment(rt: HostRuntime) -> Result<(), Fail> {
     let table = read(rt.alloc(), TITLES)?;
     let mut env = Env::new(rt.alloc());
-    assert_eq!(rt; filled(&table, 1, &mut env), Some(Ok(())));
-    assert_eq!(rt; (env.bytes(), env.members()), (27, 0));
+    assert!(rt; fills(&table, 1, &mut env)? && env.bytes() == 27 && env.members() == 0);
     Ok(())
 }
+
+const TWICE: &[u8] = b"a\tb\ta\t\t\n\tB\tx\tD\tE\tF\n1\tB\n";
 
 const FIRST_COLUMNS: &[(&str, Option<&str>)] = &[("a", None), ("b", Some("mine")), ("", Some("D"))];
 
+const SECOND_ROW: &[(&str, Option<&str>)] = &[("a", Some("1"))];
+
+/// Fills the first row where `b` has a text, and then the second.
+fn fills_both_rows(table: &Table, env: &mut Env) -> Result<bool, VarsError> {
+    let is_new = enter(env, false, "b", "mine")?;
+    let is_first = fills(table, 0, env)? && env.bytes() == 5 && has_texts(env, FIRST_COLUMNS);
+    let is_second = fills(table, 1, env)? && has_texts(env, SECOND_ROW);
+    Ok(is_new && is_first && is_second)
+}
+
 #[test]
 fn fills_cells_under_the_first_column_of_a_name(rt: HostRuntime) -> Result<(), Fail> {
-    let table = read(rt.alloc(), b"a\tb\ta\t\t\n\tB\tx\tD\tE\tF\n1\tB\n")?;
+    let table = read(rt.alloc(), TWICE)?;
     let mut env = Env::new(rt.alloc());
-    enter(&mut env, false, "b", "mine")?;
-    assert_eq!(rt; filled(&table, 0, &mut env), Some(Ok(())));
-    assert!(rt; has_texts(&env, FIRST_COLUMNS) && env.bytes() == 5);
-    assert_eq!(rt; filled(&table, 1, &mut env), Some(Ok(())));
-    assert!(rt; has_texts(&env, &[("a", Some("1"))]));
+    assert!(rt; fills_both_rows(&table, &mut env)?);
     Ok(())
 }
+
+const LETTERS: &[u8] = b"a\tb\tc\n1\t22\t3\n";
 
 const STOPPED: &[(&str, Option<&str>)] = &[("a", Some("1")), ("b", None), ("c", None)];
 
 #[test]
 fn stops_at_a_refused_cell(rt: HostRuntime) -> Result<(), Fail> {
-    let table = read(rt.alloc(), b"a\tb\tc\n1\t22\t3\n")?;
+    let table = read(rt.alloc(), LETTERS)?;
     let mut env = nearly_full(rt.alloc())?;
-    assert_eq!(rt; filled(&table, 0, &mut env), Some(Err(VarsError::TooLarge)));
+    assert_eq!(rt; fills(&table, 0, &mut env), Err(VarsError::TooLarge));
     assert!(rt; has_texts(&env, STOPPED));
     Ok(())
 }
