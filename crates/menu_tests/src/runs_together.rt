@@ -1,193 +1,168 @@
 //! Runs that are carried on side by side.
 
-ghost use Rattle.std.specs.Prelude.{◌≡◌, IfOk, length};
-
-use crate::are_shown;
 use crate::codes::{LIST_CODE, TEXT_CODE};
+use crate::lists;
 use interpreter::{Run, prepare};
 use link_menu::{Blind, Fate, Shown, Watch, play, round, turn_all};
 use std::alloc::{AllocError, Global};
-use std::process::Abort;
 use std::test::Fail;
 use target_vars::Env;
 use verifier::{Verified, load};
 
-/// Two codes, and the environments that they run on.
-#[derive(Drop)]
-struct Given {
-    list_code: Verified,
-    members: Env,
-    text_code: Verified,
-    text: Env,
+/// A code, the members of `list`, and how many letters the text `x` has.
+type Given = (&'static [u8], &'static [&'static str], usize);
+
+const COLOURS: &[&str] = &["red", "green", "blue"];
+
+/// The loop over three members, and a text.
+const TWO: &[Given] = &[(LIST_CODE, COLOURS, 0), (TEXT_CODE, &[], 1)];
+
+/// The same, with a text between them that might be written with more bytes than are allowed.
+const THREE: &[Given] = &[
+    (LIST_CODE, COLOURS, 0),
+    (TEXT_CODE, &[], 400_000),
+    (TEXT_CODE, &[], 1),
+];
+
+/// The loop over forty members, and a text.
+const LONG_AND_SHORT: &[Given] = &[(LIST_CODE, &["a"; 40], 0), (TEXT_CODE, &[], 1)];
+
+fn codes(alloc: Global, given: &[Given]) -> Result<Vec<Verified>, Fail> {
+    let mut codes = Vec::new(alloc);
+    for (code, _, _) in given {
+        codes.push(load(alloc, code)?)?;
+    }
+    Ok(codes)
 }
 
-/// An environment with a list.
-fn listed(alloc: Global, members: &[&str]) -> Result<Env, Fail> {
+fn environment(alloc: Global, members: &[&str], letters: usize) -> Result<Env, Fail> {
     let mut env = Env::new(alloc);
     for member in members {
         env.add_member("list", member)?;
     }
+    let text = "a".repeat(alloc, letters)?;
+    env.put_text("x", text.as_str())?;
     Ok(env)
 }
 
-/// An environment with a text.
-fn lettered(alloc: Global, text: &str) -> Result<Env, Fail> {
-    let mut env = Env::new(alloc);
-    env.put_text("x", text)?;
-    Ok(env)
+fn environments(alloc: Global, given: &[Given]) -> Result<Vec<Env>, Fail> {
+    let mut envs = Vec::new(alloc);
+    for (_, members, letters) in given {
+        envs.push(environment(alloc, members, *letters)?)?;
+    }
+    Ok(envs)
 }
 
-fn set_up(alloc: Global, members: &[&str]) -> Result<Given, Fail> {
-    let list_code = load(alloc, &LIST_CODE)?;
-    let text_code = load(alloc, &TEXT_CODE)?;
-    let members = listed(alloc, members)?;
-    let text = lettered(alloc, "a")?;
-    Ok(Given {
-        list_code,
-        members,
-        text_code,
-        text,
-    })
-}
-
-/// The loop over the members, and the text.
-fn two_runs<'a>(alloc: Global, given: &'a Given) -> Result<Vec<Run<'a>>, Fail>
-    ensures { IfOk result (λ runs. length runs.items ≡ 2) }
-{
+fn runs<'a>(alloc: Global, codes: &'a [Verified], envs: &'a [Env]) -> Result<Vec<Run<'a>>, Fail> {
     let mut runs = Vec::new(alloc);
-    runs.push(prepare(alloc, &given.list_code, &given.members)?)?;
-    runs.push(prepare(alloc, &given.text_code, &given.text)?)?;
+    for (code, env) in codes.iter().zip(envs.iter()) {
+        runs.push(prepare(alloc, code, env)?)?;
+    }
     Ok(runs)
 }
 
-const COLOURS: [&str; 3] = ["red", "green", "blue"];
-
-/// How far all runs are turned, how many then go on, and the steps of the two.
-const TURNS: [(u64, usize, [u64; 2]); 3] = [(2, 2, [2, 2]), (2, 1, [4, 4]), (64, 0, [12, 4])];
-
-fn have_steps<R: Abort>(rt: &R, runs: &[Run<'_>], wanted: &[u64]) {
-    for (run, steps) in runs.iter().zip(wanted.iter()) {
-        assert_eq!(rt; run.steps(), *steps);
+/// All runs are turned by two steps, by two, and by 64: how many then go on. The watch is shown the runs.
+fn turned(alloc: Global, shown: &mut Shown) -> Result<Vec<usize>, Fail> {
+    let codes = codes(alloc, TWO)?;
+    let envs = environments(alloc, TWO)?;
+    let mut runs = runs(alloc, &codes, &envs)?;
+    let mut live = Vec::new(alloc);
+    for n in [2, 2, 64] {
+        live.push(turn_all(runs.as_mut_slice(), n))?;
+        shown.seen(&runs)?;
     }
+    Ok(live)
 }
 
 #[test]
 fn turns_of_all(rt: HostRuntime) -> Result<(), Fail> {
-    let given = set_up(rt.alloc(), &COLOURS)?;
-    let mut runs = two_runs(rt.alloc(), &given)?;
-    for (n, live, steps) in TURNS {
-        let left = turn_all(runs.as_mut_slice(), n);
-        assert_eq!(rt; left, live);
-        have_steps(&rt, &runs, &steps);
-    }
+    let mut shown = Shown::new(rt.alloc());
+    let live = turned(rt.alloc(), &mut shown)?;
+    assert_eq!(rt; live.as_slice(), [2, 1, 0].as_slice());
+    assert_eq!(rt;
+        lists(rt.alloc(), &shown)?.as_str(),
+        "[[2, 2], [4, 4], [12, 4]]"
+    );
     Ok(())
 }
 
-const PLAYED: [(u64, &str); 2] = [(4, "red"), (3, "a")];
+/// Three steps of the second run, and four of the first.
+fn play_both(runs: &mut [Run<'_>]) {
+    if runs.len() == 2 {
+        play(runs, &[(1, 3), (0, 4)]);
+    }
+}
+
+/// What the two print by then. The watch is shown the runs.
+fn played(alloc: Global, shown: &mut Shown) -> Result<Vec<u8>, Fail> {
+    let codes = codes(alloc, TWO)?;
+    let envs = environments(alloc, TWO)?;
+    let mut runs = runs(alloc, &codes, &envs)?;
+    play_both(runs.as_mut_slice());
+    shown.seen(&runs)?;
+    let mut printed = Vec::new(alloc);
+    for run in &runs {
+        printed.extend_from_slice(run.output())?;
+        printed.push(b';')?;
+    }
+    Ok(printed)
+}
 
 #[test]
 fn schedule(rt: HostRuntime) -> Result<(), Fail> {
-    let given = set_up(rt.alloc(), &COLOURS)?;
-    let mut runs = two_runs(rt.alloc(), &given)?;
-    play(runs.as_mut_slice(), &[(1, 3), (0, 4)]);
-    for (run, (steps, output)) in runs.iter().zip(PLAYED.iter()) {
-        assert_eq!(rt; run.steps(), *steps);
-        assert_eq!(rt; run.output(), output.as_bytes());
-    }
+    let mut shown = Shown::new(rt.alloc());
+    let printed = played(rt.alloc(), &mut shown)?;
+    assert_eq!(rt; printed.as_slice(), b"red;a;".as_slice());
+    assert_eq!(rt; lists(rt.alloc(), &shown)?.as_str(), "[[4, 3]]");
     Ok(())
 }
 
-/// What a fate says.
-fn said(alloc: Global, fate: &Fate) -> Result<String, AllocError> {
-    match fate {
-        Fate::OverBudget(bytes) => format!(in alloc; "over budget {bytes}"),
-        Fate::Link(link) => format!(in alloc; "link {link}"),
-        Fate::NoLink => format!(in alloc; "no link"),
+/// What fates say.
+fn said(alloc: Global, fates: &[Fate]) -> Result<String, AllocError> {
+    let mut said = String::new(alloc);
+    for fate in fates {
+        let one = match fate {
+            Fate::OverBudget(bytes) => format!(in alloc; "over budget {bytes};")?,
+            Fate::Link(link) => format!(in alloc; "link {link};")?,
+            Fate::NoLink => format!(in alloc; "no link;")?,
+        };
+        said.push_str(one.as_str())?;
     }
+    Ok(said)
 }
 
-/// A text that may be written with more bytes than is allowed.
-fn long(alloc: Global) -> Result<Env, Fail> {
-    let letters = "a".repeat(alloc, 400_000)?;
-    lettered(alloc, letters.as_str())
-}
-
-/// The members, the long text and the text.
-fn environments(alloc: Global) -> Result<Vec<Env>, Fail>
-    ensures { IfOk result (λ envs. length envs.items ≡ 3) }
-{
-    let mut envs = Vec::new(alloc);
-    envs.push(listed(alloc, &COLOURS)?)?;
-    envs.push(long(alloc)?)?;
-    envs.push(lettered(alloc, "a")?)?;
-    Ok(envs)
-}
-
-fn are_said<R: Abort + AllocGlobal>(
-    rt: &R,
-    fates: &[Fate],
-    wanted: &[&str],
-) -> Result<(), AllocError> {
-    assert_eq!(rt; fates.len(), wanted.len());
-    for (fate, wanted) in fates.iter().zip(wanted.iter()) {
-        assert_eq!(rt; said(rt.alloc(), fate)?.as_str(), *wanted);
+/// What the fates of the runs say; the watch is shown the runs.
+fn fates(alloc: Global, given: &[Given], shown: &mut Shown) -> Result<String, Fail> {
+    let codes = codes(alloc, given)?;
+    let envs = environments(alloc, given)?;
+    let codes = codes.iter().collect::<Vec<&Verified>>(alloc)?;
+    if codes.len() != envs.len() {
+        return Ok(String::new(alloc));
     }
-    Ok(())
+    let fates = round(alloc, &codes, &envs, shown)?;
+    Ok(said(alloc, &fates)?)
 }
 
-const SAID: [&str; 3] = ["link red,green,blue", "over budget 1200000", "link a"];
-
-/// The fates of two runs, and between them of what is over budget.
-fn fates(alloc: Global, shown: &mut Shown) -> Result<Vec<Fate>, Fail> {
-    let given = set_up(alloc, &[])?;
-    let envs = environments(alloc)?;
-    let codes = [&given.list_code, &given.text_code, &given.text_code];
-    Ok(round(alloc, &codes, &envs, shown)?)
-}
+/// What is given, what the fates of the runs say at first, and what the watch is shown. A run that has ended waits for the others;
+/// what is over budget is not run.
+const ROUNDS: [(&[Given], &str, &str); 3] = [
+    (&[], "", "[]"),
+    (
+        THREE,
+        "link red,green,blue;over budget 1200000;link a;",
+        "[[12, 4]]",
+    ),
+    (LONG_AND_SHORT, "link a,a,", "[[64, 4], [123, 4]]"),
+];
 
 #[test]
-fn round_of_all(rt: HostRuntime) -> Result<(), Fail> {
-    let mut shown = Shown::new(rt.alloc());
-    let fates = fates(rt.alloc(), &mut shown)?;
-    are_said(&rt, &fates, &SAID)?;
-    are_shown(&rt, &shown, &[&[12, 4]]);
-    Ok(())
-}
-
-#[test]
-fn nothing_to_show(rt: HostRuntime) -> Result<(), Fail> {
-    let mut shown = Shown::new(rt.alloc());
-    let fates = round(rt.alloc(), &[], &[], &mut shown)?;
-    assert_eq!(rt; fates.len(), 0);
-    assert_eq!(rt; shown.lists().len(), 0);
+fn rounds(rt: HostRuntime) -> Result<(), Fail> {
+    for (given, said, wanted) in ROUNDS {
+        let mut shown = Shown::new(rt.alloc());
+        let fates = fates(rt.alloc(), given, &mut shown)?;
+        assert!(rt; fates.as_str().starts_with(said), "{said}");
+        assert_eq!(rt; lists(rt.alloc(), &shown)?.as_str(), wanted);
+    }
     Blind.seen(&[])?;
-    Ok(())
-}
-
-/// Forty members, and the text.
-fn long_and_short(alloc: Global) -> Result<Vec<Env>, Fail>
-    ensures { IfOk result (λ envs. length envs.items ≡ 2) }
-{
-    let mut envs = Vec::new(alloc);
-    envs.push(listed(alloc, &["a"; 40])?)?;
-    envs.push(lettered(alloc, "a")?)?;
-    Ok(envs)
-}
-
-const TWO_TURNS: &[&[u64]] = &[&[64, 4], &[123, 4]];
-
-/// A run that has ended waits for the others.
-#[test]
-fn round_of_two_turns(rt: HostRuntime) -> Result<(), Fail> {
-    let given = set_up(rt.alloc(), &[])?;
-    let envs = long_and_short(rt.alloc())?;
-    let mut shown = Shown::new(rt.alloc());
-    round(
-        rt.alloc(),
-        &[&given.list_code, &given.text_code],
-        &envs,
-        &mut shown,
-    )?;
-    are_shown(&rt, &shown, TWO_TURNS);
     Ok(())
 }
