@@ -1,5 +1,4 @@
 """The code that `compile` makes: its version, its bytes, and the order of its names and literals."""
-import glob, os, re
 from codes import code
 from targets import DATE_RULES
 
@@ -46,9 +45,6 @@ NAMES = [
     ("rule\nwhen c from 1 to b\nwhen b from c to *\nlink {a}{c}{%41}\n", ["text c", "text b", "text a", "text %41"]),
 ]
 
-# A constant of the tests in the crates: the bytes of the code that is made of the lines in its comment.
-HELD = re.compile(r"/// Compiled: (.*)\n(?:pub\(crate\) )?const (\w+): \[u8; \d+\] = \[([^\]]*)\];")
-
 
 def compiled(program, rules):
     program.write("rules", rules)
@@ -74,20 +70,6 @@ def test_versions(program):
 def test_bytes(program):
     for rules, wanted in CODES:
         program.expect(rules, compiled(program, rules), wanted)
-
-
-def test_bytes_that_tests_hold(program):
-    """What the crates' tests hold as compiled rules is what the rules are compiled to."""
-    root = os.path.dirname(os.path.dirname(os.path.dirname(os.path.abspath(__file__))))
-    names = set()
-    for path in sorted(glob.glob(f"{root}/crates/*/src/**/*.rt", recursive=True)):
-        with open(path, encoding="utf-8") as source:
-            for lines, name, held in HELD.findall(source.read()):
-                names.add(name)
-                rules = "\n".join(["rule", *re.findall("`([^`]*)`", lines), ""])
-                wanted = bytes(int(byte, 16) for byte in held.replace(",", " ").split())
-                program.expect(f"{name}, {path}", compiled(program, rules), wanted)
-    program.expect("names", names >= {"DATE_CODE", "ISSN_CODE", "SCRIPT_CODE"})
 
 
 def test_order_of_names(program):
