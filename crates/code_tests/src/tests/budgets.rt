@@ -1,104 +1,47 @@
-//! What runs of a code can take.
+//! Budgets of any code, accepted or not, and the numbers that they give.
 
-use crate::tests::code;
-use crate::tests::codes::{ISSN, ISSN_CODE, OPTIONAL, Tables};
+use super::assembler::file;
+use super::tables::{LIST_CODE, RULE};
 use budget::{Budget, budget_of};
-use code_model::Instruction::{self, Const, Count, Each, Halt, List, Next, Put, Sep};
-use std::alloc::Global;
+use code_file::Code;
+use std::alloc::{AllocError, Global};
 use std::test::Fail;
 
-/// One list.
-const LIST: Tables<'static> = Tables {
-    names: &[(true, "list")],
-    literals: &[],
-};
-
-/// One list, and a comma.
-const COMMA: Tables<'static> = Tables {
-    names: &[(true, "list")],
-    literals: &[(false, ",")],
-};
-
-/// One list, and a comparison text of three bytes.
-const COMPARED: Tables<'static> = Tables {
-    names: &[(true, "list")],
-    literals: &[(true, "abc")],
-};
-
-/// The members of a list, with a comma between them.
-const LIST_CODE: [Instruction; 6] = [List(0, 0), Each(1, 0, 5), Sep(0), Put(1, 0), Next, Halt];
-
-/// A body that writes another text over its element.
-const WRITTEN: [Instruction; 6] = [
-    List(0, 0),
-    Each(1, 0, 5),
-    Const(1, 0),
-    Put(1, 0),
-    Next,
-    Halt,
-];
-
-/// The six sums of a code.
-fn sums(
-    alloc: Global,
-    version: u8,
-    tables: Tables<'_>,
-    instructions: &[Instruction],
-) -> Result<[u64; 6], Fail> {
-    let code = code(alloc, version, tables, instructions)?;
-    let Budget {
-        s0,
-        s1,
-        o0,
-        o1,
-        o2,
-        o3,
-    } = budget_of(&code);
-    Ok([s0, s1, o0, o1, o2, o3])
+/// Steps, and bytes of output, where lists have so many members, and all texts and members so many bytes.
+fn bounds(alloc: Global, budget: Budget, members: u16, bytes: u16) -> Result<String, AllocError> {
+    let steps = budget.steps(members as u64);
+    let out = budget.bytes(members as u64, bytes as u64);
+    format!(in alloc; "{steps} steps, {out} bytes")
 }
 
-/// Codes of version 1, and their sums.
-const SUMS: [(Tables<'static>, &[Instruction], [u64; 6]); 4] = [
-    (COMMA, &LIST_CODE, [3, 3, 0, 1, 3, 0]),
-    (ISSN, &ISSN_CODE, [10, 0, 17, 0, 3, 0]),
-    (COMPARED, &WRITTEN, [3, 3, 0, 9, 0, 3]),
-    (LIST, &OPTIONAL, [4, 0, 0, 0, 3, 0]),
+fn bounds_of(alloc: Global, text: &str, members: u16, bytes: u16) -> Result<String, Fail> {
+    let code = Code::read(alloc, &file(alloc, b'1', text)?)?;
+    Ok(bounds(alloc, budget_of(&code), members, bytes)?)
+}
+
+/// Instructions, how many members and bytes an environment has, and the bounds. The longest text that is compared has 10
+/// bytes, so 30 may be written of it.
+const BOUNDS: [(&str, u16, u16, &str); 7] = [
+    (LIST_CODE, 3, 12, "12 steps, 39 bytes"),
+    (LIST_CODE, 20, 20_000, "63 steps, 60020 bytes"),
+    (RULE, 0, 9, "10 steps, 71 bytes"),
+    // A list that is named as a text, so the code is not accepted.
+    (UNTYPED, 0, 0, "4 steps, 30 bytes"),
+    (UNTYPED, 5, 7, "4 steps, 51 bytes"),
+    // An operation that version 1 has not, so it writes no register, and the element is printed.
+    (COUNTED, 0, 0, "3 steps, 0 bytes"),
+    (COUNTED, 2, 7, "9 steps, 21 bytes"),
 ];
 
-#[test]
-fn counts_what_runs_can_take(rt: HostRuntime) -> Result<(), Fail> {
-    for (tables, instructions, wanted) in SUMS {
-        assert_eq!(rt; sums(rt.alloc(), 1, tables, instructions)?, wanted);
-    }
-    Ok(())
-}
+const UNTYPED: &str = "TEXT r2 n1, UNDEF r2 3, PUT r2 u, HALT";
+
+const COUNTED: &str = "LIST r0 n1, EACH r1 r0 5, PUT r1 u, COUNT r1 r0, NEXT, HALT";
 
 #[test]
 fn bounds_steps_and_bytes(rt: HostRuntime) -> Result<(), Fail> {
-    let list = budget_of(&code(rt.alloc(), 1, COMMA, &LIST_CODE)?);
-    assert_eq!(rt; list.steps(3), 12);
-    assert_eq!(rt; list.bytes(3, 12), 39);
-    assert_eq!(rt; list.bytes(20, 20_000), 60_020);
-    let issn = budget_of(&code(rt.alloc(), 1, ISSN, &ISSN_CODE)?);
-    assert_eq!(rt; issn.steps(0), 10);
-    assert_eq!(rt; issn.bytes(0, 9), 44);
-    Ok(())
-}
-
-const COUNTED: [Instruction; 6] = [
-    List(0, 0),
-    Each(1, 0, 5),
-    Put(1, 0),
-    Count(1, 0),
-    Next,
-    Halt,
-];
-
-#[test]
-fn count_writes_in_version_2_alone(rt: HostRuntime) -> Result<(), Fail> {
-    let first = sums(rt.alloc(), 1, LIST, &COUNTED)?;
-    assert_eq!(rt; first, [3, 3, 0, 0, 3, 0]);
-    let second = sums(rt.alloc(), 2, LIST, &COUNTED)?;
-    assert_eq!(rt; second, [3, 3, 0, 0, 0, 3]);
+    for (text, members, bytes, wanted) in BOUNDS {
+        let came = bounds_of(rt.alloc(), text, members, bytes)?;
+        assert_eq!(rt; came.as_str(), wanted, "{text}");
+    }
     Ok(())
 }

@@ -1,19 +1,66 @@
-//! Accepted code, files and rules, run.
+//! Files and rules, run by one call.
 
-mod agreement;
-mod files;
-mod rules;
+use super::assembler::file;
+use super::tables::{LIST_FILE, OPTIONAL, VARIABLES};
+use super::{Entry, environment, shown};
+use end_to_end::{run_file, run_rules};
+use rule_parser::Rules;
+use std::alloc::Global;
+use std::test::Fail;
 
-use crate::tests::codes::Tables;
+/// `x` is a text that is longer than a query may be.
+const LONG: &[Entry] = &[(false, "x", "a", 400_000)];
 
-const TABLES: Tables<'static> = Tables {
-    names: &[(false, "x"), (true, "list")],
-    literals: &[
-        (false, ","),
-        (true, "12a"),
-        (false, ";"),
-        (true, "%41%42"),
-        (true, ""),
-        (true, "7"),
-    ],
-};
+fn came_of_file(alloc: Global, file: &[u8], entries: &[Entry]) -> Result<String, Fail> {
+    let env = environment(alloc, entries)?;
+    Ok(match run_file(alloc, file, &env) {
+        Ok(outcome) => shown(alloc, outcome)?,
+        Err(error) => format!(in alloc; "{error}")?,
+    })
+}
+
+#[test]
+fn runs_files(rt: HostRuntime) -> Result<(), Fail> {
+    // Three bytes for each byte of the environment, and of the longest text that is compared, of 10 bytes.
+    let optional = file(rt.alloc(), b'2', OPTIONAL)?;
+    for (file, entries, wanted) in [
+        (LIST_FILE, VARIABLES, "link red,green,blue"),
+        (&LIST_FILE[..67], VARIABLES, "Truncated at 67"),
+        (optional.as_slice(), LONG, "over budget: 1200030"),
+    ] {
+        let came = came_of_file(rt.alloc(), file, entries)?;
+        assert_eq!(rt; came.as_str(), wanted);
+    }
+    Ok(())
+}
+
+fn came_of_rules(alloc: Global, rules: &str, entries: &[Entry]) -> Result<String, Fail> {
+    let rules = Rules::parse(alloc, rules.as_bytes())?;
+    let env = environment(alloc, entries)?;
+    Ok(match run_rules(alloc, &rules, &env) {
+        Ok(outcome) => shown(alloc, outcome)?,
+        Err(error) => format!(in alloc; "{error}")?,
+    })
+}
+
+/// Rules, an environment, and what they come to.
+const RULES: [(&str, &[Entry], &str); 3] = [
+    (
+        "rule\nlink http://e.org/{x}\n",
+        VARIABLES,
+        "link http://e.org/a%2F%C3%A9",
+    ),
+    ("rule\nwhen has y\nlink {x}\n", VARIABLES, "no link"),
+    // Three bytes for each byte of the environment and of the longest text that is compared, `1`; and the comma that
+    // would stand before another variable.
+    ("rule\nlink {x}\n", LONG, "over budget: 1200004"),
+];
+
+#[test]
+fn runs_rules(rt: HostRuntime) -> Result<(), Fail> {
+    for (rules, entries, wanted) in RULES {
+        let came = came_of_rules(rt.alloc(), rules, entries)?;
+        assert_eq!(rt; came.as_str(), wanted);
+    }
+    Ok(())
+}

@@ -1,10 +1,71 @@
-//! Codes, each with what comes of it where `x` is a text and `list` has three members.
+//! Tables of codes, and codes, each with what comes of it where `x` is a text and `list` has three members.
+
+use super::Entry;
+
+/// The name of each operation, its number, and the fields that its operands go to. A `?` has all five.
+pub const OPERATIONS: [(&str, u8, &[u8]); 20] = [
+    ("?", 0, b"oabcd"),
+    ("HALT", 1, b""),
+    ("FAIL", 2, b""),
+    ("JUMP", 3, b"d"),
+    ("TEXT", 4, b"ab"),
+    ("LIST", 5, b"ab"),
+    ("CONST", 6, b"ab"),
+    ("NUMBER", 7, b"abd"),
+    ("UNDEF", 8, b"ad"),
+    ("EMPTY", 9, b"ad"),
+    ("NOLIST", 10, b"ad"),
+    ("DIFFER", 11, b"abd"),
+    ("LESS", 12, b"abd"),
+    ("EMIT", 13, b"b"),
+    ("PUT", 14, b"ac"),
+    ("CUT", 15, b"abc"),
+    ("EACH", 16, b"abd"),
+    ("SEP", 17, b"b"),
+    ("NEXT", 18, b""),
+    ("COUNT", 19, b"ab"),
+];
+
+/// Of seven names and ten literals.
+pub const COUNTS_OF_TABLES: &[u8] = b"\0\x07\0\x0a";
+
+/// The names `x` as text, `list` as list, `absent` as both, `list` as text, `x` as list and `rft.issn` as text; and the
+/// literals `,` to link, `12a`, none, `7`, `1234567890`, `%41%42`, `3` and `1` to compare, `;` and `http://e.org/` to
+/// link.
+pub const ENTRIES: &[u8] =
+    b"\0\x01x\x01\x04list\0\x06absent\x01\x06absent\0\x04list\x01\x01x\0\x08rft.issn\
+\0\0\x01,\x01\0\x0312a\x01\0\0\x01\0\x017\x01\0\x0a1234567890\x01\0\x06%41%42\x01\0\x013\x01\0\x011\
+\0\0\x01;\0\0\x0dhttp://e.org/";
+
+/// The file of a loop over the members of `list`, with a comma between them.
+pub const LIST_FILE: &[u8] = b"OLK1\0\x01\0\x01\0\x06\x01\x04list\0\0\x01,\
+\x05\0\0\0\0\0\0\0\x10\x01\0\0\0\0\0\x05\x11\0\0\0\0\0\0\0\
+\x0e\x01\0\0\0\0\0\0\x12\0\0\0\0\0\0\0\x01\0\0\0\0\0\0\0";
+
+/// `x` is a text, and `list` has three members.
+pub const VARIABLES: &[Entry] = &[
+    (false, "x", "a/é", 1),
+    (true, "list", "red", 1),
+    (true, "list", "green", 1),
+    (true, "list", "blue", 1),
+    (false, "rft.issn", "1234-5678", 1),
+];
+
+/// `list` is a text.
+pub const TEXTS: &[Entry] = &[(false, "list", "red", 1), (false, "x", "a", 1)];
 
 /// A loop over the members of `list`, with a comma between them.
 pub const LIST_CODE: &str = "LIST r0 n1, EACH r1 r0 5, SEP l0, PUT r1 u, NEXT, HALT";
 
+/// The text of a name, if there is one.
+pub const OPTIONAL: &str = "TEXT r2 n0, UNDEF r2 3, PUT r2 u, HALT";
+
+/// The code of a rule that links by the ISSN.
+pub const RULE: &str =
+    "EMIT l9, CONST r4 l2, TEXT r0 n6, UNDEF r0 8, EMPTY r4 6, EMIT l0, CONST r4 l7, PUT r0 u, HALT, FAIL";
+
 /// What each instruction does, in code of version 1, and in code of version 2 too.
-pub const EFFECTS: [(&str, &str); 36] = [
+pub const EFFECTS: &[(&str, &str)] = &[
     ("HALT", "link "),
     ("FAIL", "no link"),
     ("EMIT l0, FAIL", "no link"),
@@ -79,8 +140,43 @@ pub const EFFECTS: [(&str, &str); 36] = [
     ),
 ];
 
+/// Instructions that branch both ways, in both versions too.
+pub const BRANCHES: &[(&str, &str)] = &[
+    (OPTIONAL, "link a%2F%C3%A9"),
+    (RULE, "link http://e.org/1234-5678"),
+    (
+        "TEXT r0 n0, UNDEF r0 5, CUT r0 2 ur, CUT r0 3 u, PUT r0 ur, HALT",
+        "link a/a%2F%C3%A9a/%C3%A9",
+    ),
+    (
+        "JUMP 2, FAIL, CONST r0 l5, PUT r0 u, CUT r0 1 ur, HALT",
+        "link %2541%2542%41",
+    ),
+    ("LIST r0 n1, NOLIST r0 3, EMIT l0, HALT", "link ,"),
+    (
+        "CONST r0 l1, CONST r1 l5, DIFFER r0 r1 4, EMIT l0, DIFFER r0 r0 6, EMIT l8, HALT",
+        "link ;",
+    ),
+    // 7 is below 12, and neither 12 below 7 nor 12 below 12.
+    (
+        "CONST r0 l1, CONST r1 l3, NUMBER r0 r0 9, NUMBER r1 r1 9, LESS r1 r0 6, EMIT l8, LESS r0 r1 9, LESS r0 r0 9, \
+         EMIT l0, HALT",
+        "link ,",
+    ),
+    // No number.
+    ("CONST r0 l5, NUMBER r1 r0 3, EMIT l0, HALT", "link "),
+    (
+        "CONST r0 l2, EMPTY r0 3, EMIT l0, CONST r1 l5, EMPTY r1 6, EMIT l8, HALT",
+        "link ;",
+    ),
+    (
+        "LIST r0 n1, CONST r3 l1, EACH r1 r0 9, SEP l0, PUT r1 u, DIFFER r1 r3 7, EMIT l8, CONST r1 l5, NEXT, HALT",
+        "link red,green,blue",
+    ),
+];
+
 /// Where no step leads on, in code of version 1.
-pub const STUCK: [(&str, &str); 41] = [
+pub const STUCK: &[(&str, &str)] = &[
     ("? 0 0 0 0 0", "stuck at 0"),
     ("? 19 1 2 3 4", "stuck at 0"),
     ("? 1 1 0 0 0", "stuck at 0"),
@@ -143,7 +239,7 @@ pub const STUCK: [(&str, &str); 41] = [
 ];
 
 /// What code of version 2 alone has: 64 registers, and COUNT.
-pub const SECOND: [(&str, &str); 14] = [
+pub const SECOND: &[(&str, &str)] = &[
     (
         "LIST r0 n1, COUNT r1 r0, COUNT r63 r0, LESS r1 r63 5, HALT, FAIL",
         "link ",
@@ -155,6 +251,10 @@ pub const SECOND: [(&str, &str); 14] = [
     ),
     (
         "LIST r0 n3, COUNT r1 r0, CONST r2 l7, NUMBER r3 r2 6, LESS r1 r3 6, FAIL, HALT",
+        "link ",
+    ),
+    (
+        "LIST r0 n1, COUNT r1 r0, CONST r2 l1, NUMBER r2 r2 6, LESS r1 r2 6, EMIT l0, HALT",
         "link ",
     ),
     ("LIST r0 n1, COUNT r0 r0, LESS r0 r0 3, HALT", "link "),
@@ -171,7 +271,7 @@ pub const SECOND: [(&str, &str); 14] = [
 ];
 
 /// The same in code of version 1.
-pub const FIRST: [(&str, &str); 2] = [
+pub const FIRST: &[(&str, &str)] = &[
     (
         "LIST r0 n1, COUNT r1 r0, COUNT r63 r0, LESS r1 r63 5, HALT, FAIL",
         "stuck at 1",

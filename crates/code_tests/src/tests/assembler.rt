@@ -1,39 +1,10 @@
-//! Runs of any code, with every test. Code is written as a listing has it, with commas between the instructions.
+//! Code files of instructions as a listing has them, with commas between them.
 
-mod cases;
-mod instructions;
-
-use crate::tests::codes::Tables;
-use crate::tests::of_instrs;
-use code_file::{Code, Instr};
+use super::tables::{COUNTS_OF_TABLES, ENTRIES, OPERATIONS};
+use code_file::Instr;
 use std::alloc::{AllocError, Global};
-use std::test::Fail;
 
-/// The name of each operation, its number, and the fields that its operands go to. A `?` has all five.
-const OPERATIONS: [(&str, u8, &[u8]); 20] = [
-    ("?", 0, b"oabcd"),
-    ("HALT", 1, b""),
-    ("FAIL", 2, b""),
-    ("JUMP", 3, b"d"),
-    ("TEXT", 4, b"ab"),
-    ("LIST", 5, b"ab"),
-    ("CONST", 6, b"ab"),
-    ("NUMBER", 7, b"abd"),
-    ("UNDEF", 8, b"ad"),
-    ("EMPTY", 9, b"ad"),
-    ("NOLIST", 10, b"ad"),
-    ("DIFFER", 11, b"abd"),
-    ("LESS", 12, b"abd"),
-    ("EMIT", 13, b"b"),
-    ("PUT", 14, b"ac"),
-    ("CUT", 15, b"abc"),
-    ("EACH", 16, b"abd"),
-    ("SEP", 17, b"b"),
-    ("NEXT", 18, b""),
-    ("COUNT", 19, b"ab"),
-];
-
-/// The number of an operand, behind its `r`, `n` or `l`; of a mode, 0 or 1.
+/// The number of an operand, after its `r`, `n` or `l`; of a mode, 0 or 1.
 fn number(operand: &str) -> u16 {
     let digits = operand
         .trim_start_matches('r')
@@ -79,8 +50,27 @@ fn instrs(alloc: Global, text: &str) -> Result<Vec<Instr>, AllocError> {
     Ok(instrs)
 }
 
-/// The code of a version, of these tables and instructions.
-fn assembled(alloc: Global, version: u8, tables: Tables<'_>, text: &str) -> Result<Code, Fail> {
+fn push_number(file: &mut Vec<u8>, number: u16) -> Result<(), AllocError> {
+    file.extend_from_slice(&[(number >> 8) as u8, (number % 256) as u8])
+}
+
+fn push_instr(file: &mut Vec<u8>, instr: Instr) -> Result<(), AllocError> {
+    file.extend_from_slice(&[instr.op, instr.a])?;
+    push_number(file, instr.b)?;
+    push_number(file, instr.c)?;
+    push_number(file, instr.d)
+}
+
+/// The file of a version, `1` or `2`, of the tables and these instructions.
+pub fn file(alloc: Global, version: u8, text: &str) -> Result<Vec<u8>, AllocError> {
     let instrs = instrs(alloc, text)?;
-    of_instrs(alloc, version, tables, instrs)
+    let mut file = Vec::from_slice(alloc, b"OLK")?;
+    file.push(version)?;
+    file.extend_from_slice(COUNTS_OF_TABLES)?;
+    push_number(&mut file, u16::try_from(instrs.len()).unwrap_or(u16::MAX))?;
+    file.extend_from_slice(ENTRIES)?;
+    for &instr in &instrs {
+        push_instr(&mut file, instr)?;
+    }
+    Ok(file)
 }

@@ -1,0 +1,164 @@
+//! The checked machine, on any code; and accepted code, which runs as it does.
+
+use super::assembler::file;
+use super::tables::{
+    BRANCHES, EFFECTS, FIRST, LIST_CODE, LIST_FILE, OPTIONAL, RULE, SECOND, STUCK, TEXTS, VARIABLES,
+};
+use super::{Entry, checked, environment, shown};
+use interpreter::{Run, prepare};
+use std::alloc::{AllocError, Global};
+use std::process::Abort;
+use std::test::Fail;
+use target_vars::Env;
+use verifier::{LoadError, Verified, load};
+
+/// Carries a run out in turns of so many steps.
+fn take_turns(run: &mut Run<'_>, n: u64) {
+    for _turn in 0..1_000_000 {
+        if run.advance(n) {
+            return;
+        }
+    }
+}
+
+/// How a run ends that takes turns of so many steps, and after how many in all.
+fn ended(alloc: Global, code: &Verified, env: &Env, n: u64) -> Result<(String, u64), Fail> {
+    let mut run = prepare(alloc, code, env)?;
+    take_turns(&mut run, n);
+    let steps = run.steps();
+    Ok((shown(alloc, run.finish())?, steps))
+}
+
+/// What the checked machine comes to with the code of a file. Where the code is accepted, its runs come to the same, after
+/// as many steps however long their turns are: the second is their number, and 0 for other code.
+fn came<R: Abort + AllocGlobal>(rt: &R, file: &[u8], env: &Env) -> Result<(String, u64), Fail> {
+    let wanted = checked(rt.alloc(), file, env)?;
+    let code = match load(rt.alloc(), file) {
+        Ok(code) => code,
+        Err(LoadError::NoMemory) => return Err(LoadError::NoMemory.into()),
+        Err(_) => return Ok((wanted, 0)),
+    };
+    let (_, most) = ended(rt.alloc(), &code, env, u64::MAX)?;
+    for n in [u64::MAX, 1, 3, 64] {
+        let (came, steps) = ended(rt.alloc(), &code, env, n)?;
+        assert_eq!(rt; came.as_str(), wanted.as_str());
+        assert_eq!(rt; steps, most);
+    }
+    Ok((wanted, most))
+}
+
+/// Versions, and codes with what they come to.
+const CASES: [(&[u8], &[(&str, &str)]); 5] = [
+    (b"12", EFFECTS),
+    (b"12", BRANCHES),
+    (b"1", STUCK),
+    (b"2", SECOND),
+    (b"1", FIRST),
+];
+
+#[test]
+fn each_instruction_does_what_it_says(rt: HostRuntime) -> Result<(), Fail> {
+    let none = environment(rt.alloc(), &[])?;
+    let full = environment(rt.alloc(), VARIABLES)?;
+    for (versions, cases) in CASES {
+        for &version in versions {
+            for &(text, wanted) in cases {
+                let file = file(rt.alloc(), version, text)?;
+                let (full_came, _) = came(&rt, &file, &full)?;
+                assert_eq!(rt; full_came.as_str(), wanted, "{text}");
+                came(&rt, &file, &none)?;
+            }
+        }
+    }
+    Ok(())
+}
+
+/// The version of a code, its instructions, an environment, what it comes to, and after how many steps; 0 for code that is
+/// not accepted.
+const OTHERS: [(u8, &str, &[Entry], &str, u64); 12] = [
+    (b'1', LIST_CODE, VARIABLES, "link red,green,blue", 12),
+    (b'2', LIST_CODE, VARIABLES, "link red,green,blue", 12),
+    (b'1', LIST_CODE, &[], "link ", 3),
+    (b'1', LIST_CODE, TEXTS, "link ", 3),
+    (b'1', OPTIONAL, &[], "link ", 3),
+    (b'1', OPTIONAL, TEXTS, "link a", 4),
+    (b'1', RULE, &[], "link http://e.org/", 5),
+    (b'1', RULE, VARIABLES, "link http://e.org/1234-5678", 8),
+    (b'1', "EMIT l0, FAIL", &[], "no link", 2),
+    (b'1', LAST, &[], "stuck at 3", 0),
+    (b'1', LAST, VARIABLES, "link blue", 0),
+    (b'2', COUNTS, VARIABLES, "link ", 5),
+];
+
+/// The last element, after the loop.
+const LAST: &str = "LIST r0 n1, EACH r1 r0 3, NEXT, PUT r1 u, HALT";
+
+/// Counts of one list, compared.
+const COUNTS: &str = "LIST r0 n1, COUNT r1 r0, COUNT r63 r0, LESS r1 r63 5, HALT, FAIL";
+
+#[test]
+fn other_environments(rt: HostRuntime) -> Result<(), Fail> {
+    for (version, text, entries, wanted, steps) in OTHERS {
+        let file = file(rt.alloc(), version, text)?;
+        let env = environment(rt.alloc(), entries)?;
+        let (came, taken) = came(&rt, &file, &env)?;
+        assert_eq!(rt; came.as_str(), wanted, "{text}");
+        assert_eq!(rt; taken, steps, "{text}");
+    }
+    Ok(())
+}
+
+/// A file with one byte changed.
+fn changed(alloc: Global, file: &[u8], place: usize, byte: u8) -> Result<Vec<u8>, AllocError> {
+    let mut file = Vec::from_slice(alloc, file)?;
+    if let Some(old) = file.get_mut(place) {
+        *old = byte;
+    }
+    Ok(file)
+}
+
+#[test]
+fn each_file_with_one_byte_changed(rt: HostRuntime) -> Result<(), Fail> {
+    let none = environment(rt.alloc(), &[])?;
+    let full = environment(rt.alloc(), VARIABLES)?;
+    for place in 0..68 {
+        for byte in 0..=255 {
+            let file = changed(rt.alloc(), LIST_FILE, place, byte)?;
+            agrees(&rt, &file, &none)?;
+            agrees(&rt, &file, &full)?;
+        }
+    }
+    Ok(())
+}
+
+/// The file is refused, or its code runs as the checked machine does.
+fn agrees<R: Abort + AllocGlobal>(rt: &R, file: &[u8], env: &Env) -> Result<(), Fail> {
+    match load(rt.alloc(), file) {
+        Ok(_) => {
+            came(rt, file, env)?;
+            Ok(())
+        }
+        Err(LoadError::NoMemory) => Err(LoadError::NoMemory.into()),
+        Err(_) => Ok(()),
+    }
+}
+
+/// Instructions, an environment, how long the link is that the checked machine comes to, and what it begins with: as many
+/// members as a query cannot have, and a value of more than 100,000 bytes once it is written.
+const LONG: [(&str, Entry, usize, &str); 2] = [
+    (LIST_CODE, (true, "list", "m", 50_000), 99_999, "m,m"),
+    (OPTIONAL, (false, "x", " ", 40_000), 120_000, "%20%20"),
+];
+
+#[test]
+fn long_links(rt: HostRuntime) -> Result<(), Fail> {
+    for (text, entry, length, start) in LONG {
+        let file = file(rt.alloc(), b'1', text)?;
+        let env = environment(rt.alloc(), &[entry])?;
+        let came = checked(rt.alloc(), &file, &env)?;
+        let link = came.strip_prefix("link ").unwrap_or("");
+        assert_eq!(rt; link.len(), length);
+        assert!(rt; link.starts_with(start));
+    }
+    Ok(())
+}

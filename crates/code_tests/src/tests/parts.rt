@@ -1,0 +1,75 @@
+//! Codes of parts, and instructions of fields.
+
+use super::repeated;
+use code_file::CodeErrorKind::{BadLiteral, BadName, NoCode, NoMemory, TooLong, TooMany};
+use code_file::{Code, CodeError, CodeErrorKind, Instr, Literal, Name, instruction, spelling};
+use code_model::Instruction::{Count, Cut};
+use std::alloc::{AllocError, Global};
+use std::test::Fail;
+
+fn instr(op: u8, a: u8, b: u16, c: u16, d: u16) -> Instr {
+    Instr { op, a, b, c, d }
+}
+
+#[test]
+fn reads_an_instruction_whatever_its_unused_fields(rt: HostRuntime) {
+    let cut = instr(15, 1, 2, 3, 4);
+    assert_eq!(rt; instruction(1, cut), Some(Cut(1, 2, 3)));
+    assert_eq!(rt; spelling(Cut(1, 2, 3)), instr(15, 1, 2, 3, 0));
+    let count = instr(19, 1, 2, 3, 4);
+    assert_eq!(rt; instruction(1, count), None);
+    assert_eq!(rt; instruction(2, count), Some(Count(1, 2)));
+    assert_eq!(rt; spelling(Count(1, 2)), instr(19, 1, 2, 0, 0));
+    assert_eq!(rt; instruction(2, instr(20, 0, 0, 0, 0)), None);
+}
+
+/// The fault of one name, one link text, and one instruction so many times, if there is one.
+fn fault(
+    alloc: Global,
+    letters: usize,
+    link: &str,
+    instrs: usize,
+) -> Result<Option<CodeErrorKind>, AllocError> {
+    let text = repeated(alloc, "a", letters)?;
+    let list = false;
+    let names = vec![in alloc; Name { list, text }]?;
+    let bytes = Vec::from_slice(alloc, link.as_bytes())?;
+    let compared = false;
+    let literals = vec![in alloc; Literal { compared, bytes }]?;
+    let instrs = vec![in alloc; instr(19, 1, 2, 3, 4); instrs]?;
+    Ok(Code::from_parts(names, literals, instrs).err())
+}
+
+/// How many letters a name has, a link text, how many instructions there are, and the fault: no part is judged by what its
+/// instructions do.
+const FAULTS: [(usize, &str, usize, Option<CodeErrorKind>); 7] = [
+    (1, ",", 1, None),
+    (1, ",", 0, Some(NoCode)),
+    (1, "%", 1, Some(BadLiteral)),
+    (255, ",", 4_096, None),
+    (256, ",", 1, Some(BadName)),
+    (1, ",", 4_097, Some(TooMany)),
+    (1, ",", 8_191, Some(TooLong)), // of more than 65,536 bytes
+];
+
+#[test]
+fn refuses_parts_that_spell_no_file(rt: HostRuntime) -> Result<(), Fail> {
+    for (letters, link, instrs, wanted) in FAULTS {
+        let fault = fault(rt.alloc(), letters, link, instrs)?;
+        assert!(rt; fault == wanted, "{letters}, {link}, {instrs}");
+    }
+    Ok(())
+}
+
+#[test]
+fn memory_that_ran_out_is_printed(rt: HostRuntime) -> Result<(), Fail> {
+    let fault = CodeError {
+        kind: NoMemory,
+        at: 0,
+    };
+    assert_eq!(rt;
+        format!(in rt.alloc(); "{fault}")?.as_str(),
+        "NoMemory at 0"
+    );
+    Ok(())
+}

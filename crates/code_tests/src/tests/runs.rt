@@ -1,0 +1,110 @@
+//! Where a run of accepted code stands after its turns.
+
+use super::assembler::file;
+use super::tables::{LIST_CODE, OPTIONAL, TEXTS};
+use super::{Entry, environment};
+use interpreter::{Run, Step, prepare, step};
+use std::alloc::{AllocError, Global};
+use std::test::Fail;
+use target_vars::Env;
+use verifier::{Verified, load};
+
+/// Whether a run has ended after a turn, its steps, its place, in a loop's turn the first two registers, and its output.
+fn standing(alloc: Global, run: &Run<'_>, ended: bool) -> Result<String, AllocError> {
+    let steps = run.steps();
+    let output = str::from_utf8(run.output()).unwrap_or("?");
+    match run.words() {
+        None => format!(in alloc; "{ended} {steps}, {output}\n"),
+        Some(words) if words.turn.is_none() => {
+            format!(in alloc; "{ended} {steps}, place {}, {output}\n", words.place)
+        }
+        Some(words) => {
+            let (list, element) = (words.regs[0], words.regs[1]);
+            format!(in alloc;
+                "{ended} {steps}, place {}, {list}, {element}, {output}\n",
+                words.place
+            )
+        }
+    }
+}
+
+/// Where a run stands after each of its turns.
+fn standings(alloc: Global, code: &Verified, env: &Env, turns: &[u64]) -> Result<String, Fail> {
+    let mut run = prepare(alloc, code, env)?;
+    let mut text = String::new(alloc);
+    for &n in turns {
+        let ended = run.advance(n);
+        text.push_str(&standing(alloc, &run, ended)?)?;
+    }
+    Ok(text)
+}
+
+const COLOURS: &[Entry] = &[
+    (true, "list", "red", 1),
+    (true, "list", "green", 1),
+    (true, "list", "blue", 1),
+];
+
+/// Instructions, an environment, how many steps each turn has, and where the run stands after it.
+const TURNS: [(&str, &[Entry], &[u64], &str); 4] = [
+    (
+        LIST_CODE,
+        COLOURS,
+        &[2, 2, 1, 100, 1],
+        "false 2, place 2, 3, 3, \nfalse 4, place 4, 3, 3, red\nfalse 5, place 2, 3, 12884901893, red\n\
+         true 12, red,green,blue\ntrue 12, red,green,blue\n",
+    ),
+    (LIST_CODE, COLOURS, &[1], "false 1, place 1, \n"),
+    (OPTIONAL, TEXTS, &[5, 100], "true 4, a\ntrue 4, a\n"),
+    (
+        "EMIT l0, FAIL",
+        &[],
+        &[1, 1],
+        "false 1, place 1, ,\ntrue 2, \n",
+    ),
+];
+
+#[test]
+fn takes_turns(rt: HostRuntime) -> Result<(), Fail> {
+    for (text, entries, turns, wanted) in TURNS {
+        let code = load(rt.alloc(), &file(rt.alloc(), b'1', text)?)?;
+        let env = environment(rt.alloc(), entries)?;
+        let came = standings(rt.alloc(), &code, &env, turns)?;
+        assert_eq!(rt; came.as_str(), wanted);
+    }
+    Ok(())
+}
+
+/// What one step more answers after so many, and the place then.
+fn stepped(
+    alloc: Global,
+    code: &Verified,
+    env: &Env,
+    n: u64,
+) -> Result<(Step, Option<usize>), Fail> {
+    let mut run = prepare(alloc, code, env)?;
+    run.advance(n);
+    let bytes = code
+        .budget()
+        .bytes(env.members() as u64, env.bytes() as u64);
+    let mut out = String::with_capacity(alloc, bytes as usize)?;
+    let Some(mut words) = run.words() else {
+        return Ok((Step::NoLink, None));
+    };
+    let Ok(output) = str::from_utf8(run.output()) else {
+        return Ok((Step::NoLink, None));
+    };
+    out.push_str(output)?;
+    let answer = step(code, env, &mut words, &mut out);
+    Ok((answer, Some(words.place)))
+}
+
+#[test]
+fn steps_on_its_words(rt: HostRuntime) -> Result<(), Fail> {
+    let code = load(rt.alloc(), &file(rt.alloc(), b'1', LIST_CODE)?)?;
+    let env = environment(rt.alloc(), COLOURS)?;
+    for (n, wanted) in [(5, (Step::More, Some(3))), (11, (Step::Link, Some(5)))] {
+        assert_eq!(rt; stepped(rt.alloc(), &code, &env, n)?, wanted);
+    }
+    Ok(())
+}
