@@ -55,7 +55,7 @@ def guards_to(last):
 
 
 def link_of(part, times):
-    """A rule whose link is one part so many times."""
+    """A rule whose link is one part, repeated."""
     return f"rule\nlink {part * times}\n"
 
 

@@ -3,7 +3,7 @@ from service import IN_ITS_YEARS, JOURNAL, register, replies, to_head
 
 
 def reply(kind, length, body):
-    """The whole reply with a page of so many bytes."""
+    """The whole reply with a page of `length` bytes."""
     return (f"HTTP/1.1 200 OK\r\nContent-Type: text/{kind}; charset=utf-8\r\nContent-Length: {length}\r\n"
             f"Connection: close\r\n\r\n{body}").encode()
 

@@ -1,4 +1,4 @@
-//! Code files, environments, and what runs come to, as text.
+//! Code files, environments, and the outcomes of runs, as text.
 
 mod assembler;
 mod budgets;
@@ -15,7 +15,7 @@ use std::alloc::{AllocError, Global};
 use std::test::Fail;
 use target_vars::Env;
 
-/// Whether it is a member of a list, a name, and a text so many times: as many members, or one text of as many parts.
+/// Whether it is a member of a list, a name, a text, and a count: of equal members, or of the parts of one text.
 type Entry = (bool, &'static str, &'static str, usize);
 
 fn repeated(alloc: Global, part: &str, times: usize) -> Result<String, AllocError> {
@@ -46,7 +46,7 @@ fn environment(alloc: Global, entries: &[Entry]) -> Result<Env, Fail> {
     Ok(env)
 }
 
-/// What the checked machine comes to with the code of a file.
+/// The outcome of the checked machine for the code of a file.
 fn checked(alloc: Global, file: &[u8], env: &Env) -> Result<String, Fail> {
     let code = Code::read(alloc, file)?;
     Ok(match run_checked(alloc, &code, env)? {

@@ -18,7 +18,7 @@ fn environment(alloc: Global, given: &[Given]) -> Result<(Env, bool), VarsError>
     Ok((env, as_said))
 }
 
-/// The environment has so many bytes and members.
+/// The environment has this number of bytes, and this number of members.
 fn has_size(env: &Env, bytes: usize, members: usize) -> bool {
     env.bytes() == bytes && env.members() == members
 }
@@ -39,7 +39,7 @@ fn first_text_stays(rt: HostRuntime) -> Result<(), Fail> {
     Ok(())
 }
 
-/// Puts a text of so many letters; whether it is taken, and not too large.
+/// Puts a text of `letters` letters; whether it is taken, and not too large.
 fn put_long(alloc: Global, env: &mut Env, letters: usize) -> Result<bool, Fail> {
     let text = "x".repeat(alloc, letters)?;
     match enter(env, false, "long", &text) {
@@ -238,7 +238,7 @@ const TITLE: &[Given] = &[
     (true, "rft.au", "Hawthorne", true),
 ];
 
-/// The member at a place, which comes first when so many are split off.
+/// The member at a place, which comes first when all before it are split off.
 fn split<'a>(members: Members<'a>, place: usize) -> Option<&'a str> {
     let mut left = members;
     for _ in 0..place {

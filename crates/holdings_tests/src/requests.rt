@@ -5,7 +5,7 @@ use std::test::Fail;
 use target_vars::{Env, VarsError};
 
 /// A query's request, without what the contract says of it.
-pub fn read(alloc: Global, query: &[u8]) -> Result<Request, KevError> {
+pub(crate) fn read(alloc: Global, query: &[u8]) -> Result<Request, KevError> {
     read_kev(alloc, query)
 }
 

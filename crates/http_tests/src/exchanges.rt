@@ -7,7 +7,7 @@ use registry::Registry;
 use std::process::Abort;
 use std::test::Fail;
 
-/// The request's input gives and its output takes so many bytes at a time, and they fail so: how the exchange goes then,
+/// The request's input gives and its output takes `piece` bytes at a time, and they fail so: how the exchange goes then,
 /// and what is written.
 fn exchanges<R: Abort + AllocGlobal>(
     rt: &R,
@@ -41,7 +41,7 @@ fn a_read_fails(rt: HostRuntime) -> Result<(), Fail> {
         let fault = Err(ServeError::ReadFault);
         exchanges(&rt, REQUEST, 1, (Some(fail_at), None), fault, b"")?;
     }
-    // After so many reads the head has ended, and no more are made.
+    // After that number of reads the head has ended, and no more are made.
     let replied = Ok(Served::Replied(404));
     exchanges(&rt, REQUEST, 1, (Some(28), None), replied, REPLY)
 }

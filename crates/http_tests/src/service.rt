@@ -38,7 +38,7 @@ fn peers<R: Net<Stream = TcpStream> + AllocGlobal>(
     Ok(peers)
 }
 
-/// How so many connections went, where a read may take so many milliseconds, if it is said: replies, nothing, faults.
+/// How `count` connections went, where a read may take this number of milliseconds, if given: replies, nothing, faults.
 fn counted(
     alloc: Global,
     listener: &TcpListener,

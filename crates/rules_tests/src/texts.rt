@@ -39,7 +39,7 @@ fn writing_appends_in_the_room_that_is_there(rt: HostRuntime) -> Result<(), Fail
     Ok(())
 }
 
-// A text, a number of items, and the text cut to so many: code points, and with triplets as one item each.
+// A text, a number of items, and the text cut to that number: code points, and with triplets as one item each.
 const CUT: &[(&str, usize, &str, &str)] = &[
     ("value", 3, "val", "val"),
     ("value", 30, "value", "value"),

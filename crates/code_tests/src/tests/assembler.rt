@@ -62,7 +62,7 @@ fn push_instr(file: &mut Vec<u8>, instr: Instr) -> Result<(), AllocError> {
 }
 
 /// The file of a version, `1` or `2`, of the tables and these instructions.
-pub fn file(alloc: Global, version: u8, text: &str) -> Result<Vec<u8>, AllocError> {
+pub(crate) fn file(alloc: Global, version: u8, text: &str) -> Result<Vec<u8>, AllocError> {
     let instrs = instrs(alloc, text)?;
     let mut file = Vec::from_slice(alloc, b"OLK")?;
     file.push(version)?;

@@ -7,7 +7,7 @@ use code_file::Code;
 use std::alloc::{AllocError, Global};
 use std::test::Fail;
 
-/// Steps, and bytes of output, where lists have so many members, and all texts and members so many bytes.
+/// Steps and bytes of output, for a number of members of all lists and a number of bytes of all texts and members.
 fn bounds(alloc: Global, budget: Budget, members: u16, bytes: u16) -> Result<String, AllocError> {
     let steps = budget.steps(members as u64);
     let out = budget.bytes(members as u64, bytes as u64);

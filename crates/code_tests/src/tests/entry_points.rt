@@ -43,7 +43,7 @@ fn came_of_rules(alloc: Global, rules: &str, entries: &[Entry]) -> Result<String
     })
 }
 
-/// Rules, an environment, and what they come to.
+/// Rules, an environment, and the outcome.
 const RULES: [(&str, &[Entry], &str); 3] = [
     (
         "rule\nlink http://e.org/{x}\n",

@@ -12,7 +12,7 @@ use std::test::Fail;
 use target_vars::Env;
 use verifier::{LoadError, Verified, load};
 
-/// Carries a run out in turns of so many steps.
+/// Carries a run out in turns of `n` steps.
 fn take_turns(run: &mut Run<'_>, n: u64) {
     for _turn in 0..1_000_000 {
         if run.advance(n) {
@@ -21,7 +21,7 @@ fn take_turns(run: &mut Run<'_>, n: u64) {
     }
 }
 
-/// How a run ends that takes turns of so many steps, and after how many in all.
+/// How a run ends that takes turns of `n` steps, and its steps in all.
 fn ended(alloc: Global, code: &Verified, env: &Env, n: u64) -> Result<(String, u64), Fail> {
     let mut run = prepare(alloc, code, env)?;
     take_turns(&mut run, n);
@@ -29,8 +29,8 @@ fn ended(alloc: Global, code: &Verified, env: &Env, n: u64) -> Result<(String, u
     Ok((shown(alloc, run.finish())?, steps))
 }
 
-/// What the checked machine comes to with the code of a file. Where the code is accepted, its runs come to the same, after
-/// as many steps however long their turns are: the second is their number, and 0 for other code.
+/// The outcome of the checked machine for the code of a file. Where the code is accepted, its runs have the same outcome,
+/// after as many steps however long their turns are: the second is their number, and 0 for other code.
 fn came<R: Abort + AllocGlobal>(rt: &R, file: &[u8], env: &Env) -> Result<(String, u64), Fail> {
     let wanted = checked(rt.alloc(), file, env)?;
     let code = match load(rt.alloc(), file) {
@@ -47,7 +47,7 @@ fn came<R: Abort + AllocGlobal>(rt: &R, file: &[u8], env: &Env) -> Result<(Strin
     Ok((wanted, most))
 }
 
-/// Versions, and codes with what they come to.
+/// Versions, and codes with their outcomes.
 const CASES: [(&[u8], &[(&str, &str)]); 5] = [
     (b"12", EFFECTS),
     (b"12", BRANCHES),
@@ -73,7 +73,7 @@ fn each_instruction_does_what_it_says(rt: HostRuntime) -> Result<(), Fail> {
     Ok(())
 }
 
-/// The version of a code, its instructions, an environment, what it comes to, and after how many steps; 0 for code that is
+/// The version of a code, its instructions, an environment, the outcome, and after how many steps; 0 for code that is
 /// not accepted.
 const OTHERS: [(u8, &str, &[Entry], &str, u64); 12] = [
     (b'1', LIST_CODE, VARIABLES, "link red,green,blue", 12),
@@ -143,7 +143,7 @@ fn agrees<R: Abort + AllocGlobal>(rt: &R, file: &[u8], env: &Env) -> Result<(), 
     }
 }
 
-/// Instructions, an environment, how long the link is that the checked machine comes to, and what it begins with: as many
+/// Instructions, an environment, how long the link of the checked machine is, and what it begins with: as many
 /// members as a query cannot have, and a value of more than 100,000 bytes once it is written.
 const LONG: [(&str, Entry, usize, &str); 2] = [
     (LIST_CODE, (true, "list", "m", 50_000), 99_999, "m,m"),

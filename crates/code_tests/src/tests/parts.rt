@@ -23,7 +23,7 @@ fn reads_an_instruction_whatever_its_unused_fields(rt: HostRuntime) {
     assert_eq!(rt; instruction(2, instr(20, 0, 0, 0, 0)), None);
 }
 
-/// The fault of one name, one link text, and one instruction so many times, if there is one.
+/// The fault of one name, one link text, and a number of equal instructions, if there is one.
 fn fault(
     alloc: Global,
     letters: usize,

@@ -75,7 +75,7 @@ fn takes_turns(rt: HostRuntime) -> Result<(), Fail> {
     Ok(())
 }
 
-/// What one step more answers after so many, and the place then.
+/// What one step more answers after this number of steps, and the place then.
 fn stepped(
     alloc: Global,
     code: &Verified,

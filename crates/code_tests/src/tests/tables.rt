@@ -3,7 +3,7 @@
 use super::Entry;
 
 /// The name of each operation, its number, and the fields that its operands go to. A `?` has all five.
-pub const OPERATIONS: [(&str, u8, &[u8]); 20] = [
+pub(crate) const OPERATIONS: [(&str, u8, &[u8]); 20] = [
     ("?", 0, b"oabcd"),
     ("HALT", 1, b""),
     ("FAIL", 2, b""),
@@ -27,23 +27,23 @@ pub const OPERATIONS: [(&str, u8, &[u8]); 20] = [
 ];
 
 /// Of seven names and ten literals.
-pub const COUNTS_OF_TABLES: &[u8] = b"\0\x07\0\x0a";
+pub(crate) const COUNTS_OF_TABLES: &[u8] = b"\0\x07\0\x0a";
 
 /// The names `x` as text, `list` as list, `absent` as both, `list` as text, `x` as list and `rft.issn` as text; and the
 /// literals `,` to link, `12a`, none, `7`, `1234567890`, `%41%42`, `3` and `1` to compare, `;` and `http://e.org/` to
 /// link.
-pub const ENTRIES: &[u8] =
+pub(crate) const ENTRIES: &[u8] =
     b"\0\x01x\x01\x04list\0\x06absent\x01\x06absent\0\x04list\x01\x01x\0\x08rft.issn\
 \0\0\x01,\x01\0\x0312a\x01\0\0\x01\0\x017\x01\0\x0a1234567890\x01\0\x06%41%42\x01\0\x013\x01\0\x011\
 \0\0\x01;\0\0\x0dhttp://e.org/";
 
 /// The file of a loop over the members of `list`, with a comma between them.
-pub const LIST_FILE: &[u8] = b"OLK1\0\x01\0\x01\0\x06\x01\x04list\0\0\x01,\
+pub(crate) const LIST_FILE: &[u8] = b"OLK1\0\x01\0\x01\0\x06\x01\x04list\0\0\x01,\
 \x05\0\0\0\0\0\0\0\x10\x01\0\0\0\0\0\x05\x11\0\0\0\0\0\0\0\
 \x0e\x01\0\0\0\0\0\0\x12\0\0\0\0\0\0\0\x01\0\0\0\0\0\0\0";
 
 /// `x` is a text, and `list` has three members.
-pub const VARIABLES: &[Entry] = &[
+pub(crate) const VARIABLES: &[Entry] = &[
     (false, "x", "a/é", 1),
     (true, "list", "red", 1),
     (true, "list", "green", 1),
@@ -52,20 +52,20 @@ pub const VARIABLES: &[Entry] = &[
 ];
 
 /// `list` is a text.
-pub const TEXTS: &[Entry] = &[(false, "list", "red", 1), (false, "x", "a", 1)];
+pub(crate) const TEXTS: &[Entry] = &[(false, "list", "red", 1), (false, "x", "a", 1)];
 
 /// A loop over the members of `list`, with a comma between them.
-pub const LIST_CODE: &str = "LIST r0 n1, EACH r1 r0 5, SEP l0, PUT r1 u, NEXT, HALT";
+pub(crate) const LIST_CODE: &str = "LIST r0 n1, EACH r1 r0 5, SEP l0, PUT r1 u, NEXT, HALT";
 
 /// The text of a name, if there is one.
-pub const OPTIONAL: &str = "TEXT r2 n0, UNDEF r2 3, PUT r2 u, HALT";
+pub(crate) const OPTIONAL: &str = "TEXT r2 n0, UNDEF r2 3, PUT r2 u, HALT";
 
 /// The code of a rule that links by the ISSN.
-pub const RULE: &str =
+pub(crate) const RULE: &str =
     "EMIT l9, CONST r4 l2, TEXT r0 n6, UNDEF r0 8, EMPTY r4 6, EMIT l0, CONST r4 l7, PUT r0 u, HALT, FAIL";
 
 /// What each instruction does, in code of version 1, and in code of version 2 too.
-pub const EFFECTS: &[(&str, &str)] = &[
+pub(crate) const EFFECTS: &[(&str, &str)] = &[
     ("HALT", "link "),
     ("FAIL", "no link"),
     ("EMIT l0, FAIL", "no link"),
@@ -141,7 +141,7 @@ pub const EFFECTS: &[(&str, &str)] = &[
 ];
 
 /// Instructions that branch both ways, in both versions too.
-pub const BRANCHES: &[(&str, &str)] = &[
+pub(crate) const BRANCHES: &[(&str, &str)] = &[
     (OPTIONAL, "link a%2F%C3%A9"),
     (RULE, "link http://e.org/1234-5678"),
     (
@@ -176,7 +176,7 @@ pub const BRANCHES: &[(&str, &str)] = &[
 ];
 
 /// Where no step leads on, in code of version 1.
-pub const STUCK: &[(&str, &str)] = &[
+pub(crate) const STUCK: &[(&str, &str)] = &[
     ("? 0 0 0 0 0", "stuck at 0"),
     ("? 19 1 2 3 4", "stuck at 0"),
     ("? 1 1 0 0 0", "stuck at 0"),
@@ -239,7 +239,7 @@ pub const STUCK: &[(&str, &str)] = &[
 ];
 
 /// What code of version 2 alone has: 64 registers, and COUNT.
-pub const SECOND: &[(&str, &str)] = &[
+pub(crate) const SECOND: &[(&str, &str)] = &[
     (
         "LIST r0 n1, COUNT r1 r0, COUNT r63 r0, LESS r1 r63 5, HALT, FAIL",
         "link ",
@@ -271,7 +271,7 @@ pub const SECOND: &[(&str, &str)] = &[
 ];
 
 /// The same in code of version 1.
-pub const FIRST: &[(&str, &str)] = &[
+pub(crate) const FIRST: &[(&str, &str)] = &[
     (
         "LIST r0 n1, COUNT r1 r0, COUNT r63 r0, LESS r1 r63 5, HALT, FAIL",
         "stuck at 1",
