@@ -63,7 +63,7 @@ fn counted(
     Ok((replied, nothing, faults))
 }
 
-/// So many connections, how many milliseconds a read may take, and how they are counted. No time-out is taken of 0.
+/// A number of connections, how many milliseconds a read may take, and how they are counted. No time-out is taken of 0.
 const COUNTED: [(u32, Option<u64>, (u32, u32, u32)); 3] = [
     (3, Some(50), (1, 1, 1)),
     (1, Some(0), (0, 0, 1)),
