@@ -1,5 +1,6 @@
 """The bytes of code files, made of names, literals and instructions, which are written as `show` lists them."""
 import struct
+from program import as_bytes
 
 # An operation, its number, and the fields that its operands are, in their order. A `?` has all five.
 OPERATIONS = {
@@ -50,16 +51,22 @@ def instruction(text):
 
 
 def name(kind, text):
-    return struct.pack(">BB", NAME_KINDS.index(kind), len(text.encode())) + text.encode()
+    return struct.pack(">BB", NAME_KINDS.index(kind), len(as_bytes(text))) + as_bytes(text)
 
 
 def literal(kind, text):
-    return struct.pack(">BH", LITERAL_KINDS.index(kind), len(text.encode())) + text.encode()
+    return struct.pack(">BH", LITERAL_KINDS.index(kind), len(as_bytes(text))) + as_bytes(text)
 
 
-def code_file(version, names, literals, instructions):
-    """The file of names and literals, each a kind and a text, and of instructions with commas between them."""
-    rows = [instruction(text) for text in instructions.split(", ")]
-    header = b"OLK%d" % version + struct.pack(">HHH", len(names), len(literals), len(rows))
+def code(names, literals, instructions, version=1):
+    """The file of names and literals, each a kind and a text, and of instructions: a list, or a text with commas."""
+    lines = instructions.split(", ") if isinstance(instructions, str) else instructions
+    counts = struct.pack(">HHH", len(names), len(literals), len(lines))
     entries = [name(*entry) for entry in names] + [literal(*entry) for entry in literals]
-    return header + b"".join(entries + rows)
+    return b"OLK%d" % version + counts + b"".join(entries + [instruction(line) for line in lines])
+
+
+HALT = code([], [], "HALT")
+FAIL = code([], [], "FAIL")
+# The text `x` twenty times, where it is there.
+TWENTY_TEXTS = code([("text", "x")], [], ["TEXT r2 n0", "UNDEF r2 22"] + ["PUT r2 u"] * 20 + ["HALT"])

@@ -1,5 +1,5 @@
 """Budgets that `verify` prints: which instructions write the element, and the bound at its limit."""
-from codes import FIELDS, code
+from assembler import OPERATIONS, code
 
 NAMES = [("text", "t"), ("list", "l")]
 LITERALS = [("link", "ab"), ("compare", "abc")]
@@ -35,7 +35,7 @@ def in_body(line):
 
 def test_which_instructions_write(program):
     """A PUT of the element counts 3 bytes for each of E; if the body writes the element, 9 and 3*E for each of M."""
-    program.expect("operations", set(OPERANDS) | {"EACH", "NEXT"}, set(FIELDS))
+    program.expect("operations", set(OPERANDS) | {"EACH", "NEXT"}, {*OPERATIONS} - {"?"})
     for operation, operands in OPERANDS.items():
         puts = 2 if operation in ("PUT", "CUT") else 1
         emitted = 2 if operation in ("EMIT", "SEP") else 0

@@ -1,5 +1,5 @@
 """Code files: their listings, their files of version 2, and why bytes are no code file."""
-from assembler import LIST_FILE, code_file
+from assembler import LIST_FILE, code
 
 LIST_LISTING = """OLK1 names 1 literals 1 instructions 6
 name 0 list list
@@ -12,8 +12,7 @@ literal 0 link ","
 5 HALT"""
 
 # A rule with the link `http://e.org/{rft.issn}`.
-ISSN = code_file(
-    1,
+ISSN = code(
     [("text", "rft.issn")],
     [("link", "http://e.org/"), ("compare", ""), ("link", ","), ("compare", "1")],
     "EMIT l0, CONST r4 l1, TEXT r0 n0, UNDEF r0 8, EMPTY r4 6, EMIT l2, CONST r4 l3, PUT r0 u, HALT, FAIL",
@@ -37,8 +36,7 @@ literal 3 compare "1"
 9 FAIL"""
 
 # Operations, operands that are out of their range, and bytes of literals that are not printed as they are.
-ODD = code_file(
-    1,
+ODD = code(
     [],
     [("compare", '"a\\\n\u00e9~'), ("compare", " \x1f\x7f")],
     "? 3 0 0 0 7, ? 7 1 2 0 7, ? 10 1 0 0 7, ? 11 1 2 0 7, ? 12 1 2 0 7, ? 14 1 0 1 0, ? 15 1 9999 1 0, "
@@ -66,8 +64,8 @@ LISTINGS = [
     (LIST_FILE, LIST_LISTING),
     (ISSN, ISSN_LISTING),
     (ODD, ODD_LISTING),
-    (code_file(2, [], [], "? 19 1 0 0 0"), "OLK2 names 0 literals 0 instructions 1\n0 COUNT r1 r0"),
-    (code_file(1, [], [], "? 19 1 0 0 0"), "OLK1 names 0 literals 0 instructions 1\n0 ? 19 1 0 0 0"),
+    (code([], [], "? 19 1 0 0 0", version=2), "OLK2 names 0 literals 0 instructions 1\n0 COUNT r1 r0"),
+    (code([], [], "? 19 1 0 0 0"), "OLK1 names 0 literals 0 instructions 1\n0 ? 19 1 0 0 0"),
     (b"OLK1\0\0\0\0\0\x01\x13\x01\0\x02\0\x03\0\x04", "OLK1 names 0 literals 0 instructions 1\n0 ? 19 1 2 3 4"),
 ]
 
@@ -93,7 +91,7 @@ def test_upgrades(program):
 
 def test_all_limits(program):
     """256 names, 1,024 literals and 4,096 instructions."""
-    file = code_file(2, [("list", "a")] * 256, [("link", "b")] * 1_024, ", ".join(["HALT"] * 4_096))
+    file = code([("list", "a")] * 256, [("link", "b")] * 1_024, ["HALT"] * 4_096, version=2)
     program.expect("bytes", len(file), 37_642)
     upgrades(program, file)
     _, listing, _ = program.run(["show", "old.olk"])
@@ -102,7 +100,7 @@ def test_all_limits(program):
 
 def test_longest_file(program):
     text = "a" * 65_515
-    file = code_file(1, [], [("compare", text)], "HALT")
+    file = code([], [("compare", text)], "HALT")
     program.expect("bytes", len(file), 65_536)
     upgrades(program, file)
     program.prints(

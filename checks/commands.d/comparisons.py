@@ -1,5 +1,5 @@
 """Equality of texts, byte for byte, in rules and in code; and which texts have a number."""
-from codes import code
+from assembler import code
 
 # The characters that a text of a rule can show, and all of ASCII.
 PRINTABLE = [chr(number) for number in range(0x20, 0x7F)]

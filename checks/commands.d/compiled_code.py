@@ -1,5 +1,5 @@
 """The code that `compile` makes: its version, its bytes, and the order of its names and literals."""
-from codes import code
+from assembler import code
 from targets import DATE_RULES
 
 # A condition of each form; with `counts` the code has version 2.

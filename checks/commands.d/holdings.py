@@ -1,6 +1,6 @@
 """Cells of tables with spaces at their ends, what they count, and the limit of a table's bytes."""
-from codes import code
-from connections import expect_replies, reply_of, request_of
+from assembler import code
+from service import expect_replies, reply_of, request_of
 from targets import ANY_LINK, write_registry
 
 # Writes 1,048,576 bytes, as many as a link may have, and a text: 3 bytes for each of the row and the request.
@@ -53,7 +53,7 @@ def test_cells_count_with_their_spaces(program):
     write_registry(program, [(f"t{at}", SCALE, table(*cells)) for at, (*cells, _, _) in enumerate(CELLS)])
     # The identifiers of the row and of the request are a byte each.
     counts = [f"t{at}\tover budget {1048576 + 3 * (2 + count)}\n" for at, (_, _, _, count) in enumerate(CELLS)]
-    expect_replies(program, "registry", [(request_of("/report?rft.issn=1"), reply_of(200, "".join(counts)))])
+    expect_replies(program, [(request_of("/report?rft.issn=1"), reply_of(200, "".join(counts)))])
 
 
 def test_limit_of_bytes(program):

@@ -1,5 +1,5 @@
 """Which counts of Host fields a request may have: at most one, and one in HTTP/1.1 (RFC 9112, 3.2)."""
-from connections import NO_LINKS, expect_replies, reply_of, request_of
+from service import NO_LINKS, expect_replies, reply_of, request_of
 from targets import write_alpha
 
 BAD = reply_of(400, "bad request\n")
@@ -33,7 +33,7 @@ def test_counts_of_host(program):
             for count in range(4):
                 request = request_of(target, ["Host: a"] * count, version=f"HTTP/1.{minor}")
                 cases.append((request, PAGE if accepted[count] else BAD))
-    expect_replies(program, "registry", cases)
+    expect_replies(program, cases)
 
 
 def test_which_fields_are_host(program):
@@ -42,7 +42,7 @@ def test_which_fields_are_host(program):
     for fields, count in FIELDS:
         for minor, accepted in ACCEPTED.items():
             cases.append((request_of("/openurl", fields, version=f"HTTP/1.{minor}"), PAGE if accepted[count] else BAD))
-    expect_replies(program, "registry", cases)
+    expect_replies(program, cases)
 
 
 def test_hosts_are_counted_before_the_method_is_read(program):
@@ -52,4 +52,4 @@ def test_hosts_are_counted_before_the_method_is_read(program):
         for count in range(4):
             request = request_of("/openurl", ["Host: a"] * count, "POST", f"HTTP/1.{minor}")
             cases.append((request, REFUSED if accepted[count] else BAD))
-    expect_replies(program, "registry", cases)
+    expect_replies(program, cases)

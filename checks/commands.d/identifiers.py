@@ -1,5 +1,5 @@
 """How identifiers are compared: without `-` and spaces, small ASCII letters as capitals, all else as it is."""
-from connections import expect_replies, reply_of, request_of
+from service import expect_replies, reply_of, request_of
 from targets import ANY_LINK, write_registry
 
 # All of ASCII, and the characters that a cell can have.
@@ -50,7 +50,7 @@ def test_all_characters(program):
             rows = [row for row, cell in enumerate(cells) if normal(cell) == normal(f"1{character}2")]
             request = request_of(f"/report?{key}=1%{ord(character):02X}2")
             cases.append((request, reported(f"link {rows[0]}" if rows else "no row")))
-        expect_replies(program, "registry", cases)
+        expect_replies(program, cases)
 
 
 def test_dropped_characters(program):
@@ -65,7 +65,7 @@ def test_one_cell(program):
         write_registry(program, [("alpha", ANY_LINK, f"{column}\n0028-083X\n")])
         cases = [(request_of(f"/report?{key}={value}"), reported("link 0")) for value in EQUAL]
         cases += [(request_of(f"/report?{key}={value}"), reported("no row")) for value in OTHER]
-        expect_replies(program, "registry", cases)
+        expect_replies(program, cases)
 
 
 def test_other_cells(program):

@@ -1,5 +1,5 @@
 """Which keys of a request and which columns of a table identify a title: three keys, two columns, each with each."""
-from connections import expect_replies, reply_of, request_of
+from service import expect_replies, reply_of, request_of
 from targets import ANY_LINK, write_registry
 
 KEYS = ["rft.issn", "rft.eissn", "rft.isbn"]
@@ -37,7 +37,7 @@ def test_keys_and_columns(program):
     some = "".join(f"c{at}\t{'link 0' if column in COLUMNS else 'no row'}\n" for at, column in enumerate(columns))
     cases = [(request_of(f"/report?{key}=12345678"), reply_of(200, some)) for key in KEYS]
     cases += [(request_of(f"/report?{key}=12345678"), reply_of(200, none)) for key in OTHER_KEYS]
-    expect_replies(program, "registry", cases)
+    expect_replies(program, cases)
 
 
 TABLE = "print_identifier\tonline_identifier\n1\t2\n3\t\n\t4\n5\t5\n4\t1\n"
@@ -61,7 +61,7 @@ def found(row):
 
 def test_rows(program):
     write_registry(program, [("alpha", ANY_LINK, TABLE)])
-    expect_replies(program, "registry", [(request_of(f"/report?{query}"), found(row)) for query, row in ROWS])
+    expect_replies(program, [(request_of(f"/report?{query}"), found(row)) for query, row in ROWS])
 
 
 def test_first_values(program):
@@ -73,4 +73,4 @@ def test_first_values(program):
             cases.append((request_of(f"/report?{key}={first}&{key}={second}"), found(row)))
         cases.append((request_of(f"/report?{key}&{key}=3"), found(None)))
         cases.append((request_of(f"/report?{key}=&x=1&{key}=3&{key}=5"), found(None)))
-    expect_replies(program, "registry", cases)
+    expect_replies(program, cases)

@@ -1,5 +1,5 @@
 """Names in code files: 1 to 255 bytes from `!` to `~`; a name may come twice."""
-from codes import code
+from assembler import code
 
 # The bytes that a name may have.
 ALLOWED = range(0x21, 0x7F)

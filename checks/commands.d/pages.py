@@ -1,6 +1,6 @@
 """Which targets of requests are pages, and what their query is: all after the first `?`, also a `#`."""
 import string
-from connections import NO_LINKS, expect_replies, reply_of, request_of
+from service import NO_LINKS, expect_replies, reply_of, request_of
 from targets import write_alpha
 
 LINK = "alpha\thttp://e.org/b\n"
@@ -49,13 +49,13 @@ def test_queries(program):
         for query, is_found in QUERIES:
             for target in (path + query, f"http://a{path}{query}"):
                 cases.append((request_of(target), with_link if is_found else without))
-    expect_replies(program, "registry", cases)
+    expect_replies(program, cases)
 
 
 def test_other_paths(program):
     write_alpha(program)
     cases = [(request_of(path + query), NOT_FOUND) for path in PATHS for query in ("", f"?{FOUND}")]
-    expect_replies(program, "registry", cases)
+    expect_replies(program, cases)
 
 
 def test_shorter_and_longer_paths(program):
@@ -64,4 +64,4 @@ def test_shorter_and_longer_paths(program):
     printable = string.ascii_letters + string.digits + string.punctuation
     paths += [page + character for page in PAGES for character in printable if character != "?"]
     cases = [(request_of(path), PAGES[path][0] if path in PAGES else NOT_FOUND) for path in paths]
-    expect_replies(program, "registry", cases)
+    expect_replies(program, cases)

@@ -1,5 +1,6 @@
 """Pages of a service with one target, as whole replies."""
-from service import IN_ITS_YEARS, JOURNAL, register, replies, to_head
+from service import expect_replies, to_head
+from targets import DATE_RULES, JOURNAL, write_registry
 
 
 def reply(kind, length, body):
@@ -32,8 +33,8 @@ PAGES = [
 
 
 def test_pages_of_a_menu(program):
-    register(program, [("alpha", IN_ITS_YEARS, JOURNAL)])
-    replies(program, PAGES)
+    write_registry(program, [("alpha", DATE_RULES, JOURNAL)])
+    expect_replies(program, PAGES)
 
 
 # A row whose link has 65,513 bytes: a page can be longer than a query or a row.
@@ -43,5 +44,5 @@ LONG_PAGE = reply("html", 65591, "<!DOCTYPE html>\n<title>Links</title>\n<ul>\n"
 
 
 def test_a_long_page(program):
-    register(program, [("alpha", IN_ITS_YEARS, LONG_ROW)])
-    replies(program, [(b"GET /openurl?rft.issn=1234567x&rft.date=2003 HTTP/1.1\r\nHost: a\r\n\r\n", LONG_PAGE)])
+    write_registry(program, [("alpha", DATE_RULES, LONG_ROW)])
+    expect_replies(program, [(b"GET /openurl?rft.issn=1234567x&rft.date=2003 HTTP/1.1\r\nHost: a\r\n\r\n", LONG_PAGE)])

@@ -1,8 +1,9 @@
 """Registry files: which are taken, which fault is the first, and what a row and a request have together."""
-from service import JOURNAL, Service, register, reply
+from assembler import FAIL
+from service import expect_replies, reply_of, request_of
+from targets import JOURNAL, write_registry
 
 QUERY = "rft.issn=1234567x"
-FAIL = b"OLK1\0\0\0\0\0\1\2\0\0\0\0\0\0\0"
 
 # A header and one row.
 TABLE = "title_url\nhttp://e.org/a\n"
@@ -73,14 +74,12 @@ def test_a_registry_that_cannot_be_read(program):
 
 
 def reports(program, report):
-    """The report of registry.tsv for the query."""
-    with Service(program, 1) as service:
-        got = service.reply(f"GET /report?{QUERY} HTTP/1.1\r\nHost: a\r\n\r\n")
-    program.expect("the report", got, reply("200 OK", "plain", report))
+    """The report of registry for the query."""
+    expect_replies(program, [(request_of(f"/report?{QUERY}"), reply_of(200, report))])
 
 
 def test_targets_stand_in_the_order_of_the_file(program):
-    register(program, [("b", FAIL, JOURNAL), ("a", FAIL, TABLE)])
+    write_registry(program, [("b", FAIL, JOURNAL), ("a", FAIL, TABLE)])
     reports(program, "b\tno link\na\tno row\n")
 
 
@@ -98,14 +97,14 @@ def test_names_of_targets(program):
     for name in NO_NAMES:
         refuses(program, lines(NAMES + [name]), 3, f"target {name}: BadTargetName")
     takes(program, lines(NAMES))
-    program.write("registry.tsv", lines(NAMES))
+    program.write("registry", lines(NAMES))
     reports(program, f"alpha\tno row\nAlpha\tno row\n.\tno row\n{LONGEST}\tno row\n")
 
 
 def test_a_registry_of_256_targets_is_full(program):
     write_files(program)
     numbered = [f"t{number}" for number in range(256)]
-    program.write("registry.tsv", lines(numbered))
+    program.write("registry", lines(numbered))
     reports(program, "".join(f"{name}\tno row\n" for name in numbered))
     # That there is no room is decided before the name is looked at.
     for name in "one-more", "a b", "t0":
@@ -122,5 +121,5 @@ LINK = ("http://e.org/b?print_identifier=1234-567X&date_first_issue_online=2000&
 
 
 def test_a_row_comes_before_its_request(program):
-    register(program, [("alpha", RULES, JOURNAL)])
-    program.prints(["resolve", "registry.tsv", WITH_CELLS], f"alpha\t{LINK}")
+    write_registry(program, [("alpha", RULES, JOURNAL)])
+    program.prints(["resolve", "registry", WITH_CELLS], f"alpha\t{LINK}")

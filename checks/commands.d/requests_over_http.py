@@ -1,21 +1,21 @@
 """Requests to a service with one target: which page they ask for, or why they are refused."""
-from service import IN_ITS_YEARS, JOURNAL, register, replies, reply, to_head
+from service import NO_LINKS, expect_replies, reply_of, to_head
+from targets import DATE_RULES, JOURNAL, write_registry
 
-HTML = reply("200 OK", "html", "<!DOCTYPE html>\n<title>Links</title>\n<p>No links</p>\n")
-TEXT = reply("200 OK", "plain", "")
-REPORT = reply("200 OK", "plain", "alpha\tno row\n")
-BAD = reply("400 Bad Request", "plain", "bad request\n")
-NOT_FOUND = reply("404 Not Found", "plain", "not found\n")
-TOO_LARGE = reply("431 Request Header Fields Too Large", "plain", "head too large\n")
-TOO_MANY_PAIRS = reply("400 Bad Request", "plain", "query: too many pairs\n")
-WRONG_VERSION = reply("400 Bad Request", "plain", "query: wrong version\n")
-METHOD = (b"HTTP/1.1 405 Method Not Allowed\r\nContent-Type: text/plain; charset=utf-8\r\n"
-          b"Content-Length: 19\r\nConnection: close\r\nAllow: GET, HEAD\r\n\r\nmethod not allowed\n")
+HTML = reply_of(200, NO_LINKS, "html")
+TEXT = reply_of(200, "")
+REPORT = reply_of(200, "alpha\tno row\n")
+BAD = reply_of(400, "bad request\n")
+NOT_FOUND = reply_of(404, "not found\n")
+TOO_LARGE = reply_of(431, "head too large\n")
+TOO_MANY_PAIRS = reply_of(400, "query: too many pairs\n")
+WRONG_VERSION = reply_of(400, "query: wrong version\n")
+METHOD = reply_of(405, "method not allowed\n", allow="Allow: GET, HEAD\r\n")
 
 
 def gives(program, requests):
-    register(program, [("alpha", IN_ITS_YEARS, JOURNAL)])
-    replies(program, requests)
+    write_registry(program, [("alpha", DATE_RULES, JOURNAL)])
+    expect_replies(program, requests)
 
 
 # A method with a target, in a request with one Host field, and the reply.

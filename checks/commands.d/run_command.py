@@ -1,20 +1,10 @@
 """Code files given to `run`: the links of those that are accepted, and why others are refused."""
-from show import LIST_CODE
+from assembler import FAIL, HALT, LIST_FILE, TWENTY_TEXTS
 from verify import UNGUARDED
-
-HALT = b"OLK1\x00\x00\x00\x00\x00\x01\x01\x00\x00\x00\x00\x00\x00\x00"
-FAIL = b"OLK1\x00\x00\x00\x00\x00\x01\x02\x00\x00\x00\x00\x00\x00\x00"
-# Prints the text of `x` twenty times, where it is there.
-TWENTY = (
-    b"OLK1\x00\x01\x00\x00\x00\x17\x00\x01x"
-    + b"\x04\x02\x00\x00\x00\x00\x00\x00\x08\x02\x00\x00\x00\x00\x00\x16"
-    + b"\x0e\x02\x00\x00\x00\x00\x00\x00" * 20
-    + b"\x01\x00\x00\x00\x00\x00\x00\x00"
-)
 
 
 def test_links(program):
-    program.write("members.olk", LIST_CODE)
+    program.write("members.olk", LIST_FILE)
     program.write("halt.olk", HALT)
     program.write("fail.olk", FAIL)
     program.prints(["run", "members.olk", "list=red&list=green&list=blue"], "red,green,blue")
@@ -25,7 +15,7 @@ def test_links(program):
 
 def test_refusals(program):
     program.write("wild.olk", UNGUARDED)
-    program.write("good.olk", LIST_CODE)
+    program.write("good.olk", LIST_FILE)
     # The code's fault comes before the query's.
     program.fails(["run", "wild.olk", "ctx_ver=Z39.88-2005"], 3, "load: KindMismatch at 1, r2")
     program.fails(["run", "good.olk", "ctx_ver=Z39.88-2005"], 3, "query: WrongVersion")
@@ -36,5 +26,5 @@ def test_refusals(program):
 
 def test_a_link_that_might_be_too_long(program):
     # Each of the 20,000 bytes might be written as three.
-    program.write("twenty.olk", TWENTY)
+    program.write("twenty.olk", TWENTY_TEXTS)
     program.fails(["run", "twenty.olk", "x=" + "a" * 20_000], 3, "over budget: 1200000")

@@ -1,5 +1,5 @@
 """Runs of accepted code: the link that it gives for a query, or that it gives none."""
-from assembler import LIST_FILE, code_file
+from assembler import LIST_FILE, code
 
 # What stands as a list in one of its names is a list of the query too, so `list` has no text.
 NAMES = [
@@ -42,7 +42,7 @@ COUNTS = "LIST r0 n1, COUNT r1 r0, COUNT r63 r0, LESS r1 r63 5, HALT, FAIL"
 
 
 def comes_to(program, version, instructions, query, link):
-    program.write("some.olk", code_file(version, NAMES, LITERALS, instructions))
+    program.write("some.olk", code(NAMES, LITERALS, instructions, version))
     if link is NO_LINK:
         program.finds_no_link(["run", "some.olk", query])
     else:

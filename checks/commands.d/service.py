@@ -1,56 +1,29 @@
-"""A registry in the folder of a test, and a service of it: the whole replies that it sends."""
+"""The service of the file `registry`: requests to it, a connection for each, and the whole replies that it sends."""
 import socket, subprocess
 from program import PATH, as_bytes
 
 # The seconds after which a service that does not answer, or does not end, is given up.
 PATIENCE = 30
 
-# Two rows of one journal, in two years.
-JOURNAL = ("print_identifier\ttitle_url\tdate_first_issue_online\tdate_last_issue_online\n"
-           "1234-567X\thttp://e.org/a\t1990\t1995\n1234-567X\thttp://e.org/b\t2000\t\n")
-
-# The link of a row in whose years the request's date is.
-IN_ITS_YEARS = "rule\nwhen rft.date from date_first_issue_online to date_last_issue_online\nlink {+title_url}\n"
-
-
-def register(program, targets):
-    """Writes registry.tsv and the files of its targets: each has a name, rules or the bytes of a code, and a table."""
-    lines = []
-    for number, (name, code, table) in enumerate(targets):
-        if isinstance(code, bytes):
-            program.write(f"{number}.olk", code)
-        else:
-            program.write(f"{number}.rules", code)
-            status = program.run(["compile", f"{number}.rules", f"{number}.olk"])[0]
-            program.expect(f"the rules of {name} are compiled", status, 0)
-        program.write(f"{number}.txt", table)
-        lines.append(f"{name}\t{number}.olk\t{number}.txt\n")
-    program.write("registry.tsv", "".join(lines))
-
-
-def reply(status, kind, body):
-    """The whole reply with this status and its phrase, this kind of text, and this body."""
-    body = as_bytes(body)
-    return (f"HTTP/1.1 {status}\r\nContent-Type: text/{kind}; charset=utf-8\r\n"
-            f"Content-Length: {len(body)}\r\nConnection: close\r\n\r\n").encode() + body
-
-
-def to_head(whole):
-    """The reply to HEAD, where GET has this whole one."""
-    return whole[:whole.index(b"\r\n\r\n") + 4]
+PHRASES = {
+    200: "OK", 400: "Bad Request", 404: "Not Found", 405: "Method Not Allowed",
+    431: "Request Header Fields Too Large", 503: "Service Unavailable",
+}
+NO_LINKS = "<!DOCTYPE html>\n<title>Links</title>\n<p>No links</p>\n"
 
 
 class Service:
-    """`serve registry.tsv 0 COUNT`, which is to end once it has served as many connections as there are requests."""
+    """`serve registry 0 COUNT`, which is to end, without a fault, once it has served that number of connections."""
 
     def __init__(self, program, count):
         self.program, self.count = program, count
 
     def __enter__(self):
-        self.process = subprocess.Popen([PATH, "serve", "registry.tsv", "0", str(self.count)], cwd=self.program.folder,
-                                        stdin=subprocess.DEVNULL, stdout=subprocess.PIPE, stderr=subprocess.PIPE)
+        pipe, arguments = subprocess.PIPE, [PATH, "serve", "registry", "0", str(self.count)]
+        how = {"cwd": self.program.folder, "stdin": subprocess.DEVNULL, "stdout": pipe, "stderr": pipe}
+        self.process = subprocess.Popen(arguments, **how)
         line = self.process.stdout.readline().decode()
-        self.program.expect("where the service listens", line[:len("listening 127.0.0.1:")], "listening 127.0.0.1:")
+        self.program.expect("where the service listens", line.rpartition(":")[0], "listening 127.0.0.1")
         self.port = int(line.rpartition(":")[2] or 0)
         return self
 
@@ -81,8 +54,25 @@ class Service:
         return received
 
 
-def replies(program, requests):
-    """A service of registry.tsv gives each of these requests the reply that stands after it."""
-    with Service(program, len(requests)) as service:
-        for request, wanted in requests:
+def expect_replies(program, cases):
+    """A service gives each of these requests the reply that stands after it."""
+    with Service(program, len(cases)) as service:
+        for request, wanted in cases:
             program.expect(f"the reply to {str(request)[:200]}", service.reply(request), wanted)
+
+
+def request_of(target, fields=("Host: a",), method="GET", version="HTTP/1.1"):
+    lines = [f"{method} {target} {version}", *fields, "", ""]
+    return "\r\n".join(lines).encode()
+
+
+def reply_of(status, body, kind="plain", allow=""):
+    """The whole reply with this status, and a body of this kind of text."""
+    body = as_bytes(body)
+    head = f"HTTP/1.1 {status} {PHRASES[status]}\r\nContent-Type: text/{kind}; charset=utf-8\r\n"
+    return as_bytes(f"{head}Content-Length: {len(body)}\r\nConnection: close\r\n{allow}\r\n") + body
+
+
+def to_head(reply):
+    """The reply to HEAD, where GET has this one."""
+    return reply[: reply.index(b"\r\n\r\n") + 4]

@@ -1,6 +1,6 @@
 """Which of several faults of a command is named: that of its first step."""
 import itertools, socket
-from codes import code
+from assembler import code
 from targets import ANY_LINK
 
 # Steps of commands in their order: for each step an argument without a fault, and arguments with one, and the fault.

@@ -1,12 +1,11 @@
 """Holdings tables of a target, as the menu and the report of one target show them: rows, cells, limits, faults."""
-import socket, subprocess
-from program import PATH
+from service import Service, request_of
 
 
 def with_table(program, table):
     """A registry of one target, whose code is that of the last rules."""
     program.write("table.txt", table)
-    program.write("registry.tsv", "t\tsome.olk\ttable.txt\n")
+    program.write("registry", "t\tsome.olk\ttable.txt\n")
 
 
 def with_rules(program, *guards):
@@ -19,7 +18,7 @@ def with_rules(program, *guards):
 
 def links(program, query, link):
     """The link that the menu has of the target, or None."""
-    arguments = ["resolve", "registry.tsv", query]
+    arguments = ["resolve", "registry", query]
     if link is None:
         program.finds_no_link(arguments)
     else:
@@ -28,16 +27,8 @@ def links(program, query, link):
 
 def report(program, query):
     """The page /report of a service of the registry."""
-    program.runs += 1
-    service = subprocess.Popen([PATH, "serve", "registry.tsv", "0", "1"], cwd=program.folder, stdout=subprocess.PIPE)
-    address = service.stdout.readline().split()[-1].decode()
-    host, port = address.split(":")
-    with socket.create_connection((host, int(port)), timeout=60) as asked:
-        asked.sendall(f"GET /report?{query} HTTP/1.1\r\nHost: {address}\r\n\r\n".encode())
-        reply = asked.makefile("rb").read()
-    service.stdout.close()
-    program.expect("the service's status", service.wait(60), 0)
-    return reply.partition(b"\r\n\r\n")[2]
+    with Service(program, 1) as service:
+        return service.reply(request_of(f"/report?{query}")).partition(b"\r\n\r\n")[2]
 
 
 def numbered(table, end="\n"):
@@ -248,6 +239,6 @@ def test_faults(program):
     for table, kind in TABLES:
         with_table(program, table)
         if kind:
-            program.fails(["resolve", "registry.tsv", "rft.issn=7"], 3, f"target t: table: {kind}")
+            program.fails(["resolve", "registry", "rft.issn=7"], 3, f"target t: table: {kind}")
         else:
             links(program, "rft.issn=7", None)

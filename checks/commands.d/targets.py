@@ -1,5 +1,5 @@
-"""Registries of targets: files for their codes and tables, and the registry's own."""
-from codes import code
+"""Registries of targets: files for their codes and tables, and the file `registry`."""
+from assembler import code
 
 # The code that gives `http://e.org/` for every row and request.
 ANY_LINK = code([], [("link", "http://e.org/")], "EMIT l0, HALT")
@@ -12,19 +12,21 @@ JOURNAL = (
 DATE_RULES = "rule\nwhen rft.date from date_first_issue_online to date_last_issue_online\nlink {+title_url}\n"
 
 
-def write_registry(program, targets, name="registry"):
-    """Writes the registry of the targets, each a name, a code and a table."""
+def write_registry(program, targets):
+    """Writes the registry of the targets: each has a name, the bytes of a code or its rules, and a table."""
     lines = []
-    for number, (target, target_code, table) in enumerate(targets):
-        program.write(f"{number}.olk", target_code)
+    for number, (name, given, table) in enumerate(targets):
+        if isinstance(given, bytes):
+            program.write(f"{number}.olk", given)
+        else:
+            program.write(f"{number}.rules", given)
+            status = program.run(["compile", f"{number}.rules", f"{number}.olk"])[0]
+            program.expect(f"the rules of {name} are compiled", status, 0)
         program.write(f"{number}.tsv", table)
-        lines.append(f"{target}\t{number}.olk\t{number}.tsv\n")
-    program.write(name, "".join(lines))
+        lines.append(f"{name}\t{number}.olk\t{number}.tsv\n")
+    program.write("registry", "".join(lines))
 
 
 def write_alpha(program):
     """Writes the registry of one target, alpha, with the journal and its rules."""
-    program.write("alpha.rules", DATE_RULES)
-    program.prints(["compile", "alpha.rules", "alpha.olk"], "251 bytes")
-    program.write("alpha.tsv", JOURNAL)
-    program.write("registry", "alpha\talpha.olk\talpha.tsv\n")
+    write_registry(program, [("alpha", DATE_RULES, JOURNAL)])

@@ -1,6 +1,6 @@
 """Code files given to `upgrade`: version 2 of them, and what stays where there is none."""
 import os
-from show import LIST_CODE
+from assembler import LIST_FILE
 
 # The old path, the new one, the status and the fault.
 REFUSED = [
@@ -13,24 +13,24 @@ REFUSED = [
 
 
 def test_version_2(program):
-    program.write("old.olk", LIST_CODE)
+    program.write("old.olk", LIST_FILE)
     program.write("new.olk", "what stood there")
     # The second time a file is upgraded into its own place.
     for old in "old.olk", "new.olk":
         program.prints(["upgrade", old, "new.olk"], "68 bytes")
-        program.expect("new.olk", program.read("new.olk"), b"OLK2" + LIST_CODE[4:])
+        program.expect("new.olk", program.read("new.olk"), b"OLK2" + LIST_FILE[4:])
         program.expect("new.olk.new is there", program.has("new.olk.new"), False)
-    program.expect("old.olk", program.read("old.olk"), LIST_CODE)
+    program.expect("old.olk", program.read("old.olk"), LIST_FILE)
 
 
 def test_what_stands_there_stays(program):
-    program.write("kept.olk", LIST_CODE)
+    program.write("kept.olk", LIST_FILE)
     program.write("no.olk", "no code")
     program.write("taken.olk.new", "another's")
     os.mkdir(f"{program.folder}/folder")
     for old, new, status, fault in REFUSED:
         program.fails(["upgrade", old, new], status, fault)
-    program.expect("kept.olk", program.read("kept.olk"), LIST_CODE)
+    program.expect("kept.olk", program.read("kept.olk"), LIST_FILE)
     program.expect("taken.olk.new", program.read("taken.olk.new"), b"another's")
     for name in "folder.new", "taken.olk":
         program.expect(f"{name} is there", program.has(name), False)

@@ -1,5 +1,5 @@
 """Code that is accepted, with the bounds of its steps and its output, and why other code is not."""
-from assembler import LIST_FILE, code_file, instruction
+from assembler import LIST_FILE, code, instruction
 
 # A text, a list, and link and comparison texts by turns.
 NAMES = [("text", "x"), ("list", "list")]
@@ -71,7 +71,7 @@ KINDS = [
 def test_kinds(program):
     for instructions, verdict in KINDS:
         for version in (1, 2):
-            decides(program, code_file(version, NAMES, LITERALS, instructions), verdict)
+            decides(program, code(NAMES, LITERALS, instructions, version), verdict)
 
 
 COMMA = [("link", ",")]
@@ -116,5 +116,5 @@ BUDGETS = [
 
 def test_budgets(program):
     for version, names, literals, instructions, bounds in BUDGETS:
-        program.write("some.olk", code_file(version, names, literals, instructions))
+        program.write("some.olk", code(names, literals, instructions, version))
         program.prints(["verify", "some.olk"], f"ok\n{bounds}")

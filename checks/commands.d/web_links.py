@@ -1,7 +1,7 @@
 """Which links are web links, and so on a menu: those that begin with `http://` or `https://`, in either case."""
 import itertools
-from codes import code
-from connections import expect_replies, reply_of, request_of
+from assembler import code
+from service import expect_replies, reply_of, request_of
 from targets import write_registry
 
 # Links that are none, though near to one.
@@ -46,7 +46,7 @@ def test_web_links(program):
     menu = [f"t{number}\t{link}" for number, link in enumerate(links) if has_scheme(link)]
     program.prints(["resolve", "registry", "rft.issn=1"], "\n".join(menu))
     lines = [f"t{number}\t{'link 0' if has_scheme(link) else 'not a web link'}\n" for number, link in enumerate(links)]
-    expect_replies(program, "registry", [(request_of("/report?rft.issn=1"), reply_of(200, "".join(lines)))])
+    expect_replies(program, [(request_of("/report?rft.issn=1"), reply_of(200, "".join(lines)))])
 
 
 def test_the_two_lists(program):
