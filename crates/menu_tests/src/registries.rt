@@ -44,7 +44,7 @@ const QUERY: &[u8] = b"rft.issn=1234567x&title_url=http%3A%2F%2Fevil.example&lis
 /// How many bytes the environment of the second row and the request has, if there is such a row.
 fn bytes_of_second(alloc: Global) -> Result<Option<usize>, Fail> {
     let mut registry = Registry::new(alloc);
-    if let Err(error) = add(alloc, &mut registry, "alpha", FAIL_CODE)? {
+    if let Err(error) = add(alloc, &mut registry, "alpha", LIST_CODE)? {
         return Err(Fail::from(error.kind));
     }
     let [target] = registry.targets() else {
