@@ -1,18 +1,24 @@
 -- A reply that was written, whole or in part, as the outcome of an exchange.
-use Rattle.std.proofs.Common.{◌≡◌, ℕ, ◌<◌, Bool, false, List, Option, Result, Ok, Err, IfErr, IfOk, length, subst, sym}
+use Rattle.std.proofs.Common.{◌≡◌, ℕ, ◌<◌, ◌++◌, Bool, false, List, Result, Ok, Err, length, subst, sym, ap, ◌∙◌}
 use Rattle.registry.specs.Targets.{TargetValue}
 use Rattle.http_streams.specs.HeadReading.{IsReadWhole}
+use Rattle.http_streams.specs.Streams.{Heard, Said}
 use Rattle.http_streams.specs.declared.read.TheConstants.{MAX_HEAD_BYTES}
 use Rattle.http_request.specs.Routes.{IsRouted, RouteValue}
-use Rattle.http_front.specs.Replies.{ReplyValue, printed, unavailable}
+use Rattle.http_front.specs.Replies.{ReplyValue, head_of, printed, sent_body, unavailable}
 use Rattle.http_front.specs.RouteReplies.{IsReplyTo}
-use Rattle.http_front.specs.Exchange.{IsFault, IsReply, IsReplyToInput, IsSent, IsServed, front, no_memory, no_room, request}
+use Rattle.http_front.specs.Exchange.{IsExchange, IsReply, IsReplyToInput, IsSent, front, no_memory, no_room, request}
 use Rattle.http_front.specs.declared.exchange.Served.{Served}
 use Rattle.http_front.specs.declared.exchange.Served.TheVariants.{Nothing, Replied}
 use Rattle.http_front.specs.declared.exchange.ServeError.{ServeError}
 use Rattle.http_front.specs.declared.exchange.ServeError.TheVariants.{ReadFault, WriteFault}
 
 -- ---- which reply
+
+-- a head and a body make the whole reply
+pub head-body : (reply : ReplyValue) (without_body : Bool) (head body : List ℕ) → head ≡ head_of reply → body ≡ sent_body reply without_body
+    → head ++ body ≡ printed reply without_body
+head-body reply without_body head body e f = ap (λ (t : List ℕ). t ++ body) e ∙ ap (λ (t : List ℕ). head_of reply ++ t) f
 
 pub reply-front : (targets : List TargetValue) (bytes : List ℕ) (route : RouteValue) (without_body : Bool) (reply : ReplyValue) (status : ℕ) (text : List ℕ)
     → IsRouted bytes route without_body → IsReplyTo targets route reply → status ≡ reply.status → text ≡ printed reply without_body
@@ -26,13 +32,13 @@ pub reply-no_memory : (targets : List TargetValue) (bytes : List ℕ) (route : R
 reply-no_memory targets bytes route without_body text routed f =
     subst (λ (t : List ℕ). IsReply targets bytes 503 t) (sym f) (no_memory route without_body routed)
 
-pub reply-no_room : (targets : List TargetValue) (old new : Option (List ℕ)) (text : List ℕ)
+pub reply-no_room : (targets : List TargetValue) (old new : Heard) (text : List ℕ)
     → new ≡ old → text ≡ printed unavailable false → IsReplyToInput targets old new 503 text
 reply-no_room targets old new text unread f =
     subst (λ (t : List ℕ). IsReplyToInput targets old new 503 t) (sym f) (no_room unread)
 
 -- the bytes that were read are lent to what makes the reply
-pub reply-request : (targets : List TargetValue) (old new : Option (List ℕ)) (bytes lent : List ℕ) (status : ℕ) (reply : List ℕ)
+pub reply-request : (targets : List TargetValue) (old new : Heard) (bytes lent : List ℕ) (status : ℕ) (reply : List ℕ)
     → IsReadWhole MAX_HEAD_BYTES old bytes new → 0 < length bytes → lent ≡ bytes → IsReply targets lent status reply
     → IsReplyToInput targets old new status reply
 reply-request targets old new bytes lent status reply whole some same is =
@@ -40,15 +46,10 @@ reply-request targets old new bytes lent status reply whole some same is =
 
 -- ---- how far it went
 
-pub served-by_sent : (targets : List TargetValue) (old new before after : Option (List ℕ)) (status : ℕ) (reply : List ℕ) (result : Result Served ServeError)
-    → IsReplyToInput targets old new status reply → IsSent before after status reply result → IfOk result (IsServed targets old new before after)
-served-by_sent targets old new before after status reply (Ok Nothing) to sent = absurd sent
-served-by_sent targets old new before after status reply (Ok (Replied named)) to sent =
+pub exchange-by_sent : (targets : List TargetValue) (old new : Heard) (before after : Said) (status : ℕ) (reply : List ℕ) (result : Result Served ServeError)
+    → IsReplyToInput targets old new status reply → IsSent before status reply result after → IsExchange targets old before result new after
+exchange-by_sent targets old new before after status reply (Ok Nothing) to sent = absurd sent
+exchange-by_sent targets old new before after status reply (Ok (Replied named)) to sent =
     (reply, subst (λ (s : ℕ). IsReplyToInput targets old new s reply) (sym sent.0) to, sent.1)
-served-by_sent targets old new before after status reply (Err e) to sent = tt
-
-pub fault-by_sent : (targets : List TargetValue) (old new before after : Option (List ℕ)) (status : ℕ) (reply : List ℕ) (result : Result Served ServeError)
-    → IsReplyToInput targets old new status reply → IsSent before after status reply result → IfErr result (IsFault targets old new before after)
-fault-by_sent targets old new before after status reply (Ok served) to sent = tt
-fault-by_sent targets old new before after status reply (Err ReadFault) to sent = absurd sent
-fault-by_sent targets old new before after status reply (Err (WriteFault n)) to sent = (status, reply, to, sent.0, sent.1)
+exchange-by_sent targets old new before after status reply (Err ReadFault) to sent = absurd sent
+exchange-by_sent targets old new before after status reply (Err (WriteFault n)) to sent = (status, reply, to, sent.0, sent.1)

@@ -1,12 +1,8 @@
--- The reply for want of memory, written out.
-use Rattle.std.proofs.Common.{◌≡◌, true, false, codes, refl}
+-- The reply if an allocation failed, written out.
+use Rattle.std.proofs.Common.{◌≡◌, codes, refl}
 use Rattle.std.specs.Fmt.{digits}
-use Rattle.http_front.specs.Replies.{printed, unavailable}
+use Rattle.http_front.specs.Replies.{head_of, unavailable}
 
-pub unavailable-whole : codes "HTTP/1.1 503 Service Unavailable\r\nContent-Type: text/plain; charset=utf-8\r\nContent-Length: 14\r\nConnection: close\r\n\r\nout of memory\n" ≡ printed unavailable false
-unfolding digits
-unavailable-whole = refl
-
-pub unavailable-head : codes "HTTP/1.1 503 Service Unavailable\r\nContent-Type: text/plain; charset=utf-8\r\nContent-Length: 14\r\nConnection: close\r\n\r\n" ≡ printed unavailable true
+pub unavailable-head : codes "HTTP/1.1 503 Service Unavailable\r\nContent-Type: text/plain; charset=utf-8\r\nContent-Length: 14\r\nConnection: close\r\n\r\n" ≡ head_of unavailable
 unfolding digits
 unavailable-head = refl

@@ -13,7 +13,7 @@ pub record ReplyValue : Type 0 where
 abbrev pub plain : ℕ → Text → ReplyValue
 plain status body = record { status = status; html = false; body = body }
 
--- the reply for want of memory (RFC 9110, section 15.6.4)
+-- the reply if an allocation failed (RFC 9110, section 15.6.4)
 abbrev pub unavailable : ReplyValue
 unavailable = plain 503 (codes "out of memory\n")
 
@@ -38,8 +38,11 @@ type_line html =
 abbrev pub length_line : ℕ → Text
 length_line length = codes "Content-Length: " ++ (decimal length ++ codes "\r\n")
 
--- the status with its phrase, the fields, an empty line, and the body
-abbrev pub printed : ReplyValue → Bool → Text
-printed reply without_body =
+-- the status with its phrase, the fields, and an empty line
+abbrev pub head_of : ReplyValue → Text
+head_of reply =
     status_line reply.status ++ type_line reply.html ++ length_line (length reply.body) ++ codes "Connection: close\r\n"
-    ++ allow_line reply.status ++ codes "\r\n" ++ sent_body reply without_body
+    ++ allow_line reply.status ++ codes "\r\n"
+
+abbrev pub printed : ReplyValue → Bool → Text
+printed reply without_body = head_of reply ++ sent_body reply without_body

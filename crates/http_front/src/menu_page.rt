@@ -4,7 +4,7 @@ ghost use Rattle.std.specs.Prelude.{◌≡◌, ◌≤◌, IfOk, length, string_b
 ghost use Rattle.kev_read.specs.Refusal.{refusal};
 ghost use Rattle.kev_read.specs.declared.read.TheConstants.{MAX_QUERY_BYTES};
 ghost use Rattle.http_request.specs.Routes.{query_length, route_value};
-ghost use Rattle.http_front.specs.Replies.{ReplyValue, printed};
+ghost use Rattle.http_front.specs.Replies.{head_of};
 ghost use Rattle.http_front.specs.RouteReplies as spec;
 
 use crate::reply::Reply;
@@ -92,17 +92,17 @@ pub(crate) fn reply_for(
     }
 }
 
-/// The status and the bytes of the reply to a request.
+/// The reply to a request, and the bytes of its head.
 pub(crate) fn print_reply(
     alloc: Global,
     registry: &Registry,
     request: HttpRequest<'_>,
-) -> Result<(u16, String), AllocError>
+) -> Result<(Reply, String), AllocError>
     requires { query_length (route_value request.route) ≤ MAX_QUERY_BYTES }
-    ensures { IfOk result (λ made. (reply : ReplyValue) × spec.IsReplyTo registry.now (route_value request.entry.route) reply
-        × (made.0 ≡ reply.status) × (string_bytes made.1 ≡ printed reply request.entry.without_body)) }
+    ensures reply { IfOk result (λ made. spec.IsReplyTo registry.now (route_value request.entry.route) made.0) }
+    ensures head { IfOk result (λ made. string_bytes made.1 ≡ head_of made.0) }
 {
     let reply = reply_for(alloc, registry, request.route)?;
-    let text = reply.print(alloc, request.without_body)?;
-    Ok((reply.status(), text))
+    let head = reply.head(alloc)?;
+    Ok((reply, head))
 }

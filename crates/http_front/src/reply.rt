@@ -1,6 +1,6 @@
 //! Replies, and how they are printed.
 
-ghost use Rattle.std.specs.Prelude.{◌≡◌, ◌++◌, IfOk, OnOk, false, length, string_bytes};
+ghost use Rattle.std.specs.Prelude.{◌≡◌, ◌++◌, IfOk, OnOk, length, string_bytes};
 ghost use Rattle.http_front.specs.Replies as spec;
 
 use http::StatusCode;
@@ -80,16 +80,16 @@ impl Reply {
         }
     }
 
-    // The body that is sent.
-    fn sent_body(&self, without_body: bool) -> &str
+    /// The body that is sent: none if only the head was requested.
+    pub(crate) fn sent_body(&self, without_body: bool) -> &str
         ensures { result.now ≡ spec.sent_body self.now without_body }
     {
         if without_body { "" } else { self.body.as_str() }
     }
 
-    /// The bytes of the reply (RFC 9112, section 2.1), without the body where only the head was asked for.
-    pub(crate) fn print(&self, alloc: Global, without_body: bool) -> Result<String, AllocError>
-        ensures { IfOk result (λ text. string_bytes text ≡ spec.printed self.now without_body) }
+    /// The bytes before the body (RFC 9112, section 2.1).
+    pub(crate) fn head(&self, alloc: Global) -> Result<String, AllocError>
+        ensures { IfOk result (λ text. string_bytes text ≡ spec.head_of self.now) }
     {
         let mut text = String::new(alloc);
         self.push_status_line(&mut text)?;
@@ -98,31 +98,29 @@ impl Reply {
         text.push_str("Connection: close\r\n")?;
         text.push_str(self.allow_line())?;
         text.push_str("\r\n")?;
-        text.push_str(self.sent_body(without_body))?;
         Ok(text)
     }
 }
 
-// The reply for want of memory, which takes none, and its head alone.
-const UNAVAILABLE: &[u8] =
-    b"HTTP/1.1 503 Service Unavailable\r\nContent-Type: text/plain; charset=utf-8\r\n\
-    Content-Length: 14\r\nConnection: close\r\n\r\nout of memory\n";
-
-const UNAVAILABLE_HEAD: &[u8] =
-    b"HTTP/1.1 503 Service Unavailable\r\nContent-Type: text/plain; charset=utf-8\r\n\
-    Content-Length: 14\r\nConnection: close\r\n\r\n";
-
-/// The status of that reply.
+/// The status of the reply if an allocation failed.
 pub(crate) const NO_MEMORY: u16 = 503;
 
-/// The bytes of the reply for want of memory.
-pub(crate) fn unavailable(without_body: bool) -> &'static [u8]
-    ensures bytes { result.now ≡ spec.printed spec.unavailable without_body }
+/// The head of that reply, which takes no allocation.
+pub(crate) fn unavailable_head() -> &'static [u8]
+    ensures bytes { result.now ≡ spec.head_of spec.unavailable }
     ensures status { NO_MEMORY ≡ spec.unavailable.status }
 {
+    b"HTTP/1.1 503 Service Unavailable\r\nContent-Type: text/plain; charset=utf-8\r\n\
+    Content-Length: 14\r\nConnection: close\r\n\r\n"
+}
+
+/// The body of that reply that is sent: none if only the head was requested.
+pub(crate) fn unavailable_body(without_body: bool) -> &'static [u8]
+    ensures { result.now ≡ spec.sent_body spec.unavailable without_body }
+{
     if without_body {
-        UNAVAILABLE_HEAD
+        b""
     } else {
-        UNAVAILABLE
+        b"out of memory\n"
     }
 }

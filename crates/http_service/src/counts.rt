@@ -1,7 +1,7 @@
 //! How connections went.
 
 ghost use Rattle.std.specs.Prelude.{◌≡◌, ◌+◌, ◌<◌};
-ghost use Rattle.http_service.specs.Private.Counting.{counted};
+ghost use Rattle.http_service.specs.Connections.{counted, none_yet};
 
 use http_front::{ServeError, Served};
 
@@ -12,14 +12,14 @@ pub struct Counts {
     pub replied: u32,
     /// The peer sent nothing, and nothing was written.
     pub nothing: u32,
-    /// A read or a write failed, or took too long.
+    /// A read or a write failed, or took too long; or the connection does not take the time-out.
     pub faults: u32,
 }
 
 impl Counts {
     /// No connection yet.
     pub(crate) fn new() -> Counts
-        ensures { result ≡ record { replied = 0; nothing = 0; faults = 0 } }
+        ensures { result ≡ none_yet }
     {
         Counts {
             replied: 0,

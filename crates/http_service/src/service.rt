@@ -1,74 +1,69 @@
 //! A listener's connections, one after the other.
 
-ghost use Rattle.std.specs.Prelude.{◌≡◌, ◌+◌, IfOk};
+ghost use Rattle.std.specs.Prelude.{◌≡◌, IfOk, OnErr};
+ghost use Rattle.std.specs.Duration.{as_nanos};
+ghost use Rattle.http_service.specs.Connections.{Connection, IsAccepted, IsServed, ServesAll, StopsEarly, outcome};
 
 use crate::counts::Counts;
 use http_front::{ServeError, Served, serve_one};
-use http_streams::Wire;
+use http_streams::Listener;
 use registry::Registry;
 use std::alloc::Global;
 use std::io;
-use std::net::{TcpListener, TcpStream};
 use std::time::Duration;
 
-/// How long a read or a write of a service may take, in seconds.
-const WAIT_SECONDS: u64 = 2;
-
 /// Serves `count` connections of the listener as [`serve_within`] does, with a wait of 2 seconds.
-pub fn serve_on(
+pub fn serve_on<L: Listener>(
     alloc: Global,
-    listener: &TcpListener,
+    listener: &mut L,
     count: u32,
     registry: &Registry,
 ) -> io::Result<Counts>
-    ensures counted { IfOk result (λ counts. counts.replied + counts.nothing + counts.faults ≡ count) }
-    ensures wait { WAIT_SECONDS ≡ 2 }
+    ensures served { IfOk result (ServesAll registry.now L.gives L.closes L.In.heard L.Out.said 2_000_000_000 count listener.old listener.new) }
+    ensures stopped { OnErr result (StopsEarly registry.now L.gives L.closes L.fails L.In.heard L.Out.said 2_000_000_000 count listener.old listener.new) }
 {
-    serve_within(
-        alloc,
-        listener,
-        count,
-        registry,
-        Duration::from_secs(WAIT_SECONDS),
-    )
+    serve_within(alloc, listener, count, registry, Duration::from_secs(2))
 }
 
 /// Serves `count` connections of the listener, one after the other: each has one exchange, as
-/// [`serve_one`](http_front::serve_one) has it. A read or a write that takes longer than `wait` has failed; so a silent
-/// peer holds the service for one wait, and one that sends a byte within each wait for up to 16,384 of them. A
-/// connection that takes no time-out, as under a wait of 0, is not read, and counts with the faults.
+/// [`serve_one`](http_front::serve_one) has it, and is closed before the next is accepted. A read or a write that takes
+/// longer than `wait` has failed. So a peer that sends nothing holds the service for one wait, and one that sends a byte
+/// within each wait for up to 16,384 of them. A connection that does not take the time-out, as for a wait of 0, is not
+/// read, and counts with the faults.
 ///
-/// An error of the listener, where it gives no connection; the rest is then not served.
-pub fn serve_within(
+/// The error is that of the listener, if it cannot accept a connection; no more are served then.
+pub fn serve_within<L: Listener>(
     alloc: Global,
-    listener: &TcpListener,
+    listener: &mut L,
     count: u32,
     registry: &Registry,
     wait: Duration,
 ) -> io::Result<Counts>
-    ensures { IfOk result (λ counts. counts.replied + counts.nothing + counts.faults ≡ count) }
+    ensures served { IfOk result (ServesAll registry.now L.gives L.closes L.In.heard L.Out.said (as_nanos wait) count listener.old listener.new) }
+    ensures stopped { OnErr result (StopsEarly registry.now L.gives L.closes L.fails L.In.heard L.Out.said (as_nanos wait) count listener.old listener.new) }
 {
     let mut counts = Counts::new();
     for _served in 0..count {
-        let (stream, _) = listener.accept()?;
-        counts.add(exchange(alloc, &stream, registry, wait));
+        counts.add(serve_next(alloc, listener, registry, wait)?);
     }
     Ok(counts)
 }
 
-/// One exchange over a connection.
-fn exchange(
+/// Accepts a connection, serves it, and closes it.
+fn serve_next<L: Listener>(
     alloc: Global,
-    stream: &TcpStream,
+    listener: &mut L,
     registry: &Registry,
     wait: Duration,
-) -> Result<Served, ServeError> {
-    let limited = stream.set_read_timeout(Some(wait)).is_ok()
-        && stream.set_write_timeout(Some(wait)).is_ok();
-    if !limited {
-        return Err(ServeError::ReadFault);
-    }
-    let mut input = Wire::new(stream);
-    let mut output = Wire::new(stream);
-    serve_one(alloc, &mut input, &mut output, registry)
+) -> io::Result<Result<Served, ServeError>>
+    ensures served { IfOk result (λ exchange. (c : Connection L.In L.Out) × IsAccepted L.gives L.closes listener.old c listener.new
+        × IsServed registry.now L.In.heard L.Out.said (as_nanos wait) c × (exchange ≡ outcome c)) }
+    ensures stopped { OnErr result (L.fails listener.old listener.new) }
+{
+    let Some((mut input, mut output)) = listener.accept(wait)? else {
+        return Ok(Err(ServeError::ReadFault));
+    };
+    let served = serve_one(alloc, &mut input, &mut output, registry);
+    listener.close((input, output));
+    Ok(served)
 }

@@ -1,2 +1,3 @@
 pub mod ClosedLemmas
+pub mod Counts
 pub mod StreamLemmas

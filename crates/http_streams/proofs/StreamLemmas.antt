@@ -1,37 +1,132 @@
 -- Reads and writes that follow one another.
-use Rattle.std.proofs.Common.{◌≡◌, ℕ, ◌+◌, List, [], ◌++◌, Option, Some, None, take, drop, sym, ap, ◌∙◌, append_assoc}
-use Rattle.std.proofs.Math.Seq.{take-add}
-use Rattle.http_streams.specs.Streams.{Reads, Writes, IsAtEnd}
+use Rattle.std.proofs.Common.{◌≡◌, ℕ, ◌+◌, ◌<◌, ◌≤◌, List, [], ◌++◌, Option, Some, None, length, take, drop, refl, sym, ap, ◌∙◌, subst, append_assoc, arith}
+use Rattle.std.proofs.Common.{inr}
+use Rattle.std.proofs.Math.Nat.{add-zero}
+use Rattle.std.proofs.Math.Seq.{take-add, take-append-add}
+use Rattle.std.proofs.lemmas.List.{append-nil, length-append, length-take-le, take-append-le}
+use Rattle.http_streams.specs.HeadReading.{IsReadWhole}
+use Rattle.http_streams.specs.Streams.{Heard, Hears, IsAtEnd, Reads, Said, Says, SaysInPart, Writes, after_failed_write, raised}
+use Rattle.http_streams.proofs.Counts.{raised-more, raised-none}
 
--- what two reads gave was read
-pub Reads-append : (before between after : Option (List ℕ)) (first second : List ℕ)
+-- ---- bytes, where they are told
+
+Reads-none : (bytes : Option (List ℕ)) → Reads bytes [] bytes
+Reads-none (Some bytes) = refl
+Reads-none None = tt
+
+Reads-append : (before between after : Option (List ℕ)) (first second : List ℕ)
     → Reads before first between → Reads between second after → Reads before (first ++ second) after
 Reads-append (Some before) (Some between) (Some after) first second one two =
     one ∙ ap (λ x. first ++ x) two ∙ sym (append_assoc first second after)
 Reads-append (Some before) (Some between) None first second one two = two
 Reads-append (Some before) None after first second one two = absurd one
 Reads-append None (Some between) after first second one two = absurd one
-Reads-append None None after first second one two = elim after as (λ a. Reads None second a → Reads None (first ++ second) a) [ Some x ↦ λ h. h | None ↦ λ h. h ] two
+Reads-append None None (Some after) first second one two = two
+Reads-append None None None first second one two = tt
 
--- what two writes took was written
-pub Writes-take : (before between after : Option (List ℕ)) (bytes : List ℕ) (i n : ℕ)
-    → Writes before (take i bytes) between → Writes between (take n (drop i bytes)) after
-    → Writes before (take (i + n) bytes) after
-Writes-take (Some before) (Some between) (Some after) bytes i n one two =
-    two ∙ ap (λ x. x ++ take n (drop i bytes)) one ∙ append_assoc before (take i bytes) (take n (drop i bytes))
-    ∙ ap (λ x. before ++ x) (sym (take-add i n bytes))
-Writes-take (Some before) (Some between) None bytes i n one two = two
-Writes-take (Some before) None after bytes i n one two = absurd one
-Writes-take None (Some between) after bytes i n one two = absurd one
-Writes-take None None after bytes i n one two = elim after as (λ a. Writes None (take n (drop i bytes)) a → Writes None (take (i + n) bytes) a) [ Some x ↦ λ h. h | None ↦ λ h. h ] two
+Writes-none : (bytes : Option (List ℕ)) → Writes bytes [] bytes
+Writes-none (Some bytes) = sym (append-nil bytes)
+Writes-none None = tt
+
+Writes-append : (before between after : Option (List ℕ)) (first second : List ℕ)
+    → Writes before first between → Writes between second after → Writes before (first ++ second) after
+Writes-append (Some before) (Some between) (Some after) first second one two =
+    two ∙ ap (λ x. x ++ second) one ∙ append_assoc before first second
+Writes-append (Some before) (Some between) None first second one two = two
+Writes-append (Some before) None after first second one two = absurd one
+Writes-append None (Some between) after first second one two = absurd one
+Writes-append None None (Some after) first second one two = two
+Writes-append None None None first second one two = tt
 
 -- a read of nothing leaves the end of the input the end
-pub IsAtEnd-read : (before after : Option (List ℕ)) → IsAtEnd before → Reads before [] after → IsAtEnd after
+IsAtEnd-read : (before after : Option (List ℕ)) → IsAtEnd before → Reads before [] after → IsAtEnd after
 IsAtEnd-read (Some before) (Some after) ended read = sym read ∙ ended
 IsAtEnd-read (Some before) None ended read = tt
 IsAtEnd-read None (Some after) ended read = absurd read
 IsAtEnd-read None None ended read = tt
 
--- the front of a room after one read more
+-- ---- inputs
+
+pub Hears-none : (heard : Heard) → Hears heard [] 0 heard
+Hears-none heard = record { left = Reads-none heard.left; taken = sym (raised-none heard.taken); failures = refl; wait = refl }
+
+-- what two reads gave was read
+pub Hears-append : (before between after : Heard) (first second : List ℕ) (i n : ℕ)
+    → Hears before first i between → Hears between second n after → Hears before (first ++ second) (i + n) after
+Hears-append before between after first second i n one two = record {
+  left = Reads-append before.left between.left after.left first second one.left two.left;
+  taken = two.taken ∙ ap (λ (t : ℕ). raised t n) one.taken ∙ raised-more before.taken i n;
+  failures = two.failures ∙ one.failures;
+  wait = two.wait ∙ one.wait;
+}
+
+-- at the end of the input a read of nothing leaves the bytes that were read before
+Hears-end : (before between after : Heard) (bytes : List ℕ) (i : ℕ)
+    → Hears before bytes i between → Hears between [] 0 after → Hears before bytes i after
+Hears-end before between after bytes i one two =
+    subst (λ (k : ℕ). Hears before bytes k after) (add-zero i)
+    (subst (λ (b : List ℕ). Hears before b (i + 0) after) (append-nil bytes) (Hears-append before between after bytes [] i 0 one two))
+
+-- all is read where a read gives nothing
+pub read-ended : (most : ℕ) (before between after : Heard) (old new rest : List ℕ) (i n : ℕ) → n ≡ 0 → i ≤ most → i ≤ length new
+    → take i new ≡ take i old → Hears before (take i old) i between → Hears between (take n rest) n after → IsAtEnd between.left
+    → IsReadWhole most before (take i new) after
+read-ended most before between after old new rest i n none few fits kept one two ended =
+    let length_is : length (take i new) ≡ i = length-take-le i new fits in
+    let nothing : Hears between [] 0 after = subst (λ (k : ℕ). Hears between (take k rest) k after) none two in
+    let all : Hears before (take i new) i after =
+    subst (λ (b : List ℕ). Hears before b i after) (sym kept) (Hears-end before between after (take i old) i one nothing) in
+    record {
+      read = subst (λ (k : ℕ). Hears before (take i new) k after) (sym length_is) all;
+      limit = omega (arith, length_is);
+      stopped = inr (inr (IsAtEnd-read between.left after.left ended nothing.left));
+    }
+
+-- the first bytes of a room after one read more
 pub take-read : (old new : List ℕ) (i n : ℕ) → take i new ≡ take i old → take (i + n) new ≡ take i old ++ take n (drop i new)
 take-read old new i n kept = take-add i n new ∙ ap (λ x. x ++ take n (drop i new)) kept
+
+-- ---- outputs
+
+pub Says-none : (said : Said) → Says said [] 0 said
+Says-none said = record { written = Writes-none said.written; sent = sym (raised-none said.sent); failures = refl; wait = refl }
+
+-- what two writes took was written
+pub Says-append : (before between after : Said) (first second : List ℕ) (i n : ℕ)
+    → Says before first i between → Says between second n after → Says before (first ++ second) (i + n) after
+Says-append before between after first second i n one two = record {
+  written = Writes-append before.written between.written after.written first second one.written two.written;
+  sent = two.sent ∙ ap (λ (t : ℕ). raised t n) one.sent ∙ raised-more before.sent i n;
+  failures = two.failures ∙ one.failures;
+  wait = two.wait ∙ one.wait;
+}
+
+pub Says-take : (before between after : Said) (bytes : List ℕ) (i n : ℕ)
+    → Says before (take i bytes) i between → Says between (take n (drop i bytes)) n after → Says before (take (i + n) bytes) (i + n) after
+Says-take before between after bytes i n one two =
+    subst (λ (b : List ℕ). Says before b (i + n) after) (sym (take-add i n bytes))
+    (Says-append before between after (take i bytes) (take n (drop i bytes)) i n one two)
+
+-- ---- two texts, one after the other
+
+pub Says-both : (before between after : Said) (first second : List ℕ)
+    → Says before first (length first) between → Says between second (length second) after
+    → Says before (first ++ second) (length (first ++ second)) after
+Says-both before between after first second one two =
+    subst (λ (n : ℕ). Says before (first ++ second) n after) (sym (length-append first second))
+    (Says-append before between after first second (length first) (length second) one two)
+
+pub SaysInPart-first : (before after : Said) (first second : List ℕ) (n : ℕ) → n < length first
+    → SaysInPart before (take n first) n after → SaysInPart before (take n (first ++ second)) n after
+SaysInPart-first before after first second n few said =
+    subst (λ (b : List ℕ). SaysInPart before b n after) (sym (take-append-le n first second (omega arith))) said
+
+pub SaysInPart-second : (before between after : Said) (first second : List ℕ) (n : ℕ)
+    → Says before first (length first) between → SaysInPart between (take n second) n after
+    → SaysInPart before (take (length first + n) (first ++ second)) (length first + n) after
+SaysInPart-second before between after first second n one two = record {
+  before = two.before;
+  said = subst (λ (b : List ℕ). Says before b (length first + n) two.before) (sym (take-append-add first second n))
+      (Says-append before between two.before first (take n second) (length first) n one two.said);
+  failed = two.failed;
+}

@@ -1,16 +1,18 @@
 -- How far the head of a request is read.
-use Rattle.std.specs.Prelude.{◌≡◌, ℕ, ◌<◌, ◌≤◌, ◌⊎◌, List, length, true, false, Option}
+use Rattle.std.specs.Prelude.{◌≡◌, ℕ, ◌<◌, ◌≤◌, ◌⊎◌, List, length, true, false}
 use Rattle.http_streams.specs.Closing.{is_closed}
-use Rattle.http_streams.specs.Streams.{Reads, IsAtEnd}
+use Rattle.http_streams.specs.Streams.{Heard, Hears, IsAtEnd, after_failed_read}
 
 -- the bytes were read, and nothing more is: they are closed or as many as may be read, or the input has ended
-pub record IsReadWhole (most : ℕ) (old : Option (List ℕ)) (bytes : List ℕ) (new : Option (List ℕ)) : Type 0 where
-  pub read : Reads old bytes new
+pub record IsReadWhole (most : ℕ) (old : Heard) (bytes : List ℕ) (new : Heard) : Type 0 where
+  pub read : Hears old bytes (length bytes) new
   pub limit : length bytes ≤ most
-  pub stopped : (is_closed bytes ≡ true) ⊎ (length bytes ≡ most) ⊎ IsAtEnd new
+  pub stopped : (is_closed bytes ≡ true) ⊎ (length bytes ≡ most) ⊎ IsAtEnd new.left
 
--- the bytes were read, and more were asked for: they are open and fewer than may be read
-pub record IsReadInPart (most : ℕ) (old : Option (List ℕ)) (bytes : List ℕ) (new : Option (List ℕ)) : Type 0 where
-  pub read : Reads old bytes new
+-- the bytes were read, and then a read failed that asked for more: they are open and fewer than may be read
+pub record IsReadInPart (most : ℕ) (old : Heard) (bytes : List ℕ) (new : Heard) : Type 0 where
+  pub before : Heard
+  pub read : Hears old bytes (length bytes) before
+  pub failed : new ≡ after_failed_read before
   pub limit : length bytes < most
   pub open_so_far : is_closed bytes ≡ false

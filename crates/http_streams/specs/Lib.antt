@@ -1,4 +1,5 @@
 pub mod Streams
+pub mod Sockets
 pub mod Closing
 pub mod HeadReading
 pub mod Private

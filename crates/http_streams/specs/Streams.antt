@@ -1,5 +1,29 @@
--- What a stream tells of its bytes, and what the streams over memory have.
-use Rattle.std.specs.Prelude.{◌≡◌, ℕ, ◌+◌, ◌-◌, ◌==◌, List, [], ◌++◌, Bool, Option, Some, None, if◌then◌else◌}
+-- What a stream tells of itself, and what a call of it changes.
+use Rattle.std.specs.Prelude.{◌≡◌, ℕ, ◌+◌, ◌-◌, ◌^◌, List, [], ◌++◌, Option, Some, None, min}
+
+-- a count after that many more of what it counts; it stops at the greatest number of 64 bits
+unfoldable pub raised : ℕ → ℕ → ℕ
+raised count more = count + min more (2 ^ 64 - 1 - count)
+
+-- ---- what a stream tells
+
+-- of an input: the bytes that are left to read, where it tells them; in any case how many bytes were read and how many reads
+-- have failed; and the nanoseconds that a read may take, where it tells them
+pub record Heard : Type 0 where
+  pub left : Option (List ℕ)
+  pub taken : ℕ
+  pub failures : ℕ
+  pub wait : Option ℕ
+
+-- of an output: the bytes that were written, where it tells them; in any case how many they are and how many writes have
+-- failed; and the nanoseconds that a write may take, where it tells them
+pub record Said : Type 0 where
+  pub written : Option (List ℕ)
+  pub sent : ℕ
+  pub failures : ℕ
+  pub wait : Option ℕ
+
+-- ---- bytes, where they are told
 
 -- the bytes were read: what was left is they, and then what is left now
 abbrev pub Reads : Option (List ℕ) → List ℕ → Option (List ℕ) → Type 0
@@ -20,34 +44,49 @@ abbrev pub IsAtEnd : Option (List ℕ) → Type 0
 IsAtEnd (Some left) = left ≡ []
 IsAtEnd None = Unit {0}
 
--- one more failure after a call that failed
-abbrev pub failures_after : Bool → ℕ → ℕ
-failures_after failed failures = if failed then failures + 1 else failures
+-- nothing was written, as far as the stream tells
+abbrev pub IsBlank : Option (List ℕ) → Type 0
+IsBlank (Some written) = written ≡ []
+IsBlank None = Unit {0}
 
--- how many calls are still to come before the one that fails, after one call more
-abbrev pub after_call : Option ℕ → Option ℕ
-after_call None = None
-after_call (Some calls) = if calls == 0 then None else Some (calls - 1)
+-- ---- calls
 
--- a tape: what is left to read, what was written, and how many calls have failed
-pub record TapeValue : Type 0 where
-  pub left : List ℕ
-  pub written : List ℕ
-  pub failures : ℕ
+-- the bytes, which are that many, were read, and no read failed
+pub record Hears (old : Heard) (bytes : List ℕ) (count : ℕ) (new : Heard) : Type 0 where
+  pub left : Reads old.left bytes new.left
+  pub taken : new.taken ≡ raised old.taken count
+  pub failures : new.failures ≡ old.failures
+  pub wait : new.wait ≡ old.wait
 
--- which call fails: how many come before it, if it is still to come, and how many have failed
-pub record FaultValue : Type 0 where
-  pub fails_after : Option ℕ
-  pub failures : ℕ
+-- a read failed, and changed nothing else
+abbrev pub after_failed_read : Heard → Heard
+after_failed_read heard = record heard { failures = raised heard.failures 1 }
 
--- an input that gives at most a piece a read
-pub record PieceInValue : Type 0 where
-  pub left : List ℕ
-  pub piece : ℕ
-  pub fault : FaultValue
+-- the bytes, which are that many, were written, and no write failed
+pub record Says (old : Said) (bytes : List ℕ) (count : ℕ) (new : Said) : Type 0 where
+  pub written : Writes old.written bytes new.written
+  pub sent : new.sent ≡ raised old.sent count
+  pub failures : new.failures ≡ old.failures
+  pub wait : new.wait ≡ old.wait
 
--- an output that takes at most a piece a write
-pub record PieceOutValue : Type 0 where
-  pub written : List ℕ
-  pub piece : ℕ
-  pub fault : FaultValue
+-- a write failed, and changed nothing else
+abbrev pub after_failed_write : Said → Said
+after_failed_write said = record said { failures = raised said.failures 1 }
+
+-- the bytes, which are that many, were written, and then a write failed
+pub record SaysInPart (old : Said) (bytes : List ℕ) (count : ℕ) (new : Said) : Type 0 where
+  pub before : Said
+  pub said : Says old bytes count before
+  pub failed : new ≡ after_failed_write before
+
+-- ---- connections
+
+-- the streams of a new connection, each of whose calls may take that many nanoseconds
+pub record AreFresh (wait : ℕ) (heard : Heard) (said : Said) : Type 0 where
+  pub nothing_read : heard.taken ≡ 0
+  pub no_failed_read : heard.failures ≡ 0
+  pub read_wait : heard.wait ≡ Some wait
+  pub nothing_written : IsBlank said.written
+  pub nothing_sent : said.sent ≡ 0
+  pub no_failed_write : said.failures ≡ 0
+  pub write_wait : said.wait ≡ Some wait

@@ -9,7 +9,7 @@ use thiserror::Error;
 /// Why a head is not read.
 #[derive(Clone, Copy, Debug, PartialEq, Eq, Error)]
 pub enum HeadError {
-    /// The room for it was refused; nothing was read.
+    /// An allocation failed before anything was read.
     #[error("NoMemory")]
     NoMemory,
     /// A read failed.

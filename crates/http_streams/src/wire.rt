@@ -1,54 +1,158 @@
-//! A stream over a socket.
+//! Streams over a socket.
 
-ghost use Rattle.std.specs.Prelude.{◌≡◌, ◌<◌, IfOk, length};
+ghost use Rattle.std.specs.Prelude.{◌≡◌, ◌<◌, None, Some, IfOk, IfSome, length};
+ghost use Rattle.std.specs.Duration.{as_nanos};
 ghost use Rattle.std.specs.Io.{ReadsAtMost, WritesAtMost};
 ghost use Rattle.std.specs.Io.KnownBytes.{ReadConsumes, WriteAppends};
 
 use crate::stream::{Failed, Input, Output};
+use crate::tally::Tally;
 use std::io::{Read, Write};
 use std::marker::Model;
 use std::net::TcpStream;
+use std::time::Duration;
 
-/// A socket, which does not tell its bytes. Contracts see how many of its calls have failed.
+/// A socket that is lent. It does not tell its bytes, nor how long a call may take.
 #[derive(Drop)]
 pub struct Wire<'a> {
     stream: &'a TcpStream,
-    failures: u64,
+    tally: Tally,
 }
 
 impl<'a> Model for Wire<'a> {
-    ghost use Rattle.std.specs.Prelude.{ℕ};
+    ghost use Rattle.std.specs.Prelude.{None};
+    ghost use Rattle.http_streams.specs.Sockets.{WireValue};
 
-    ghost Value = { ℕ };
+    ghost Value = { WireValue };
 
-    ghost view = { λ wire. wire.failures };
+    ghost view = { λ wire. record { tally = wire.tally; wait = None } };
 }
 
 impl<'a> Wire<'a> {
     /// A stream over the socket, of which no call has failed.
     pub fn new(stream: &'a TcpStream) -> Wire<'a>
-        ensures { result ≡ 0 }
+        ensures { result ≡ record { tally = record { moved = 0; failures = 0 }; wait = None } }
     {
         Wire {
             stream,
-            failures: 0,
+            tally: Tally::new(),
         }
     }
 }
 
 impl<'a> Input for Wire<'a> {
-    ghost use Rattle.std.specs.Prelude.{None};
+    ghost use Rattle.http_streams.specs.Sockets.{heard_on};
 
-    ghost left = { λ _. None };
-
-    ghost failures = { λ failures. failures };
+    ghost heard = { heard_on };
 
     fn read(&mut self, room: &mut [u8]) -> Result<usize, Failed> {
         let mut stream = self.stream;
         match read_from(&mut stream, room) {
-            Ok(n) => Ok(n),
+            Ok(n) => {
+                self.tally.add(n);
+                Ok(n)
+            }
             Err(Failed) => {
-                self.failures += 1;
+                self.tally.fail();
+                Err(Failed)
+            }
+        }
+    }
+}
+
+impl<'a> Output for Wire<'a> {
+    ghost use Rattle.http_streams.specs.Sockets.{said_on};
+
+    ghost said = { said_on };
+
+    #[tactic(auto, using(crate::proofs::Counts::counts))]
+    fn write(&mut self, bytes: &[u8]) -> Result<usize, Failed> {
+        if bytes.is_empty() {
+            return Ok(0);
+        }
+        let mut stream = self.stream;
+        match write_to(&mut stream, bytes) {
+            Ok(n) => {
+                self.tally.add(n);
+                Ok(n)
+            }
+            Err(Failed) => {
+                self.tally.fail();
+                Err(Failed)
+            }
+        }
+    }
+}
+
+/// One direction of an accepted connection. It does not tell its bytes, but how long a call may take.
+#[derive(Drop)]
+pub struct TimedWire {
+    stream: TcpStream,
+    tally: Tally,
+    wait: Duration,
+}
+
+impl Model for TimedWire {
+    ghost use Rattle.std.specs.Prelude.{Some};
+    ghost use Rattle.std.specs.Duration.{as_nanos};
+    ghost use Rattle.http_streams.specs.Sockets.{WireValue};
+
+    ghost Value = { WireValue };
+
+    ghost view = { λ wire. record { tally = wire.tally; wait = Some (as_nanos wire.wait) } };
+}
+
+impl TimedWire {
+    /// A stream over the socket, each of whose calls may take `wait`. `None` if the socket does not take that time-out.
+    pub(crate) fn new(stream: TcpStream, wait: Duration) -> Option<TimedWire>
+        ensures { IfSome result (λ wire. wire ≡ record { tally = record { moved = 0; failures = 0 }; wait = Some (as_nanos wait) }) }
+    {
+        stream.set_read_timeout(Some(wait)).ok()?;
+        stream.set_write_timeout(Some(wait)).ok()?;
+        Some(TimedWire {
+            stream,
+            tally: Tally::new(),
+            wait,
+        })
+    }
+}
+
+impl Input for TimedWire {
+    ghost use Rattle.http_streams.specs.Sockets.{heard_on};
+
+    ghost heard = { heard_on };
+
+    fn read(&mut self, room: &mut [u8]) -> Result<usize, Failed> {
+        match read_from(&mut self.stream, room) {
+            Ok(n) => {
+                self.tally.add(n);
+                Ok(n)
+            }
+            Err(Failed) => {
+                self.tally.fail();
+                Err(Failed)
+            }
+        }
+    }
+}
+
+impl Output for TimedWire {
+    ghost use Rattle.http_streams.specs.Sockets.{said_on};
+
+    ghost said = { said_on };
+
+    #[tactic(auto, using(crate::proofs::Counts::counts))]
+    fn write(&mut self, bytes: &[u8]) -> Result<usize, Failed> {
+        if bytes.is_empty() {
+            return Ok(0);
+        }
+        match write_to(&mut self.stream, bytes) {
+            Ok(n) => {
+                self.tally.add(n);
+                Ok(n)
+            }
+            Err(Failed) => {
+                self.tally.fail();
                 Err(Failed)
             }
         }
@@ -66,29 +170,7 @@ fn read_from<R: Read>(reader: &mut R, room: &mut [u8]) -> Result<usize, Failed>
     }
 }
 
-impl<'a> Output for Wire<'a> {
-    ghost use Rattle.std.specs.Prelude.{None};
-
-    ghost written = { λ _. None };
-
-    ghost failures = { λ failures. failures };
-
-    fn write(&mut self, bytes: &[u8]) -> Result<usize, Failed> {
-        if bytes.is_empty() {
-            return Ok(0);
-        }
-        let mut stream = self.stream;
-        match write_to(&mut stream, bytes) {
-            Ok(n) => Ok(n),
-            Err(Failed) => {
-                self.failures += 1;
-                Err(Failed)
-            }
-        }
-    }
-}
-
-/// One write of a writer. One that takes nothing has failed, since it would be asked for ever.
+/// One write of a writer. A write that takes nothing has failed, since it would be repeated for ever.
 fn write_to<W: Write>(writer: &mut W, bytes: &[u8]) -> Result<usize, Failed>
     ensures within { WritesAtMost result bytes.now }
     ensures some { IfOk result (λ n. 0 < n) }

@@ -1,19 +1,16 @@
 //! The writing of a whole reply.
 
-ghost use Rattle.std.specs.Prelude.{◌≡◌, ◌<◌, ◌+◌, length, take, IfErr, OnErr, OnOk};
-ghost use Rattle.http_streams.specs.Streams.{Writes};
+ghost use Rattle.std.specs.Prelude.{◌≡◌, ◌<◌, ◌++◌, length, take, IfErr, OnOk};
+ghost use Rattle.http_streams.specs.Streams.{Says, SaysInPart};
 
 use crate::stream::{Failed, Output};
 
-/// Writes all of the bytes, in as many writes as it takes. Refuses where a write fails, and says how many of
-/// the bytes, the first ones, went out before.
+/// Writes all of the bytes, in as many writes as it takes. Returns, if a write fails, how many of the bytes, the
+/// first ones, went out before.
 pub fn write_all<O: Output>(output: &mut O, bytes: &[u8]) -> Result<(), usize>
-    requires { O.failures output.old < u64.MAX }
-    ensures all { OnOk result (Writes (O.written output.old) bytes.now (O.written output.new)) }
-    ensures first { IfErr result (λ n. Writes (O.written output.old) (take n bytes.now) (O.written output.new)) }
+    ensures all { OnOk result (Says (O.said output.old) bytes.now (length bytes.now) (O.said output.new)) }
+    ensures first { IfErr result (λ n. SaysInPart (O.said output.old) (take n bytes.now) n (O.said output.new)) }
     ensures in_part { IfErr result (λ n. n < length bytes.now) }
-    ensures ok { OnOk result (O.failures output.new ≡ O.failures output.old) }
-    ensures failed { OnErr result (O.failures output.new ≡ O.failures output.old + 1) }
 {
     let mut sent: usize = 0;
     while sent < bytes.len() {
@@ -23,4 +20,17 @@ pub fn write_all<O: Output>(output: &mut O, bytes: &[u8]) -> Result<(), usize>
         }
     }
     Ok(())
+}
+
+/// Writes all of `first` and then all of `second`, as [`write_all`] writes them joined, and joins them nowhere.
+pub fn write_both<O: Output>(output: &mut O, first: &[u8], second: &[u8]) -> Result<(), usize>
+    ensures all { OnOk result (Says (O.said output.old) (first.now ++ second.now) (length (first.now ++ second.now)) (O.said output.new)) }
+    ensures front { IfErr result (λ n. SaysInPart (O.said output.old) (take n (first.now ++ second.now)) n (O.said output.new)) }
+    ensures in_part { IfErr result (λ n. n < length (first.now ++ second.now)) }
+{
+    write_all(output, first)?;
+    match write_all(output, second) {
+        Ok(()) => Ok(()),
+        Err(sent) => Err(first.len() + sent),
+    }
 }

@@ -2,10 +2,10 @@
 
 use crate::{REPLY, REQUEST};
 use http_front::{ServeError, Served, serve_one};
-use http_streams::{PieceIn, PieceOut};
 use registry::Registry;
 use std::process::Abort;
 use std::test::Fail;
+use streams_in_memory::{PieceIn, PieceOut};
 
 /// The request's input gives and its output takes `piece` bytes at a time, and they fail so: how the exchange goes then,
 /// and what is written.

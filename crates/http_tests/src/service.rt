@@ -1,13 +1,15 @@
-//! How connections on loopback are counted.
+//! How connections are served and counted, over memory and on loopback.
 
-use crate::REQUEST;
+use crate::{REPLY, REQUEST};
 use http_service::{Counts, serve_on, serve_within};
+use http_streams::{Listener, Loopback, Ports};
 use registry::Registry;
-use std::alloc::Global;
+use std::alloc::{AllocError, Global};
 use std::io::{self, Write};
-use std::net::{Net, SocketAddr, TcpListener, TcpStream};
+use std::net::{Ipv4Addr, Net, SocketAddr, TcpStream};
 use std::test::Fail;
 use std::time::Duration;
+use streams_in_memory::Peers;
 
 /// What peers send: one closes the connection at once, one is silent before its head has ended.
 const SENT: [&[u8]; 5] = [b"", b"GET /x HTTP/1.1\r\n", REQUEST, REQUEST, REQUEST];
@@ -39,9 +41,9 @@ fn peers<R: Net<Stream = TcpStream> + AllocGlobal>(
 }
 
 /// How `count` connections went, where a read may take this number of milliseconds, if given: replies, nothing, faults.
-fn counted(
+fn counted<L: Listener>(
     alloc: Global,
-    listener: &TcpListener,
+    listener: &mut L,
     count: u32,
     wait: Option<u64>,
 ) -> io::Result<(u32, u32, u32)> {
@@ -72,10 +74,42 @@ const COUNTED: [(u32, Option<u64>, (u32, u32, u32)); 3] = [
 
 #[test]
 fn counts_each_way(rt: HostRuntime) -> Result<(), Fail> {
-    let listener = TcpListener::bind(&rt, "127.0.0.1:0")?;
-    let _peers = peers(&rt, listener.local_addr()?)?;
+    let (mut listener, port) = Loopback::new(&rt).bind(0)?;
+    let _peers = peers(&rt, SocketAddr::from((Ipv4Addr::LOCALHOST, port)))?;
     for (count, wait, wanted) in COUNTED {
-        assert_eq!(rt; counted(rt.alloc(), &listener, count, wait)?, wanted);
+        assert_eq!(rt; counted(rt.alloc(), &mut listener, count, wait)?, wanted);
     }
+    Ok(())
+}
+
+/// Peers in memory that send this.
+fn peers_in_memory(alloc: Global) -> Result<Peers, AllocError> {
+    let mut peers = Peers::new(alloc);
+    for bytes in SENT {
+        peers.add(bytes)?;
+    }
+    Ok(peers)
+}
+
+/// The reply to a head that does not end, in part.
+const BAD: &[u8] = b"HTTP/1.1 400 Bad Request\r\n";
+
+#[test]
+fn serves_peers_in_memory(rt: HostRuntime) -> Result<(), Fail> {
+    let mut peers = peers_in_memory(rt.alloc())?;
+    assert_eq!(rt; counted(rt.alloc(), &mut peers, 3, None)?, (2, 1, 0));
+    assert_eq!(rt; peers.reply(0), Some(b"".as_slice()));
+    assert!(rt; peers.reply(1).is_some_and(|reply| reply.starts_with(BAD)));
+    assert_eq!(rt; peers.reply(2), Some(REPLY.as_slice()));
+    assert_eq!(rt; peers.reply(3), None);
+    assert_eq!(rt; counted(rt.alloc(), &mut peers, 1, Some(0))?, (0, 0, 1));
+    Ok(())
+}
+
+#[test]
+fn ends_when_no_peer_is_left(rt: HostRuntime) -> Result<(), Fail> {
+    let mut peers = peers_in_memory(rt.alloc())?;
+    assert!(rt; counted(rt.alloc(), &mut peers, 6, None).is_err());
+    assert_eq!(rt; peers.reply(4), Some(REPLY.as_slice()));
     Ok(())
 }

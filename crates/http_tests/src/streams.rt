@@ -2,10 +2,11 @@
 
 use crate::REQUEST;
 use http_streams::{
-    Failed, HeadError, Input, MAX_HEAD_BYTES, Output, PieceIn, PieceOut, Tape, read_head, write_all,
+    Failed, HeadError, Input, MAX_HEAD_BYTES, Output, read_head, write_all, write_both,
 };
 use std::alloc::{AllocError, Global};
 use std::test::Fail;
+use streams_in_memory::{PieceIn, PieceOut, Tape};
 
 /// How many bytes are read as a head of these, at most a piece at a time, where read number `fail_at` fails; all bytes
 /// that there can be, where other ones are read.
@@ -84,7 +85,10 @@ fn leaves_what_is_no_head(rt: HostRuntime) -> Result<(), Fail> {
 
 const DIGITS: &[u8; 10] = b"0123456789";
 
-/// The digits go out so, at most a piece at a time, where write number `fail_at` fails, and this is written. The call after
+/// The digits in two parts.
+const PARTS: (&[u8], &[u8]) = (b"0123", b"456789");
+
+/// The digits go out so, in two parts and at most a piece at a time, where write number `fail_at` fails, and this is written. The call after
 /// the one that fails is done.
 fn go_out(
     alloc: Global,
@@ -94,7 +98,8 @@ fn go_out(
     written: &[u8],
 ) -> Result<bool, AllocError> {
     let mut output = PieceOut::new(alloc, piece.max(1), fail_at)?;
-    let went = write_all(&mut output, DIGITS) == wanted && output.written() == written;
+    let (first, rest) = PARTS;
+    let went = write_both(&mut output, first, rest) == wanted && output.written() == written;
     Ok(output.write(b"") == Ok(0) && went)
 }
 
@@ -114,6 +119,7 @@ fn writes_in_pieces_up_to_a_failure(rt: HostRuntime) -> Result<(), Fail> {
         );
     }
     assert!(rt; go_out(rt.alloc(), 4, Some(2), Err(8), b"01234567")?);
+    assert!(rt; go_out(rt.alloc(), 3, Some(3), Err(7), b"0123456")?);
     Ok(())
 }
 

@@ -1,6 +1,12 @@
-use Rattle.std.proofs.Common.{◌≡◌, ◌+◌, ◌≤◌}
+use Rattle.std.proofs.Common.{◌≡◌, ◌≤◌, List, length}
+use Rattle.std.specs.Duration.{as_nanos}
+use Rattle.http_service.specs.Connections.{AreServed, Connection, counts_of}
 use Rattle.http_service.proofs.service.serve_within.Given as goal
 
--- each connection so far is counted once
+-- as many connections as the number of the turn were served, and each is counted by how it ended
 abbrev pub invariant-loop-served : goal.invariant-loop-served
-invariant-loop-served l = (l.counts.replied + l.counts.nothing + l.counts.faults ≡ l._served) × (l._served ≤ l.count)
+invariant-loop-served g l =
+    ((all : List (Connection g.row.L-In.Denot g.row.L-Out.Denot))
+    × AreServed l.registry g.L.Listener.gives g.L.Listener.closes g.L.In.Input.heard g.L.Out.Output.said (as_nanos l.wait) l.fn.listener all l.listener
+    × (length all ≡ l._served) × (l.counts ≡ counts_of all))
+    × (l._served ≤ l.count)

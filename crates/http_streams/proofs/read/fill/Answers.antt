@@ -1,7 +1,15 @@
-use Rattle.std.proofs.Common.{◌≡◌, ◌∙◌, arith, ap, sym, List, ℕ, ◌+◌, ◌-◌, ◌++◌, take, drop, append_assoc}
+use Rattle.std.proofs.Common.{◌≡◌, ◌∙◌, arith, ap, sym, refl, List, ℕ, ◌+◌, ◌-◌, ◌++◌, take, drop, append_assoc}
 use Rattle.http_streams.specs.Closing.{is_closed}
-use Rattle.http_streams.proofs.StreamLemmas.{Reads-append, take-read}
+use Rattle.http_streams.proofs.StreamLemmas.{Hears-append, Hears-none, read-ended, take-read}
 use Rattle.http_streams.proofs.read.fill.Goals as goal
+
+pub loop-filled-init : goal.loop-filled-init
+loop-filled-init g c = record {
+  within = omega arith;
+  room = refl;
+  read = Hears-none (g.I.Input.heard c.args.input.now);
+  progress = λ more. refl;
+}
 
 pub loop-filled-preserved : goal.loop-filled-preserved
 loop-filled-preserved g c =
@@ -15,9 +23,13 @@ loop-filled-preserved g c =
     record {
       within = c.in_ok-n.ensures.within;
       room = omega arith;
-      read = rw front (Reads-append _ _ _ _ _ c.loop-filled.invariant.read c.in_ok-n.ensures.read);
-      failures = c.in_ok-n.ensures.ok ∙ c.loop-filled.invariant.failures;
+      read = rw front (Hears-append _ _ _ _ _ _ _ c.loop-filled.invariant.read c.in_ok-n.ensures.read);
       progress = λ more.
           (rw asked at (c.after_all-progress.ensures more)) ∙ c.loop-filled.invariant.progress (part ++ more)
           ∙ ap is_closed (sym (append_assoc (take i old) part more) ∙ ap (λ x. x ++ more) (sym front));
     }
+
+pub returns-then-n-eq0-clause-whole : goal.returns-then-n-eq0-clause-whole
+returns-then-n-eq0-clause-whole g c =
+    read-ended _ _ _ _ _ _ _ _ _ c.if-n-eq0.true (omega (arith, c.loop-filled.invariant.within, c.loop-filled.invariant.room)) (omega arith)
+    c.in_ok-n.ensures.kept c.loop-filled.invariant.read c.in_ok-n.ensures.read (c.in_ok-n.ensures.end c.if-n-eq0.true)

@@ -1,16 +1,15 @@
 use Rattle.std.proofs.Common.{◌≡◌, ◌≤◌, ◌-◌, ℕ, List, ◌++◌, length, take}
 use Rattle.http_streams.specs.Closing.{is_closed}
 use Rattle.http_streams.specs.Private.Progress.{closes_with}
-use Rattle.http_streams.specs.Streams.{Reads}
+use Rattle.http_streams.specs.Streams.{Hears}
 use Rattle.http_streams.proofs.read.fill.Given as goal
 
--- the front of the room was read, no read has failed, and the progress says what more closes it
+-- the first bytes of the room were read, no read has failed, and the progress says what more closes them
 abbrev pub invariant-loop-filled : goal.invariant-loop-filled
 invariant-loop-filled g l = record {
   within : l.filled ≤ length l.room;
   room : length l.room ≡ length l.fn.room;
-  read : Reads (g.I.Input.left l.fn.input) (take l.filled l.room) (g.I.Input.left l.input);
-  failures : g.I.Input.failures l.input ≡ g.I.Input.failures l.fn.input;
+  read : Hears (g.I.Input.heard l.fn.input) (take l.filled l.room) l.filled (g.I.Input.heard l.input);
   progress : (more : List ℕ) → closes_with l.progress more ≡ is_closed (take l.filled l.room ++ more);
 }
 

@@ -1,0 +1,24 @@
+use Rattle.std.proofs.Common.{◌+◌, ◌++◌, ◌∷◌, [], sym, ap, ◌∙◌, arith, length-append}
+use Rattle.std.specs.Duration.{as_nanos}
+use Rattle.http_service.specs.Connections.{counted, counts_of, outcome}
+use Rattle.http_service.proofs.ServedLemmas.{served-one_more, counts-one_more, total, total-counts}
+use Rattle.http_service.proofs.service.serve_within.Goals as goal
+
+pub add-requires : goal.add-requires
+add-requires g c =
+    let so_far = c.loop-served.invariant.0 in
+    omega (arith, total-counts so_far.0, so_far.2, ap total so_far.3, c.loop-served-test.true, c.ranges.count)
+
+pub loop-served-preserved : goal.loop-served-preserved
+loop-served-preserved g c =
+    let so_far = c.loop-served.invariant.0 in
+    let next = c.in_ok-serve_next.ensures.served in (
+      (
+        so_far.0 ++ next.0 ∷ [],
+        served-one_more c.args.registry.now g.L.Listener.gives g.L.Listener.closes g.L.In.Input.heard g.L.Out.Output.said (as_nanos c.args.wait)
+            c.args.listener.now c.loop-served.listener c.serve_next.new.listener so_far.0 next.0 so_far.1 next.1 next.2,
+        omega (arith, length-append so_far.0 (next.0 ∷ []), so_far.2),
+        c.add.ensures ∙ ap (λ counts. counted counts c.in_ok-serve_next.field-0) so_far.3 ∙ ap (counted (counts_of so_far.0)) next.3 ∙ sym (counts-one_more so_far.0 next.0),
+      ),
+      omega (arith, c.loop-served-test.true),
+    )

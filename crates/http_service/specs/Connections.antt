@@ -1,0 +1,75 @@
+-- Connections that are served one after the other, and how they are counted.
+use Rattle.std.specs.Prelude.{◌≡◌, ℕ, ◌+◌, ◌<◌, List, [], ◌∷◌, length, map, Option, Some, None, Result, Ok, Err}
+use Rattle.registry.specs.Targets.{TargetValue}
+use Rattle.http_streams.specs.Streams.{Heard, Said, AreFresh}
+use Rattle.http_front.specs.Exchange.{IsExchange}
+use Rattle.http_front.specs.declared.exchange.Served.{Served}
+use Rattle.http_front.specs.declared.exchange.Served.TheVariants.{Nothing, Replied}
+use Rattle.http_front.specs.declared.exchange.ServeError.{ServeError}
+use Rattle.http_front.specs.declared.exchange.ServeError.TheVariants.{ReadFault, WriteFault}
+use Rattle.http_service.specs.declared.counts.Counts.{Counts}
+
+-- ---- connections
+
+-- a connection that was accepted: one that does not take the time-out, and is not read; or one with an exchange: its streams
+-- before, how the exchange ended, and its streams after
+pub data Connection (I O : Type 0) : Type 0 where
+  Unread : Connection I O
+  Exchanged : I → O → Result Served ServeError → I → O → Connection I O
+
+-- how it ended: one that is not read counts as one whose read failed
+abbrev pub outcome : {I O : Type 0} → Connection I O → Result Served ServeError
+outcome Unread = Err ReadFault
+outcome (Exchanged input output result input2 output2) = result
+
+-- its streams were new, each of their calls may take that many nanoseconds, and it had its exchange
+abbrev pub IsServed : {I O : Type 0} → List TargetValue → (I → Heard) → (O → Said) → ℕ → Connection I O → Type 0
+IsServed targets heard said wait Unread = Unit {0}
+IsServed targets heard said wait (Exchanged input output result input2 output2) =
+    AreFresh wait (heard input) (said output) × IsExchange targets (heard input) (said output) result (heard input2) (said output2)
+
+-- the listener gave its streams, and took them back when it ended
+abbrev pub IsAccepted : {L I O : Type 0} → (L → Option (I × O) → L → Type 0) → (L → I × O → L → Type 0) → L → Connection I O → L → Type 0
+IsAccepted gives closes old Unread new = gives old None new
+IsAccepted gives closes old (Exchanged input output result input2 output2) new =
+    (between : _) × gives old (Some (input, output)) between × closes between (input2, output2) new
+
+-- the connections were accepted one after the other, and each was served, and closed before the next
+abbrev pub AreServed : {L I O : Type 0} → List TargetValue → (L → Option (I × O) → L → Type 0) → (L → I × O → L → Type 0)
+    → (I → Heard) → (O → Said) → ℕ → L → List (Connection I O) → L → Type 0
+AreServed targets gives closes heard said wait old [] new = old ≡ new
+AreServed targets gives closes heard said wait old (c ∷ cs) new =
+    (between : _) × IsAccepted gives closes old c between × IsServed targets heard said wait c
+    × AreServed targets gives closes heard said wait between cs new
+
+-- ---- counts
+
+-- one connection more, by how it ended
+abbrev pub counted : Counts → Result Served ServeError → Counts
+counted counts (Ok (Replied status)) = record counts { replied = counts.replied + 1 }
+counted counts (Ok Nothing) = record counts { nothing = counts.nothing + 1 }
+counted counts (Err e) = record counts { faults = counts.faults + 1 }
+
+abbrev pub counted_all : Counts → List (Result Served ServeError) → Counts
+counted_all counts [] = counts
+counted_all counts (r ∷ rs) = counted_all (counted counts r) rs
+
+abbrev pub none_yet : Counts
+none_yet = record { replied = 0; nothing = 0; faults = 0 }
+
+abbrev pub counts_of : {I O : Type 0} → List (Connection I O) → Counts
+counts_of connections = counted_all none_yet (map outcome connections)
+
+-- ---- a service
+
+-- exactly that many connections were served, and these are their counts
+abbrev pub ServesAll : {L I O : Type 0} → List TargetValue → (L → Option (I × O) → L → Type 0) → (L → I × O → L → Type 0)
+    → (I → Heard) → (O → Said) → ℕ → ℕ → L → L → Counts → Type 0
+ServesAll {I = I} {O = O} targets gives closes heard said wait count old new counts = (all : List (Connection I O))
+    × AreServed targets gives closes heard said wait old all new × (length all ≡ count) × (counts ≡ counts_of all)
+
+-- fewer were served, and then none could be accepted
+abbrev pub StopsEarly : {L I O : Type 0} → List TargetValue → (L → Option (I × O) → L → Type 0) → (L → I × O → L → Type 0)
+    → (L → L → Type 0) → (I → Heard) → (O → Said) → ℕ → ℕ → L → L → Type 0
+StopsEarly {L = L} {I = I} {O = O} targets gives closes fails heard said wait count old new = (all : List (Connection I O)) × (last : L)
+    × AreServed targets gives closes heard said wait old all last × (length all < count) × fails last new

@@ -1,2 +1,0 @@
--- Definitions that no contract of a public function cites.
-pub mod Counting

@@ -1,0 +1,16 @@
+-- What a stream over a socket tells of itself.
+use Rattle.std.specs.Prelude.{ℕ, Option, None}
+use Rattle.http_streams.specs.Streams.{Heard, Said}
+use Rattle.http_streams.specs.declared.tally.Tally.{Tally}
+
+-- how many bytes it moved and how many calls have failed, and the nanoseconds that a call may take, where they are known
+pub record WireValue : Type 0 where
+  pub tally : Tally
+  pub wait : Option ℕ
+
+-- its bytes are not told
+abbrev pub heard_on : WireValue → Heard
+heard_on wire = record { left = None; taken = wire.tally.moved; failures = wire.tally.failures; wait = wire.wait }
+
+abbrev pub said_on : WireValue → Said
+said_on wire = record { written = None; sent = wire.tally.moved; failures = wire.tally.failures; wait = wire.wait }

@@ -1,0 +1,75 @@
+//! What connections come from.
+
+ghost use Rattle.std.specs.Prelude.{Option, IfOk, IfSome, OnErr};
+ghost use Rattle.std.specs.Duration.{as_nanos};
+ghost use Rattle.http_streams.specs.Streams.{AreFresh};
+ghost use Rattle.http_streams.specs.Sockets.{heard_on, said_on};
+
+use crate::stream::{Input, Output};
+use crate::wire::TimedWire;
+use std::io;
+use std::net::{TcpListener, TcpStream};
+use std::time::Duration;
+
+/// Connections that come in, one after the other.
+///
+/// What a listener tells are relations between its state before a call and its state after it.
+pub trait Listener {
+    /// What a connection sends.
+    type In: Input + Drop;
+
+    /// What goes out to a connection.
+    type Out: Output + Drop;
+
+    /// A connection was accepted: its two streams, or none, if it does not take the time-out.
+    ghost gives: { Self → Option (Self.In × Self.Out) → Self → Type 0 };
+
+    /// A connection ended, whose streams are these.
+    ghost closes: { Self → Self.In × Self.Out → Self → Type 0 };
+
+    /// A connection could not be accepted.
+    ghost fails: { Self → Self → Type 0 };
+
+    /// Accepts the next connection, and returns its streams, each of whose calls may take `wait`; `None`, if the
+    /// connection does not take that time-out.
+    fn accept(&mut self, wait: Duration) -> io::Result<Option<(Self::In, Self::Out)>>
+        ensures gives { IfOk result (λ streams. gives self.old streams self.new) }
+        ensures fresh { IfOk result (λ streams. IfSome streams (λ pair. AreFresh (as_nanos wait) (Self.In.heard pair.0) (Self.Out.said pair.1))) }
+        ensures fails { OnErr result (fails self.old self.new) };
+
+    /// Ends a connection.
+    fn close(&mut self, streams: (Self::In, Self::Out))
+        ensures { closes self.old streams self.new };
+}
+
+/// The system's listener, which tells nothing.
+impl Listener for TcpListener {
+    type In = TimedWire;
+
+    type Out = TimedWire;
+
+    ghost gives = { λ _ _ _. Unit {0} };
+
+    ghost closes = { λ _ _ _. Unit {0} };
+
+    ghost fails = { λ _ _. Unit {0} };
+
+    fn accept(&mut self, wait: Duration) -> io::Result<Option<(TimedWire, TimedWire)>> {
+        let (stream, _) = TcpListener::accept(self)?;
+        Ok(wires(stream, wait))
+    }
+
+    fn close(&mut self, streams: (TimedWire, TimedWire))
+        ensures { Unit {0} }
+    {
+        drop(streams);
+    }
+}
+
+/// The two directions of a connection. `None` if it does not take the time-out.
+fn wires(stream: TcpStream, wait: Duration) -> Option<(TimedWire, TimedWire)>
+    ensures { IfSome result (λ pair. AreFresh (as_nanos wait) (heard_on pair.0) (said_on pair.1)) }
+{
+    let other = stream.try_clone().ok()?;
+    Some((TimedWire::new(stream, wait)?, TimedWire::new(other, wait)?))
+}

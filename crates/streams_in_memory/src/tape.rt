@@ -1,0 +1,108 @@
+//! A stream over memory.
+
+ghost use Rattle.std.specs.Prelude.{◌≡◌, ◌<◌, ◌≤◌, [], Some, IfOk, OnErr, length, min, take};
+ghost use Rattle.http_streams.specs.Streams.{Hears, IsAtEnd, Says, after_failed_read, after_failed_write};
+ghost use Rattle.streams_in_memory.specs.InMemory.{heard_on_tape, nothing_yet, said_on_tape};
+
+use crate::fault::copy_front;
+use http_streams::{Failed, Input, Output, Tally};
+use std::alloc::{AllocError, Global};
+use std::marker::Model;
+
+/// Bytes to read, and room for what is written. It gives and takes all that it is asked for, and a write fails
+/// if an allocation does.
+#[derive(Drop)]
+pub struct Tape {
+    input: Vec<u8>,
+    read: usize,
+    output: Vec<u8>,
+    reads: Tally,
+    writes: Tally,
+}
+
+impl Model for Tape {
+    ghost use Rattle.std.specs.Prelude.{◌≤◌, drop, vec_len};
+    ghost use Rattle.streams_in_memory.specs.InMemory.{TapeValue};
+
+    ghost Value = { TapeValue };
+
+    ghost view = { λ tape. record { left = drop tape.read tape.input.items; written = tape.output.items; reads = tape.reads; writes = tape.writes } };
+
+    ghost invariant = { λ tape. tape.read ≤ vec_len tape.input };
+}
+
+impl Tape {
+    /// A tape with these bytes to read, and nothing written. The error is a failed allocation.
+    pub fn new(alloc: Global, bytes: &[u8]) -> Result<Tape, AllocError>
+        ensures { IfOk result (λ tape. tape ≡ record { left = bytes.now; written = []; reads = nothing_yet; writes = nothing_yet }) }
+    {
+        Ok(Tape {
+            input: Vec::from_slice(alloc, bytes)?,
+            read: 0,
+            output: Vec::new(alloc),
+            reads: Tally::new(),
+            writes: Tally::new(),
+        })
+    }
+
+    /// What was written.
+    pub fn written(&self) -> &[u8]
+        ensures { result.now ≡ self.now.written }
+    {
+        self.output.as_slice()
+    }
+}
+
+impl Input for Tape {
+    ghost use Rattle.std.specs.Prelude.{Ok};
+    ghost use Rattle.streams_in_memory.specs.InMemory.{heard_on_tape};
+
+    ghost heard = { heard_on_tape };
+
+    // As much as there is, and the room allows.
+    fn read(&mut self, room: &mut [u8]) -> Result<usize, Failed>
+        requires { 0 < length room.old }
+        ensures within { IfOk result (λ n. n ≤ length room.new) }
+        ensures read { IfOk result (λ n. Hears (heard_on_tape self.old) (take n room.new) n (heard_on_tape self.new)) }
+        ensures end { IfOk result (λ n. n ≡ 0 → IsAtEnd (Some self.old.left)) }
+        ensures failed { OnErr result (heard_on_tape self.new ≡ after_failed_read (heard_on_tape self.old)) }
+
+        ensures count { result ≡ Ok (min (length room.old) (length self.old.left)) }
+        ensures written { self.new.written ≡ self.old.written }
+        ensures writes { self.new.writes ≡ self.old.writes }
+    {
+        let n = copy_front(room, &self.input[self.read..]);
+        self.read += n;
+        self.reads.add(n);
+        Ok(n)
+    }
+}
+
+impl Output for Tape {
+    ghost use Rattle.streams_in_memory.specs.InMemory.{said_on_tape};
+
+    ghost said = { said_on_tape };
+
+    // All of the bytes.
+    fn write(&mut self, bytes: &[u8]) -> Result<usize, Failed>
+        ensures within { IfOk result (λ n. n ≤ length bytes.now) }
+        ensures some { IfOk result (λ n. 0 < length bytes.now → 0 < n) }
+        ensures written { IfOk result (λ n. Says (said_on_tape self.old) (take n bytes.now) n (said_on_tape self.new)) }
+        ensures failed { OnErr result (said_on_tape self.new ≡ after_failed_write (said_on_tape self.old)) }
+
+        ensures all { IfOk result (λ n. n ≡ length bytes.now) }
+        ensures left { self.new.left ≡ self.old.left }
+        ensures reads { self.new.reads ≡ self.old.reads }
+    {
+        match self.output.extend_from_slice(bytes) {
+            Ok(()) => {
+                self.writes.add(bytes.len());
+                Ok(bytes.len())
+            }
+            Err(_) => {
+                self.writes.fail();
+                Err(Failed)
+            }
+        }
+    }
+}
