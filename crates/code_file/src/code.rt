@@ -1,8 +1,9 @@
 //! Code as its tables and its instructions.
 
-ghost use Rattle.std.specs.Prelude.{◌≡◌, ◌<◌, ℕ, length, slice_get, IfOk, IfErr, map, filter, string_bytes};
+ghost use Rattle.std.specs.Prelude.{◌≡◌, ◌<◌, ◌++◌, ℕ, All, length, slice_get, IfOk, IfErr, OnOk, map, filter, string_bytes};
+ghost use Rattle.std.specs.List.{flat_map};
 ghost use Rattle.code_model.specs.Code.{upgraded};
-ghost use Rattle.code_file.specs.Grammar.{IsVersion, IsCode, IsCodeFile, spelled, code_of};
+ghost use Rattle.code_file.specs.Grammar.{IsVersion, IsCode, IsCodeFile, IsInstr, header_field, header_of, name_field, literal_field, instr_field, spelled, code_of};
 ghost use Rattle.code_file.specs.Fault.{fault, IsFirstFault, IsRefusal};
 ghost use Rattle.code_file.specs.Listing.{listing};
 
@@ -22,7 +23,7 @@ use std::marker::Model;
 
 /// A code of version 1 or 2: at most 256 names, at most 1,024 literals, and 1 to 4,096 instructions,
 /// whose file has at most 65,536 bytes.
-#[derive(Debug, Drop)]
+#[derive(Drop)]
 pub struct Code {
     version: u8,
     names: Vec<Name>,
@@ -199,14 +200,29 @@ impl Code {
         ensures { IfOk result (λ v. IsCodeFile v.items self.now) }
     {
         let mut out = Vec::new(alloc);
-        out.extend_from_slice(magic(self.version).as_bytes())?;
-        push_number(&mut out, self.names.len() as u16)?;
-        push_number(&mut out, self.literals.len() as u16)?;
-        push_number(&mut out, self.len() as u16)?;
-        push_names(&mut out, &self.names)?;
-        push_literals(&mut out, &self.literals)?;
-        push_instrs(&mut out, &self.instrs)?;
+        self.push_header(&mut out)?;
+        self.push_tables(&mut out)?;
         Ok(out)
+    }
+
+    fn push_header(&self, out: &mut Vec<u8>) -> Result<(), AllocError>
+        ensures spells { OnOk result (out.new.items ≡ out.old.items ++ header_field (header_of self.now)) }
+        ensures is_code { IsCode self.now }
+    {
+        out.extend_from_slice(magic(self.version).as_bytes())?;
+        push_number(out, self.names.len() as u16)?;
+        push_number(out, self.literals.len() as u16)?;
+        push_number(out, self.instrs.len() as u16)
+    }
+
+    fn push_tables(&self, out: &mut Vec<u8>) -> Result<(), AllocError>
+        ensures spells { OnOk result (out.new.items ≡ out.old.items
+            ++ (flat_map name_field self.now.names ++ (flat_map literal_field self.now.literals ++ flat_map instr_field self.now.instrs))) }
+        ensures fields { OnOk result (All IsInstr self.now.instrs) }
+    {
+        push_names(out, &self.names)?;
+        push_literals(out, &self.literals)?;
+        push_instrs(out, &self.instrs)
     }
 
     /// The listing: the counts, the tables and the instructions, a line each.

@@ -4,7 +4,7 @@ use std::marker::Model;
 
 /// The name of a variable: of a list, or of a text. A code's has 1 to 255 bytes from 21 to 7e
 /// hexadecimal.
-#[derive(Debug, Drop)]
+#[derive(Drop)]
 pub struct Name {
     pub list: bool,
     pub text: String,
@@ -21,7 +21,7 @@ impl Model for Name {
 
 /// A text of the code: one to compare with, which in a code is UTF-8 (RFC 3629), or one for a link,
 /// which is URI text (RFC 3986, sections 2.1 to 2.3).
-#[derive(Debug, Drop)]
+#[derive(Drop)]
 pub struct Literal {
     pub compared: bool,
     pub bytes: Vec<u8>,

@@ -4,42 +4,39 @@ ghost use Rattle.std.specs.Prelude.{◌≡◌, ◌+◌, ◌<◌, ◌^◌};
 ghost use Rattle.code_file.specs.Fault.{fault, after};
 
 use std::alloc::{AllocError, AllocFailed};
+use std::fmt;
 use thiserror::Error;
 
 /// What is wrong with a code file, in the order in which it is decided.
 #[derive(Clone, Copy, Debug, PartialEq, Eq, Error)]
 pub enum CodeErrorKind {
     /// The file has more than 65,536 bytes.
-    #[error("TooLong")]
     TooLong,
     /// The file begins with neither `OLK1` nor `OLK2`.
-    #[error("BadMagic")]
     BadMagic,
     /// The file ends before a field does.
-    #[error("Truncated")]
     Truncated,
     /// There are more than 256 names, 1,024 literals or 4,096 instructions.
-    #[error("TooMany")]
     TooMany,
     /// There is no instruction.
-    #[error("NoCode")]
     NoCode,
     /// A name is empty, over 255 bytes long, or has a byte outside 21 to 7e hexadecimal.
-    #[error("BadName")]
     BadName,
     /// The kind of a name or a literal is neither 0 nor 1.
-    #[error("BadKind")]
     BadKind,
     /// A link text is no URI text (RFC 3986, sections 2.1 to 2.3), or a comparison text no UTF-8
     /// (RFC 3629).
-    #[error("BadLiteral")]
     BadLiteral,
     /// Bytes follow the last instruction.
-    #[error("Trailing")]
     Trailing,
     /// Memory ran out.
-    #[error("NoMemory")]
     NoMemory,
+}
+
+impl fmt::Display for CodeErrorKind {
+    fn fmt<W: fmt::Write>(&self, f: &mut fmt::Formatter<W>) -> fmt::Result {
+        write!(f, "{self:?}")
+    }
 }
 
 /// What is wrong with a code file, and the byte at which it is; 0 where memory ran out.

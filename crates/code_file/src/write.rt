@@ -5,16 +5,13 @@ ghost use Rattle.std.specs.List.{flat_map};
 ghost use Rattle.code_file.specs.Grammar.{number, name_field, literal_field, instr_field, IsName, IsLiteral, IsInstr};
 
 use crate::entry::{Literal, Name};
-use byteorder::{BigEndian, ByteOrder};
 use code_model::Instr;
 use std::alloc::AllocError;
 
 pub(crate) fn push_number(out: &mut Vec<u8>, n: u16) -> Result<(), AllocError>
     ensures { OnOk result (out.new.items ≡ out.old.items ++ number n) }
 {
-    let mut two = [0; 2];
-    BigEndian::write_u16(&mut two, n);
-    out.extend_from_slice(&two)
+    out.extend_from_slice(&n.to_be_bytes())
 }
 
 fn push_name(out: &mut Vec<u8>, name: &Name) -> Result<(), AllocError>
@@ -59,11 +56,10 @@ fn push_instr(out: &mut Vec<u8>, instr: Instr) -> Result<(), AllocError>
     ensures spells { OnOk result (out.new.items ≡ out.old.items ++ instr_field instr) }
     ensures fields { IsInstr instr }
 {
-    out.push(instr.op)?;
-    out.push(instr.a)?;
-    push_number(out, instr.b)?;
-    push_number(out, instr.c)?;
-    push_number(out, instr.d)
+    let [b, b_low] = instr.b.to_be_bytes();
+    let [c, c_low] = instr.c.to_be_bytes();
+    let [d, d_low] = instr.d.to_be_bytes();
+    out.extend_from_slice(&[instr.op, instr.a, b, b_low, c, c_low, d, d_low])
 }
 
 pub(crate) fn push_instrs(out: &mut Vec<u8>, instrs: &[Instr]) -> Result<(), AllocError>

@@ -1,5 +1,5 @@
 /// One instruction as a code file has it: the number of an operation, and four fields.
-#[derive(Clone, Copy, Debug, PartialEq, Eq)]
+#[derive(Clone, Copy, PartialEq, Eq)]
 pub struct Instr {
     pub op: u8,
     pub a: u8,
@@ -11,7 +11,7 @@ pub struct Instr {
 /// What an instruction says to do, with the fields that its operation uses, in the order in which a
 /// listing has them. Registers come first, then an entry of a table or a count, then a mode, then
 /// the place of a jump.
-#[derive(Clone, Copy, Debug, PartialEq, Eq)]
+#[derive(Clone, Copy, PartialEq, Eq)]
 pub enum Instruction {
     /// Ends with the output as the link.
     Halt,

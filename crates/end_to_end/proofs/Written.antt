@@ -20,10 +20,11 @@ use Rattle.rule_parser.specs.Rules.{RuleSet}
 use Rattle.compiler_model.specs.Compiled.{code_of}
 use Rattle.verified_runs.specs.RunValue.{most_bytes}
 use Rattle.verified_runs.specs.declared.error.PrepareError.TheVariants as prepare
-use Rattle.end_to_end.specs.declared.error.RunError.{RunError}
-use Rattle.end_to_end.specs.declared.error.RunError.TheVariants.{Load, Prepare}
+use Rattle.safe_runs.specs.declared.error.RunError.{RunError}
+use Rattle.safe_runs.specs.declared.error.RunError.TheVariants.{Load, Prepare}
 use Rattle.end_to_end.specs.declared.error.RulesError.TheVariants.{Run}
-use Rattle.end_to_end.specs.Causes.{IsCause, IsRulesCause}
+use Rattle.safe_runs.specs.Causes.{IsCause}
+use Rattle.end_to_end.specs.Causes.{IsRulesCause}
 
 -- what the laws of code files, of form and of kinds say
 pub record AreLaws : Type 0 where

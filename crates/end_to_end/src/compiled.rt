@@ -6,12 +6,12 @@ ghost use Rattle.compiler_model.specs.Answer.{answer};
 ghost use Rattle.verified_runs.specs.RunValue.{outcome_of};
 ghost use Rattle.end_to_end.specs.Causes.{IsRulesCause};
 
-use crate::ending::run_file;
 use crate::error::RulesError;
 use crate::laws::files_of_rules_are_accepted;
 use code_file::laws::file_has_one_code;
 use compiler::compile;
 use rule_parser::Rules;
+use safe_runs::run_file;
 use std::alloc::Global;
 use target_vars::Env;
 use verified_runs::Outcome;

@@ -1,11 +1,10 @@
-//! Code from strangers, run: what may be said of it all together.
+//! Rules, by the code that they are compiled to, and code from strangers: what may be said of a run all together.
 #![tactic(auto)]
 
 mod compiled;
-mod ending;
 mod error;
 pub mod laws;
 
 pub use compiled::run_rules;
-pub use ending::{run_file, run_verified};
-pub use error::{RulesError, RunError};
+pub use error::RulesError;
+pub use safe_runs::{RunError, run_file, run_verified};

@@ -8,7 +8,7 @@ pub struct Body {
 }
 
 /// Why the instruction at a place is not of good form, in the order in which it is decided.
-#[derive(Clone, Copy, Debug, PartialEq, Eq)]
+#[derive(Clone, Copy, PartialEq, Eq)]
 pub enum FormFault {
     /// No operation of the code's version has this number.
     UnknownOp,

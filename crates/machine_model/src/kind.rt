@@ -1,6 +1,6 @@
 /// What is known of a register's value before a step. `Text` is below `OptText`; `OptText`, `List` and
 /// `Number` are below `Any`.
-#[derive(Clone, Copy, Debug, PartialEq, Eq)]
+#[derive(Clone, Copy, PartialEq, Eq)]
 pub enum Kind {
     /// Any value, or nothing yet.
     Any,

@@ -1,5 +1,5 @@
 -- What a name stands for, by its number.
-use Rattle.std.proofs.Common.{◌≡◌, ℕ, ◌+◌, ◌-◌, ◌<◌, List, [], ◌∷◌, false, map, length, take, drop, slice_get, get_or, Bor, option_copied, Option, Some, None, is_some, All, refl, sym, ap, ◌∙◌, subst, arith, zero-add}
+use Rattle.std.proofs.Common.{◌≡◌, ℕ, ◌+◌, ◌-◌, ◌<◌, List, [], ◌∷◌, false, map, length, take, drop, slice_get, get_or, Bor, option_copied, Option, Some, None, is_some, All, refl, sym, ap, ◌∙◌, subst, arith, zero-add, inr}
 use Rattle.std.specs.Prelude.{slice_range}
 use Rattle.std.proofs.lemmas.List.{length-map, take-map, drop-map}
 use Rattle.std.proofs.lemmas.List.Elements.{All-tail, All-nil, All-map, All-get_or, All-weaker}
@@ -7,8 +7,8 @@ use Rattle.std.proofs.lemmas.List.Sorted.{IsNonDecreasingBy-short}
 use Rattle.std.proofs.lemmas.Option.{slice_get-get_or, slice_get_within}
 use Rattle.text_model.specs.Texts.{Text}
 use Rattle.environment_model.specs.Environment.{Meaning, look_up, is_there, is_among, text_in, text_of, members_in as members_meant, members_of, byte_count, member_count}
-use Rattle.target_vars.specs.EnvValue.{EnvValue, EachNameOnce, piece_at, IsWithin, AreMembersAt}
-use Rattle.target_vars.specs.Layout.{at, piece, members_in, meaning_in, laid_entries, laid_spans, IsPiece, IsPieces, IsPlace, IsRun, IsTextPart, IsLaid}
+use Rattle.target_vars.specs.EnvValue.{EnvValue, EachNameOnce, piece_at, IsWithin, AreMembersAt, IsInOrder}
+use Rattle.target_vars.specs.Layout.{at, piece, members_in, meaning_in, laid_entries, laid_spans, IsPart, IsPiece, IsPieces, IsPlace, IsRun, IsTextPart, IsLaid}
 use Rattle.target_vars.specs.declared.place.Part.{Part}
 use Rattle.target_vars.specs.declared.place.Span.{Span}
 use Rattle.target_vars.specs.declared.place.Place.{Place}
@@ -17,7 +17,7 @@ use Rattle.target_vars.proofs.Entries.{entries_from-empty, is_there-entries, loo
 
 -- what callers see of what is laid
 abbrev pub seen : Text → List Span → List Text → List Place → EnvValue
-seen b spans names places = record { entries = laid_entries b spans names places; buffer = b; spans = laid_spans spans }
+seen b spans names places = record { entries = laid_entries b spans names places; buffer = b; seam = 0; spans = laid_spans spans }
 
 pub laid_entries-empty : laid_entries [] [] [] [] ≡ []
 laid_entries-empty = entries_from-empty [] (members_in [] []) 0 []
@@ -61,13 +61,19 @@ place_read names places name k p long named read =
 
 -- ---- a text
 
+-- no part of an `Env` crosses the seam, which is at the buffer's beginning
+part_within : (b : Text) (spans : List Span) (names : List Text) (places : List Place) (part : Part) → IsPart b part → IsWithin (seen b spans names places) (at part)
+part_within b spans names places part is = record { inside = is.ends.0; one_side = inr (omega arith) }
+
 pub text_part : (b : Text) (spans : List Span) (names : List Text) (places : List Place) (name : Text) (k : ℕ) (part : Part) → IsLaid b spans names places → slice_get names k ≡ Some name → slice_get places k ≡ Some (One part)
     → IsTextPart (seen b spans names places) name part
 text_part b spans names places name k part laid named placed =
     let below = slice_get_within places k (One part) placed in
     let here : get_or places k Many ≡ One part = some_is (sym (slice_get-get_or places k Many below) ∙ placed) in
+    let is_part = subst (IsPlace b) here (All-get_or (IsPlace b) places k Many below laid.placed) in
     record {
-      is_part = subst (IsPlace b) here (All-get_or (IsPlace b) places k Many below laid.placed);
+      is_part = is_part;
+      within = part_within b spans names places part is_part;
       is = ap text_in (look_up-laid b spans names places name k (One part) laid named placed);
     }
   where
@@ -132,8 +138,19 @@ after_first b s spans h = record {
 
 -- ---- all spans
 
-pub all_within : (b : Text) (spans : List Span) → All (IsPiece b) spans → All (IsWithin b) (laid_spans spans)
-all_within b spans pieces = All-map (IsWithin b) (λ (s : Span). at s.part) spans (All-weaker (IsPiece b) (λ (s : Span). IsWithin b (at s.part)) (λ s is. is.ends.0) spans pieces)
+pub all_within : (b : Text) (spans : List Span) (names : List Text) (places : List Place) → All (IsPiece b) spans → All (IsWithin (seen b spans names places)) (laid_spans spans)
+all_within b spans names places pieces =
+    let env = seen b spans names places in
+    All-map (IsWithin env) (λ (s : Span). at s.part) spans
+    (All-weaker (IsPiece b) (λ (s : Span). IsWithin env (at s.part)) (λ s is. part_within b spans names places s.part is) spans pieces)
+
+pub laid_in_order : (b : Text) (spans : List Span) (names : List Text) (places : List Place) → IsLaid b spans names places → IsInOrder (seen b spans names places)
+laid_in_order b spans names places laid = record {
+  buffer = laid.few_bytes;
+  seam = omega arith;
+  spans = let long = length-map spans (λ (s : Span). at s.part) in let few = laid.few_members in omega arith;
+  inside = all_within b spans names places laid.pieces;
+}
 
 pub is_some-copied : {A : Type 0} (o : Option (Bor A)) → is_some (option_copied o) ≡ is_some o
 is_some-copied None = refl

@@ -1,4 +1,4 @@
-pub mod NameOrder
+pub mod NameForks
 pub mod Spans
 pub mod Once
 pub mod Growth

@@ -1,13 +1,14 @@
--- What callers see of an `Env`.
-use Rattle.std.specs.Prelude.{◌≡◌, ℕ, ◌+◌, ◌≤◌, Bool, false, List, [], ◌∷◌, map, take, drop, length, is_some, Some}
+-- What callers see of an `Env`, and of whatever else a run reads its variables from.
+use Rattle.std.specs.Prelude.{◌≡◌, ℕ, ◌+◌, ◌≤◌, ◌⊎◌, Bool, false, List, [], ◌∷◌, map, take, drop, length, is_some, Some, All}
 use Rattle.text_model.specs.Texts.{Text}
 use Rattle.environment_model.specs.Environment.{Environment, is_there, text_of, members_of}
 
--- the entries; the bytes of all their texts and members; and of each member of the lists, one list after
--- another, its offset and its length among these bytes
+-- the entries; a buffer that contains their texts and members; where the first of the buffer's two parts ends and the
+-- second begins; and the offset and the length in the buffer of each member of the lists, one list after another
 pub record EnvValue : Type 0 where
   pub entries : Environment
   pub buffer : Text
+  pub seam : ℕ
   pub spans : List (ℕ × ℕ)
 
 -- no entry has the name of one after it
@@ -25,16 +26,24 @@ stands_for_text env name = is_some (text_of env name)
 abbrev pub piece_at : Text → ℕ × ℕ → Text
 piece_at buffer at = take at.1 (drop at.0 buffer)
 
--- the offset and the length lie within the buffer
-abbrev pub IsWithin : Text → ℕ × ℕ → Type 0
-IsWithin buffer at = at.0 + at.1 ≤ length buffer
+-- the offset and the length are those of a piece of the buffer, which does not cross the seam
+pub record IsWithin (env : EnvValue) (at : ℕ × ℕ) : Type 0 where
+  pub inside : at.0 + at.1 ≤ length env.buffer
+  pub one_side : (at.0 + at.1 ≤ env.seam) ⊎ (env.seam ≤ at.0)
 
 -- the name stands for a text, which lies there
 pub record IsTextAt (env : EnvValue) (name : Text) (at : ℕ × ℕ) : Type 0 where
-  pub within : IsWithin env.buffer at
+  pub within : IsWithin env at
   pub is : text_of env.entries name ≡ Some (piece_at env.buffer at)
 
 -- the members of the name lie at the spans from first on, count of them, in their order
 pub record AreMembersAt (env : EnvValue) (name : Text) (first count : ℕ) : Type 0 where
   pub within : first + count ≤ length env.spans
   pub are : members_of env.entries name ≡ map (piece_at env.buffer) (take count (drop first env.spans))
+
+-- what holds of every environment that a run reads: its limits, and that the seam and the members are in the buffer
+pub record IsInOrder (env : EnvValue) : Type 0 where
+  pub buffer : length env.buffer ≤ 1048576
+  pub seam : env.seam ≤ length env.buffer
+  pub spans : length env.spans ≤ 65535
+  pub inside : All (IsWithin env) env.spans

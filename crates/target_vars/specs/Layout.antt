@@ -5,7 +5,7 @@ use Rattle.std.specs.List.Sorted.{IsNonDecreasingBy}
 use Rattle.std.specs.Str.{IsCharBoundary}
 use Rattle.text_model.specs.Texts.{Text}
 use Rattle.environment_model.specs.Environment.{Environment, Meaning, Single, Several, byte_count, member_count, is_among, text_of}
-use Rattle.target_vars.specs.EnvValue.{EnvValue, EachNameOnce, piece_at}
+use Rattle.target_vars.specs.EnvValue.{EnvValue, EachNameOnce, IsWithin, piece_at}
 use Rattle.target_vars.specs.declared.place.Part.{Part}
 use Rattle.target_vars.specs.declared.place.Span.{Span}
 use Rattle.target_vars.specs.declared.place.Place.{Place}
@@ -83,6 +83,7 @@ laid_spans spans = map (λ s. at s.part) spans
 -- the name stands for a text, which lies at this part
 pub record IsTextPart (env : EnvValue) (name : Text) (part : Part) : Type 0 where
   pub is_part : IsPart env.buffer part
+  pub within : IsWithin env (at part)
   pub is : text_of env.entries name ≡ Some (part_text env.buffer part)
 
 abbrev pub is_one : Place → Bool

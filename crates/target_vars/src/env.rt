@@ -1,7 +1,7 @@
 ghost use Rattle.std.specs.Prelude.{◌≡◌, ℕ, ◌++◌, ◌+◌, ◌<◌, ◌≤◌, ◌↔◌, ◌⊎◌, true, false, not, [], length, slice_get, IfOk, IfSome, IsTrue, MatchOption, insert, if◌then◌else◌, All, OnOk, OnErr, IsUtf8};
 ghost use Rattle.std.specs.Option.{option_copied};
 ghost use Rattle.environment_model.specs.Environment.{is_there, text_of, members_of, byte_count, member_count, with_text, with_member};
-ghost use Rattle.target_vars.specs.EnvValue.{EachNameOnce, stands_for_text, IsWithin, IsTextAt, AreMembersAt};
+ghost use Rattle.target_vars.specs.EnvValue.{EachNameOnce, stands_for_text, IsWithin, IsTextAt, AreMembersAt, IsInOrder};
 ghost use Rattle.target_vars.specs.Layout.{IsTextPart};
 ghost use Rattle.target_vars.specs.Members.{members_left};
 
@@ -37,7 +37,7 @@ impl Model for Env {
     ghost use Rattle.std.specs.Prelude.{string_bytes};
     ghost use Rattle.target_vars.specs.Layout.{laid_entries, laid_spans, IsLaid};
 
-    ghost view = { λ env. record { entries = laid_entries (string_bytes env.buffer) env.spans.items env.names.listed env.places.items; buffer = string_bytes env.buffer; spans = laid_spans env.spans.items } };
+    ghost view = { λ env. record { entries = laid_entries (string_bytes env.buffer) env.spans.items env.names.listed env.places.items; buffer = string_bytes env.buffer; seam = 0; spans = laid_spans env.spans.items } };
 
     ghost invariant = { λ env. IsLaid (string_bytes env.buffer) env.spans.items env.names.listed env.places.items };
 }
@@ -217,7 +217,7 @@ impl Env {
     pub fn span(&self, i: usize) -> (u32, u32)
         requires { i < member_count self.now.entries }
         ensures value { slice_get self.now.spans i ≡ Some (result.0, result.1) }
-        ensures within { IsWithin self.now.buffer (result.0, result.1) }
+        ensures within { IsWithin self.now (result.0, result.1) }
     {
         let part = self.spans[i].part;
         (part.start, part.len)
@@ -237,7 +237,9 @@ impl Env {
         ensures value { result.now ≡ self.now.buffer }
         ensures len { length result.now ≡ byte_count self.now.entries }
         ensures small { length result.now ≤ MAX_BYTES }
-        ensures within { All (IsWithin self.now.buffer) self.now.spans }
+        ensures within { All (IsWithin self.now) self.now.spans }
+        ensures in_order { IsInOrder self.now }
+        ensures seam { self.now.seam ≡ 0 }
     {
         self.buffer.as_bytes()
     }

@@ -8,8 +8,10 @@ mod members_iter;
 mod names;
 mod place;
 mod room;
+mod scope;
 
 pub use env::{Env, MAX_BYTES, MAX_MEMBERS};
 pub use error::VarsError;
 pub use members::Members;
 pub use members_iter::MembersIter;
+pub use scope::Scope;

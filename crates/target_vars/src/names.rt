@@ -1,6 +1,9 @@
 ghost use Rattle.std.specs.Prelude.{◌≡◌, [], ◌∷◌, ◌++◌, length, slice_get, slice_index_or, OnOk, OnErr, MatchResult};
-ghost use Rattle.target_vars.specs.Private.NamesValue.{compared, IsGap};
+ghost use Rattle.target_vars.specs.Private.NamesValue.{IsGap, Separates};
 
+mod forks;
+
+use crate::names::forks::{Branch, Fork, put_fork, search};
 use crate::room::{FIRST_BYTES, FIRST_NAMES, reserve_items};
 use std::alloc::{AllocError, Global};
 use std::marker::Model;
@@ -12,13 +15,17 @@ pub(crate) struct NamePlace {
     end: usize,
 }
 
-/// Names, each once, numbered from 0 in the order in which they came. They lie one after another in one
-/// buffer, and a name is found by halving the numbers' order by name.
+/// Names, each once, numbered from 0 in the order in which they came. Their bytes are one after another in one
+/// buffer.
+///
+/// The search for a name follows forks. Each fork looks at one bit of the name, and the last one leaves a single
+/// candidate. A search never looks at a bit twice, so it takes at most nine steps for each byte of the longest
+/// name; usually it takes a few more than the logarithm of the number of names, in whatever order they came.
 #[derive(Drop)]
 pub(crate) struct Names {
     bytes: Vec<u8>,
     places: Vec<NamePlace>,
-    order: Vec<usize>,
+    forks: Vec<Fork>,
 }
 
 impl Model for Names {
@@ -28,9 +35,9 @@ impl Model for Names {
 
     ghost use Rattle.target_vars.specs.Private.NamesValue.{names_in, AreNames};
 
-    ghost view = { λ n. record { listed = names_in n.bytes.items n.places.items; order = n.order.items } };
+    ghost view = { λ n. record { listed = names_in n.bytes.items n.places.items; forks = n.forks.items } };
 
-    ghost invariant = { λ n. AreNames n.bytes.items n.places.items n.order.items };
+    ghost invariant = { λ n. AreNames n.bytes.items n.places.items n.forks.items };
 }
 
 impl Names {
@@ -40,7 +47,7 @@ impl Names {
         Names {
             bytes: Vec::new(alloc),
             places: Vec::new(alloc),
-            order: Vec::new(alloc),
+            forks: Vec::new(alloc),
         }
     }
 
@@ -61,19 +68,33 @@ impl Names {
         }
     }
 
-    /// The number of the name, or else its gap: the place in the order where it belongs.
+    /// The number of the name, or else its gap: the fork at which the search for it ends.
     pub(crate) fn find(&self, name: &str) -> Result<usize, usize>
         ensures { MatchResult result (λ number. slice_get self.now.listed number ≡ Some name.now) (IsGap self.now name.now) }
     {
         let name = name.as_bytes();
-        let found = self.order.binary_search_by(
-            |&number|
-                ensures { result ≡ compared self.entry.now.listed name.entry.now number }
-            { self.get(number).cmp(&name) },
-        );
-        match found {
-            Ok(at) => Ok(self.order[at]),
-            Err(gap) => Err(gap),
+        if self.forks.is_empty() {
+            return Err(0);
+        }
+        let (last, number) = search(&self.forks, name);
+        if self.get(number) == name {
+            Ok(number)
+        } else {
+            Err(last)
+        }
+    }
+
+    /// The fork that a new name gets.
+    fn fork_of(&self, name: &[u8], gap: usize) -> Fork
+        requires { IsGap self.now name.now gap }
+        ensures { Separates self.now name.now gap result }
+    {
+        let Some(last) = self.forks.get(gap) else {
+            return Fork::of_first();
+        };
+        match last.branch(name) {
+            Branch::Ends(number) => Fork::between(name, self.len(), self.get(number), number),
+            Branch::Further(_) => unreachable!(),
         }
     }
 
@@ -83,12 +104,13 @@ impl Names {
         ensures ok { OnOk result (self.new.listed ≡ self.old.listed ++ name.now ∷ []) }
         ensures err { OnErr result (self.new.listed ≡ self.old.listed) }
     {
+        let fork = self.fork_of(name.as_bytes(), gap);
         reserve_items(&mut self.bytes, name.len(), FIRST_BYTES)?;
         reserve_items(&mut self.places, 1, FIRST_NAMES)?;
-        reserve_items(&mut self.order, 1, FIRST_NAMES)?;
+        reserve_items(&mut self.forks, 1, FIRST_NAMES)?;
+        put_fork(&mut self.forks, name.as_bytes(), gap, fork);
         let start = self.bytes.len();
         self.bytes.extend_from_slice(name.as_bytes()).unwrap();
-        self.order.insert(gap, self.places.len()).unwrap();
         self.places.push_reserved(NamePlace {
             start,
             end: self.bytes.len(),

@@ -14,13 +14,13 @@ fn instr(op: u8, a: u8, b: u16, c: u16, d: u16) -> Instr {
 #[test]
 fn reads_an_instruction_whatever_its_unused_fields(rt: HostRuntime) {
     let cut = instr(15, 1, 2, 3, 4);
-    assert_eq!(rt; instruction(1, cut), Some(Cut(1, 2, 3)));
-    assert_eq!(rt; spelling(Cut(1, 2, 3)), instr(15, 1, 2, 3, 0));
+    assert!(rt; matches!(instruction(1, cut), Some(Cut(1, 2, 3))));
+    assert!(rt; spelling(Cut(1, 2, 3)) == instr(15, 1, 2, 3, 0));
     let count = instr(19, 1, 2, 3, 4);
-    assert_eq!(rt; instruction(1, count), None);
-    assert_eq!(rt; instruction(2, count), Some(Count(1, 2)));
-    assert_eq!(rt; spelling(Count(1, 2)), instr(19, 1, 2, 0, 0));
-    assert_eq!(rt; instruction(2, instr(20, 0, 0, 0, 0)), None);
+    assert!(rt; instruction(1, count).is_none());
+    assert!(rt; matches!(instruction(2, count), Some(Count(1, 2))));
+    assert!(rt; spelling(Count(1, 2)) == instr(19, 1, 2, 0, 0));
+    assert!(rt; instruction(2, instr(20, 0, 0, 0, 0)).is_none());
 }
 
 /// The fault of one name, one link text, and a number of equal instructions, if there is one.

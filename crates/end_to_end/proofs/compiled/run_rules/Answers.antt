@@ -3,8 +3,8 @@ use Rattle.std.proofs.lemmas.Result.{err_from_is_err_and}
 use Rattle.code_file.specs.Grammar.{IsCodeFile}
 use Rattle.compiler_model.specs.Compiled.{code_of}
 use Rattle.verified_runs.specs.RunValue.{outcome_of}
-use Rattle.end_to_end.specs.Causes.{IsCause}
-use Rattle.end_to_end.specs.Ending.{FileEndsSafely}
+use Rattle.safe_runs.specs.Causes.{IsCause}
+use Rattle.safe_runs.specs.Ending.{FileEndsSafely}
 use Rattle.end_to_end.proofs.Written.{rules_cause}
 use Rattle.end_to_end.proofs.compiled.run_rules.Goals as goal
 

@@ -20,9 +20,9 @@ use Rattle.verified_runs.specs.declared.outcome.Outcome.TheVariants.{Link, NoLin
 use Rattle.verified_runs.specs.declared.run.TheConstants.{MAX_LINK_BYTES}
 use Rattle.verified_runs.specs.declared.error.PrepareError.{PrepareError}
 use Rattle.verified_runs.specs.declared.error.PrepareError.TheVariants.{OverBudget, NoMemory}
-use Rattle.end_to_end.specs.declared.error.RunError.TheVariants.{Prepare}
-use Rattle.end_to_end.specs.Ending.{EndsSafely}
-use Rattle.end_to_end.specs.Causes.{IsCause}
+use Rattle.safe_runs.specs.declared.error.RunError.TheVariants.{Prepare}
+use Rattle.safe_runs.specs.Ending.{EndsSafely}
+use Rattle.safe_runs.specs.Causes.{IsCause}
 
 abbrev pub EndsOnce : Type 0
 EndsOnce = (c : Code) (v : Environment) (k m : ℕ) → EndsAfter c v k → EndsAfter c v m → k ≡ m

@@ -1,6 +1,6 @@
 use Rattle.std.proofs.Common.{Err, ap}
-use Rattle.end_to_end.proofs.Safely.{is_cause}
-use Rattle.end_to_end.proofs.ending.run_file.Goals as goal
+use Rattle.safe_runs.proofs.Safely.{is_cause}
+use Rattle.safe_runs.proofs.ending.run_file.Goals as goal
 
 pub returns-clause-refused : goal.returns-clause-refused
 returns-clause-refused c =

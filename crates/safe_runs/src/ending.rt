@@ -3,8 +3,8 @@
 ghost use Rattle.std.specs.Prelude.{◌≡◌, ℕ, ◌<◌, ◌≤◌, ◌↔◌, Err, IfOk, IfErr};
 ghost use Rattle.verified_runs.specs.RunValue.{most_bytes, outcome_of};
 ghost use Rattle.verified_runs.specs.declared.error.PrepareError.TheVariants.{OverBudget};
-ghost use Rattle.end_to_end.specs.Ending.{EndsSafely, FileEndsSafely};
-ghost use Rattle.end_to_end.specs.Causes.{IsCause};
+ghost use Rattle.safe_runs.specs.Ending.{EndsSafely, FileEndsSafely};
+ghost use Rattle.safe_runs.specs.Causes.{IsCause};
 
 use crate::error::RunError;
 use machine_laws::run_ends_once;

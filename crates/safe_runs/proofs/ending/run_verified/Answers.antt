@@ -2,8 +2,8 @@ use Rattle.std.proofs.Common.{◌≡◌, ◌<◌, subst}
 use Rattle.machine_model.specs.Runs.{HasOutcome}
 use Rattle.verified_runs.specs.RunValue.{RunValue, outcome_of, most_bytes}
 use Rattle.verified_runs.specs.declared.run.TheConstants.{MAX_LINK_BYTES}
-use Rattle.end_to_end.proofs.Safely.{ends_safely, same_over}
-use Rattle.end_to_end.proofs.ending.run_verified.Goals as goal
+use Rattle.safe_runs.proofs.Safely.{ends_safely, same_over}
+use Rattle.safe_runs.proofs.ending.run_verified.Goals as goal
 
 pub returns-in-Ok-clause-ends : goal.returns-in-Ok-clause-ends
 returns-in-Ok-clause-ends c =
