@@ -5,3 +5,4 @@ pub mod NameBytes
 pub mod CodeParts
 pub mod RuleSteps
 pub mod LimitLemmas
+pub mod BlockSteps

@@ -1,24 +1,26 @@
 use std::alloc::{AllocError, AllocFailed};
+use std::fmt;
 use thiserror::Error;
 
 /// Why rules have no code, in the order in which it is decided.
 #[derive(Clone, Copy, Debug, PartialEq, Eq, Error)]
 pub enum CompileError {
     /// More than 256 names.
-    #[error("TooManyNames")]
     TooManyNames,
     /// More than 1,024 literals.
-    #[error("TooManyLiterals")]
     TooManyLiterals,
     /// More than 4,096 instructions.
-    #[error("TooManyInstructions")]
     TooManyInstructions,
     /// A code file of more than 65,536 bytes.
-    #[error("FileTooLong")]
     FileTooLong,
     /// A growth was refused.
-    #[error("NoMemory")]
     NoMemory,
+}
+
+impl fmt::Display for CompileError {
+    fn fmt<W: fmt::Write>(&self, f: &mut fmt::Formatter<W>) -> fmt::Result {
+        write!(f, "{self:?}")
+    }
 }
 
 impl From<AllocError> for CompileError {

@@ -2,7 +2,7 @@ use text_model::Writing;
 use uri_grammar::Text;
 
 /// What goes on to the next place.
-#[derive(Debug, Drop)]
+#[derive(Drop)]
 pub enum Action {
     /// TEXT: the text of a name into a register.
     LoadText(u8, Text),
@@ -23,7 +23,7 @@ pub enum Action {
 }
 
 /// What jumps where it holds, and otherwise goes on to the next place.
-#[derive(Clone, Copy, Debug)]
+#[derive(Clone, Copy)]
 pub enum Test {
     /// UNDEF: the register is Undefined.
     IsUndefined(u8),
@@ -40,7 +40,7 @@ pub enum Test {
 }
 
 /// Where a jump leads.
-#[derive(Clone, Copy, Debug)]
+#[derive(Clone, Copy)]
 pub enum Target {
     /// So many places after its own.
     Ahead(usize),
@@ -49,7 +49,7 @@ pub enum Target {
 }
 
 /// An instruction, with its text in place of an index and its target in place of a place.
-#[derive(Debug, Drop)]
+#[derive(Drop)]
 pub enum Line {
     Acts(Action),
     Tests(Test, Target),

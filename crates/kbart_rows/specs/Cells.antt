@@ -4,6 +4,7 @@ use Rattle.std.specs.Option.{option_map_or}
 use Rattle.std.specs.List.{position, filter_map, range_with_len}
 use Rattle.std.specs.Str.{bytes_eq}
 use Rattle.text_model.specs.Texts.{Text}
+use Rattle.kbart_rows.specs.declared.keys.Keys.{Keys}
 
 -- what parts two cells
 abbrev pub tab : ℕ
@@ -17,10 +18,11 @@ Row = List Text
 abbrev pub row_bytes : Row → ℕ
 row_bytes cells = sum_by length cells + (length cells - 1)
 
--- the header names the columns
+-- the header names the columns; the keys are those of the hashed look-ups, and no answer depends on them
 pub record Holdings : Type 0 where
   pub header : Row
   pub rows : List Row
+  pub keys : Keys
 
 -- ---- the cell of a name
 

@@ -1,5 +1,5 @@
 ghost use Rattle.std.specs.Prelude.{◌≡◌, ◌==◌, IfOk, OnOk, Some, false, string_bytes, if◌then◌else◌};
-ghost use Rattle.std.specs.HashMap.{get_by_text};
+ghost use Rattle.std.specs.HashMap.{get_by_text, hasher_of};
 ghost use Rattle.std.specs.Option.{option_map_or, unwrap_or};
 ghost use Rattle.std.specs.Str.{bytes_eq};
 ghost use Rattle.text_model.specs.Texts.{Text};
@@ -17,7 +17,8 @@ pub(crate) fn columns_of(
     header: &str,
     keys: Keys,
 ) -> Result<HashMap<String, usize, Keys>, AllocError>
-    ensures { IfOk result (λ columns. (name : Text) → get_by_text columns name ≡ column_of (cells_in header.now) name) }
+    ensures columns { IfOk result (λ columns. (name : Text) → get_by_text columns name ≡ column_of (cells_in header.now) name) }
+    ensures keyed { IfOk result (λ columns. hasher_of columns ≡ keys) }
 {
     let mut columns = HashMap::with_hasher(alloc, keys);
     let mut column: usize = 0;
@@ -36,8 +37,9 @@ fn add_name(
     name: String,
     column: usize,
 ) -> Result<(), AllocError>
-    ensures { OnOk result ((other : Text) → get_by_text columns.new other
+    ensures added { OnOk result ((other : Text) → get_by_text columns.new other
         ≡ (if bytes_eq other (string_bytes name) then Some (unwrap_or (get_by_text columns.old other) column) else get_by_text columns.old other)) }
+    ensures keyed { OnOk result (hasher_of columns.new ≡ hasher_of columns.old) }
 {
     columns.entry(name)?.or_insert(column);
     Ok(())

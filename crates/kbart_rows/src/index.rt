@@ -1,7 +1,7 @@
 //! From each normalised identifier to the rows that have it, in rising order.
 
 ghost use Rattle.std.specs.Prelude.{◌≡◌, ◌+◌, ◌≤◌, ◌<◌, ◌||◌, ◌++◌, ◌∷◌, [], IfOk, OnOk, drop, length, string_bytes, if◌then◌else◌};
-ghost use Rattle.std.specs.HashMap.{get_by_text};
+ghost use Rattle.std.specs.HashMap.{get_by_text, hasher_of};
 ghost use Rattle.std.specs.List.Sorted.{IsNonDecreasing};
 ghost use Rattle.std.specs.Option.{option_map, option_map_or};
 ghost use Rattle.std.specs.Str.{bytes_eq};
@@ -28,8 +28,9 @@ pub(crate) fn index_of(
 ) -> Result<HashMap<String, Vec<u32>, Keys>, AllocError>
     requires some { 0 < length lines.now }
     requires few { length lines.now ≤ MAX_ROWS + 1 }
-    ensures { IfOk result (λ index. (id : Text) → option_map_or (λ g. g.items) (get_by_text index id) []
+    ensures rows { IfOk result (λ index. (id : Text) → option_map_or (λ g. g.items) (get_by_text index id) []
         ≡ rows_with (print ∷ online ∷ []) (drop 1 lines.now) id) }
+    ensures keyed { IfOk result (λ index. hasher_of index ≡ keys) }
 {
     let mut index = HashMap::with_hasher(alloc, keys);
     for row in 0..lines.len() - 1 {
@@ -62,9 +63,10 @@ fn add_row(
     second: Option<String>,
     row: u32,
 ) -> Result<(), AllocError>
-    ensures { OnOk result ((id : Text) → option_map_or (λ g. g.items) (get_by_text index.new id) []
+    ensures rows { OnOk result ((id : Text) → option_map_or (λ g. g.items) (get_by_text index.new id) []
         ≡ option_map_or (λ g. g.items) (get_by_text index.old id) []
         ++ (if (is_id id (option_map string_bytes first) || is_id id (option_map string_bytes second)) then row ∷ [] else [])) }
+    ensures keyed { OnOk result (hasher_of index.new ≡ hasher_of index.old) }
 {
     let is_same = first == second;
     add_to(index, first, row)?;
@@ -80,8 +82,9 @@ fn add_to(
     id: Option<String>,
     row: u32,
 ) -> Result<(), AllocError>
-    ensures { OnOk result ((other : Text) → option_map_or (λ g. g.items) (get_by_text index.new other) []
+    ensures rows { OnOk result ((other : Text) → option_map_or (λ g. g.items) (get_by_text index.new other) []
         ≡ option_map_or (λ g. g.items) (get_by_text index.old other) [] ++ (if is_id other (option_map string_bytes id) then row ∷ [] else [])) }
+    ensures keyed { OnOk result (hasher_of index.new ≡ hasher_of index.old) }
 {
     if let Some(id) = id {
         add(index, id, row)?;
@@ -90,9 +93,10 @@ fn add_to(
 }
 
 fn add(index: &mut HashMap<String, Vec<u32>, Keys>, id: String, row: u32) -> Result<(), AllocError>
-    ensures { OnOk result ((other : Text) → option_map_or (λ g. g.items) (get_by_text index.new other) []
+    ensures rows { OnOk result ((other : Text) → option_map_or (λ g. g.items) (get_by_text index.new other) []
         ≡ (if bytes_eq other (string_bytes id) then option_map_or (λ g. g.items) (get_by_text index.old other) [] ++ row ∷ []
         else option_map_or (λ g. g.items) (get_by_text index.old other) [])) }
+    ensures keyed { OnOk result (hasher_of index.new ≡ hasher_of index.old) }
 {
     index.entry(id)?.or_default().push(row)?;
     Ok(())

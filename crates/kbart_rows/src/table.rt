@@ -6,6 +6,7 @@ ghost use Rattle.target_vars.specs.declared.error.VarsError.TheVariants as vars_
 ghost use Rattle.kev_read.specs.declared.read.TheConstants.{MAX_PAIRS, MAX_QUERY_BYTES};
 ghost use Rattle.kbart_rows.specs.Cells.{cell_bytes, cell_of, named_cells};
 ghost use Rattle.kbart_rows.specs.Filling.{filled, StopsAtCell};
+ghost use Rattle.kbart_rows.specs.Hashing.{begun_by, keyed};
 ghost use Rattle.kbart_rows.specs.Identifiers as spec;
 ghost use Rattle.kbart_rows.specs.Private.Kept.{lesser_of, rows_with};
 ghost use Rattle.kbart_rows.specs.Reading.{AllFit, IsFault, IsTable};
@@ -37,12 +38,13 @@ pub struct Table {
 }
 
 impl Model for Table {
+    ghost use Rattle.std.specs.HashMap.{hasher_of};
     ghost use Rattle.kbart_rows.specs.Cells.{Holdings};
     ghost use Rattle.kbart_rows.specs.Private.Kept.{IsIndexed, holdings_of};
 
     ghost Value = { Holdings };
 
-    ghost view = { λ table. holdings_of table.lines };
+    ghost view = { λ table. holdings_of table.lines (hasher_of table.columns) };
 
     ghost invariant = { λ table. IsIndexed table.lines table.columns table.index };
 }
@@ -54,6 +56,7 @@ impl Table {
     /// Refuses what is no table, by its first fault: see [`TableError`].
     pub fn read(alloc: Global, bytes: &[u8]) -> Result<Table, TableError>
         ensures accepted { IfOk result (IsTable bytes.now) }
+        ensures keyed { IfOk result (λ table. begun_by table.keys ≡ keyed 0 0) }
         ensures refused { IfErr result (IsFault bytes.now) }
 
         // However little memory there is.
@@ -67,6 +70,7 @@ impl Table {
     /// Reads a holdings table as [`read`](Table::read) does, with secret keys for its hashed look-ups.
     pub fn read_keyed(alloc: Global, bytes: &[u8], keys: Keys) -> Result<Table, TableError>
         ensures accepted { IfOk result (IsTable bytes.now) }
+        ensures keyed { IfOk result (λ table. table.keys ≡ keys) }
         ensures refused { IfErr result (IsFault bytes.now) }
 
         // However little memory there is.

@@ -6,7 +6,7 @@ ghost use Rattle.menu.specs.Links.{has_link};
 use std::marker::Model;
 
 /// A text of a menu, which contracts see as its bytes.
-#[derive(Debug, Drop)]
+#[derive(Drop)]
 pub struct Text {
     string: String,
 }
@@ -44,7 +44,7 @@ impl Text {
 }
 
 /// What a target's rows led to: its link, or the reason why it has none.
-#[derive(Debug, Drop)]
+#[derive(Drop)]
 pub enum Resolution {
     /// A row of the target's table gave a link; rows count from 0.
     Link { row: usize, link: Text },
@@ -59,7 +59,7 @@ pub enum Resolution {
 }
 
 /// What a menu has of one target.
-#[derive(Debug, Drop)]
+#[derive(Drop)]
 pub struct MenuEntry {
     /// The target's name.
     pub name: Text,

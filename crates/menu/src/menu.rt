@@ -10,7 +10,7 @@ use std::alloc::{AllocError, Global};
 use std::marker::Model;
 
 /// A menu, which contracts see as the list of its entries, one for each target.
-#[derive(Debug, Drop)]
+#[derive(Drop)]
 pub struct Menu {
     list: Vec<MenuEntry>,
 }
@@ -55,7 +55,6 @@ impl Menu {
 
     /// The links as plain text: for each a line with its target's name, a tab and the link. Lines end with LF,
     /// and a menu without links has none. The error is want of memory.
-    #[tactic(auto, using(crate::proofs::LinkLemmas::links_more))]
     pub fn text(&self, alloc: Global) -> Result<String, AllocError>
         ensures { IfOk result (λ printed. string_bytes printed ≡ text self.now) }
     {

@@ -1,6 +1,7 @@
 ghost use Rattle.std.specs.Prelude.{◌≡◌, ◌≢◌};
 
 use std::alloc::{AllocError, AllocFailed};
+use std::fmt;
 use thiserror::Error;
 use uri_grammar::TemplateErrorKind;
 
@@ -8,26 +9,28 @@ use uri_grammar::TemplateErrorKind;
 #[derive(Clone, Copy, Debug, PartialEq, Eq, Error)]
 pub enum RuleErrorKind {
     /// More than [`crate::MAX_BYTES`] bytes.
-    #[error("TooLong")]
     TooLong,
     /// Bytes that are not UTF-8.
-    #[error("NotUtf8")]
     NotUtf8,
     /// A line of no form, or out of its order.
-    #[error("BadLine")]
     BadLine,
     /// A rule without a link, found at the next `rule` line or at the end.
-    #[error("NoLink")]
     NoLink,
     /// A link that is no template.
-    #[error("Template {0:?}")]
     Template(TemplateErrorKind),
     /// A list where a text is wanted, or a text before `holds` or `counts`.
-    #[error("KindMismatch")]
     KindMismatch,
     /// A growth was refused.
-    #[error("NoMemory")]
     NoMemory,
+}
+
+impl fmt::Display for RuleErrorKind {
+    fn fmt<W: fmt::Write>(&self, f: &mut fmt::Formatter<W>) -> fmt::Result {
+        match self {
+            RuleErrorKind::Template(kind) => write!(f, "Template {kind:?}"),
+            kind => write!(f, "{kind:?}"),
+        }
+    }
 }
 
 /// The first fault of a rule text, and the number of its line, from 1; 0 where the fault is no line's.

@@ -4,7 +4,7 @@ use std::marker::Model;
 use uri_grammar::{Template, Text};
 
 /// A bound of a `from` or `counts` guard.
-#[derive(Debug, Drop)]
+#[derive(Drop)]
 pub enum Bound {
     /// `*`
     Open,
@@ -15,7 +15,7 @@ pub enum Bound {
 }
 
 /// What has to hold for a rule's link, by the line `when ..` that says it.
-#[derive(Debug, Drop)]
+#[derive(Drop)]
 pub enum Guard {
     /// `has NAME`: the name is defined. A list without members is not.
     Has(Text),
@@ -36,7 +36,7 @@ pub enum Guard {
 }
 
 /// Guards, which contracts see as a list.
-#[derive(Debug, Drop)]
+#[derive(Drop)]
 pub struct Guards {
     list: Vec<Guard>,
 }
@@ -74,7 +74,7 @@ impl Guards {
 }
 
 /// A link, and what has to hold for it.
-#[derive(Debug, Drop)]
+#[derive(Drop)]
 pub struct Rule {
     /// All of them have to hold.
     pub guards: Guards,

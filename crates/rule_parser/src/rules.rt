@@ -18,7 +18,7 @@ use uri_grammar::Text;
 pub const MAX_BYTES: usize = 65_536;
 
 /// The rules of a target.
-#[derive(Debug, Drop)]
+#[derive(Drop)]
 pub struct Rules {
     lists: Vec<Text>,
     rules: Vec<Rule>,

@@ -5,3 +5,4 @@ pub mod UriAscii
 pub mod CodePoints
 pub mod Unchanged
 pub mod Examples
+pub mod Joined

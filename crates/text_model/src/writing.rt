@@ -1,6 +1,6 @@
 /// Which characters of a value stay as they are in a link, the column `allow` of RFC 6570,
 /// appendix A. Every other byte becomes a triplet.
-#[derive(Clone, Copy, Debug, PartialEq, Eq)]
+#[derive(Clone, Copy, PartialEq, Eq)]
 pub enum Writing {
     /// Unreserved characters.
     U,

@@ -1,14 +1,25 @@
-ghost use Rattle.std.specs.Prelude.{◌≡◌, ◌<◌, ◌≤◌, IfOk, IfSome, IfNone, length, slice_index, take, encode_utf8_all, string_bytes};
-ghost use Rattle.text_model.specs.Texts.{is_hexadecimal};
+ghost use Rattle.std.specs.Prelude.{◌≡◌, ◌<◌, ◌≤◌, IsTrue, IfOk, IfSome, IfNone, length, slice_index, take, encode_utf8_all, string_bytes};
+ghost use Rattle.text_model.specs.Texts as texts;
 ghost use Rattle.uri_grammar.specs.Specs.{Lacks};
 
 use crate::template::MAX_BYTES;
 use std::alloc::{AllocError, Global};
 
-pub(crate) fn is_hexadecimal(c: char) -> bool
-    ensures { result ≡ is_hexadecimal c }
+fn is_hexadecimal(c: char) -> bool
+    ensures { result ≡ texts.is_hexadecimal c }
 {
     c.is_ascii_hexdigit()
+}
+
+// Whether the characters begin with a triplet (RFC 3986, section 2.1).
+pub(crate) fn begins_with_triplet(text: &[char]) -> bool
+    ensures value { result ≡ texts.begins_with_triplet text.now }
+    ensures within { IsTrue result → 3 ≤ length text.now }
+{
+    match text {
+        ['%', high, low, ..] => is_hexadecimal(*high) && is_hexadecimal(*low),
+        _ => false,
+    }
 }
 
 // Where the first such character stands.

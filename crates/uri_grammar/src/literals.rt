@@ -4,7 +4,7 @@ ghost use Rattle.uri_grammar.specs.Literals.{is_literal_character, AreLiterals};
 ghost use Rattle.uri_grammar.specs.Private.Lengths.{literal_item_len};
 ghost use Rattle.uri_grammar.specs.declared.parts.Part.{Part};
 
-use crate::characters::{is_hexadecimal, text_of};
+use crate::characters::{begins_with_triplet, text_of};
 use crate::parts::{Part, Text};
 use crate::template::MAX_BYTES;
 use std::alloc::{AllocError, Global};
@@ -32,7 +32,7 @@ fn literal_item_len(text: &[char]) -> usize
 {
     match text {
         [c, ..] if is_literal_character(*c) => 1,
-        ['%', high, low, ..] if is_hexadecimal(*high) && is_hexadecimal(*low) => 3,
+        _ if begins_with_triplet(text) => 3,
         _ => 0,
     }
 }

@@ -2,7 +2,7 @@ ghost use Rattle.std.specs.Prelude.{◌≡◌, ◌<◌, ◌≤◌, ◌↔◌, Is
 ghost use Rattle.uri_grammar.specs.Names.{is_name_character, IsVarname, BeginsWithVarname, IsName};
 ghost use Rattle.uri_grammar.specs.Private.Lengths.{varchar_len, next_len};
 
-use crate::characters::is_hexadecimal;
+use crate::characters::begins_with_triplet;
 use crate::template::MAX_BYTES;
 
 /// The most bytes that a variable's name has.
@@ -21,7 +21,7 @@ fn varchar_len(text: &[char]) -> usize
 {
     match text {
         [c, ..] if is_name_character(*c) => 1,
-        ['%', high, low, ..] if is_hexadecimal(*high) && is_hexadecimal(*low) => 3,
+        _ if begins_with_triplet(text) => 3,
         _ => 0,
     }
 }

@@ -3,7 +3,7 @@ ghost use Rattle.std.specs.Prelude.{◌≡◌, string_bytes};
 use std::marker::Model;
 
 /// A text of a tree, which contracts see as its bytes.
-#[derive(Debug, Drop)]
+#[derive(Drop)]
 pub struct Text {
     string: String,
 }
@@ -41,7 +41,7 @@ impl Text {
 }
 
 /// How an expression writes its values (RFC 6570, section 2.2).
-#[derive(Clone, Copy, Debug, PartialEq, Eq)]
+#[derive(Clone, Copy, PartialEq, Eq)]
 pub enum Op {
     /// No operator.
     Simple,
@@ -62,7 +62,7 @@ pub enum Op {
 }
 
 /// A variable of an expression and its modifier (RFC 6570, sections 2.3 and 2.4).
-#[derive(Debug, Drop)]
+#[derive(Drop)]
 pub struct Spec {
     /// At most 255 bytes, all of them ASCII. Triplets in it are not decoded.
     pub name: Text,
@@ -74,7 +74,7 @@ pub struct Spec {
 }
 
 /// The variables of an expression, which contracts see as a list.
-#[derive(Debug, Drop)]
+#[derive(Drop)]
 pub struct Specs {
     list: Vec<Spec>,
 }
@@ -112,7 +112,7 @@ impl Specs {
 }
 
 /// A part of a template.
-#[derive(Debug, Drop)]
+#[derive(Drop)]
 pub enum Part {
     /// A run of literals in its written form: reserved and unreserved characters and triplets are
     /// copied, any other character is written as the triplets of its UTF-8 (RFC 6570, section 3.1).

@@ -20,7 +20,7 @@ use std::marker::Model;
 pub const MAX_BYTES: usize = 8192;
 
 /// A template: its text and its tree (RFC 6570, section 2).
-#[derive(Debug, Drop)]
+#[derive(Drop)]
 pub struct Template {
     text: Text,
     parts: Vec<Part>,

@@ -3,3 +3,4 @@ pub mod FirstItems
 pub mod Rests
 pub mod LeadingNumbers
 pub mod Decoded
+pub mod Runs

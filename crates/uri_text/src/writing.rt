@@ -1,12 +1,14 @@
 //! The two ways in which a text is written.
 
 ghost use Rattle.std.specs.Prelude.{◌≡◌, true, ◌+◌, ◌*◌, ◌<◌, ◌≤◌, ◌++◌, length, string_bytes, string_len, string_capacity};
+ghost use Rattle.std.specs.List.{prefix_len};
+ghost use Rattle.std.specs.Str.{IsAscii};
 ghost use Rattle.text_model.specs.Texts.{is_unreserved, is_reserved, begins_with_triplet};
 ghost use Rattle.text_model.specs.Writing.{written, written_u, written_ur, written_byte, is_unreserved_or_reserved};
 ghost use Rattle.text_model.specs.UriText.{IsUriText};
 
 use crate::triplet::begins_with_triplet;
-use percent_encoding::percent_encode_byte;
+use percent_encoding::{ascii_str, percent_encode_byte};
 use text_model::Writing;
 
 #[tactic(auto, unfolding(text_model::specs::Texts::is_unreserved))]
@@ -51,6 +53,35 @@ fn is_unreserved_or_reserved(byte: u8) -> bool
     is_unreserved(byte) || is_reserved(byte)
 }
 
+// How many bytes at the front are unreserved.
+fn unreserved_len(text: &[u8]) -> usize
+    ensures value { result ≡ prefix_len is_unreserved text.now }
+    ensures within { result ≤ length text.now }
+{
+    text.iter().take_while(|byte| is_unreserved(**byte)).count()
+}
+
+// How many bytes at the front are unreserved or reserved.
+fn unreserved_or_reserved_len(text: &[u8]) -> usize
+    ensures value { result ≡ prefix_len is_unreserved_or_reserved text.now }
+    ensures within { result ≤ length text.now }
+{
+    text.iter()
+        .take_while(|byte| is_unreserved_or_reserved(**byte))
+        .count()
+}
+
+// Appends characters as they are.
+fn push_run(out: &mut String, run: &[u8])
+    requires ascii { IsAscii run.now }
+    requires room { string_len out.old + length run.now ≤ string_capacity out.old }
+    ensures bytes { string_bytes out.new ≡ string_bytes out.old ++ run.now }
+    ensures len { string_len out.new ≡ string_len out.old + length run.now }
+    ensures capacity { string_capacity out.old ≤ string_capacity out.new }
+{
+    out.push_str(ascii_str(run)).unwrap();
+}
+
 // Appends a byte, as it is or as its triplet.
 #[tactic(auto, using(crate::proofs::PercentBytes::percent_encode_byte_triplet))]
 fn push_byte(out: &mut String, byte: u8, stays: bool)
@@ -83,6 +114,50 @@ fn push_triplet(out: &mut String, triplet: &[u8])
     }
 }
 
+// Appends the characters at the front that stay, and the byte after them as it is written by U. Returns what is left.
+fn push_front_u<'t>(out: &mut String, text: &'t [u8]) -> &'t [u8]
+    requires some { 0 < length text.now }
+    requires room { string_len out.old + length (written_u text.now) ≤ string_capacity out.old }
+    ensures shorter { length result.now < length text.now }
+    ensures bytes { string_bytes out.new ++ written_u result.now ≡ string_bytes out.old ++ written_u text.now }
+    ensures len { string_len out.new + length (written_u result.now) ≡ string_len out.old + length (written_u text.now) }
+    ensures capacity { string_capacity out.old ≤ string_capacity out.new }
+{
+    let (run, after) = text.split_at(unreserved_len(text));
+    push_run(out, run);
+    if after.is_empty() {
+        return after;
+    }
+    let (byte, rest) = after.split_at(1);
+    push_byte(out, byte[0], is_unreserved(byte[0]));
+    rest
+}
+
+// Appends the characters at the front that stay, and the triplet or the byte after them as it is written by UR. Returns
+// what is left.
+fn push_front_ur<'t>(out: &mut String, text: &'t [u8]) -> &'t [u8]
+    requires some { 0 < length text.now }
+    requires room { string_len out.old + length (written_ur text.now) ≤ string_capacity out.old }
+    ensures shorter { length result.now < length text.now }
+    ensures bytes { string_bytes out.new ++ written_ur result.now ≡ string_bytes out.old ++ written_ur text.now }
+    ensures len { string_len out.new + length (written_ur result.now) ≡ string_len out.old + length (written_ur text.now) }
+    ensures capacity { string_capacity out.old ≤ string_capacity out.new }
+{
+    let (run, after) = text.split_at(unreserved_or_reserved_len(text));
+    push_run(out, run);
+    if after.is_empty() {
+        return after;
+    }
+    if begins_with_triplet(after) {
+        let (triplet, rest) = after.split_at(3);
+        push_triplet(out, triplet);
+        return rest;
+    }
+    let (byte, rest) = after.split_at(1);
+    push_byte(out, byte[0], is_unreserved_or_reserved(byte[0]));
+    rest
+}
+
 /// Appends the text written by U: unreserved characters stay, and every other byte becomes a
 /// triplet with upper-case digits (RFC 6570, section 3.2.1, where `allow` is U).
 ///
@@ -96,8 +171,9 @@ pub fn encode_u(out: &mut String, text: &[u8])
     ensures at_most_triples { length (written_u text.now) ≤ 3 * length text.now }
     ensures uri_text { IsUriText (written_u text.now) }
 {
-    for &byte in text {
-        push_byte(out, byte, is_unreserved(byte));
+    let mut rest = text;
+    while !rest.is_empty() {
+        rest = push_front_u(out, rest);
     }
 }
 
@@ -117,15 +193,7 @@ pub fn encode_ur(out: &mut String, text: &[u8])
 {
     let mut rest = text;
     while !rest.is_empty() {
-        if begins_with_triplet(rest) {
-            let (triplet, after) = rest.split_at(3);
-            push_triplet(out, triplet);
-            rest = after;
-        } else {
-            let (byte, after) = rest.split_at(1);
-            push_byte(out, byte[0], is_unreserved_or_reserved(byte[0]));
-            rest = after;
-        }
+        rest = push_front_ur(out, rest);
     }
 }
 

@@ -1,6 +1,6 @@
 -- What a table keeps, and how it is read and found.
 use Rattle.std.specs.Prelude.{◌≡◌, ℕ, ◌↔◌, ◌==◌, if◌then◌else◌, ◌+◌, ◌≤◌, ◌<◌, List, [], filter, min, drop, length, get_or, String, Vec, Bool, false, Option, None, Some}
-use Rattle.std.specs.HashMap.{HashMap, get_by_text}
+use Rattle.std.specs.HashMap.{HashMap, get_by_text, hasher_of}
 use Rattle.std.specs.List.{range_with_len}
 use Rattle.std.specs.Option.{option_map_or}
 use Rattle.std.specs.Str.{bytes_eq}
@@ -13,6 +13,7 @@ use Rattle.kbart_rows.specs.Cells.{Row, Holdings, NamedCell, name_cell, column_o
 use Rattle.kbart_rows.specs.Identifiers.{has_identifier, identifier_columns}
 use Rattle.kbart_rows.specs.Reading.{AllFit}
 use Rattle.kbart_rows.specs.declared.error.TableError.{TableError}
+use Rattle.kbart_rows.specs.declared.keys.Keys.{Keys}
 use Rattle.kbart_rows.specs.declared.error.TableError.TheVariants.{TooLong, NotUtf8, NoHeader, TooManyRows, RowTooLong, NoMemory}
 use Rattle.kbart_rows.specs.declared.read.TheConstants.{MAX_ROWS, MAX_ROW_BYTES}
 
@@ -50,10 +51,10 @@ abbrev pub rows_with : List (Option ℕ) → List Row → Text → List ℕ
 rows_with columns rows id = filter (λ row. has_identifier columns id (get_or rows row [])) (range_with_len 0 (length rows))
 
 -- the first line is the header
-abbrev pub holdings_of : List Row → Holdings
-holdings_of lines = record { header = get_or lines 0 []; rows = drop 1 lines }
+abbrev pub holdings_of : List Row → Keys → Holdings
+holdings_of lines keys = record { header = get_or lines 0 []; rows = drop 1 lines; keys = keys }
 
--- the names of the header lead to their first columns, and the identifiers to the rows that have them
+-- the names of the header lead to their first columns, and the identifiers to the rows that have them, both with the same keys
 pub record IsIndexed {A B C D : Type 0} (lines : List Row) (columns : HashMap (String A) ℕ B) (index : HashMap (String C) (Vec ℕ D) B) : Type 0 where
   pub header : 0 < length lines
   pub few : length lines ≤ MAX_ROWS + 1
@@ -61,6 +62,7 @@ pub record IsIndexed {A B C D : Type 0} (lines : List Row) (columns : HashMap (S
   pub named : (name : Text) → get_by_text columns name ≡ column_of (get_or lines 0 []) name
   pub found : (id : Text) → option_map_or (λ rows. rows.items) (get_by_text index id) []
       ≡ rows_with (identifier_columns (get_or lines 0 [])) (drop 1 lines) id
+  pub keyed : hasher_of index ≡ hasher_of columns
 
 -- the lesser of two rows, each of which may be missing
 abbrev pub lesser_of : Option ℕ → Option ℕ → Option ℕ

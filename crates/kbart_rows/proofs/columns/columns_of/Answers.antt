@@ -19,11 +19,12 @@ loop-name-preserved c =
       at.behind,
       omega arith,
       omega (arith, inv.3),
-      λ name. c.in_ok-add_name.ensures name ∙ ap (λ (text : _). if bytes_eq name text then Some (unwrap_or (get_by_text c.loop-name.columns name) column) else get_by_text c.loop-name.columns name) c.in_ok-from_str.ensures.ok
-          ∙ column_entered header column c.in-Some.name.now name (cells_in c.in-Some.behind.now) (get_by_text c.loop-name.columns name) at (inv.4 name),
+      c.in_ok-add_name.ensures.keyed ∙ inv.4,
+      λ name. c.in_ok-add_name.ensures.added name ∙ ap (λ (text : _). if bytes_eq name text then Some (unwrap_or (get_by_text c.loop-name.columns name) column) else get_by_text c.loop-name.columns name) c.in_ok-from_str.ensures.ok
+          ∙ column_entered header column c.in-Some.name.now name (cells_in c.in-Some.behind.now) (get_by_text c.loop-name.columns name) at (inv.5 name),
     )
 
-pub returns : goal.returns
-returns c = λ name.
+pub returns-clause-columns : goal.returns-clause-columns
+returns-clause-columns c = λ name.
     let inv = c.loop-name.invariant in
-    inv.4 name ∙ ap (λ names. column_of names name) (all_passed (cells_in c.args.header.now) c.loop-name.column (sym c.in_default.ensures.none ∙ inv.1))
+    inv.5 name ∙ ap (λ names. column_of names name) (all_passed (cells_in c.args.header.now) c.loop-name.column (sym c.in_default.ensures.none ∙ inv.1))

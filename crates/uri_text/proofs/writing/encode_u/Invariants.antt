@@ -1,12 +1,15 @@
-use Rattle.std.proofs.Common.{◌≡◌, ◌+◌, ◌≤◌, ◌++◌, length, drop, string_bytes, string_len, string_capacity}
+use Rattle.std.proofs.Common.{◌≡◌, ◌+◌, ◌≤◌, ◌++◌, length, string_bytes, string_len, string_capacity}
 use Rattle.text_model.specs.Writing.{written_u}
 use Rattle.uri_text.proofs.writing.encode_u.Given as goal
 
 -- what is written with what is still to write is the whole, and there is room for it
-abbrev pub invariant-loop-byte : goal.invariant-loop-byte
-invariant-loop-byte l = record {
-  bytes : string_bytes l.out ++ written_u (drop l.byte-index l.text) ≡ string_bytes l.fn.out ++ written_u l.text;
-  len : string_len l.out + length (written_u (drop l.byte-index l.text)) ≡ string_len l.fn.out + length (written_u l.text);
-  room : string_len l.out + length (written_u (drop l.byte-index l.text)) ≤ string_capacity l.out;
+abbrev pub invariant-loop-rest : goal.invariant-loop-rest
+invariant-loop-rest l = record {
+  bytes : string_bytes l.out ++ written_u l.rest ≡ string_bytes l.fn.out ++ written_u l.text;
+  len : string_len l.out + length (written_u l.rest) ≡ string_len l.fn.out + length (written_u l.text);
+  room : string_len l.out + length (written_u l.rest) ≤ string_capacity l.out;
   capacity : string_capacity l.fn.out ≤ string_capacity l.out;
 }
+
+abbrev pub decreases-loop-rest : goal.decreases-loop-rest
+decreases-loop-rest l = length l.rest
