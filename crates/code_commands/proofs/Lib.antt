@@ -1,3 +1,2 @@
-pub mod FrontLemmas
-pub mod MemoryLemmas
+pub mod FaultLemmas
 pub mod RunLemmas

@@ -1,3 +1,5 @@
+pub mod Faults
+pub mod Codes
 pub mod Show
 pub mod Upgrade
 pub mod Verify

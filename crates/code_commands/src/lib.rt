@@ -1,12 +1,16 @@
-//! The commands whose arguments name a code file: `verify`, `show`, `upgrade` and `run`.
+//! The commands on code files: `verify`, `show`, `upgrade` and `run`.
 #![tactic(auto)]
 
-mod run;
-mod show;
-mod upgrade;
-mod verify;
+mod fault;
+mod reading;
+mod running;
+mod showing;
+mod upgrading;
+mod verifying;
 
-pub use run::{run_file, run_line};
-pub use show::{show_file, show_lines};
-pub use upgrade::{upgrade_file, upgrade_line};
-pub use verify::{verify_file, verify_lines};
+pub use fault::CodeFault;
+pub use reading::{load_code, read_code};
+pub use running::run;
+pub use showing::show;
+pub use upgrading::upgrade;
+pub use verifying::verify;

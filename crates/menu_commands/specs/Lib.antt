@@ -1,2 +1,5 @@
+pub mod Faults
+pub mod Loading
 pub mod Resolve
+pub mod Service
 pub mod Serve

@@ -1,77 +1,70 @@
--- What `serve` prints, and why it does not serve.
-use Rattle.std.specs.Prelude.{◌≡◌, ◌≢◌, ◌+◌, ◌≤◌, ◌<◌, ◌⊎◌, ℕ, List, [], ◌∷◌, ◌++◌, true, length, codes}
+-- What `serve` prints and serves, and why it does not serve.
+use Rattle.std.specs.Prelude.{◌≡◌, ◌≢◌, ◌⊎◌, ℕ, List, [], ◌∷◌, ◌++◌, Option, codes}
 use Rattle.std.specs.Fmt.{decimal}
-use Rattle.std.specs.Char.{is_ascii_digit}
-use Rattle.std.specs.List.{list_all}
-use Rattle.std.specs.Str.Parse.{digits_value}
 use Rattle.text_model.specs.Texts.{Text}
 use Rattle.registry.specs.Targets.{TargetValue}
-use Rattle.registry_file.specs.Loading.{AreTargetsOf}
+use Rattle.files.specs.Found.{Disk}
+use Rattle.files.specs.declared.call.FileCall.{FileCall}
+use Rattle.registry_file.specs.Loading.{IsLoaded}
+use Rattle.http_streams.specs.Streams.{Heard, Said}
+use Rattle.http_service.specs.Connections.{ServesAll, StopsEarly}
 use Rattle.http_service.specs.declared.counts.Counts.{Counts}
-use Rattle.menu_commands.specs.Resolve.{IsNoRegistry}
-use Rattle.command_faults.specs.declared.fault.Fault.{Fault}
-use Rattle.command_faults.specs.declared.fault.Fault.TheVariants as fault
-
--- the argument is ASCII digits alone, and this is their value
-pub record IsNumber (argument : Text) (n : ℕ) : Type 0 where
-  pub some : 0 < length argument
-  pub digits : list_all is_ascii_digit argument ≡ true
-  pub value : n ≡ digits_value 10 argument
-
--- the arguments are the path of a registry file, a port, and how many connections are served
-pub record AreServeArguments (arguments : List Text) (path port_text : Text) (port count : ℕ) : Type 0 where
-  pub count_text : Text
-  pub three_arguments : arguments ≡ path ∷ port_text ∷ count_text ∷ []
-  pub port_number : IsNumber port_text port
-  pub port_limit : port ≤ 65535
-  pub count_number : IsNumber count_text count
-  pub one : 1 ≤ count
-  pub count_limit : count ≤ 1000000
-
-abbrev pub NoServeArguments : List Text → Type 0
-NoServeArguments arguments = (path port_text : Text) (port count : ℕ) → AreServeArguments arguments path port_text port count → ⊥
-
--- the service that the arguments ask for
-pub record Service (arguments : List Text) : Type 0 where
-  pub path : Text
-  pub port_text : Text
-  pub port : ℕ
-  pub count : ℕ
-  pub given : AreServeArguments arguments path port_text port count
-
--- the connections counted are as many as the arguments ask for
-pub record AreServed (arguments : List Text) (counts : Counts) : Type 0 where
-  pub service : Service arguments
-  pub all : counts.replied + counts.nothing + counts.faults ≡ service.count
+use Rattle.menu_commands.specs.Faults.{out_of_memory}
+use Rattle.menu_commands.specs.Loading.{IsNoRegistry}
+use Rattle.menu_commands.specs.declared.fault.MenuFault.{MenuFault}
+use Rattle.menu_commands.specs.declared.fault.MenuFault.TheVariants.{Port}
+use Rattle.menu_commands.specs.declared.service.Service.{Service}
 
 -- the line that says where the service listens
 abbrev pub listening_line : ℕ → Text
 listening_line port = codes "listening 127.0.0.1:" ++ (decimal port ++ 10 ∷ [])
 
--- the line of a service of a registry; its port is the one that is asked for, or a free one where that is 0
-pub record IsServing (arguments : List Text) (line : Text) : Type 0 where
-  pub service : Service arguments
+-- how long a read or a write of a connection may take, in nanoseconds
+abbrev pub wait : ℕ
+wait = 2_000_000_000
+
+-- the registry is loaded, a listener is bound to the port, or to a free one where that is 0, and the line says which
+pub record IsListening {K P L : Type 0} (draws : K → ℕ → ℕ → K → Type 0) (binds : P → ℕ → L × ℕ → P → Type 0)
+    (disk : Disk) (keys_before : K) (ports_before : P) (service : Service) (keys_after : K) (ports_after : P)
+    (targets : List TargetValue) (listener : L) (line : Text) : Type 0 where
   pub place : ℕ
-  pub bytes : Text
-  pub targets : List TargetValue
-  pub registry : AreTargetsOf bytes targets
-  pub is_port : service.port ≢ 0 → place ≡ service.port
+  pub loaded : IsLoaded draws disk keys_before service.registry.now keys_after targets
+  pub bound : binds ports_before service.port (listener, place) ports_after
+  pub at_port : service.port ≢ 0 → place ≡ service.port
   pub printed : line ≡ listening_line place
 
--- the port of the arguments can't be listened at
-abbrev pub IsPortFault : Text → Fault → Type 0
-IsPortFault port_text (fault.Port argument) = argument.now ≡ port_text
-IsPortFault port_text other = ⊥
+-- the registry is loaded, and its port cannot be bound
+pub record IsNotBound {K P : Type 0} (draws : K → ℕ → ℕ → K → Type 0) (no_port : P → ℕ → P → Type 0)
+    (disk : Disk) (keys_before : K) (ports_before : P) (service : Service) (keys_after : K) (ports_after : P) (fault : MenuFault) : Type 0 where
+  pub targets : List TargetValue
+  pub loaded : IsLoaded draws disk keys_before service.registry.now keys_after targets
+  pub cause : no_port ports_before service.port ports_after
+  pub told : fault ≡ Port service.port_text
 
--- the arguments ask for a service, and there is no such registry, or nothing can listen at the port, or memory was wanting
-pub record RefusesToServe (arguments : List Text) (f : Fault) : Type 0 where
-  pub service : Service arguments
-  pub refused : IsNoRegistry service.path f ⊎ IsPortFault service.port_text f ⊎ (f ≡ fault.Memory)
+-- why a service does not listen: there is no registry, or else no port, or an allocation failed
+abbrev pub RefusesToServe : {F K P : Type 0} → (F → FileCall → Text → F → Type 0) → (K → ℕ → ℕ → K → Type 0) → (K → K → Type 0) → (P → ℕ → P → Type 0)
+    → Disk → K → P → Service → K → P → MenuFault → Type 0
+RefusesToServe fails draws no_keys no_port disk keys_before ports_before service keys_after ports_after fault =
+    IsNoRegistry fails draws no_keys disk keys_before service.registry keys_after fault
+    ⊎ IsNotBound draws no_port disk keys_before ports_before service keys_after ports_after fault
+    ⊎ (fault ≡ out_of_memory)
 
--- why the arguments print no line
-abbrev pub FailsToServe : List Text → Fault → Type 0
-FailsToServe arguments f = ((f ≡ fault.Usage) × NoServeArguments arguments) ⊎ RefusesToServe arguments f
+module _ {K P L I O : Type 0} (draws : K → ℕ → ℕ → K → Type 0) (binds : P → ℕ → L × ℕ → P → Type 0)
+    (gives : L → Option (I × O) → L → Type 0) (closes : L → I × O → L → Type 0) (heard : I → Heard) (said : O → Said)
+    (disk : Disk) (keys_before : K) (ports_before : P) (service : Service) (keys_after : K) (ports_after : P) where
+  -- it listens, and exactly the connections that were asked for are served
+  pub record Serves (line : Text) (counts : Counts) : Type 0 where
+    pub targets : List TargetValue
+    pub first : L
+    pub last : L
+    pub listening : IsListening draws binds disk keys_before ports_before service keys_after ports_after targets first line
+    pub served : ServesAll targets gives closes heard said wait service.count first last counts
 
--- the line is printed, and then the port gives no more connections
-abbrev pub StopsServing : List Text → Text → Fault → Type 0
-StopsServing arguments line f = (serving : IsServing arguments line) × IsPortFault serving.service.port_text f
+  -- it listens, fewer connections are served, and then none can be accepted
+  pub record StopsServing (no_more : L → L → Type 0) (line : Text) (fault : MenuFault) : Type 0 where
+    pub targets : List TargetValue
+    pub first : L
+    pub last : L
+    pub listening : IsListening draws binds disk keys_before ports_before service keys_after ports_after targets first line
+    pub stopped : StopsEarly targets gives closes no_more heard said wait service.count first last
+    pub told : fault ≡ Port service.port_text

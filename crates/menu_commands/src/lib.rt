@@ -1,8 +1,12 @@
-//! The commands whose arguments name a registry file: `resolve` and `serve`.
+//! The commands on registry files: `resolve` and `serve`.
 #![tactic(auto)]
 
-mod resolve;
+mod fault;
+mod resolving;
 mod service;
+mod serving;
 
-pub use resolve::{open_registry, resolve_lines, resolve_query};
-pub use service::serve;
+pub use fault::MenuFault;
+pub use resolving::resolve;
+pub use service::Service;
+pub use serving::serve;

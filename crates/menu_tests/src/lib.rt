@@ -1,11 +1,9 @@
-//! What no contract says of menus, registries, the runs of a request, and registry files, and no command shows: what is
-//! given back, what is printed of values, what a watch is shown, and files and random numbers that fail.
+//! What no contract says of menus, registries, the runs of a request, files, and registry files, and no command shows: what
+//! is given back, what is printed of values, what a watch is shown, and files and random numbers that fail.
 #![tactic(auto)]
 
 #[cfg(test)]
 mod codes;
-#[cfg(test)]
-mod first_bytes;
 #[cfg(test)]
 mod menus;
 #[cfg(test)]
@@ -16,6 +14,8 @@ mod registry_files;
 mod resolver;
 #[cfg(test)]
 mod runs_together;
+#[cfg(test)]
+mod system_files;
 
 #[cfg(test)]
 use kbart_rows::Table;

@@ -1,10 +1,12 @@
-//! Registry files of the system.
+//! Registry files, in memory and of the system.
 
 use crate::codes::FAIL_CODE;
+use files::SystemFiles;
+use files_in_memory::{Content, Memory};
 use kbart_rows::Keys;
 use registry::Registry;
-use registry_file::{RegistryError, load_registry, random_keys, read_registry};
-use std::alloc::AllocError;
+use registry_file::{KeySource, NoKeys, RegistryError, SystemKeys, load_registry, read_registry};
+use std::alloc::{AllocError, Global};
 use std::cell::Cell;
 use std::fs;
 use std::hash::{BuildHasher, Hasher};
@@ -13,21 +15,86 @@ use std::process::Abort;
 use std::random::RandomSource;
 use std::test::Fail;
 
-/// Registry files, and the first fault of each, where it has one. `code.olk` and `table.txt` are there.
-const CASES: [(&[u8], &str); 3] = [
-    (b"alpha\tcode.olk\ttable.txt\n", ""),
-    (b"alpha\tcode.olk\ttable.txt\n\nbeta\n", "line 2"),
+/// Registry files, and the first fault of each, where it has one.
+const CASES: [(&[u8], &str); 9] = [
+    (b"alpha\ta code.olk\ttable.txt\n", ""),
+    (b"alpha\ta code.olk\ttable.txt\n\nbeta\n", "line 2"),
     (
-        b"alpha\tcode.olk\tnone.txt\n",
+        b"alpha\ta code.olk\tnone.txt\nbeta\n",
         "target alpha: device: none.txt",
+    ),
+    (
+        b"alpha\tnone.olk\tnone.txt\n",
+        "target alpha: device: none.olk",
+    ),
+    (
+        b"alpha\t a code.olk\ttable.txt\n",
+        "target alpha: device:  a code.olk",
+    ),
+    (
+        b"alpha\ttable.txt\tbad.txt\n",
+        "target alpha: load: BadMagic at 0",
+    ),
+    (
+        b"alpha\ta code.olk\tbad.txt\n",
+        "target alpha: table: NotUtf8",
+    ),
+    (
+        b"alpha\ta code.olk\ttable.txt\nalpha\tbad.txt\tbad.txt\n",
+        "target alpha: load: BadMagic at 0",
+    ),
+    (
+        b"alpha\ta code.olk\ttable.txt\nalpha\ta code.olk\ttable.txt\n",
+        "target alpha: BadTargetName",
     ),
 ];
 
-/// The files of a target.
-const FILES: [(&str, &[u8]); 2] = [
-    ("code.olk", FAIL_CODE),
+/// The files of targets.
+const FILES: [(&str, &[u8]); 3] = [
+    ("a code.olk", FAIL_CODE),
     ("table.txt", b"title_url\nhttp://e.org/a\n"),
+    ("bad.txt", b"\xff"),
 ];
+
+const PATH: &str = "registry.txt";
+
+/// The files of targets and a registry file, in memory.
+fn memory(alloc: Global, registry: &[u8]) -> Result<Memory, AllocError> {
+    let mut memory = Memory::new(alloc);
+    for (path, bytes) in FILES {
+        memory.put(path, Content::File(Vec::from_slice(alloc, bytes)?))?;
+    }
+    memory.put(PATH, Content::File(Vec::from_slice(alloc, registry)?))?;
+    Ok(memory)
+}
+
+/// Keys of two numbers that are known, if there are any.
+#[derive(Drop)]
+struct Known {
+    numbers: Option<(u64, u64)>,
+}
+
+impl KeySource for Known {
+    ghost use Rattle.std.specs.Prelude.{◌≡◌, Some, None};
+
+    ghost draws = { λ old first second _. old.numbers ≡ Some (first, second) };
+
+    ghost fails = { λ old _. old.numbers ≡ None };
+
+    fn draw(&mut self) -> Result<Keys, NoKeys> {
+        match self.numbers {
+            Some((first, second)) => Ok(Keys::new(first, second)),
+            None => Err(NoKeys),
+        }
+    }
+}
+
+fn load(alloc: Global, files: &mut Memory) -> Result<Registry, RegistryError> {
+    let mut keys = Known {
+        numbers: Some((1, 2)),
+    };
+    load_registry(alloc, files, &mut keys, PATH)
+}
 
 /// Compares the fault, as it is printed, with the one that is wanted; none is the empty text.
 fn compare<R: Abort + AllocGlobal>(
@@ -48,21 +115,80 @@ fn compare<R: Abort + AllocGlobal>(
 
 #[test]
 fn names_the_first_fault(rt: HostRuntime) -> Result<(), Fail> {
-    for (name, bytes) in FILES {
-        fs::write(&rt, name, bytes)?;
-    }
-    for (bytes, wanted) in CASES {
-        compare(&rt, read_registry(&rt, bytes, Keys::new(1, 2)), wanted)?;
-        fs::write(&rt, "registry.txt", bytes)?;
-        compare(&rt, load_registry(&rt, "registry.txt"), wanted)?;
-    }
-    for name in ["code.olk", "table.txt", "registry.txt"] {
-        fs::remove_file(&rt, name)?;
+    for (registry, wanted) in CASES {
+        let mut files = memory(rt.alloc(), registry)?;
+        compare(&rt, load(rt.alloc(), &mut files), wanted)?;
+        let read = read_registry(rt.alloc(), &mut files, registry, Keys::new(1, 2));
+        compare(&rt, read, wanted)?;
     }
     Ok(())
 }
 
-/// A system that has files, and no random numbers.
+#[test]
+fn each_call_fails_in_turn(rt: HostRuntime) -> Result<(), Fail> {
+    let wanted = [
+        "device",
+        "target alpha: device: a code.olk",
+        "target alpha: device: table.txt",
+        "",
+    ];
+    for (calls, wanted) in wanted.iter().enumerate() {
+        let mut files = memory(rt.alloc(), CASES[0].0)?;
+        files.fail_after(calls);
+        compare(&rt, load(rt.alloc(), &mut files), wanted)?;
+    }
+    Ok(())
+}
+
+#[test]
+fn needs_the_file_and_keys(rt: HostRuntime) -> Result<(), Fail> {
+    let mut files = Memory::new(rt.alloc());
+    compare(&rt, load(rt.alloc(), &mut files), "device")?;
+    let mut files = memory(rt.alloc(), CASES[0].0)?;
+    let mut keys = Known { numbers: None };
+    let read = load_registry(rt.alloc(), &mut files, &mut keys, PATH);
+    compare(&rt, read, "device")
+}
+
+#[test]
+fn a_last_line_needs_no_end(rt: HostRuntime) -> Result<(), Fail> {
+    let lines: &[u8] = b"alpha\ta code.olk\ttable.txt\nbeta\ta code.olk\ttable.txt\n";
+    for registry in [lines, &lines[..lines.len() - 1]] {
+        let mut files = memory(rt.alloc(), registry)?;
+        assert_eq!(rt; load(rt.alloc(), &mut files)?.targets().len(), 2);
+    }
+    Ok(())
+}
+
+/// A registry file of 257 targets, the last of which has these two files.
+fn many(alloc: Global, code: &str, table: &str) -> Result<String, AllocError> {
+    let mut lines = String::new(alloc);
+    for number in 0..256 {
+        let line = format!(in alloc; "t{number}\ta code.olk\ttable.txt\n")?;
+        lines.push_str(line.as_str())?;
+    }
+    let last = format!(in alloc; "t256\t{code}\t{table}")?;
+    lines.push_str(last.as_str())?;
+    Ok(lines)
+}
+
+/// The number of targets is decided last.
+#[test]
+fn a_257th_target_is_read_before_it_is_refused(rt: HostRuntime) -> Result<(), Fail> {
+    let cases = [
+        ("table.txt", "bad.txt", "target t256: load: BadMagic at 0"),
+        ("a code.olk", "bad.txt", "target t256: table: NotUtf8"),
+        ("a code.olk", "table.txt", "target t256: Full"),
+    ];
+    for (code, table, wanted) in cases {
+        let registry = many(rt.alloc(), code, table)?;
+        let mut files = memory(rt.alloc(), registry.as_bytes())?;
+        compare(&rt, load(rt.alloc(), &mut files), wanted)?;
+    }
+    Ok(())
+}
+
+/// A system that has no random numbers.
 #[derive(Drop)]
 struct NoNumbers;
 
@@ -70,6 +196,30 @@ impl RandomSource for NoNumbers {
     fn fill_bytes(&self, _buf: &mut [u8]) -> io::Result<()> {
         Err(Error::from(ErrorKind::NotFound))
     }
+}
+
+#[test]
+fn files_and_keys_of_the_system(rt: HostRuntime) -> Result<(), Fail> {
+    for (path, bytes) in FILES {
+        fs::write(&rt, path, bytes)?;
+    }
+    fs::write(&rt, PATH, CASES[0].0)?;
+    let mut files = SystemFiles::new(&rt);
+    for (path, wanted) in [(PATH, ""), ("none.txt", "device")] {
+        let read = load_registry(rt.alloc(), &mut files, &mut SystemKeys::new(&rt), path);
+        compare(&rt, read, wanted)?;
+    }
+    let read = load_registry(
+        rt.alloc(),
+        &mut files,
+        &mut SystemKeys::new(&NoNumbers),
+        PATH,
+    );
+    compare(&rt, read, "device")?;
+    for path in ["a code.olk", "table.txt", "bad.txt", PATH] {
+        fs::remove_file(&rt, path)?;
+    }
+    Ok(())
 }
 
 /// A system whose random bytes are 1 at the first call, 2 at the second, and so on.
@@ -86,24 +236,18 @@ impl RandomSource for Counting {
     }
 }
 
-/// What the keys hash nothing to.
+/// The hash of nothing under the keys.
 fn hash_of(keys: Keys) -> u64 {
     keys.build_hasher().finish()
 }
 
 #[test]
 fn draws_a_number_for_each_key(rt: HostRuntime) -> Result<(), Fail> {
-    let keys = random_keys(&Counting {
+    let numbers = Counting {
         calls: Cell::new(0),
-    })?;
+    };
+    let keys = SystemKeys::new(&numbers).draw()?;
     let wanted = Keys::new(0x0101_0101_0101_0101, 0x0202_0202_0202_0202);
     assert_eq!(rt; hash_of(keys), hash_of(wanted));
-    Ok(())
-}
-
-#[test]
-fn wants_the_file_and_random_keys(rt: HostRuntime) -> Result<(), Fail> {
-    compare(&rt, load_registry(&rt, "none.txt"), "device")?;
-    assert!(&rt; random_keys(&NoNumbers).is_err());
     Ok(())
 }

@@ -2,20 +2,22 @@
 
 ghost use Rattle.std.specs.Prelude.{◌≡◌, ◌⊎◌, map, string_bytes, IfOk, IfErr};
 ghost use Rattle.text_model.specs.Texts.{texts_of};
-ghost use Rattle.command_faults.specs.declared.fault.Fault.TheVariants.{Usage, Memory};
+ghost use Rattle.commands.specs.Faults.{out_of_memory};
 
-use command_faults::Fault;
+use command_base::BaseFault;
+use commands::Fault;
 use std::alloc::{AllocError, Global};
 use std::env::{self, Env};
+use std::io::ErrorKind;
 
-/// The arguments after the program's name. Those that are no text, or that the system does not give, are
-/// wrong arguments.
+/// The arguments after the program's name. Those that are no text, or that the system does not give, count as wrong arguments.
 pub fn program_arguments<R: Env + AllocGlobal>(rt: &R) -> Result<Vec<String>, Fault<'static>>
-    ensures { IfErr result (λ fault. (fault ≡ Usage) ⊎ (fault ≡ Memory)) }
+    ensures { IfErr result (λ fault. (fault ≡ Fault.Usage) ⊎ (fault ≡ out_of_memory)) }
 {
     match env::args(rt) {
         Ok(arguments) => Ok(arguments.skip(1).collect(rt.alloc())?),
-        Err(e) => Err(Fault::of(&e, Fault::Usage)),
+        Err(e) if e.kind() == ErrorKind::OutOfMemory => Err(Fault::Base(BaseFault::Memory)),
+        Err(_) => Err(Fault::Usage),
     }
 }
 

@@ -2,12 +2,12 @@
 #![tactic(auto)]
 
 mod arguments;
-mod commands;
-mod help;
 
 use crate::arguments::{argument_texts, program_arguments};
-use crate::commands::{command, report};
-use command_faults::Fault;
+use commands::{Fault, System, command, report};
+use files::SystemFiles;
+use http_streams::Loopback;
+use registry_file::SystemKeys;
 use std::io::Write;
 use std::process::ExitCode;
 
@@ -15,7 +15,13 @@ use std::process::ExitCode;
 fn carry_out<E: Write>(rt: &HostRuntime, errors: &mut E) -> Result<u8, Fault<'static>> {
     let arguments = program_arguments(rt)?;
     let texts = argument_texts(rt.alloc(), &arguments)?;
-    Ok(command(rt, &texts, &mut rt.stdout(), errors))
+    let mut system = System {
+        files: SystemFiles::new(rt),
+        keys: SystemKeys::new(rt),
+        ports: Loopback::new(rt),
+        alloc: rt.alloc(),
+    };
+    Ok(command(&mut system, &texts, &mut rt.stdout(), errors))
 }
 
 fn main(rt: HostRuntime) -> ExitCode {

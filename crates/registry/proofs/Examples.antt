@@ -1,5 +1,6 @@
 -- The definitions computed: small targets and requests are written out here, and the checker compares.
 use Rattle.std.proofs.Common.{ℕ, ◌≡◌, true, false, List, [], ◌∷◌, Some, refl, codes}
+use Rattle.std.specs.Hash.DefaultHasher.{initial}
 use Rattle.text_model.specs.Texts.{Text}
 use Rattle.environment_model.specs.Environment.{byte_count, look_up, members_of, text_of, with_member}
 use Rattle.code_model.specs.Code.{Code, row}
@@ -37,6 +38,7 @@ table =
     record {
       header = codes "print_identifier" ∷ codes "title_url" ∷ codes "date_first_issue_online" ∷ codes "date_last_issue_online" ∷ [];
       rows = (codes "1234-567X" ∷ codes "http://e.org/a" ∷ codes "1990" ∷ codes "1995" ∷ []) ∷ (codes "1234-567X" ∷ codes "http://e.org/b" ∷ codes "2000" ∷ [] ∷ []) ∷ [];
+      keys = record { begun = initial };
     }
 
 -- EMIT of a text and HALT; `list` is read as a list

@@ -1,45 +1,61 @@
 -- Why a target is not added, from why its files are not taken.
-use Rattle.std.proofs.Common.{◌⊎◌, inl, inr, List, IfErr, IsErrAnd, Result, Ok, Err, subst}
-use Rattle.std.specs.Prelude.{Option, ◌≡◌, ℕ}
+use Rattle.std.proofs.Common.{inl, inr, List, subst, sym, ◌∙◌}
 use Rattle.text_model.specs.Texts.{Text}
-use Rattle.kbart_rows.specs.declared.error.TableError.{TableError}
-use Rattle.kbart_rows.specs.declared.error.TableError.TheVariants as table
+use Rattle.files.specs.Found.{Disk, OfFile}
+use Rattle.files.specs.declared.call.FileCall.{FileCall}
 use Rattle.registry.specs.Targets.{TargetValue}
 use Rattle.registry.specs.Refusals.{IsRefusal}
 use Rattle.registry.specs.declared.error.AddErrorKind.{AddErrorKind}
-use Rattle.registry.specs.declared.error.AddErrorKind.TheVariants as add
+use Rattle.files.specs.Found.{Found}
 use Rattle.kbart_rows.specs.Reading.{IsFault}
-use Rattle.registry_file.specs.Loading.{OfFront, IsTargetFault}
-use Rattle.registry_file.specs.Private.Stops.{IsFileStop, IsTableStop, IsStop, stop_of_kind, stop_of_table}
+use Rattle.kbart_rows.specs.declared.error.TableError.{TableError}
+use Rattle.registry_file.specs.Loading.{HasCode, HasTable, IsTargetFault}
+use Rattle.registry_file.specs.Private.Stops.{IsAddStop, IsFaultOf, IsNoCode, IsNoTable, IsStop, IsTableStop}
 use Rattle.registry_file.specs.declared.stop.Stop.{Stop}
-use Rattle.registry_file.specs.declared.stop.Stop.TheVariants.{Fault, NoMemory}
+use Rattle.registry_file.specs.declared.stop.Stop.TheVariants.{Device, Load, Table, Add, NoMemory}
 use Rattle.registry_file.specs.declared.error.TargetFault.{TargetFault}
 use Rattle.registry_file.specs.declared.error.TargetFault.TheVariants as fault
 
-pub answers : {T E : Type 0} (r : Result T E) {P Q : E → Type 0} → ((e : E) → P e → Q e) → IsErrAnd r P → IfErr r Q
-answers (Ok x) then given = tt
-answers (Err e) then given = then e given
+module _ {F : Type 0} (fails : F → FileCall → Text → F → Type 0) (disk : Disk) (targets : List TargetValue) (name code_path table_path : Text) where
+  pub no_code : (stop : Stop) → IsNoCode fails (disk code_path) code_path stop → IsStop fails disk targets name code_path table_path stop
+  no_code (Device named) why = inl why
+  no_code (Load e) why = why
+  no_code (Table e) why = absurd why
+  no_code (Add kind) why = absurd why
+  no_code NoMemory why = tt
 
--- a table is refused for a fault of its own
-table_refused : (targets : List TargetValue) (name code path : Text) (f : TargetFault) (e : TableError) (bytes : Text) → Fault f ≡ stop_of_table e → IsFault bytes e
-    → IsTargetFault targets name code path f
-table_refused targets name code path f table.NoMemory bytes same why = absurd (cc same)
-table_refused targets name code path f table.TooLong bytes same why = let is_it : fault.Table table.TooLong ≡ f = cc same in subst (IsTargetFault targets name code path) is_it (λ (e : table.TooLong ≡ table.NoMemory). absurd (cc e), (bytes, why))
-table_refused targets name code path f table.NotUtf8 bytes same why = let is_it : fault.Table table.NotUtf8 ≡ f = cc same in subst (IsTargetFault targets name code path) is_it (λ (e : table.NotUtf8 ≡ table.NoMemory). absurd (cc e), (bytes, why))
-table_refused targets name code path f table.NoHeader bytes same why = let is_it : fault.Table table.NoHeader ≡ f = cc same in subst (IsTargetFault targets name code path) is_it (λ (e : table.NoHeader ≡ table.NoMemory). absurd (cc e), (bytes, why))
-table_refused targets name code path f table.TooManyRows bytes same why = let is_it : fault.Table table.TooManyRows ≡ f = cc same in subst (IsTargetFault targets name code path) is_it (λ (e : table.TooManyRows ≡ table.NoMemory). absurd (cc e), (bytes, why))
-table_refused targets name code path f table.RowTooLong bytes same why = let is_it : fault.Table table.RowTooLong ≡ f = cc same in subst (IsTargetFault targets name code path) is_it (λ (e : table.RowTooLong ≡ table.NoMemory). absurd (cc e), (bytes, why))
+  pub no_table : (stop : Stop) → HasCode (disk code_path) → IsNoTable fails (disk table_path) table_path stop → IsStop fails disk targets name code_path table_path stop
+  no_table (Device named) code why = inr (code, why.0, why.1)
+  no_table (Load e) code why = absurd why
+  no_table (Table e) code why = (why.0, code, why.1)
+  no_table (Add kind) code why = absurd why
+  no_table NoMemory code why = tt
 
-pub no_table : (targets : List TargetValue) (name code path : Text) (limit : ℕ) (told : Option Text) (stop : Stop)
-    → IsFileStop path stop ⊎ OfFront limit told (λ bytes. IsTableStop bytes stop) → IsStop targets name code path stop
-no_table targets name code path limit told NoMemory h = tt
-no_table targets name code path limit told (Fault (fault.Device failed)) (inl h) = inr h
-no_table targets name code path limit told (Fault (fault.Load e)) (inl h) = absurd h
-no_table targets name code path limit told (Fault (fault.Table e)) (inl h) = absurd h
-no_table targets name code path limit told (Fault (fault.Add kind)) (inl h) = absurd h
-no_table targets name code path limit told (Fault f) (inr (bytes, front, (e, same, why))) = table_refused targets name code path f e bytes same why
+  pub not_taken : (kind : AddErrorKind) (stop : Stop) → HasCode (disk code_path) → HasTable (disk table_path) → IsRefusal targets name kind → IsAddStop kind stop
+      → IsStop fails disk targets name code_path table_path stop
+  not_taken kind (Device named) code table why is = absurd is
+  not_taken kind (Load e) code table why is = absurd is
+  not_taken kind (Table e) code table why is = absurd is
+  not_taken kind (Add told) code table why is =
+      (λ same. is.1 (sym is.0 ∙ same), code, table, subst (IsRefusal targets name) (sym is.0) why)
+  not_taken kind NoMemory code table why is = tt
 
-pub not_taken : (targets : List TargetValue) (name code path : Text) (kind : AddErrorKind) → IsRefusal targets name kind → IsStop targets name code path (stop_of_kind kind)
-not_taken targets name code path add.Full h = (λ (e : add.Full ≡ add.NoMemory). absurd (cc e), h)
-not_taken targets name code path add.BadTargetName h = (λ (e : add.BadTargetName ≡ add.NoMemory). absurd (cc e), h)
-not_taken targets name code path add.NoMemory h = tt
+  -- the fault that is named is that of the stop
+  pub named_fault : (stop : Stop) (f : TargetFault) → IsStop fails disk targets name code_path table_path stop → IsFaultOf stop f
+      → IsTargetFault fails disk targets name code_path table_path f
+  named_fault stop (fault.Device named) why is =
+      let why2 : IsStop fails disk targets name code_path table_path (Device is.0) = subst (IsStop fails disk targets name code_path table_path) is.1 why in
+      rw is.2 why2
+  named_fault stop (fault.Load e) why is = subst (IsStop fails disk targets name code_path table_path) is why
+  named_fault stop (fault.Table e) why is = subst (IsStop fails disk targets name code_path table_path) is why
+  named_fault stop (fault.Add kind) why is = subst (IsStop fails disk targets name code_path table_path) is why
+
+-- the file was read, and is no table
+pub table_refused : {F : Type 0} (fails : F → FileCall → Text → F → Type 0) (found : Found) (path : Text) (e : TableError) (stop : Stop)
+    → OfFile found (λ bytes. IsFault bytes e) → IsTableStop e stop → IsNoTable fails found path stop
+table_refused fails found path e (Device named) why is = absurd is
+table_refused fails found path e (Load f) why is = absurd is
+table_refused fails found path e (Table told) why is =
+    (λ same. is.1 (sym is.0 ∙ same), subst (λ e. OfFile found (λ bytes. IsFault bytes e)) (sym is.0) why)
+table_refused fails found path e (Add kind) why is = absurd is
+table_refused fails found path e NoMemory why is = tt

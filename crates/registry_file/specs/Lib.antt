@@ -1,3 +1,4 @@
 pub mod Lines
 pub mod Loading
+pub mod Drawing
 pub mod Private

@@ -1,18 +1,23 @@
--- What the lines of a registry file come to: targets, or the first fault.
-use Rattle.std.specs.Prelude.{◌≡◌, ◌≢◌, ℕ, ◌+◌, ◌≤◌, ◌<◌, ◌⊎◌, List, [], ◌∷◌, ◌++◌, Option, length, string_bytes}
+-- What a registry file gives: targets, or its first fault.
+use Rattle.std.specs.Prelude.{◌≡◌, ◌≢◌, ℕ, ◌+◌, ◌≤◌, ◌<◌, ◌⊎◌, List, [], ◌∷◌, ◌++◌, length, string_bytes}
 use Rattle.text_model.specs.Texts.{Text}
 use Rattle.code_model.specs.Code.{Code}
 use Rattle.code_file.specs.Grammar.{IsCodeFile}
 use Rattle.machine_model.specs.Safe.{IsSafe}
 use Rattle.verifier.specs.Faults.{IsLoadFault}
 use Rattle.verifier.specs.declared.error.LoadError.TheVariants as load
-use Rattle.kbart_rows.specs.Cells.{Row}
+use Rattle.files.specs.Found.{Found, Disk, Gives, OfFile, IsLong}
+use Rattle.files.specs.Failures.{HasFailed}
+use Rattle.files.specs.declared.call.FileCall.{FileCall}
+use Rattle.files.specs.declared.call.FileCall.TheVariants.{Read}
+use Rattle.kbart_rows.specs.Cells.{Row, Holdings}
 use Rattle.kbart_rows.specs.Reading.{AreLines, IsTable, IsFault}
+use Rattle.kbart_rows.specs.declared.keys.Keys.{Keys}
 use Rattle.kbart_rows.specs.declared.error.TableError.TheVariants as table
 use Rattle.registry.specs.Targets.{TargetValue}
 use Rattle.registry.specs.Refusals.{IsRefusal}
 use Rattle.registry.specs.declared.error.AddErrorKind.TheVariants as add
-use Rattle.file_front.specs.FirstBytes.{AreFirstBytes}
+use Rattle.registry_file.specs.Drawing.{IsDrawn}
 use Rattle.registry_file.specs.Lines.{IsTargetLine, IsNoTargetLine}
 use Rattle.registry_file.specs.declared.lines.TheConstants.{MAX_REGISTRY_BYTES}
 use Rattle.registry_file.specs.declared.error.RegistryError.{RegistryError}
@@ -21,72 +26,127 @@ use Rattle.registry_file.specs.declared.error.TargetError.{TargetError}
 use Rattle.registry_file.specs.declared.error.TargetFault.{TargetFault}
 use Rattle.registry_file.specs.declared.error.TargetFault.TheVariants as fault
 
--- it holds of the front of a file, whose reader may tell its bytes
-abbrev pub OfFront : ℕ → Option Text → (Text → Type 0) → Type 0
-OfFront limit told P = (front : Text) × AreFirstBytes limit told front × P front
-
 -- the bytes are the code file of safe code
 pub record IsSafeFile (bytes : Text) (code : Code) : Type 0 where
   pub file : IsCodeFile bytes code
   pub safe : IsSafe code
 
+-- there is a file of safe code
+abbrev pub HasCode : Found → Type 0
+HasCode found = OfFile found (λ bytes. (code : Code) × IsSafeFile bytes code)
+
+-- there is the file of a table
+abbrev pub HasTable : Found → Type 0
+HasTable found = OfFile found (λ bytes. (table : Holdings) × IsTable bytes table)
+
 -- ---- targets
 
--- the line is that of the target: it has its name, and the paths of a code file and of a table, which are its own
-pub record IsTargetAt (row : Row) (target : TargetValue) : Type 0 where
+-- the target of a line: its code and its table are the files at the line's two paths, and the table has these keys
+pub record IsTargetAt (disk : Disk) (keys : Keys) (row : Row) (target : TargetValue) : Type 0 where
   pub code_path : Text
   pub table_path : Text
   pub line : IsTargetLine row target.name code_path table_path
-  pub code : (bytes : Text) × IsSafeFile bytes target.code
-  pub table : (bytes : Text) × IsTable bytes target.table
+  pub code : OfFile (disk code_path) (λ bytes. IsSafeFile bytes target.code)
+  pub table : OfFile (disk table_path) (λ bytes. IsTable bytes target.table)
+  pub keyed : target.table.keys ≡ keys
 
 -- the lines are those of the targets, in their order
-abbrev pub AreTargets : List Row → List TargetValue → Type 0
-AreTargets [] [] = Unit {0}
-AreTargets (row ∷ rows) (target ∷ targets) = IsTargetAt row target × AreTargets rows targets
-AreTargets [] (target ∷ targets) = ⊥
-AreTargets (row ∷ rows) [] = ⊥
+abbrev pub AreTargets : Disk → Keys → List Row → List TargetValue → Type 0
+AreTargets disk keys [] [] = Unit {0}
+AreTargets disk keys (row ∷ rows) (target ∷ targets) = IsTargetAt disk keys row target × AreTargets disk keys rows targets
+AreTargets disk keys [] (target ∷ targets) = ⊥
+AreTargets disk keys (row ∷ rows) [] = ⊥
 
 -- the bytes are a registry file of the targets
-pub record AreTargetsOf (bytes : Text) (targets : List TargetValue) : Type 0 where
+pub record AreTargetsOf (disk : Disk) (keys : Keys) (bytes : Text) (targets : List TargetValue) : Type 0 where
   pub rows : List Row
   pub short : length bytes ≤ MAX_REGISTRY_BYTES
   pub lines : AreLines bytes rows
-  pub held : AreTargets rows targets
+  pub held : AreTargets disk keys rows targets
 
 -- ---- faults
 
--- why a target of this name and with files at these paths is not added to others; want of memory is none of the reasons
-abbrev pub IsTargetFault : List TargetValue → Text → Text → Text → TargetFault → Type 0
-IsTargetFault targets name code_path table_path (fault.Device path) = (string_bytes path ≡ code_path) ⊎ (string_bytes path ≡ table_path)
-IsTargetFault targets name code_path table_path (fault.Load e) = (e ≢ load.NoMemory) × ((bytes : Text) × IsLoadFault bytes e)
-IsTargetFault targets name code_path table_path (fault.Table e) = (e ≢ table.NoMemory) × ((bytes : Text) × IsFault bytes e)
-IsTargetFault targets name code_path table_path (fault.Add kind) = (kind ≢ add.NoMemory) × IsRefusal targets name kind
+module _ {F : Type 0} (fails : F → FileCall → Text → F → Type 0) (disk : Disk) where
+  -- a read failed, and its path is the one that is named: that of the code, or if the code is good, that of the table
+  abbrev pub IsUnread : Text → Text → Text → Type 0
+  IsUnread code_path table_path named =
+      ((named ≡ code_path) × HasFailed fails Read code_path) ⊎ (HasCode (disk code_path) × (named ≡ table_path) × HasFailed fails Read table_path)
 
--- the line is that of a target, and why it is not added to others
-pub record IsRefusedTarget (targets : List TargetValue) (row : Row) (e : TargetError) : Type 0 where
-  pub code_path : Text
-  pub table_path : Text
-  pub line : IsTargetLine row (string_bytes e.name) code_path table_path
-  pub fault : IsTargetFault targets (string_bytes e.name) code_path table_path e.fault
+  -- why a target of this name is not added to others: its code first, then its table, then what `add` decides; running out of memory
+  -- is none of the reasons
+  abbrev pub IsTargetFault : List TargetValue → Text → Text → Text → TargetFault → Type 0
+  IsTargetFault targets name code_path table_path (fault.Device named) = IsUnread code_path table_path (string_bytes named)
+  IsTargetFault targets name code_path table_path (fault.Load e) = (e ≢ load.NoMemory) × OfFile (disk code_path) (λ bytes. IsLoadFault bytes e)
+  IsTargetFault targets name code_path table_path (fault.Table e) =
+      (e ≢ table.NoMemory) × HasCode (disk code_path) × OfFile (disk table_path) (λ bytes. IsFault bytes e)
+  IsTargetFault targets name code_path table_path (fault.Add kind) =
+      (kind ≢ add.NoMemory) × HasCode (disk code_path) × HasTable (disk table_path) × IsRefusal targets name kind
 
--- the lines before one are those of targets
-pub record StopsAtLine (rows : List Row) (before : List Row) (targets : List TargetValue) (row : Row) : Type 0 where
-  pub after : List Row
-  pub whole : rows ≡ before ++ row ∷ after
-  pub held : AreTargets before targets
+  -- the line is that of a target that is not added to others
+  pub record IsRefusedTarget (targets : List TargetValue) (row : Row) (e : TargetError) : Type 0 where
+    pub code_path : Text
+    pub table_path : Text
+    pub line : IsTargetLine row (string_bytes e.name) code_path table_path
+    pub fault : IsTargetFault targets (string_bytes e.name) code_path table_path e.fault
 
--- why lines are no registry: the first that is no line of a target, or whose target is refused
-abbrev pub IsLineFault : List Row → RegistryError → Type 0
-IsLineFault rows (Line n) =
-    (before : List Row) × (targets : List TargetValue) × (row : Row) × StopsAtLine rows before targets row × (n ≡ length before + 1) × IsNoTargetLine row
-IsLineFault rows (Target e) =
-    (before : List Row) × (targets : List TargetValue) × (row : Row) × StopsAtLine rows before targets row × IsRefusedTarget targets row e
-IsLineFault rows NoMemory = Unit {0}
-IsLineFault rows Device = ⊥
+  -- why the line of this number gives no further target
+  abbrev pub IsRefusedLine : List TargetValue → ℕ → Row → RegistryError → Type 0
+  IsRefusedLine targets number row (Line n) = (n ≡ number) × IsNoTargetLine row
+  IsRefusedLine targets number row (Target e) = IsRefusedTarget targets row e
+  IsRefusedLine targets number row NoMemory = Unit {0}
+  IsRefusedLine targets number row Device = ⊥
 
--- why bytes are no registry file
-abbrev pub IsRegistryFault : Text → RegistryError → Type 0
-IsRegistryFault bytes e = ((e ≡ Line 0) × (MAX_REGISTRY_BYTES < length bytes))
-    ⊎ ((rows : List Row) × (length bytes ≤ MAX_REGISTRY_BYTES) × AreLines bytes rows × IsLineFault rows e)
-    ⊎ (e ≡ NoMemory)
+  module _ (keys : Keys) where
+    -- the lines before one are those of targets, and this one gives none
+    pub record StopsAtLine (rows : List Row) (e : RegistryError) : Type 0 where
+      pub before : List Row
+      pub row : Row
+      pub after : List Row
+      pub targets : List TargetValue
+      pub whole : rows ≡ before ++ row ∷ after
+      pub held : AreTargets disk keys before targets
+      pub refused : IsRefusedLine targets (length before + 1) row e
+
+    -- the bytes are few enough, and a line of them gives no target
+    pub record HasLineFault (bytes : Text) (e : RegistryError) : Type 0 where
+      pub rows : List Row
+      pub short : length bytes ≤ MAX_REGISTRY_BYTES
+      pub lines : AreLines bytes rows
+      pub stops : StopsAtLine rows e
+
+    -- why bytes are no registry file
+    abbrev pub IsRegistryFault : Text → RegistryError → Type 0
+    IsRegistryFault bytes (Line n) = ((n ≡ 0) × (MAX_REGISTRY_BYTES < length bytes)) ⊎ HasLineFault bytes (Line n)
+    IsRegistryFault bytes (Target e) = HasLineFault bytes (Target e)
+    IsRegistryFault bytes NoMemory = Unit {0}
+    IsRegistryFault bytes Device = ⊥
+
+-- ---- registry files at paths
+
+module _ {K : Type 0} (draws : K → ℕ → ℕ → K → Type 0) (disk : Disk) (old : K) (path : Text) (new : K) where
+  -- the file at the path is a registry file of the targets; their tables have the keys that were drawn
+  pub record IsLoaded (targets : List TargetValue) : Type 0 where
+    pub bytes : Text
+    pub keys : Keys
+    pub file : Gives (disk path) bytes
+    pub drawn : IsDrawn draws old keys new
+    pub held : AreTargetsOf disk keys bytes targets
+
+  -- the file at the path was read, keys were drawn, and a line gives no target
+  pub record HasFileFault {F : Type 0} (fails : F → FileCall → Text → F → Type 0) (e : RegistryError) : Type 0 where
+    pub bytes : Text
+    pub keys : Keys
+    pub file : Gives (disk path) bytes
+    pub drawn : IsDrawn draws old keys new
+    pub fault : HasLineFault fails disk keys bytes e
+
+-- why the file at a path gives no registry: first it is not read, or is too long, and then no keys are drawn; then there are none; then a line
+-- gives no target
+abbrev pub IsNotLoaded : {F K : Type 0} → (F → FileCall → Text → F → Type 0) → (K → ℕ → ℕ → K → Type 0) → (K → K → Type 0)
+    → Disk → K → Text → K → RegistryError → Type 0
+IsNotLoaded fails draws no_keys disk old path new Device =
+    (HasFailed fails Read path × (new ≡ old)) ⊎ (OfFile (disk path) (λ bytes. length bytes ≤ MAX_REGISTRY_BYTES) × no_keys old new)
+IsNotLoaded fails draws no_keys disk old path new (Line n) =
+    ((n ≡ 0) × IsLong MAX_REGISTRY_BYTES (disk path) × (new ≡ old)) ⊎ HasFileFault draws disk old path new fails (Line n)
+IsNotLoaded fails draws no_keys disk old path new (Target e) = HasFileFault draws disk old path new fails (Target e)
+IsNotLoaded fails draws no_keys disk old path new NoMemory = Unit {0}

@@ -1,5 +1,7 @@
 //! Why a registry file gives no registry.
 
+use crate::keys::NoKeys;
+use files::{FileError, ReadError};
 use kbart_rows::TableError;
 use registry::AddErrorKind;
 use std::alloc::AllocError;
@@ -9,7 +11,7 @@ use verifier::LoadError;
 /// Why a registry file gives no registry: its first fault.
 #[derive(Debug, PartialEq, Eq, Drop, Error)]
 pub enum RegistryError {
-    /// The file failed, or the system had no random keys for the tables.
+    /// The registry file could not be read, or there were no random keys for the tables.
     #[error("device")]
     Device,
     /// The line, counted from 1 without blank ones, has not three cells of UTF-8. Line 0: the file has more than
@@ -19,7 +21,7 @@ pub enum RegistryError {
     /// A target is refused.
     #[error("target {0}")]
     Target(TargetError),
-    /// A growth was refused.
+    /// An allocation failed.
     #[error("NoMemory")]
     NoMemory,
 }
@@ -36,13 +38,13 @@ pub struct TargetError {
 /// Why a target is refused, in the order in which it is decided: its code, its table, its name.
 #[derive(Debug, PartialEq, Eq, Drop, Error)]
 pub enum TargetFault {
-    /// The file at the path failed.
+    /// The file at the path could not be read.
     #[error("device: {0}")]
     Device(String),
     /// The code is not accepted.
     #[error("load: {0}")]
     Load(LoadError),
-    /// The table is none.
+    /// The file is no table.
     #[error("table: {0}")]
     Table(TableError),
     /// There are too many targets, or the name is not one that the target can have.
@@ -58,5 +60,32 @@ impl From<AllocError> for RegistryError {
 
     fn from(_e: AllocError) -> RegistryError {
         RegistryError::NoMemory
+    }
+}
+
+impl From<NoKeys> for RegistryError {
+    ghost use Rattle.registry_file.specs.declared.error.RegistryError.TheVariants.{Device};
+    ghost use Rattle.std.specs.Prelude.{◌≡◌};
+
+    ghost from_gives = { λ _ e. e ≡ Device };
+
+    fn from(_e: NoKeys) -> RegistryError {
+        RegistryError::Device
+    }
+}
+
+/// Why the registry file is not read.
+impl From<ReadError> for RegistryError {
+    ghost use Rattle.registry_file.specs.Private.Stops.{error_of_read};
+    ghost use Rattle.std.specs.Prelude.{◌≡◌};
+
+    ghost from_gives = { λ e error. error ≡ error_of_read e };
+
+    fn from(e: ReadError) -> RegistryError {
+        match e {
+            ReadError::TooLong => RegistryError::Line(0),
+            ReadError::File(FileError::Failed) => RegistryError::Device,
+            ReadError::File(FileError::NoMemory) => RegistryError::NoMemory,
+        }
     }
 }

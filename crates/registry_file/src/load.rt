@@ -1,98 +1,107 @@
 //! Registries from their files.
 
-ghost use Rattle.std.specs.Prelude.{◌≡◌, ◌⊎◌, ◌<◌, ◌↔◌, Err, IfErr, IfOk, length};
-ghost use Rattle.text_model.specs.Texts.{Text};
-ghost use Rattle.registry_file.specs.Loading.{AreTargetsOf, IsRegistryFault};
-ghost use Rattle.registry_file.specs.declared.error.RegistryError.TheVariants.{Device, Line, NoMemory};
+ghost use Rattle.std.specs.Prelude.{◌≡◌, ◌≤◌, ◌<◌, ◌+◌, ◌↔◌, ◌++◌, ◌∷◌, [], Err, IfErr, IfOk, OnOk, length};
+ghost use Rattle.csv.specs.Records.{fields_of};
+ghost use Rattle.files.specs.Changes.{Unchanged};
+ghost use Rattle.files.specs.Found.{Absent};
+ghost use Rattle.registry.specs.Targets.{TargetValue};
+ghost use Rattle.registry_file.specs.Loading.{AreTargetsOf, IsLoaded, IsNotLoaded, IsRefusedLine, IsRegistryFault, IsTargetAt};
+ghost use Rattle.registry_file.specs.declared.error.RegistryError.TheVariants.{Device, Line};
 ghost use Rattle.registry_file.specs.declared.lines.TheConstants.{MAX_REGISTRY_BYTES};
 
 use crate::error::RegistryError;
+use crate::keys::KeySource;
 use crate::lines::{MAX_REGISTRY_BYTES, read_lines, target_line};
 use crate::target::add_target;
-use file_front::read_first_bytes;
+use csv::ByteRecord;
+use files::{Files, read_whole};
 use kbart_rows::Keys;
 use registry::Registry;
-use std::fs;
-use std::io::{self, ErrorKind};
-use std::random::RandomSource;
-use std::rt::Files;
+use std::alloc::Global;
 
 /// The registry of the registry file at the path. Each line of the file, in order, has its code loaded and its table
-/// read, and then the target is added; paths are as they are written, from the folder in which the program runs. The
-/// keys of the tables' hashed look-ups are random, and drawn once.
+/// read, and then the target is added. Paths are used as they are written. The keys of the tables' hashed look-ups are
+/// drawn once, after the registry file has been read.
 ///
-/// Refuses the file by its first fault: see [`RegistryError`].
-pub fn load_registry<R: Files + RandomSource + AllocGlobal>(
-    rt: &R,
+/// Rejects the file by its first fault: see [`RegistryError`].
+pub fn load_registry<F: Files, K: KeySource>(
+    alloc: Global,
+    files: &mut F,
+    keys: &mut K,
     path: &str,
 ) -> Result<Registry, RegistryError>
     ensures limit { MAX_REGISTRY_BYTES ≡ 65536 }
-    ensures ok { IfOk result (λ registry. (bytes : Text) × AreTargetsOf bytes registry) }
-    ensures err { IfErr result (λ e. (e ≡ Device) ⊎ ((bytes : Text) × IsRegistryFault bytes e)) }
+    ensures ok { IfOk result (IsLoaded K.draws (F.at files.old) keys.old path.now keys.new) }
+    ensures err { IfErr result (IsNotLoaded F.fails K.draws K.fails (F.at files.old) keys.old path.now keys.new) }
+    ensures absent { F.at files.old path.now ≡ Absent → result ≡ Err Device }
+    ensures same { Unchanged (F.at files.old) (F.at files.new) }
 {
-    let front = match front(rt, path) {
-        Ok(front) => front,
-        Err(e) => return Err(file_error(&e)),
-    };
-    let keys = match random_keys(rt) {
-        Ok(keys) => keys,
-        Err(e) => return Err(file_error(&e)),
-    };
-    read_registry(rt, &front, keys)
+    let bytes = read_whole(alloc, files, path, MAX_REGISTRY_BYTES)?;
+    let keys = keys.draw()?;
+    registry_of(alloc, files, &bytes, keys)
 }
 
 /// The registry of a registry file with these bytes, whose tables' hashed look-ups have these keys.
 ///
-/// Refuses the bytes by their first fault: see [`RegistryError`]. Line 0 says that they are too many, however little
-/// memory there is.
-pub fn read_registry<R: Files + AllocGlobal>(
-    rt: &R,
+/// Rejects the bytes by their first fault: see [`RegistryError`]. Line 0 says that there are too many, even if memory
+/// has run out.
+pub fn read_registry<F: Files>(
+    alloc: Global,
+    files: &mut F,
     bytes: &[u8],
     keys: Keys,
 ) -> Result<Registry, RegistryError>
     ensures limit { MAX_REGISTRY_BYTES ≡ 65536 }
-    ensures ok { IfOk result (AreTargetsOf bytes.now) }
+    ensures ok { IfOk result (AreTargetsOf (F.at files.old) keys bytes.now) }
     ensures too_long { (result ≡ Err (Line 0)) ↔ (MAX_REGISTRY_BYTES < length bytes.now) }
-    ensures err { IfErr result (IsRegistryFault bytes.now) }
+    ensures err { IfErr result (IsRegistryFault F.fails (F.at files.old) keys bytes.now) }
+    ensures same { Unchanged (F.at files.old) (F.at files.new) }
 {
     if bytes.len() > MAX_REGISTRY_BYTES {
         return Err(RegistryError::Line(0));
     }
-    let mut registry = Registry::new(rt.alloc());
-    let lines = read_lines(rt.alloc(), bytes)?;
+    registry_of(alloc, files, bytes, keys)
+}
+
+/// The registry of a registry file that is not too long.
+fn registry_of<F: Files>(
+    alloc: Global,
+    files: &mut F,
+    bytes: &[u8],
+    keys: Keys,
+) -> Result<Registry, RegistryError>
+    requires { length bytes.now ≤ MAX_REGISTRY_BYTES }
+    ensures ok { IfOk result (AreTargetsOf (F.at files.old) keys bytes.now) }
+    ensures err { IfErr result (IsRegistryFault F.fails (F.at files.old) keys bytes.now) }
+    ensures same { Unchanged (F.at files.old) (F.at files.new) }
+{
+    let mut registry = Registry::new(alloc);
+    let lines = read_lines(alloc, bytes)?;
     for (before, line) in lines.iter().enumerate() {
-        let Some(cells) = target_line(line) else {
-            return Err(RegistryError::Line(before + 1));
-        };
-        if let Err(stop) = add_target(rt, &mut registry, &cells, keys) {
-            return Err(stop.of_target(rt.alloc(), cells.name));
-        }
+        add_line(alloc, files, &mut registry, before + 1, line, keys)?;
     }
     Ok(registry)
 }
 
-fn front<R: Files + AllocGlobal>(rt: &R, path: &str) -> io::Result<Vec<u8>> {
-    read_first_bytes(rt.alloc(), fs::open(rt, path)?, MAX_REGISTRY_BYTES)
-}
-
-/// Keys that nobody knows, as [`read_registry`] takes them; an error of the system where it has no random numbers.
-pub fn random_keys<R: RandomSource>(rt: &R) -> io::Result<Keys> {
-    Ok(Keys::new(random_number(rt)?, random_number(rt)?))
-}
-
-fn random_number<R: RandomSource>(rt: &R) -> io::Result<u64> {
-    let mut bytes = [0; 8];
-    rt.fill_bytes(&mut bytes)?;
-    Ok(u64::from_le_bytes(bytes))
-}
-
-/// The registry file failed, or memory was wanting.
-fn file_error(error: &io::Error) -> RegistryError
-    ensures { (result ≡ Device) ⊎ (result ≡ NoMemory) }
+/// Adds the target of a line after the others.
+fn add_line<F: Files>(
+    alloc: Global,
+    files: &mut F,
+    registry: &mut Registry,
+    number: usize,
+    line: &ByteRecord,
+    keys: Keys,
+) -> Result<(), RegistryError>
+    ensures ok { OnOk result ((target : TargetValue) × IsTargetAt (F.at files.old) keys (fields_of line.now) target
+        × (registry.new ≡ registry.old ++ target ∷ [])) }
+    ensures err { IfErr result (IsRefusedLine F.fails (F.at files.old) registry.old number (fields_of line.now)) }
+    ensures same { Unchanged (F.at files.old) (F.at files.new) }
 {
-    if error.kind() == ErrorKind::OutOfMemory {
-        RegistryError::NoMemory
-    } else {
-        RegistryError::Device
+    let Some(cells) = target_line(line) else {
+        return Err(RegistryError::Line(number));
+    };
+    match add_target(alloc, files, registry, &cells, keys) {
+        Ok(()) => Ok(()),
+        Err(stop) => Err(RegistryError::Target(stop.of_target(alloc, cells.name)?)),
     }
 }

@@ -1,92 +1,106 @@
 //! Why a target is not added, before it is named.
 
-ghost use Rattle.std.specs.Prelude.{◌≡◌};
-ghost use Rattle.registry_file.specs.Private.Stops.{IsFileStop, IsNamed, stop_of_kind};
+ghost use Rattle.std.specs.Prelude.{◌≡◌, IfOk, string_bytes};
+ghost use Rattle.registry_file.specs.Private.Stops.{IsFaultOf, stop_of_file};
 
-use crate::error::{RegistryError, TargetError, TargetFault};
+use crate::error::{TargetError, TargetFault};
+use files::FileError;
 use kbart_rows::TableError;
 use registry::AddErrorKind;
 use std::alloc::{AllocError, Global};
-use std::io::{self, ErrorKind};
 use verifier::LoadError;
 
-/// Why a target is not added: a fault of its own, or want of memory.
-#[derive(Drop)]
-pub(crate) enum Stop {
-    Fault(TargetFault),
+/// Why a target is not added, in the order in which it is decided.
+#[derive(Clone, Copy)]
+pub(crate) enum Stop<'a> {
+    /// The file at the path could not be read.
+    Device(&'a str),
+    Load(LoadError),
+    Table(TableError),
+    Add(AddErrorKind),
     NoMemory,
 }
 
-impl Stop {
-    /// The file at the path failed.
-    pub(crate) fn of_file(alloc: Global, error: &io::Error, path: &str) -> Stop
-        ensures { IsFileStop path.now result }
+impl<'a> Stop<'a> {
+    /// The file at the path could not be read.
+    pub(crate) fn of_file(error: FileError, path: &'a str) -> Stop<'a>
+        ensures { result ≡ stop_of_file error path.entry }
     {
-        if error.kind() == ErrorKind::OutOfMemory {
-            return Stop::NoMemory;
-        }
-        match String::from_str(alloc, path) {
-            Ok(path) => Stop::Fault(TargetFault::Device(path)),
-            Err(_) => Stop::NoMemory,
+        match error {
+            FileError::Failed => Stop::Device(path),
+            FileError::NoMemory => Stop::NoMemory,
         }
     }
 
-    /// The registry does not take the target.
-    pub(crate) fn of_kind(kind: AddErrorKind) -> Stop
-        ensures { result ≡ stop_of_kind kind }
+    /// The error of the target of this name.
+    pub(crate) fn of_target(self, alloc: Global, name: &str) -> Result<TargetError, AllocError>
+        ensures name { IfOk result (λ e. string_bytes e.name ≡ name.now) }
+        ensures fault { IfOk result (λ e. IsFaultOf self.entry e.fault) }
     {
-        match kind {
-            AddErrorKind::NoMemory => Stop::NoMemory,
-            _ => Stop::Fault(TargetFault::Add(kind)),
-        }
+        let fault = self.fault(alloc)?;
+        let name = String::from_str(alloc, name)?;
+        Ok(TargetError { name, fault })
     }
 
-    /// The fault of the target of this name.
-    pub(crate) fn of_target(self, alloc: Global, name: &str) -> RegistryError
-        ensures { IsNamed name.now self result }
+    fn fault(self, alloc: Global) -> Result<TargetFault, AllocError>
+        ensures { IfOk result (IsFaultOf self.entry) }
     {
-        match (self, String::from_str(alloc, name)) {
-            (Stop::Fault(fault), Ok(name)) => RegistryError::Target(TargetError { name, fault }),
-            _ => RegistryError::NoMemory,
+        match self {
+            Stop::Device(path) => Ok(TargetFault::Device(String::from_str(alloc, path)?)),
+            Stop::Load(e) => Ok(TargetFault::Load(e)),
+            Stop::Table(e) => Ok(TargetFault::Table(e)),
+            Stop::Add(kind) => Ok(TargetFault::Add(kind)),
+            Stop::NoMemory => Err(AllocError),
         }
     }
 }
 
-impl From<AllocError> for Stop {
+impl<'a> From<AllocError> for Stop<'a> {
     ghost use Rattle.registry_file.specs.declared.stop.Stop.TheVariants.{NoMemory};
     ghost use Rattle.std.specs.Prelude.{◌≡◌};
 
     ghost from_gives = { λ _ stop. stop ≡ NoMemory };
 
-    fn from(_e: AllocError) -> Stop {
+    fn from(_e: AllocError) -> Stop<'a> {
         Stop::NoMemory
     }
 }
 
-impl From<LoadError> for Stop {
-    ghost use Rattle.registry_file.specs.Private.Stops.{stop_of_load};
-    ghost use Rattle.std.specs.Prelude.{◌≡◌};
+impl<'a> From<LoadError> for Stop<'a> {
+    ghost use Rattle.registry_file.specs.Private.Stops.{IsLoadStop};
 
-    ghost from_gives = { λ e stop. stop ≡ stop_of_load e };
+    ghost from_gives = { IsLoadStop };
 
-    fn from(e: LoadError) -> Stop {
+    fn from(e: LoadError) -> Stop<'a> {
         match e {
             LoadError::NoMemory => Stop::NoMemory,
-            _ => Stop::Fault(TargetFault::Load(e)),
+            _ => Stop::Load(e),
         }
     }
 }
 
-impl From<TableError> for Stop {
-    ghost use Rattle.registry_file.specs.Private.Stops.{stop_of_table};
-    ghost use Rattle.std.specs.Prelude.{◌≡◌};
+impl<'a> From<TableError> for Stop<'a> {
+    ghost use Rattle.registry_file.specs.Private.Stops.{IsTableStop};
 
-    ghost from_gives = { λ e stop. stop ≡ stop_of_table e };
+    ghost from_gives = { IsTableStop };
 
-    fn from(e: TableError) -> Stop {
+    fn from(e: TableError) -> Stop<'a> {
         match e {
             TableError::NoMemory => Stop::NoMemory,
-            _ => Stop::Fault(TargetFault::Table(e)),
+            _ => Stop::Table(e),
+        }
+    }
+}
+
+impl<'a> From<AddErrorKind> for Stop<'a> {
+    ghost use Rattle.registry_file.specs.Private.Stops.{IsAddStop};
+
+    ghost from_gives = { IsAddStop };
+
+    fn from(kind: AddErrorKind) -> Stop<'a> {
+        match kind {
+            AddErrorKind::NoMemory => Stop::NoMemory,
+            _ => Stop::Add(kind),
         }
     }
 }

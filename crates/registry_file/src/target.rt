@@ -1,82 +1,82 @@
 //! One target of a registry file.
 
-ghost use Rattle.std.specs.Prelude.{◌≡◌, ◌++◌, ◌∷◌, [], ◌⊎◌, ◌+◌, ◌<◌, ◌^◌, IfErr, IfOk, OnErr, OnOk};
-ghost use Rattle.code_file.specs.declared.limits.TheConstants as code_file;
-ghost use Rattle.file_front.specs.FirstBytes.{AreFirstBytes};
+ghost use Rattle.std.specs.Prelude.{◌≡◌, ◌++◌, ◌∷◌, [], Err, IfErr, IfOk, OnOk};
+ghost use Rattle.files.specs.Changes.{Unchanged};
+ghost use Rattle.files.specs.Found.{Absent, OfFile};
 ghost use Rattle.kbart_rows.specs.Reading.{IsTable};
-ghost use Rattle.kbart_rows.specs.declared.read.TheConstants as kbart_rows;
 ghost use Rattle.registry.specs.Targets.{TargetValue};
-ghost use Rattle.registry_file.specs.Loading.{IsSafeFile, OfFront};
-ghost use Rattle.registry_file.specs.Private.Stops.{IsCodeStop, IsFileStop, IsStop, IsTableStop, IsTargetOf};
+ghost use Rattle.registry_file.specs.Loading.{IsSafeFile};
+ghost use Rattle.registry_file.specs.Private.Stops.{IsNoCode, IsNoTable, IsStop, IsTargetOf};
+ghost use Rattle.registry_file.specs.declared.stop.Stop.TheVariants.{Device};
 
 use crate::lines::TargetLine;
 use crate::stop::Stop;
-use code_file::MAX_BYTES;
-use file_front::read_first_bytes;
-use kbart_rows::{Keys, MAX_TABLE_BYTES, Table};
+use code_file::{CodeErrorKind, MAX_BYTES};
+use files::{Files, ReadError, read_whole};
+use kbart_rows::{Keys, MAX_TABLE_BYTES, Table, TableError};
 use registry::Registry;
 use std::alloc::Global;
-use std::fs;
-use std::io::Read;
-use std::rt::Files;
-use verifier::{Verified, load};
+use verifier::{LoadError, Verified, load};
 
-/// Loads the code of a target, reads its table, and adds it behind the others.
-pub(crate) fn add_target<R: Files + AllocGlobal>(
-    rt: &R,
+/// Loads the code of a target, reads its table, and adds it after the others.
+pub(crate) fn add_target<'a, F: Files>(
+    alloc: Global,
+    files: &mut F,
     registry: &mut Registry,
-    line: &TargetLine,
+    line: &TargetLine<'a>,
     keys: Keys,
-) -> Result<(), Stop>
-    ensures ok { OnOk result ((target : TargetValue) × IsTargetOf line.now.name.now target × (registry.new ≡ registry.old ++ target ∷ [])) }
-    ensures err { IfErr result (IsStop registry.old line.now.name.now line.now.code.now line.now.table.now) }
+) -> Result<(), Stop<'a>>
+    ensures ok { OnOk result ((target : TargetValue) × IsTargetOf (F.at files.old) keys line.now.name.now line.now.code.now line.now.table.now target
+        × (registry.new ≡ registry.old ++ target ∷ [])) }
+    ensures err { IfErr result (IsStop F.fails (F.at files.old) registry.old line.now.name.now line.now.code.now line.now.table.now) }
+    ensures same { Unchanged (F.at files.old) (F.at files.new) }
 {
-    let alloc = rt.alloc();
-    let code = load_code(alloc, open(rt, line.code)?, line.code)?;
-    let table = read_table(alloc, open(rt, line.table)?, line.table, keys)?;
+    let code = load_code(alloc, files, line.code)?;
+    let table = read_table(alloc, files, line.table, keys)?;
     let name = String::from_str(alloc, line.name)?;
     match registry.add(name, code, table) {
         Ok(()) => Ok(()),
-        Err(refused) => Err(Stop::of_kind(refused.kind)),
+        Err(refused) => Err(Stop::from(refused.kind)),
     }
 }
 
-/// The accepted code of a file, whose path is given to name it.
-fn load_code<F: Read + Drop>(alloc: Global, file: F, path: &str) -> Result<Verified, Stop>
-    ensures ok { IfOk result (λ code. OfFront code_file.MAX_BYTES (F.remaining file) (λ bytes. IsSafeFile bytes code)) }
-    ensures err { IfErr result (λ stop. IsFileStop path.now stop ⊎ OfFront code_file.MAX_BYTES (F.remaining file) (λ bytes. IsCodeStop bytes stop)) }
+/// The accepted code of the file at the path.
+fn load_code<'a, F: Files>(
+    alloc: Global,
+    files: &mut F,
+    path: &'a str,
+) -> Result<Verified, Stop<'a>>
+    ensures ok { IfOk result (λ code. OfFile (F.at files.old path.now) (λ bytes. IsSafeFile bytes code)) }
+    ensures err { IfErr result (IsNoCode F.fails (F.at files.old path.now) path.now) }
+    ensures absent { F.at files.old path.now ≡ Absent → result ≡ Err (Device path.entry) }
+    ensures same { Unchanged (F.at files.old) (F.at files.new) }
 {
-    let front = front(alloc, file, path, MAX_BYTES)?;
-    Ok(load(alloc, &front)?)
-}
-
-/// The table of a file, whose path is given to name it.
-fn read_table<F: Read + Drop>(alloc: Global, file: F, path: &str, keys: Keys) -> Result<Table, Stop>
-    ensures ok { IfOk result (λ table. OfFront kbart_rows.MAX_TABLE_BYTES (F.remaining file) (λ bytes. IsTable bytes table)) }
-    ensures err { IfErr result (λ stop. IsFileStop path.now stop ⊎ OfFront kbart_rows.MAX_TABLE_BYTES (F.remaining file) (λ bytes. IsTableStop bytes stop)) }
-{
-    let front = front(alloc, file, path, MAX_TABLE_BYTES)?;
-    Ok(Table::read_keyed(alloc, &front, keys)?)
-}
-
-/// The file at the path, to be read.
-fn open<R: Files + AllocGlobal>(rt: &R, path: &str) -> Result<R::File, Stop>
-    ensures { IfErr result (IsFileStop path.now) }
-{
-    match fs::open(rt, path) {
-        Ok(file) => Ok(file),
-        Err(e) => Err(Stop::of_file(rt.alloc(), &e, path)),
+    match read_whole(alloc, files, path, MAX_BYTES) {
+        Ok(bytes) => Ok(load(alloc, &bytes)?),
+        Err(ReadError::TooLong) => Err(Stop::Load(LoadError::Code(
+            CodeErrorKind::TooLong,
+            MAX_BYTES,
+        ))),
+        Err(ReadError::File(e)) => Err(Stop::of_file(e, path)),
     }
 }
 
-/// All bytes of a file, or where it has more, as many as the limit and one more.
-fn front<F: Read + Drop>(alloc: Global, file: F, path: &str, limit: usize) -> Result<Vec<u8>, Stop>
-    requires { limit + 1 < 2 ^ 63 }
-    ensures ok { IfOk result (λ front. AreFirstBytes limit (F.remaining file) front.items) }
-    ensures err { IfErr result (IsFileStop path.now) }
+/// The table of the file at the path.
+fn read_table<'a, F: Files>(
+    alloc: Global,
+    files: &mut F,
+    path: &'a str,
+    keys: Keys,
+) -> Result<Table, Stop<'a>>
+    ensures ok { IfOk result (λ table. OfFile (F.at files.old path.now) (λ bytes. IsTable bytes table)) }
+    ensures keyed { IfOk result (λ table. table.keys ≡ keys) }
+    ensures err { IfErr result (IsNoTable F.fails (F.at files.old path.now) path.now) }
+    ensures absent { F.at files.old path.now ≡ Absent → result ≡ Err (Device path.entry) }
+    ensures same { Unchanged (F.at files.old) (F.at files.new) }
 {
-    match read_first_bytes(alloc, file, limit) {
-        Ok(front) => Ok(front),
-        Err(e) => Err(Stop::of_file(alloc, &e, path)),
+    match read_whole(alloc, files, path, MAX_TABLE_BYTES) {
+        Ok(bytes) => Ok(Table::read_keyed(alloc, &bytes, keys)?),
+        Err(ReadError::TooLong) => Err(Stop::Table(TableError::TooLong)),
+        Err(ReadError::File(e)) => Err(Stop::of_file(e, path)),
     }
 }

@@ -1,3 +1,3 @@
 pub mod ArgumentLemmas
-pub mod FrontLemmas
+pub mod FaultLemmas
 pub mod LinkLemmas

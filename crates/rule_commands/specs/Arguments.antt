@@ -8,16 +8,22 @@ use Rattle.text_model.specs.Texts.{Text}
 abbrev pub list_options : List Text → List Text
 list_options names = flat_map (λ name. codes "--list" ∷ name ∷ []) names
 
--- the arguments after `expand`: options, a template and a query; an argument `--list` in front is always the option
+-- the names in such options
+abbrev pub names_of : List Text → List Text
+names_of [] = []
+names_of (option ∷ []) = []
+names_of (option ∷ name ∷ options) = name ∷ names_of options
+
+-- the arguments after `expand`: options, a template and a query; an argument `--list` before the template is always the option
 pub record AreExpandArguments (arguments lists : List Text) (template query : Text) : Type 0 where
   pub whole : arguments ≡ list_options lists ++ template ∷ query ∷ []
   pub no_option : template ≢ codes "--list"
 
--- the arguments are not those behind `expand`
+-- the arguments are not those after `expand`
 abbrev pub NoExpandArguments : List Text → Type 0
 NoExpandArguments arguments = (lists : List Text) (template query : Text) → AreExpandArguments arguments lists template query → ⊥
 
--- the option `--list` and a name stand in front
+-- the first two arguments are `--list` and a name
 abbrev pub begins_with_option : List Text → Bool
 begins_with_option (option ∷ name ∷ arguments) = bytes_eq option (codes "--list")
 begins_with_option arguments = false

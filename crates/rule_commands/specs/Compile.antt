@@ -1,25 +1,49 @@
--- What `compile` makes of a rule file.
-use Rattle.std.specs.Prelude.{◌≡◌, Some, None}
+-- What `compile` makes of a rule file, and why it makes nothing.
+use Rattle.std.specs.Prelude.{◌≡◌, ◌⊎◌, Some, None}
 use Rattle.text_model.specs.Texts.{Text}
 use Rattle.code_file.specs.Grammar.{IsCodeFile}
 use Rattle.rule_parser.specs.Rules.{RuleSet}
 use Rattle.rule_parser.specs.Grammar.{IsRuleText}
-use Rattle.rule_parser.specs.Faults.{IsRefused}
 use Rattle.compiler_model.specs.Compiled.{code_of}
 use Rattle.compiler.specs.Limits.{limit_passed}
-use Rattle.command_faults.specs.declared.fault.Fault.{Fault}
-use Rattle.command_faults.specs.declared.fault.Fault.TheVariants as fault
+use Rattle.files.specs.Found.{Found, Disk, Gives}
+use Rattle.command_base.specs.Commands.{IsNotPlaced}
+use Rattle.command_base.specs.declared.fault.BaseFault.{BaseFault}
+use Rattle.command_base.specs.declared.fault.BaseFault.TheVariants.{Query, Memory, Device}
+use Rattle.rule_commands.specs.Rules.{IsUnread}
+use Rattle.rule_commands.specs.declared.fault.RuleFault.{RuleFault}
+use Rattle.rule_commands.specs.declared.fault.RuleFault.TheVariants.{Template, Rules, Compile, NoLink, Base}
 
--- the file of the code of the rules that the bytes spell, which passes no limit
-pub record IsCompiled (bytes new : Text) : Type 0 where
+-- the file of the code of the rules, which is within all limits
+pub record IsCode (rules : RuleSet) (code : Text) : Type 0 where
+  pub within : limit_passed rules ≡ None
+  pub file : IsCodeFile code (code_of rules)
+
+-- the file of the code of the rules of these bytes
+pub record IsCompiled (bytes code : Text) : Type 0 where
   pub rules : RuleSet
   pub read : IsRuleText bytes rules
-  pub within : limit_passed rules ≡ None
-  pub file : IsCodeFile new (code_of rules)
+  pub compiled : IsCode rules code
 
--- the first fault of the rules, or else the limit that their code passes; want of memory can come at any growth
-abbrev pub IsCompileFault : Text → Fault → Type 0
-IsCompileFault bytes (fault.Rules e) = IsRefused bytes e.kind e.line
-IsCompileFault bytes (fault.Compile e) = (rules : RuleSet) × IsRuleText bytes rules × (limit_passed rules ≡ Some e)
-IsCompileFault bytes fault.Memory = Unit {0}
-IsCompileFault bytes other = ⊥
+-- the first limit that the code of the rules exceeds, or an allocation failed
+abbrev pub IsNoCode : RuleSet → RuleFault → Type 0
+IsNoCode rules (Template e) = ⊥
+IsNoCode rules (Rules e) = ⊥
+IsNoCode rules (Compile e) = limit_passed rules ≡ Some e
+IsNoCode rules NoLink = ⊥
+IsNoCode rules (Base Memory) = Unit {0}
+IsNoCode rules (Base (Query e)) = ⊥
+IsNoCode rules (Base (Device path)) = ⊥
+
+-- the rules of the file have no code
+pub record GivesNoCode (found : Found) (fault : RuleFault) : Type 0 where
+  pub bytes : Text
+  pub rules : RuleSet
+  pub gives : Gives found bytes
+  pub read : IsRuleText bytes rules
+  pub no_code : IsNoCode rules fault
+
+-- the file is not read as rules, or else they have no code, or else that is not placed
+abbrev pub IsCompileFault : Disk → Text → Text → Type 0 → Type 0 → RuleFault → Type 0
+IsCompileFault old source target unread unplaced fault =
+    IsUnread (old source) source unread fault ⊎ GivesNoCode (old source) fault ⊎ IsNotPlaced Base IsCompiled old source target unplaced fault

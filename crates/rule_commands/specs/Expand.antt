@@ -1,5 +1,5 @@
--- What `expand` prints, from its arguments to the bytes, and why it prints nothing.
-use Rattle.std.specs.Prelude.{◌≡◌, true, List, [], ◌∷◌, ◌++◌, ◌⊎◌, Some, None}
+-- What `expand` prints for a template and a request, and why it prints nothing.
+use Rattle.std.specs.Prelude.{◌≡◌, List, [], ◌∷◌, ◌++◌, None}
 use Rattle.text_model.specs.Texts.{Text}
 use Rattle.environment_model.specs.Environment.{look_up}
 use Rattle.uri_grammar.specs.declared.parts.Part.{Part}
@@ -8,9 +8,11 @@ use Rattle.uri_template.specs.Expansion.{expansion}
 use Rattle.kev_read.specs.Pairs.{pairs_of}
 use Rattle.kev_read.specs.Refusal.{refusal}
 use Rattle.kev_read.specs.Filling.{filled}
-use Rattle.rule_commands.specs.Arguments.{AreExpandArguments, NoExpandArguments, begins_with_option}
-use Rattle.command_faults.specs.declared.fault.Fault.{Fault}
-use Rattle.command_faults.specs.declared.fault.Fault.TheVariants.{Usage, Template, Query, Memory}
+use Rattle.command_base.specs.Faults.{IsQueryFault}
+use Rattle.command_base.specs.declared.fault.BaseFault.{BaseFault}
+use Rattle.command_base.specs.declared.fault.BaseFault.TheVariants.{Query, Memory, Device}
+use Rattle.rule_commands.specs.declared.fault.RuleFault.{RuleFault}
+use Rattle.rule_commands.specs.declared.fault.RuleFault.TheVariants.{Template, Rules, Compile, NoLink, Base}
 
 -- the expansion of the template's tree on the environment of the query's pairs
 pub record IsExpansion (lists : List Text) (template query text : Text) : Type 0 where
@@ -19,32 +21,22 @@ pub record IsExpansion (lists : List Text) (template query text : Text) : Type 0
   pub request : refusal query ≡ None
   pub expanded : text ≡ expansion (look_up (filled lists [] (pairs_of query))) parts
 
--- the first fault of the template, or else that of the query; want of memory can come at any growth
-abbrev pub IsExpandFault : Text → Text → Fault → Type 0
-IsExpandFault template query (Template e) = IsRefused template e.kind e.at
-IsExpandFault template query (Query e) = (parts : List Part) × IsTemplate template parts × (refusal query ≡ Some e)
-IsExpandFault template query Memory = Unit {0}
-IsExpandFault template query other = ⊥
-
--- the line that the arguments after `expand` print
-pub record IsExpandLine (arguments : List Text) (line : Text) : Type 0 where
-  pub lists : List Text
-  pub template : Text
-  pub query : Text
+-- the line of that expansion
+pub record IsExpansionLine (lists : List Text) (template query line : Text) : Type 0 where
   pub text : Text
-  pub told_apart : AreExpandArguments arguments lists template query
   pub expansion : IsExpansion lists template query text
   pub whole : line ≡ text ++ 10 ∷ []
 
--- the arguments are those behind `expand`, and the template or the query is refused
-pub record IsExpandRefusal (arguments : List Text) (fault : Fault) : Type 0 where
-  pub lists : List Text
-  pub template : Text
-  pub query : Text
-  pub told_apart : AreExpandArguments arguments lists template query
-  pub refused : IsExpandFault template query fault
+-- the query of a good template is rejected, or an allocation failed
+abbrev pub IsExpandFaultOf : Text → Text → BaseFault → Type 0
+IsExpandFaultOf template query (Query e) = (parts : List Part) × IsTemplate template parts × IsQueryFault query (Query e)
+IsExpandFaultOf template query Memory = Unit {0}
+IsExpandFaultOf template query (Device path) = ⊥
 
--- why the arguments after `expand` print nothing; the names of the options take memory before all arguments are read
-abbrev pub FailsToExpand : List Text → Fault → Type 0
-FailsToExpand arguments fault =
-    ((fault ≡ Memory) × (begins_with_option arguments ≡ true)) ⊎ ((fault ≡ Usage) × NoExpandArguments arguments) ⊎ IsExpandRefusal arguments fault
+-- the first error of the template, or else that of the query
+abbrev pub IsExpandFault : Text → Text → RuleFault → Type 0
+IsExpandFault template query (Template e) = IsRefused template e.kind e.at
+IsExpandFault template query (Rules e) = ⊥
+IsExpandFault template query (Compile e) = ⊥
+IsExpandFault template query NoLink = ⊥
+IsExpandFault template query (Base fault) = IsExpandFaultOf template query fault

@@ -1,41 +1,33 @@
-//! The arguments after `expand`, read.
+//! The arguments after `expand`.
 
 ghost use Rattle.text_model.specs.Texts.{texts_of};
-ghost use Rattle.std.specs.Prelude.{◌≡◌, ◌⊎◌, ◌∷◌, codes, true, drop, IfOk, IfErr};
-ghost use Rattle.rule_commands.specs.Arguments.{AreExpandArguments, NoExpandArguments, begins_with_option};
+ghost use Rattle.std.specs.Prelude.{◌≡◌, true, drop, IfOk, IfSome, IfNone};
+ghost use Rattle.rule_commands.specs.Arguments.{AreExpandArguments, NoExpandArguments, begins_with_option, names_of};
 
-use command_faults::Fault;
-use std::alloc::Global;
+use std::alloc::{AllocError, Global};
 
-/// The arguments after `expand`.
-#[derive(Debug, Drop)]
-pub struct ExpandArguments<'a> {
-    pub lists: Vec<&'a str>,
+/// The arguments after `expand`: the options `--list NAME`, a template and a query.
+#[derive(Clone, Copy, Debug, PartialEq, Eq)]
+pub struct ExpandArguments<'w, 'a> {
+    pub options: &'w [&'a str],
     pub template: &'a str,
     pub query: &'a str,
 }
 
-/// Tells apart the options `--list NAME`, the template and the query. An argument `--list` in front of the
-/// template is always the option.
-pub fn expand_arguments<'a>(
-    alloc: Global,
-    arguments: &[&'a str],
-) -> Result<ExpandArguments<'a>, Fault<'a>>
-    ensures ok { IfOk result (λ told. AreExpandArguments (texts_of arguments.now) (texts_of told.lists.items) told.template.now told.query.now) }
-    ensures err { IfErr result (λ fault. ((fault ≡ Fault.Memory) × (begins_with_option (texts_of arguments.now) ≡ true))
-        ⊎ ((fault ≡ Fault.Usage) × NoExpandArguments (texts_of arguments.now))) }
+/// Parses the arguments after `expand`. An argument `--list` before the template is always the option.
+pub fn expand_arguments<'w, 'a>(arguments: &'w [&'a str]) -> Option<ExpandArguments<'w, 'a>>
+    ensures some { IfSome result (λ parsed. AreExpandArguments (texts_of arguments.now) (names_of (texts_of parsed.options.now)) parsed.template.now parsed.query.now) }
+    ensures none { IfNone result (NoExpandArguments (texts_of arguments.now)) }
 {
-    let mut lists = Vec::new(alloc);
     let mut rest = arguments;
     while begins_with_option(rest) {
-        lists.push(option_name(rest))?;
-        rest = behind_option(rest);
+        rest = after_option(rest);
     }
     if rest.len() != 2 {
-        return Err(Fault::Usage);
+        return None;
     }
-    Ok(ExpandArguments {
-        lists,
+    Some(ExpandArguments {
+        options: arguments.split_at(arguments.len() - 2).0,
         template: rest[0],
         query: rest[1],
     })
@@ -50,17 +42,22 @@ fn begins_with_option(arguments: &[&str]) -> bool
     }
 }
 
-// The name behind the option in front.
-fn option_name<'a>(arguments: &[&'a str]) -> &'a str
-    requires { begins_with_option (texts_of arguments.now) ≡ true }
-    ensures { texts_of arguments.now ≡ codes "--list" ∷ result.now ∷ texts_of (drop 2 arguments.now) }
-{
-    arguments[1]
-}
-
-fn behind_option<'w, 'a>(arguments: &'w [&'a str]) -> &'w [&'a str]
+fn after_option<'w, 'a>(arguments: &'w [&'a str]) -> &'w [&'a str]
     requires { begins_with_option (texts_of arguments.now) ≡ true }
     ensures { result.now ≡ drop 2 arguments.now }
 {
     arguments.split_at(2).1
+}
+
+/// The names in the options `--list NAME`.
+pub(crate) fn list_names<'a>(alloc: Global, options: &[&'a str]) -> Result<Vec<&'a str>, AllocError>
+    ensures { IfOk result (λ names. texts_of names.items ≡ names_of (texts_of options.now)) }
+{
+    let mut names = Vec::new(alloc);
+    let mut rest = options;
+    while let [_, name, after @ ..] = rest {
+        names.push(*name)?;
+        rest = after;
+    }
+    Ok(names)
 }

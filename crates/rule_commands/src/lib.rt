@@ -1,11 +1,16 @@
-//! The commands whose arguments are a template or name a rule file: `expand`, `link` and `compile`.
+//! The commands on templates and rule files: `expand`, `link` and `compile`.
 #![tactic(auto)]
 
 mod arguments;
-mod compile;
-mod expand;
-mod link;
+mod compiling;
+mod expanding;
+mod fault;
+mod linking;
+mod reading;
 
-pub use compile::{compile_file, compile_line, compile_rules};
-pub use expand::expand_line;
-pub use link::{link_file, link_line};
+pub use arguments::{ExpandArguments, expand_arguments};
+pub use compiling::compile;
+pub use expanding::expand;
+pub use fault::RuleFault;
+pub use linking::link;
+pub use reading::read_rules;

@@ -1,62 +1,100 @@
 -- Why a target is not added, before it is named.
-use Rattle.std.specs.Prelude.{◌≡◌, List, string_bytes}
+use Rattle.std.specs.Prelude.{◌≡◌, ◌≢◌, List, string_bytes}
+use Rattle.std.specs.Borrow.{Bor}
 use Rattle.text_model.specs.Texts.{Text}
+use Rattle.verifier.specs.Faults.{IsLoadFault}
 use Rattle.verifier.specs.declared.error.LoadError.{LoadError}
 use Rattle.verifier.specs.declared.error.LoadError.TheVariants as load
+use Rattle.files.specs.Found.{Found, Disk, OfFile}
+use Rattle.files.specs.Failures.{HasFailed}
+use Rattle.files.specs.declared.call.FileCall.{FileCall}
+use Rattle.files.specs.declared.call.FileCall.TheVariants.{Read}
+use Rattle.files.specs.declared.error.FileError.{FileError}
+use Rattle.files.specs.declared.error.FileError.TheVariants as file
+use Rattle.files.specs.declared.error.ReadError.{ReadError}
+use Rattle.files.specs.declared.error.ReadError.TheVariants as read
+use Rattle.kbart_rows.specs.Reading.{IsTable, IsFault}
+use Rattle.kbart_rows.specs.declared.keys.Keys.{Keys}
 use Rattle.kbart_rows.specs.declared.error.TableError.{TableError}
 use Rattle.kbart_rows.specs.declared.error.TableError.TheVariants as table
 use Rattle.registry.specs.Targets.{TargetValue}
 use Rattle.registry.specs.declared.error.AddErrorKind.{AddErrorKind}
 use Rattle.registry.specs.declared.error.AddErrorKind.TheVariants as add
-use Rattle.kbart_rows.specs.Reading.{IsTable, IsFault}
-use Rattle.verifier.specs.Faults.{IsLoadFault}
-use Rattle.registry_file.specs.Loading.{IsSafeFile, IsTargetFault}
+use Rattle.registry_file.specs.Loading.{IsSafeFile, IsTargetFault, IsUnread}
 use Rattle.registry_file.specs.declared.error.RegistryError.{RegistryError}
 use Rattle.registry_file.specs.declared.error.RegistryError.TheVariants as error
+use Rattle.registry_file.specs.declared.error.TargetFault.{TargetFault}
 use Rattle.registry_file.specs.declared.error.TargetFault.TheVariants as fault
 use Rattle.registry_file.specs.declared.stop.Stop.{Stop}
-use Rattle.registry_file.specs.declared.stop.Stop.TheVariants.{Fault, NoMemory}
+use Rattle.registry_file.specs.declared.stop.Stop.TheVariants.{Device, Load, Table, Add, NoMemory}
 
--- want of memory is one, wherever it comes from
-abbrev pub stop_of_load : LoadError → Stop
-stop_of_load load.NoMemory = NoMemory
-stop_of_load e = Fault (fault.Load e)
+-- ---- errors of calls
 
-abbrev pub stop_of_table : TableError → Stop
-stop_of_table table.NoMemory = NoMemory
-stop_of_table e = Fault (fault.Table e)
+-- why the registry file is not read
+abbrev pub error_of_read : ReadError → RegistryError
+error_of_read read.TooLong = error.Line 0
+error_of_read (read.File file.Failed) = error.Device
+error_of_read (read.File file.NoMemory) = error.NoMemory
 
-abbrev pub stop_of_kind : AddErrorKind → Stop
-stop_of_kind add.NoMemory = NoMemory
-stop_of_kind kind = Fault (fault.Add kind)
+-- why the file at a path is not read
+abbrev pub stop_of_file : FileError → Bor Text → Stop
+stop_of_file file.Failed path = Device path
+stop_of_file file.NoMemory path = NoMemory
 
--- the file at the path failed, or memory was wanting
-abbrev pub IsFileStop : Text → Stop → Type 0
-IsFileStop path (Fault (fault.Device failed)) = string_bytes failed ≡ path
-IsFileStop path (Fault other) = ⊥
-IsFileStop path NoMemory = Unit {0}
+-- each error but the one that memory ran out is a reason of its own
 
--- why a target is not added to others
-abbrev pub IsStop : List TargetValue → Text → Text → Text → Stop → Type 0
-IsStop targets name code_path table_path (Fault f) = IsTargetFault targets name code_path table_path f
-IsStop targets name code_path table_path NoMemory = Unit {0}
+abbrev pub IsLoadStop : LoadError → Stop → Type 0
+IsLoadStop e (Load told) = (told ≡ e) × (e ≢ load.NoMemory)
+IsLoadStop e NoMemory = e ≡ load.NoMemory
+IsLoadStop e other = ⊥
 
--- the same, with the target's name
-abbrev pub IsNamed : Text → Stop → RegistryError → Type 0
-IsNamed name (Fault f) (error.Target e) = (string_bytes e.name ≡ name) × (e.fault ≡ f)
-IsNamed name stop error.NoMemory = Unit {0}
-IsNamed name stop other = ⊥
+abbrev pub IsTableStop : TableError → Stop → Type 0
+IsTableStop e (Table told) = (told ≡ e) × (e ≢ table.NoMemory)
+IsTableStop e NoMemory = e ≡ table.NoMemory
+IsTableStop e other = ⊥
 
--- why code is not accepted
-abbrev pub IsCodeStop : Text → Stop → Type 0
-IsCodeStop bytes stop = (e : LoadError) × (stop ≡ stop_of_load e) × IsLoadFault bytes e
+abbrev pub IsAddStop : AddErrorKind → Stop → Type 0
+IsAddStop kind (Add told) = (told ≡ kind) × (kind ≢ add.NoMemory)
+IsAddStop kind NoMemory = kind ≡ add.NoMemory
+IsAddStop kind other = ⊥
 
--- why a table is none
-abbrev pub IsTableStop : Text → Stop → Type 0
-IsTableStop bytes stop = (e : TableError) × (stop ≡ stop_of_table e) × IsFault bytes e
+-- ---- stops
 
--- the target has this name, and the code and the table of some files
-pub record IsTargetOf (name : Text) (target : TargetValue) : Type 0 where
+module _ {F : Type 0} (fails : F → FileCall → Text → F → Type 0) where
+  -- why what is at a path is no code
+  abbrev pub IsNoCode : Found → Text → Stop → Type 0
+  IsNoCode found path (Device named) = (named.now ≡ path) × HasFailed fails Read path
+  IsNoCode found path (Load e) = (e ≢ load.NoMemory) × OfFile found (λ bytes. IsLoadFault bytes e)
+  IsNoCode found path NoMemory = Unit {0}
+  IsNoCode found path other = ⊥
+
+  -- why what is at a path is no table
+  abbrev pub IsNoTable : Found → Text → Stop → Type 0
+  IsNoTable found path (Device named) = (named.now ≡ path) × HasFailed fails Read path
+  IsNoTable found path (Table e) = (e ≢ table.NoMemory) × OfFile found (λ bytes. IsFault bytes e)
+  IsNoTable found path NoMemory = Unit {0}
+  IsNoTable found path other = ⊥
+
+  -- why a target is not added to others
+  abbrev pub IsStop : Disk → List TargetValue → Text → Text → Text → Stop → Type 0
+  IsStop disk targets name code_path table_path (Device named) = IsUnread fails disk code_path table_path named.now
+  IsStop disk targets name code_path table_path (Load e) = IsTargetFault fails disk targets name code_path table_path (fault.Load e)
+  IsStop disk targets name code_path table_path (Table e) = IsTargetFault fails disk targets name code_path table_path (fault.Table e)
+  IsStop disk targets name code_path table_path (Add kind) = IsTargetFault fails disk targets name code_path table_path (fault.Add kind)
+  IsStop disk targets name code_path table_path NoMemory = Unit {0}
+
+-- the fault of a target that is not added
+abbrev pub IsFaultOf : Stop → TargetFault → Type 0
+IsFaultOf stop (fault.Device named) = (path : Bor Text) × (stop ≡ Device path) × (string_bytes named ≡ path.now)
+IsFaultOf stop (fault.Load e) = stop ≡ Load e
+IsFaultOf stop (fault.Table e) = stop ≡ Table e
+IsFaultOf stop (fault.Add kind) = stop ≡ Add kind
+
+-- ---- targets
+
+-- the target has this name, and the code and the table of the files at the two paths
+pub record IsTargetOf (disk : Disk) (keys : Keys) (name code_path table_path : Text) (target : TargetValue) : Type 0 where
   pub named : target.name ≡ name
-  pub code : (bytes : Text) × IsSafeFile bytes target.code
-  pub table : (bytes : Text) × IsTable bytes target.table
+  pub code : OfFile (disk code_path) (λ bytes. IsSafeFile bytes target.code)
+  pub table : OfFile (disk table_path) (λ bytes. IsTable bytes target.table)
+  pub keyed : target.table.keys ≡ keys

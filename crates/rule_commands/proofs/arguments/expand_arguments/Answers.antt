@@ -1,17 +1,18 @@
-use Rattle.text_model.specs.Texts.{texts_of}
-use Rattle.std.proofs.Common.{inr, subst, sym, ◌∙◌, refl, arith}
-use Rattle.rule_commands.specs.Arguments.{NoExpandArguments}
-use Rattle.rule_commands.proofs.ArgumentLemmas.{no_arguments, next_option, length-texts_of}
+use Rattle.std.proofs.Common.{[], sym, ◌∙◌, arith}
+use Rattle.rule_commands.proofs.ArgumentLemmas.{no_options, next_option, no_arguments, two_left}
 use Rattle.rule_commands.proofs.arguments.expand_arguments.Goals as goal
 
-pub loop-lists-preserved : goal.loop-lists-preserved
-loop-lists-preserved c = next_option _ _ _ _ _ _ c.loop-lists.invariant c.option_name.ensures c.behind_option-rest.ensures c.in_ok-push.ensures.items
+pub loop-rest-init : goal.loop-rest-init
+loop-rest-init c = no_options c.args.arguments.now
 
-pub returns-then-rest-ne2-clause-err : goal.returns-then-rest-ne2-clause-err
-returns-then-rest-ne2-clause-err c =
-    inr (
-      refl,
-      subst (λ arguments. NoExpandArguments arguments) (sym c.loop-lists.invariant)
-          (no_arguments (texts_of c.loop-lists.lists.items) (texts_of c.loop-lists.rest.now) (sym c.begins_with_option.ensures ∙ c.loop-lists-test.false)
-          (λ e. omega (arith, length-texts_of c.loop-lists.rest.now))),
-    )
+pub loop-rest-preserved : goal.loop-rest-preserved
+loop-rest-preserved c = next_option _ _ _ c.loop-rest.invariant (sym c.begins_with_option.ensures ∙ c.loop-rest-test.true) c.after_option-rest.ensures
+
+pub returns-clause-some : goal.returns-clause-some
+returns-clause-some c =
+    two_left _ c.loop-rest.rest.now _ (record { ref_ptr = (0, 0); now = [] }) c.loop-rest.invariant (omega arith) (omega arith)
+    (sym c.begins_with_option.ensures ∙ c.loop-rest-test.false) c.split_at.ensures.front
+
+pub returns-then-rest-ne2-clause-none : goal.returns-then-rest-ne2-clause-none
+returns-then-rest-ne2-clause-none c =
+    no_arguments _ c.loop-rest.rest.now c.loop-rest.invariant (sym c.begins_with_option.ensures ∙ c.loop-rest-test.false) (λ two. omega (arith, two))

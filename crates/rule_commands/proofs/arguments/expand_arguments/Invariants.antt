@@ -1,10 +1,9 @@
-use Rattle.text_model.specs.Texts.{texts_of}
-use Rattle.std.proofs.Common.{◌≡◌, ◌++◌, length}
-use Rattle.rule_commands.specs.Arguments.{list_options}
+use Rattle.std.proofs.Common.{length}
+use Rattle.rule_commands.proofs.ArgumentLemmas.{AfterOptions}
 use Rattle.rule_commands.proofs.arguments.expand_arguments.Given as goal
 
-abbrev pub invariant-loop-lists : goal.invariant-loop-lists
-invariant-loop-lists l = texts_of l.arguments ≡ list_options (texts_of l.lists.items) ++ texts_of l.rest
+abbrev pub invariant-loop-rest : goal.invariant-loop-rest
+invariant-loop-rest l = AfterOptions l.arguments l.rest
 
-abbrev pub decreases-loop-lists : goal.decreases-loop-lists
-decreases-loop-lists l = length l.rest
+abbrev pub decreases-loop-rest : goal.decreases-loop-rest
+decreases-loop-rest l = length l.rest

@@ -1,0 +1,148 @@
+use crate::outside::{bytes, gives, outside};
+use std::test::Fail;
+use streams_in_memory::Peers;
+
+const RULES: &[u8] = b"rule\nlink http://e.org/{rft.issn}\n";
+
+/// The code that gives `http://e.org/` for every request.
+const CODE: &[u8] = b"OLK1\0\0\0\x01\0\x02\0\0\rhttp://e.org/\r\0\0\0\0\0\0\0\x01\0\0\0\0\0\0\0";
+
+const TABLE: &[u8] = b"print_identifier\n1\n";
+
+const FILES: [(&str, &[u8]); 6] = [
+    ("a.rules", RULES),
+    ("a.olk", CODE),
+    ("a.tsv", TABLE),
+    ("registry", b"alpha\ta.olk\ta.tsv\n"),
+    ("empty", b""),
+    ("new", b"the old file"),
+];
+
+const QUERY: &str = "rft.issn=1";
+
+/// Commands without a fault, what each prints, and the files that fail with each of its calls in turn.
+const COMMANDS: [(&[&str], &str, &[&str]); 4] = [
+    (
+        &["compile", "a.rules", "new"],
+        "127 bytes\n",
+        &["a.rules", "new", "new", "new", "new", "new"],
+    ),
+    (
+        &["upgrade", "a.olk", "new"],
+        "42 bytes\n",
+        &["a.olk", "new", "new", "new", "new", "new"],
+    ),
+    (
+        &["link", "a.rules", QUERY],
+        "http://e.org/1\n",
+        &["a.rules"],
+    ),
+    (&["run", "a.olk", QUERY], "http://e.org/\n", &["a.olk"]),
+];
+
+#[test]
+fn each_call_fails_in_turn(rt: HostRuntime) -> Result<(), Fail> {
+    for (arguments, printed, failing) in COMMANDS {
+        for (calls, path) in failing.iter().enumerate() {
+            let mut outside = outside(rt.alloc(), &FILES)?;
+            outside.files.fail_after(calls);
+            let error = format!(in rt.alloc(); "device: {path}")?;
+            gives(&rt, &mut outside, arguments, 4, "", error.as_str())?;
+            assert_eq!(rt;
+                bytes(&outside, "new"),
+                Some(b"the old file".as_slice()),
+                "{calls}"
+            );
+            assert_eq!(rt; bytes(&outside, "new.new"), None, "{calls}");
+        }
+        let mut outside = outside(rt.alloc(), &FILES)?;
+        outside.files.fail_after(failing.len());
+        gives(&rt, &mut outside, arguments, 0, printed, "")?;
+        assert_eq!(rt; bytes(&outside, "new.new"), None);
+    }
+    Ok(())
+}
+
+#[test]
+fn resolves(rt: HostRuntime) -> Result<(), Fail> {
+    let errors = [
+        "device: registry",
+        "target alpha: device: a.olk",
+        "target alpha: device: a.tsv",
+    ];
+    let resolve = ["resolve", "registry", QUERY];
+    for (calls, error) in errors.into_iter().enumerate() {
+        let mut outside = outside(rt.alloc(), &FILES)?;
+        outside.files.fail_after(calls);
+        gives(&rt, &mut outside, &resolve, 4, "", error)?;
+    }
+    let mut others = outside(rt.alloc(), &FILES)?;
+    gives(&rt, &mut others, &["resolve", "empty", QUERY], 1, "", "")?;
+    others.keys.numbers = None;
+    gives(&rt, &mut others, &resolve, 4, "", "device: registry")?;
+    let mut outside = outside(rt.alloc(), &FILES)?;
+    outside.files.fail_after(errors.len());
+    gives(&rt, &mut outside, &resolve, 0, "alpha\thttp://e.org/\n", "")
+}
+
+#[test]
+fn serves(rt: HostRuntime) -> Result<(), Fail> {
+    let mut outside = outside(rt.alloc(), &FILES)?;
+    for (port, count, status, printed, error) in [
+        ("0", "2", 0, "listening 127.0.0.1:4096\n", ""),
+        ("80", "2", 0, "listening 127.0.0.1:80\n", ""),
+        (
+            "080",
+            "3",
+            4,
+            "listening 127.0.0.1:80\n",
+            "device: 127.0.0.1:080",
+        ),
+    ] {
+        let mut peers = Peers::new(rt.alloc());
+        peers.add(b"GET /x HTTP/1.1\r\nHost: a\r\n\r\n")?;
+        peers.add(b"")?;
+        outside.ports.peers = Some(peers);
+        gives(
+            &rt,
+            &mut outside,
+            &["serve", "registry", port, count],
+            status,
+            printed,
+            error,
+        )?;
+        gives(
+            &rt,
+            &mut outside,
+            &["serve", "registry", port, count],
+            4,
+            "",
+            format!(in rt.alloc(); "device: 127.0.0.1:{port}")?.as_str(),
+        )?;
+    }
+    gives(
+        &rt,
+        &mut outside,
+        &["serve", "none", "0", "1"],
+        4,
+        "",
+        "device: none",
+    )
+}
+
+#[test]
+fn refuses_other_arguments(rt: HostRuntime) -> Result<(), Fail> {
+    let mut outside = outside(rt.alloc(), &FILES)?;
+    let cases: [&[&str]; 6] = [
+        &[],
+        &["link", "a.rules"],
+        &["compile", "a.rules", "new", "x"],
+        &["serve", "registry", "65536", "1"],
+        &["serve", "registry", "0", "0"],
+        &["expand", "--list", "a", "b"],
+    ];
+    for arguments in cases {
+        gives(&rt, &mut outside, arguments, 2, "", "usage")?;
+    }
+    gives(&rt, &mut outside, &["--version"], 0, "openlink 0.1.0\n", "")
+}

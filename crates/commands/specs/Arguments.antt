@@ -1,0 +1,37 @@
+-- The arguments of each command.
+use Rattle.std.specs.Prelude.{◌≡◌, ◌⊎◌, List, [], ◌∷◌, codes}
+use Rattle.text_model.specs.Texts.{Text, texts_of}
+use Rattle.menu_commands.specs.Service.{IsServiceOf}
+use Rattle.menu_commands.specs.declared.service.Service.{Service}
+use Rattle.rule_commands.specs.Arguments.{AreExpandArguments, names_of}
+use Rattle.rule_commands.specs.declared.arguments.ExpandArguments.{ExpandArguments}
+use Rattle.commands.specs.declared.arguments.Command.{Command}
+use Rattle.commands.specs.declared.arguments.Command.TheVariants.{Expand, Link, Compile, Verify, Show, Upgrade, Run, Resolve, Serve, Help, Version}
+
+-- the arguments are `expand`, and then those of the expansion
+pub record AreArgumentsOfExpand (arguments : List Text) (e : ExpandArguments) : Type 0 where
+  pub rest : List Text
+  pub named : arguments ≡ codes "expand" ∷ rest
+  pub given : AreExpandArguments rest (names_of (texts_of e.options.now)) e.template.now e.query.now
+
+-- the arguments are `serve`, the path of a registry, a port and a number of connections
+pub record AreArgumentsOfServe (arguments : List Text) (s : Service) : Type 0 where
+  pub registry : Text
+  pub port : Text
+  pub count : Text
+  pub named : arguments ≡ codes "serve" ∷ registry ∷ port ∷ count ∷ []
+  pub given : IsServiceOf registry port count s
+
+-- the arguments that name a command, and what it is given
+abbrev pub AreArgumentsOf : List Text → Command → Type 0
+AreArgumentsOf arguments (Expand e) = AreArgumentsOfExpand arguments e
+AreArgumentsOf arguments (Link rules query) = arguments ≡ codes "link" ∷ rules.now ∷ query.now ∷ []
+AreArgumentsOf arguments (Compile rules code) = arguments ≡ codes "compile" ∷ rules.now ∷ code.now ∷ []
+AreArgumentsOf arguments (Verify code) = arguments ≡ codes "verify" ∷ code.now ∷ []
+AreArgumentsOf arguments (Show code) = arguments ≡ codes "show" ∷ code.now ∷ []
+AreArgumentsOf arguments (Upgrade old new) = arguments ≡ codes "upgrade" ∷ old.now ∷ new.now ∷ []
+AreArgumentsOf arguments (Run code query) = arguments ≡ codes "run" ∷ code.now ∷ query.now ∷ []
+AreArgumentsOf arguments (Resolve registry query) = arguments ≡ codes "resolve" ∷ registry.now ∷ query.now ∷ []
+AreArgumentsOf arguments (Serve s) = AreArgumentsOfServe arguments s
+AreArgumentsOf arguments Help = (arguments ≡ codes "--help" ∷ []) ⊎ (arguments ≡ codes "-h" ∷ []) ⊎ (arguments ≡ codes "help" ∷ [])
+AreArgumentsOf arguments Version = arguments ≡ codes "--version" ∷ []

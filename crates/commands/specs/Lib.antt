@@ -1,0 +1,4 @@
+pub mod Arguments
+pub mod Faults
+pub mod Commands
+pub mod Whole

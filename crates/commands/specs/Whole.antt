@@ -1,0 +1,54 @@
+-- What the program does with its arguments.
+use Rattle.std.specs.Prelude.{◌≡◌, ℕ, List, Option}
+use Rattle.text_model.specs.Texts.{Text}
+use Rattle.files.specs.Found.{Disk}
+use Rattle.files.specs.Changes.{Unchanged}
+use Rattle.files.specs.declared.call.FileCall.{FileCall}
+use Rattle.registry.specs.Targets.{TargetValue}
+use Rattle.http_streams.specs.Streams.{Heard, Said}
+use Rattle.http_service.specs.declared.counts.Counts.{Counts}
+use Rattle.menu_commands.specs.Serve.{IsListening, RefusesToServe, Serves, StopsServing}
+use Rattle.menu_commands.specs.declared.service.Service.{Service}
+use Rattle.menu_commands.specs.declared.fault.MenuFault.{MenuFault}
+use Rattle.menu_commands.specs.Faults.{IsOutput, IsOutputFault}
+use Rattle.command_base.specs.declared.fault.BaseFault.{BaseFault}
+use Rattle.commands.specs.Arguments.{AreArgumentsOf}
+use Rattle.commands.specs.Commands.{Does, Fails, Leaves}
+use Rattle.commands.specs.declared.arguments.Command.{Command}
+use Rattle.commands.specs.declared.arguments.Command.TheVariants.{Serve}
+use Rattle.commands.specs.declared.fault.Fault.{Fault}
+use Rattle.commands.specs.declared.fault.Fault.TheVariants.{Usage, Menu, Base}
+
+-- what the system tells of its files, keys and ports and of the listeners bound to these; then the arguments; and then the system before the
+-- command and after it
+module _ {F K P L I O : Type 0} (at : F → Disk) (fails : F → FileCall → Text → F → Type 0) (draws : K → ℕ → ℕ → K → Type 0) (no_keys : K → K → Type 0)
+    (binds : P → ℕ → L × ℕ → P → Type 0) (no_port : P → ℕ → P → Type 0) (gives : L → Option (I × O) → L → Type 0) (closes : L → I × O → L → Type 0)
+    (no_more : L → L → Type 0) (heard : I → Heard) (said : O → Said)
+    (arguments : List Text) (old : F) (keys : K) (ports : P) (new : F) (drawn : K) (bound : P) where
+  -- the arguments name a command, which is done, and printed this
+  pub data Succeeds : Text → Type 0 where
+    prints : (command : Command) (text : Text) → AreArgumentsOf arguments command → Does draws (at old) keys (at new) drawn command text → Succeeds text
+    serves : (service : Service) (line : Text) (counts : Counts) → AreArgumentsOf arguments (Serve service)
+        → Serves draws binds gives closes heard said (at old) keys ports service drawn bound line counts → Unchanged (at old) (at new) → Succeeds line
+
+  -- the arguments name no command, or one that fails before it prints, and this is the error
+  pub data Refuses : Fault → Type 0 where
+    no_command : ((command : Command) → ¬ (AreArgumentsOf arguments command)) → Unchanged (at old) (at new) → Refuses Usage
+    no_text : (command : Command) (fault : Fault) → AreArgumentsOf arguments command → Fails at fails draws no_keys old keys new drawn command fault
+        → Leaves fails (at old) (at new) command → Refuses fault
+    no_service : (service : Service) (fault : MenuFault) → AreArgumentsOf arguments (Serve service)
+        → RefusesToServe fails draws no_keys no_port (at old) keys ports service drawn bound fault → Unchanged (at old) (at new) → Refuses (Menu fault)
+
+  -- the arguments name a command that has something to print, which the output does not take whole
+  pub data OutputFails : Fault → Type 0 where
+    no_output : (command : Command) (text : Text) (fault : BaseFault) → AreArgumentsOf arguments command
+        → Does draws (at old) keys (at new) drawn command text → IsOutput fault → OutputFails (Base fault)
+    no_line : (service : Service) (targets : List TargetValue) (listener : L) (line : Text) (fault : MenuFault) → AreArgumentsOf arguments (Serve service)
+        → IsListening draws binds (at old) keys ports service drawn bound targets listener line → Unchanged (at old) (at new)
+        → IsOutputFault fault → OutputFails (Menu fault)
+
+  -- the arguments name a service, which printed its line, and stops before it is done
+  pub data Stops : Text → Fault → Type 0 where
+    stops : (service : Service) (line : Text) (fault : MenuFault) → AreArgumentsOf arguments (Serve service)
+        → StopsServing draws binds gives closes heard said (at old) keys ports service drawn bound no_more line fault → Unchanged (at old) (at new)
+        → Stops line (Menu fault)

@@ -1,0 +1,14 @@
+//! The commands of the program: the arguments that name each, what each prints and leaves, and its exit status.
+#![tactic(auto)]
+
+mod answers;
+mod arguments;
+mod fault;
+mod help;
+mod program;
+mod system;
+
+pub use arguments::{Command, parse};
+pub use fault::Fault;
+pub use program::{command, report};
+pub use system::System;

@@ -1,0 +1,5 @@
+pub mod Found
+pub mod Changes
+pub mod Failures
+pub mod Placing
+pub mod Errors

@@ -1,0 +1,28 @@
+-- A file that is placed whole: it is written beside its path, and renamed.
+use Rattle.std.specs.Prelude.{◌≡◌, ◌≢◌, ◌⊎◌, ◌++◌, codes}
+use Rattle.text_model.specs.Texts.{Text}
+use Rattle.files.specs.Found.{Disk, Other, IsFile, IsFree}
+use Rattle.files.specs.Changes.{ChangesOnly}
+use Rattle.files.specs.Failures.{HasFailed, HasFailedAt}
+use Rattle.files.specs.declared.call.FileCall.{FileCall}
+use Rattle.files.specs.declared.call.FileCall.TheVariants.{Remove}
+
+-- the path of the new file
+abbrev pub beside : Text → Text
+beside path = path ++ codes ".new"
+
+-- there was a regular file at the path or none, and nothing beside it; there is the file of these bytes, and nothing else has changed
+pub record IsPlaced (old : Disk) (path bytes : Text) (new : Disk) : Type 0 where
+  pub regular : old path ≢ Other
+  pub free : IsFree (old (beside path))
+  pub placed : IsFile (new path) bytes
+  pub others : ChangesOnly path old new
+
+-- nothing has changed, except that the new file is left beside the path if its removal failed
+pub record IsAsBefore {F : Type 0} (fails : F → FileCall → Text → F → Type 0) (old : Disk) (path : Text) (new : Disk) : Type 0 where
+  pub others : ChangesOnly (beside path) old new
+  pub nothing_left : (new (beside path) ≡ old (beside path)) ⊎ HasFailed fails Remove (beside path)
+
+-- a call failed at the path, or at that of the new file
+abbrev pub IsPlaceFailure : {F : Type 0} → (F → FileCall → Text → F → Type 0) → Text → Type 0
+IsPlaceFailure fails path = HasFailedAt fails path ⊎ HasFailedAt fails (beside path)

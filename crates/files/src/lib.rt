@@ -1,0 +1,18 @@
+//! Files at paths: read whole, up to a limit, or placed whole.
+//!
+//! Code that opens files is generic over the trait [`Files`]. [`SystemFiles`] are those of the system.
+#![tactic(auto)]
+
+mod call;
+mod error;
+mod files;
+mod placing;
+mod reading;
+mod system;
+
+pub use call::FileCall;
+pub use error::{FileError, ReadError};
+pub use files::Files;
+pub use placing::place;
+pub use reading::read_whole;
+pub use system::SystemFiles;

@@ -1,0 +1,83 @@
+//! Files that are placed whole.
+
+ghost use Rattle.std.specs.Prelude.{◌≡◌, ◌≢◌, ℕ, List, [], Err, IfOk, OnErr, OnOk, string_bytes};
+ghost use Rattle.files.specs.Found.{IsFile, IsFree};
+ghost use Rattle.files.specs.Changes.{ChangesOnly, kept, removed};
+ghost use Rattle.files.specs.Failures.{HasFailedAt};
+ghost use Rattle.files.specs.Placing.{IsAsBefore, IsPlaced, IsPlaceFailure, beside};
+ghost use Rattle.files.specs.declared.error.FileError.TheVariants.{Failed};
+
+use crate::error::FileError;
+use crate::files::Files;
+use std::alloc::{AllocError, Global};
+
+/// Places a file of these bytes at the path, or leaves the path as it was.
+///
+/// The bytes are written to a new file, `PATH.new`. Once the system has stored it, it is renamed to `PATH`, so that a crash
+/// leaves the old file or the new one whole. After a failure `PATH.new` is removed.
+///
+/// Fails if `PATH.new` exists, which then stays as it is, or if there is something at the path that is no regular file.
+/// A symbolic link counts as what it leads to, and the link itself is replaced.
+pub fn place<F: Files>(
+    alloc: Global,
+    files: &mut F,
+    path: &str,
+    bytes: &[u8],
+) -> Result<(), FileError>
+    ensures placed { OnOk result (IsPlaced (F.at files.old) path.now bytes.now (F.at files.new)) }
+    ensures err { OnErr result (IsAsBefore F.fails (F.at files.old) path.now (F.at files.new)) }
+    ensures failed { result ≡ Err Failed → IsPlaceFailure F.fails path.now }
+{
+    let beside = path_beside(alloc, path)?;
+    files.check_place(path)?;
+    place_by(files, beside.as_str(), path, bytes)
+}
+
+/// The path of the new file.
+fn path_beside(alloc: Global, path: &str) -> Result<String, AllocError>
+    ensures { IfOk result (λ other. string_bytes other ≡ beside path.now) }
+{
+    format!(in alloc; "{path}.new")
+}
+
+/// Writes the new file at `other`, and renames it to `path`, at which there is nothing or a regular file.
+fn place_by<F: Files>(files: &mut F, other: &str, path: &str, bytes: &[u8]) -> Result<(), FileError>
+    requires { other.now ≡ beside path.now }
+    ensures free { OnOk result (IsFree (F.at files.old other.now)) }
+    ensures there { OnOk result (IsFile (F.at files.new path.now) bytes.now) }
+    ensures others { OnOk result (ChangesOnly path.now (F.at files.old) (F.at files.new)) }
+    ensures err { OnErr result (IsAsBefore F.fails (F.at files.old) path.now (F.at files.new)) }
+    ensures failed { result ≡ Err Failed → HasFailedAt F.fails other.now }
+{
+    let draft = files.create(other)?;
+    match fill(files, draft, other, path, bytes) {
+        Ok(()) => Ok(()),
+        Err(e) => {
+            let _ = files.remove(other);
+            Err(e)
+        }
+    }
+}
+
+/// Writes all of the bytes to a new file at `other`, has it stored, and renames it to `path`.
+fn fill<F: Files>(
+    files: &mut F,
+    draft: F::Draft,
+    other: &str,
+    path: &str,
+    bytes: &[u8],
+) -> Result<(), FileError>
+    requires draft { F.drafted draft other.now [] }
+    requires apart { other.now ≢ path.now }
+    ensures there { OnOk result (F.at files.new path.now ≡ kept bytes.now (F.at files.old other.now)) }
+    ensures gone { OnOk result (F.at files.new other.now ≡ removed (F.at files.old other.now)) }
+    ensures others { OnOk result ((p : List ℕ) → p ≢ other.now → p ≢ path.now → F.at files.new p ≡ F.at files.old p) }
+    ensures err { OnErr result (ChangesOnly other.now (F.at files.old) (F.at files.new)) }
+    ensures left { OnErr result (removed (F.at files.new other.now) ≡ removed (F.at files.old other.now)) }
+    ensures failed { result ≡ Err Failed → HasFailedAt F.fails other.now }
+{
+    let mut draft = draft;
+    files.write(&mut draft, bytes)?;
+    files.keep(draft)?;
+    files.rename(other, path)
+}

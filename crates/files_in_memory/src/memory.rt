@@ -1,0 +1,166 @@
+//! Files in memory.
+
+ghost use Rattle.std.specs.Prelude.{◌≡◌, ℕ, List, Some, IfErr, IfNone, IfSome, OnErr, OnOk};
+ghost use Rattle.files.specs.Found.{Absent, File};
+ghost use Rattle.files.specs.Changes.{ChangesOnly, Unchanged};
+ghost use Rattle.files_in_memory.specs.InMemory.{disk_of, found_of};
+
+use crate::content::Content;
+use files::{FileError, Files};
+use std::alloc::{AllocError, Global};
+use std::collections::BTreeMap;
+
+/// Files in memory, of whose calls one can be made to fail.
+#[derive(Drop)]
+pub struct Memory {
+    files: BTreeMap<String, Content>,
+    // How many calls succeed before the one that fails.
+    calls_left: Option<usize>,
+    alloc: Global,
+}
+
+/// A new file in memory.
+#[derive(Drop)]
+pub struct MemoryDraft {
+    path: String,
+    bytes: Vec<u8>,
+}
+
+impl Memory {
+    /// No files, and no call that fails.
+    pub fn new(alloc: Global) -> Memory
+        ensures { (path : List ℕ) → disk_of result path ≡ Absent }
+    {
+        Memory {
+            files: BTreeMap::new(alloc),
+            calls_left: None,
+            alloc,
+        }
+    }
+
+    /// Makes one call fail: the first of those to come that has `calls` calls before it.
+    pub fn fail_after(&mut self, calls: usize)
+        ensures { Unchanged (disk_of self.old) (disk_of self.new) }
+    {
+        self.calls_left = Some(calls);
+    }
+
+    /// Puts this at the path.
+    pub fn put(&mut self, path: &str, content: Content) -> Result<(), AllocError>
+        ensures here { OnOk result (disk_of self.new path.now ≡ found_of (Some content)) }
+        ensures others { OnOk result (ChangesOnly path.now (disk_of self.old) (disk_of self.new)) }
+        ensures err { OnErr result (Unchanged (disk_of self.old) (disk_of self.new)) }
+    {
+        let path = String::from_str(self.alloc, path)?;
+        match self.files.insert(path, content) {
+            Ok(_) => Ok(()),
+            Err(_) => Err(AllocError),
+        }
+    }
+
+    /// What is at the path.
+    pub fn content(&self, path: &str) -> Option<&Content>
+        ensures some { IfSome result (λ content. disk_of self.now path.now ≡ found_of (Some content.now)) }
+        ensures none { IfNone result (disk_of self.now path.now ≡ Absent) }
+    {
+        self.files.get(path)
+    }
+
+    /// Counts a call, which may be the one that fails.
+    fn call(&mut self) -> Result<(), FileError>
+        ensures files { self.new.files ≡ self.old.files }
+        ensures failed { IfErr result (λ e. e ≡ FileError.Failed) }
+    {
+        match self.calls_left {
+            None => Ok(()),
+            Some(0) => {
+                self.calls_left = None;
+                Err(FileError::Failed)
+            }
+            Some(calls) => {
+                self.calls_left = Some(calls - 1);
+                Ok(())
+            }
+        }
+    }
+}
+
+impl Files for Memory {
+    ghost use Rattle.std.specs.Prelude.{◌≡◌, string_bytes};
+    ghost use Rattle.files_in_memory.specs.InMemory.{disk_of};
+
+    type Draft = MemoryDraft;
+
+    ghost at = { disk_of };
+
+    // Which calls failed is not told.
+    ghost fails = { λ _ _ _ _. Unit {0} };
+
+    ghost drafted = { λ draft path bytes. (path ≡ string_bytes draft.path) × (bytes ≡ draft.bytes.items) };
+
+    fn read(&mut self, alloc: Global, path: &str, limit: usize) -> Result<Vec<u8>, FileError> {
+        self.call()?;
+        match self.files.get(path) {
+            Some(Content::File(bytes)) => {
+                let end = bytes.len().min(limit + 1);
+                Ok(Vec::from_slice(alloc, &bytes[..end])?)
+            }
+            _ => Err(FileError::Failed),
+        }
+    }
+
+    fn check_place(&mut self, path: &str) -> Result<(), FileError> {
+        self.call()?;
+        match self.files.get(path) {
+            Some(Content::Other) => Err(FileError::Failed),
+            _ => Ok(()),
+        }
+    }
+
+    fn create(&mut self, path: &str) -> Result<MemoryDraft, FileError> {
+        self.call()?;
+        if self.files.contains_key(path) {
+            return Err(FileError::Failed);
+        }
+        let key = String::from_str(self.alloc, path)?;
+        let path = String::from_str(self.alloc, path)?;
+        self.files.insert(key, Content::Unfinished)?;
+        Ok(MemoryDraft {
+            path,
+            bytes: Vec::new(self.alloc),
+        })
+    }
+
+    fn write(&mut self, draft: &mut MemoryDraft, bytes: &[u8]) -> Result<(), FileError> {
+        self.call()?;
+        draft.bytes.extend_from_slice(bytes)?;
+        Ok(())
+    }
+
+    fn keep(&mut self, draft: MemoryDraft) -> Result<(), FileError> {
+        self.call()?;
+        let MemoryDraft { path, bytes } = draft;
+        self.files.insert(path, Content::File(bytes))?;
+        Ok(())
+    }
+
+    fn rename(&mut self, from: &str, to: &str) -> Result<(), FileError> {
+        self.call()?;
+        let Some(content) = self.files.get(from) else {
+            return Err(FileError::Failed);
+        };
+        let content = content.copy(self.alloc)?;
+        let to = String::from_str(self.alloc, to)?;
+        self.files.insert(to, content)?;
+        self.files.remove(from);
+        Ok(())
+    }
+
+    fn remove(&mut self, path: &str) -> Result<(), FileError> {
+        self.call()?;
+        if self.files.remove(path).is_none() {
+            return Err(FileError::Failed);
+        }
+        Ok(())
+    }
+}

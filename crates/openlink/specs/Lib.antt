@@ -1,2 +1,0 @@
-pub mod Help
-pub mod Commands

@@ -1,0 +1,13 @@
+use Rattle.std.proofs.Common.{IfSome, subst, sym}
+use Rattle.std.proofs.lemmas.Result.{err_from_is_err_and}
+use Rattle.files.specs.Found.{Gives}
+use Rattle.rule_commands.proofs.FaultLemmas.{unread}
+use Rattle.rule_commands.proofs.reading.read_rules.Goals as goal
+
+pub returns-in_err-parse-clause-err : goal.returns-in_err-parse-clause-err
+returns-in_err-parse-clause-err g c =
+    let found = g.F.Files.at c.args.files.now c.args.path.now in
+    let gives : Gives found c.in-Some.bytes.items = subst (λ o. IfSome o (λ bytes. Gives found bytes.items)) c.in-Some.is c.in_ok-bytes.ensures.whole in
+    let made = err_from_is_err_and c.from_residual-in_err-parse.result c.from_residual-in_err-parse.ensures.1 in
+    rw (made.1, made.2)
+    (unread found c.args.path.now _ c.deref.result.now c.in_err-parse.field-0.0 c.in_ok-bytes.ensures.exists (subst (Gives found) (sym c.deref.ensures.value) gives) c.in_err-parse.ensures.err)

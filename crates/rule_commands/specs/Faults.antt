@@ -1,0 +1,44 @@
+-- The errors of the commands on templates and rule files: what a crate's error becomes, and the exit statuses.
+use Rattle.std.specs.Prelude.{ℕ}
+use Rattle.uri_grammar.specs.declared.error.TemplateError.{TemplateError}
+use Rattle.uri_grammar.specs.declared.error.TemplateErrorKind.{TemplateErrorKind}
+use Rattle.uri_grammar.specs.declared.error.TemplateErrorKind.TheVariants as template
+use Rattle.rule_parser.specs.declared.error.RuleError.{RuleError}
+use Rattle.rule_parser.specs.declared.error.RuleErrorKind.{RuleErrorKind}
+use Rattle.rule_parser.specs.declared.error.RuleErrorKind.TheVariants as rules
+use Rattle.compiler.specs.declared.error.CompileError.{CompileError}
+use Rattle.compiler.specs.declared.error.CompileError.TheVariants as compile
+use Rattle.command_base.specs.Faults.{status_of as status_of_base}
+use Rattle.command_base.specs.declared.fault.BaseFault.{BaseFault}
+use Rattle.command_base.specs.declared.fault.BaseFault.TheVariants.{Memory}
+use Rattle.rule_commands.specs.declared.fault.RuleFault.{RuleFault}
+use Rattle.rule_commands.specs.declared.fault.RuleFault.TheVariants.{Template, Rules, Compile, NoLink, Base}
+
+abbrev pub status_of : RuleFault → ℕ
+status_of (Template e) = 3
+status_of (Rules e) = 3
+status_of (Compile e) = 3
+status_of NoLink = 1
+status_of (Base fault) = status_of_base fault
+
+-- an allocation that fails is one error, wherever it was
+abbrev pub out_of_memory : RuleFault
+out_of_memory = Base Memory
+
+abbrev pub template_fault_of_kind : TemplateError → TemplateErrorKind → RuleFault
+template_fault_of_kind e template.NoMemory = out_of_memory
+template_fault_of_kind e kind = Template e
+
+abbrev pub template_fault : TemplateError → RuleFault
+template_fault e = template_fault_of_kind e e.kind
+
+abbrev pub rules_fault_of_kind : RuleError → RuleErrorKind → RuleFault
+rules_fault_of_kind e rules.NoMemory = out_of_memory
+rules_fault_of_kind e kind = Rules e
+
+abbrev pub rules_fault : RuleError → RuleFault
+rules_fault e = rules_fault_of_kind e e.kind
+
+abbrev pub compile_fault : CompileError → RuleFault
+compile_fault compile.NoMemory = out_of_memory
+compile_fault e = Compile e
