@@ -1,4 +1,4 @@
-"""Replies of the service where memory is refused: 503, and no body for HEAD."""
+"""What is printed, and what the service replies, where memory is refused: 503, and no body for HEAD."""
 import resource
 from assembler import code
 from service import Service, reply_of, request_of, to_head
@@ -6,6 +6,12 @@ from targets import ANY_LINK, write_registry
 
 # 32 times 32,768 bytes: a link as long as links may be, for which a run reserves its bytes before the first step.
 LONGEST_LINK = code([], [("link", "a" * 32768)], ["EMIT l0"] * 32 + ["HALT"])
+
+# A web link nearly as long as links may be, of apostrophes, each of which takes five bytes in a page.
+APOSTROPHES = code([], [("link", "http://e.org/"), ("link", "'" * 32768)], ["EMIT l0"] + ["EMIT l1"] * 31 + ["HALT"])
+
+# A page of 256 such links has 1.3 GB.
+PAGE_LIMIT = 800_000_000
 
 REFUSED = reply_of(503, "out of memory\n")
 
@@ -32,3 +38,27 @@ def test_replies_without_memory(program):
             answer = service.reply(request_of("/openurl.txt?rft.issn=2", method=method))
             program.expect(f"{method} without memory", answer, REFUSED if has_body else to_head(REFUSED))
         program.expect("a request that needs no more", service.reply(request), small)
+
+
+def test_a_command_without_memory(program):
+    """A table of almost 16 MiB is read, and the program may have no more than 32 MiB."""
+    write_registry(program, [("alpha", ANY_LINK, "x\n" + ("a" * 65_535 + "\n") * 255)])
+
+    def limit():
+        resource.setrlimit(resource.RLIMIT_AS, (2**25, 2**25))
+
+    given = program.run(["resolve", "registry", "x=1"], preexec_fn=limit)
+    program.expect("a command without memory", given, (4, b"", b"openlink: out of memory\n"))
+    program.finds_no_link(["resolve", "registry", "x=1"])
+
+def test_a_page_too_large_for_memory(program):
+    small = [("small", ANY_LINK, "print_identifier\n1\n")]
+    write_registry(program, small + [(f"t{n}", APOSTROPHES, "print_identifier\n2\n") for n in range(255)])
+    with Service(program, 3) as service:
+        resource.prlimit(service.process.pid, resource.RLIMIT_AS, (PAGE_LIMIT, PAGE_LIMIT))
+        page = service.reply(request_of("/openurl?rft.issn=2"))
+        program.expect("a page that does not fit", page, REFUSED)
+        page = service.reply(request_of("/openurl?rft.issn=2", method="HEAD"))
+        program.expect("its head", page, to_head(REFUSED))
+        answer = service.reply(request_of("/openurl.txt?rft.issn=1"))
+        program.expect("a request after it", answer, reply_of(200, "small\thttp://e.org/\n"))

@@ -1,0 +1,122 @@
+"""Connections of a service whose peers send much at once, read late or never, send nothing, or go away."""
+import socket, struct, time
+from service import Service, reply_of, request_of
+from targets import DATE_RULES, write_alpha, write_registry
+
+REQUEST = request_of("/x")
+NOT_FOUND = reply_of(404, "not found\n")
+
+# How long a read or a write of the service may take, in seconds, and how much longer a busy machine may make it.
+WAIT, SLACK = 2, 6
+
+
+def connect(service, room=None):
+    """A connection for which the system keeps few bytes that were not read, if their number is given."""
+    peer = socket.socket()
+    if room:
+        peer.setsockopt(socket.SOL_SOCKET, socket.SO_RCVBUF, room)
+    peer.settimeout(30)
+    peer.connect(("127.0.0.1", service.port))
+    return peer
+
+
+def rest(peer):
+    """All that comes until the service closes the connection."""
+    received = b""
+    try:
+        while piece := peer.recv(65536):
+            received += piece
+    except ConnectionError:
+        pass
+    return received
+
+
+def expect_served(program, service):
+    """The next connection is served as any other."""
+    program.expect("the next connection", service.reply(REQUEST), NOT_FOUND)
+
+
+# The lengths of heads that the system can give in one read.
+LENGTHS = (28, 4_096, 4_097, 5_000, 16_383, 16_384)
+
+
+def test_heads_that_come_at_once(program):
+    write_alpha(program)
+    with Service(program, len(LENGTHS)) as service:
+        for length in LENGTHS:
+            field = f"X: {'x' * (length - 33)}\r\n" if length > 33 else ""
+            request = f"GET /x HTTP/1.1\r\nHost: a\r\n{field}\r\n".encode()
+            program.expect("the length of the head", len(request), length)
+            program.expect(f"the reply to a head of {length} bytes", service.reply(request), NOT_FOUND)
+
+
+# A row whose link has 65,513 bytes.
+LONG_ROW = "print_identifier\ttitle_url\n1234-567X\thttp://e.org/" + "b" * 65_500 + "\n"
+LINK = '<li><a href="http://e.org/' + "b" * 65_500 + '">{}</a></li>\n'
+LONG_REQUEST = request_of("/openurl?rft.issn=1234567x&rft.date=2003")
+
+
+def write_long(program, count):
+    """A registry of that many targets with the long row, and the page of its links."""
+    names = [f"t{number}" for number in range(count)]
+    write_registry(program, [(name, DATE_RULES, LONG_ROW) for name in names])
+    links = "".join(LINK.format(name) for name in names)
+    return reply_of(200, f"<!DOCTYPE html>\n<title>Links</title>\n<ul>\n{links}</ul>\n", "html")
+
+
+# A page of this number of links has six megabytes, more than the system keeps for a peer that does not read.
+MANY = 100
+
+
+def test_a_peer_that_reads_late(program):
+    page = write_long(program, MANY)
+    with Service(program, 1) as service, connect(service, 4096) as peer:
+        program.runs += 1
+        peer.sendall(LONG_REQUEST)
+        # By now a first write has taken as many bytes as the system keeps, and then no more within its time-out.
+        time.sleep(WAIT * 1.4)
+        program.expect("the whole page", rest(peer), page)
+
+
+def test_a_peer_that_does_not_read(program):
+    write_long(program, MANY)
+    with Service(program, 2) as service, connect(service, 4096) as peer:
+        peer.sendall(LONG_REQUEST)
+        start = time.monotonic()
+        expect_served(program, service)
+        waited = time.monotonic() - start
+        program.expect(f"the time-out of a write, not {waited} s", WAIT * 0.9 < waited < WAIT + SLACK)
+
+
+def test_a_peer_that_sends_nothing(program):
+    write_alpha(program)
+    for sent in b"", REQUEST[:20]:
+        with Service(program, 2) as service, connect(service) as peer:
+            peer.sendall(sent)
+            start = time.monotonic()
+            program.expect("what a peer gets whose head does not end", rest(peer), b"")
+            waited = time.monotonic() - start
+            program.expect(f"the time-out of a read, not {waited} s", WAIT * 0.9 < waited < WAIT + SLACK)
+            expect_served(program, service)
+
+
+def test_peers_that_go_away(program):
+    write_long(program, MANY)
+    with Service(program, 4) as service:
+        for sent in b"", REQUEST[:20], LONG_REQUEST:
+            with connect(service) as peer:
+                peer.sendall(sent)
+                # With this option the connection is reset, and what has come is lost.
+                peer.setsockopt(socket.SOL_SOCKET, socket.SO_LINGER, struct.pack("ii", 1, 0))
+        expect_served(program, service)
+
+
+def test_one_exchange_a_connection(program):
+    write_alpha(program)
+    with Service(program, 1) as service, connect(service) as peer:
+        program.runs += 1
+        peer.sendall(REQUEST)
+        start = time.monotonic()
+        program.expect("the one reply", rest(peer), NOT_FOUND)
+        waited = time.monotonic() - start
+        program.expect(f"the end of the connection at once, not after {waited} s", waited < WAIT * 0.5)

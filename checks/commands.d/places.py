@@ -1,0 +1,126 @@
+"""What `compile` and `upgrade` find at the path that they write, and beside it: what they replace, what they refuse, and
+what a failure leaves."""
+import os, resource, signal
+from assembler import LIST_FILE
+
+# A command without its last argument, the path that it writes; the number of bytes written there; and the first of them.
+COMMANDS = [(["compile", "a.rules"], 127, b"OLK1"), (["upgrade", "a.olk"], 68, b"OLK2")]
+
+
+def write_sources(program):
+    program.write("a.rules", "rule\nlink http://e.org/{rft.issn}\n")
+    program.write("a.olk", LIST_FILE)
+
+
+def kind_of(path):
+    """What a path leads to: its kind, its device number and its inode."""
+    found = os.stat(path)
+    return found.st_mode, found.st_rdev, found.st_ino
+
+
+def places(program, command, name, size, first):
+    """The command leaves its file at the path, a regular file, and nothing beside it."""
+    program.prints(command + [name], f"{size} bytes")
+    path = os.path.join(program.folder, name)
+    program.expect(f"{name} is a regular file", os.path.isfile(path) and not os.path.islink(path))
+    content = program.read(name) or b""
+    program.expect(f"the file {name}", (len(content), content[:4]), (size, first))
+    program.expect(f"{name}.new is there", program.has(f"{name}.new"), False)
+
+
+def test_no_regular_file(program):
+    """A folder, a FIFO, a device, and a link to one of them, are refused and stay."""
+    write_sources(program)
+    os.mkdir(f"{program.folder}/folder")
+    os.mkfifo(f"{program.folder}/fifo")
+    os.symlink("folder", f"{program.folder}/to_folder")
+    os.symlink("/dev/null", f"{program.folder}/to_device")
+    for command, _, _ in COMMANDS:
+        for name in "folder", "fifo", "to_folder", "to_device", "/dev/null":
+            path = os.path.join(program.folder, name)
+            before = kind_of(path)
+            program.fails(command + [name], 4, f"device: {name}")
+            program.expect(f"what is at {name}", kind_of(path), before)
+            program.expect(f"{name}.new is there", os.path.lexists(f"{path}.new"), False)
+
+
+def test_symbolic_links(program):
+    """A link to a file, or to none, is itself replaced; what it leads to stays as it is."""
+    write_sources(program)
+    for command, size, first in COMMANDS:
+        program.write("kept", "what was there")
+        os.symlink("kept", f"{program.folder}/to_file")
+        os.symlink("none", f"{program.folder}/to_none")
+        for name in "to_file", "to_none":
+            places(program, command, name, size, first)
+            os.remove(f"{program.folder}/{name}")
+        program.expect("the file that a link led to", program.read("kept"), b"what was there")
+        program.expect("none is there", program.has("none"), False)
+
+
+def test_a_file_beside_the_path(program):
+    """Whatever is at PATH.new is refused and stays, and so does the file at PATH."""
+    write_sources(program)
+    for command, size, first in COMMANDS:
+        program.write("code", "the old file")
+        program.write("code.new", "another's")
+        program.fails(command + ["code"], 4, "device: code")
+        program.expect("code.new", program.read("code.new"), b"another's")
+        os.remove(f"{program.folder}/code.new")
+        os.symlink("none", f"{program.folder}/code.new")
+        program.fails(command + ["code"], 4, "device: code")
+        program.expect("code.new leads to none", os.readlink(f"{program.folder}/code.new"), "none")
+        program.expect("code", program.read("code"), b"the old file")
+        os.remove(f"{program.folder}/code.new")
+        places(program, command, "code", size, first)
+
+
+def with_room(room, handler):
+    """How to run the program where no file may have more than `room` bytes, as on a full disk."""
+
+    def limit():
+        signal.signal(signal.SIGXFSZ, handler)
+        resource.setrlimit(resource.RLIMIT_FSIZE, (room, room))
+
+    return {"preexec_fn": limit}
+
+
+def test_a_full_disk(program):
+    """The old file stays, or there is none, and nothing is left beside it."""
+    write_sources(program)
+    for command, size, first in COMMANDS:
+        program.write("code", "the old file")
+        for room in 0, 1, size - 1:
+            for name, content in ("code", b"the old file"), ("none", None):
+                given = program.run(command + [name], **with_room(room, signal.SIG_IGN))
+                program.expect(f"{command} {name}, {room} bytes", given, (4, b"", f"openlink: device: {name}\n".encode()))
+                program.expect(f"the file {name}", program.read(name), content)
+                program.expect(f"{name}.new is there", program.has(f"{name}.new"), False)
+        given = program.run(command + ["code"], **with_room(size, signal.SIG_IGN))
+        program.expect(f"{command}, {size} bytes", given, (0, f"{size} bytes\n".encode(), b""))
+        program.expect("the first bytes", program.read("code")[:4], first)
+
+
+def test_a_command_that_is_killed(program):
+    """It leaves the old file, and its part of the new one beside it, which has to be removed by hand."""
+    write_sources(program)
+    for command, size, first in COMMANDS:
+        program.write("code", "the old file")
+        status = program.run(command + ["code"], **with_room(16, signal.SIG_DFL))[0]
+        program.expect("how it ends", status, -signal.SIGXFSZ)
+        program.expect("the part of the new file", (program.read("code.new") or b"")[:4], first)
+        program.expect("code", program.read("code"), b"the old file")
+        program.fails(command + ["code"], 4, "device: code")
+        os.remove(f"{program.folder}/code.new")
+        places(program, command, "code", size, first)
+
+
+def test_no_such_folder(program):
+    """Nothing is made where the path names no folder that is there, or no file in it."""
+    write_sources(program)
+    program.write("file", "no folder")
+    for command, _, _ in COMMANDS:
+        for name in "none/code", "file/code", "", "/":
+            program.fails(command + [name], 4, f"device: {name}")
+    program.expect("the file", program.read("file"), b"no folder")
+    program.expect(".new is there", program.has(".new"), False)
