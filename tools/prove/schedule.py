@@ -18,13 +18,23 @@ class Schedule:
 
     def next(self):
         """Returns a crate that can start and its jobs, or None. First comes the crate with the longest chain of crates
-        up to the program. It gets the slots that no other crate can use now, since its jobs cannot grow later."""
+        up to the program. It gets the slots that no other crate can use now, since its jobs cannot grow later, and two
+        where its chain decides how long the rest takes."""
         idle = self.slots - sum(jobs for jobs, _ in self.running.values())
         ready = [name for name in self.left if self.crates.below[name] <= self.done]
         if not ready or idle < 1:
             return None
         first = max(ready, key=lambda name: self.crates.chain[name])
-        return first, min(max(1, idle - len(ready) + 1), MOST_JOBS)
+        jobs = max(2 if self._decides(first) else 1, idle - len(ready) + 1)
+        return first, min(jobs, idle, MOST_JOBS)
+
+    def _decides(self, name):
+        """Returns whether no chain is longer than that of this crate, and it takes longer, at one job a crate, than all
+        that is left takes on all slots."""
+        open_names = [*self.left, *self.running]
+        chain, weight = self.crates.chain, self.crates.weight
+        longest = max(chain[it] for it in open_names)
+        return chain[name] >= longest and chain[name] * self.slots > sum(weight[it] for it in open_names)
 
     def start(self, name, jobs):
         self.left.remove(name)
