@@ -22,27 +22,31 @@ fill_bench: target_vars
 END
 
 cd "$work/crates/fill_bench"
-if ! rt run -- nothing 1 > "$work/build.log" 2>&1; then
+if ! rt run -- mixed 1 > "$work/build.log" 2>&1; then
   cat "$work/build.log"
   exit 1
 fi
 
 # The instructions of one run, which fails where the environment answers wrongly.
 instructions() {
-  valgrind --tool=callgrind --callgrind-out-file=/dev/null out/fill_bench "$1" "$2" 2> "$work/count.log" ||
-    { echo "$1 $2: a wrong answer" >&2; exit 1; }
+  valgrind --tool=callgrind --callgrind-out-file=/dev/null out/fill_bench "$@" 2> "$work/count.log" ||
+    { echo "$*: a wrong answer" >&2; exit 1; }
   sed -n 's/.*Collected : //p' "$work/count.log"
 }
 
-# The instructions of filling alone, without those of making its names so many times.
+# The instructions of filling alone, without those of making its names that many times.
 row() {
   local all names
   all=$(instructions "$1" "$2")
-  names=$(instructions nothing "$2")
-  echo "| $1 | $2 | $((all - names * $3)) |"
+  names=$(instructions "$1" "$2" names)
+  echo "| $1 | $2 | $((all - names - (names - start) * ($3 - 1))) |"
 }
 
+start=$(instructions mixed 0 names)
 echo "| filled | size | instructions |"
 echo "|---|---:|---:|"
-for size in 1024 2048 4096; do row names $size 1; done
+for kind in mixed rising falling; do
+  for size in 24 1024 2048 4096; do row $kind $size 1; done
+done
+row bits 384 1
 for size in 512 1024 2048; do row lists $size 2; done
