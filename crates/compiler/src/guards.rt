@@ -106,7 +106,8 @@ fn push_has(alloc: Global, out: &mut Vec<Line>, list: bool, name: &str) -> Resul
 fn push_lacks(alloc: Global, out: &mut Vec<Line>, list: bool, name: &str) -> Result<(), AllocError>
     ensures { OnOk result (out.new.items ≡ out.old.items ++ lines (Then (Does (loading list name.now)) (Unless (is_missing list) Leave))) }
 {
-    let body = vec![in alloc; Line::Jumps(Target::Away)]?;
+    let mut body = Vec::new(alloc);
+    body.push(Line::Jumps(Target::Away))?;
     push_loading(alloc, out, list, name)?;
     push_unless(out, missing(list), body)
 }
