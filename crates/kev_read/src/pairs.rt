@@ -14,7 +14,7 @@ pub(crate) struct Pair<'a> {
 }
 
 /// Where a pair lies in a text, in bytes: its key, and right behind it its value.
-#[derive(Clone, Copy, Debug)]
+#[derive(Clone, Copy)]
 pub(crate) struct Place {
     start: usize,
     middle: usize,
@@ -22,7 +22,7 @@ pub(crate) struct Place {
 }
 
 /// Pairs of key and value, which lie one after another in one text; contracts see the pairs.
-#[derive(Debug, Drop)]
+#[derive(Drop)]
 pub(crate) struct Pairs {
     text: String,
     places: Vec<Place>,

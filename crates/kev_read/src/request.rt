@@ -19,7 +19,7 @@ use target_vars::{Env, VarsError};
 ///
 /// Every key is kept, under its own name; a pair without `=` has the empty value. Contracts also see
 /// how many bytes the query had.
-#[derive(Debug, Drop)]
+#[derive(Drop)]
 pub struct Request {
     pairs: Pairs,
     // The indices of the pairs in the order of their keys.

@@ -7,7 +7,7 @@ use std::iter::FusedIterator;
 use std::marker::Model;
 
 /// The values of one key, in the order of the query; contracts see those that are left.
-#[derive(Debug, Drop)]
+#[derive(Drop)]
 pub struct Values<'a, 'k> {
     pairs: &'a Pairs,
     // Which pair is looked at next.
