@@ -2,7 +2,6 @@
 use Rattle.std.proofs.Common.{◌≡◌, List, [], Option, None, ap, ◌∙◌}
 use Rattle.std.specs.Borrow.{Bor}
 use Rattle.text_model.specs.Texts.{Text, texts_of}
-use Rattle.environment_model.specs.Environment.{Environment}
 use Rattle.environment_model.specs.Lists.{list_names}
 use Rattle.kev_read.specs.Pairs.{pairs_of}
 use Rattle.kev_read.specs.Refusal.{refusal}
@@ -12,11 +11,10 @@ use Rattle.rule_parser.specs.Names.{each_once}
 use Rattle.rule_parser.specs.Meaning.{meaning}
 use Rattle.rule_commands.specs.Link.{IsLink}
 
-pub is_link : (rules : RuleSet) (query : Text) (lists : List (Bor Text)) (env : Environment) (link : Option Text)
-    → texts_of lists ≡ each_once (list_names rules.lists) → refusal query ≡ None → env ≡ filled (texts_of lists) [] (pairs_of query)
-    → link ≡ meaning rules env → IsLink rules query link
-is_link rules query lists env link listed accepted filled_from meant =
+pub is_link : (rules : RuleSet) (query : Text) (lists : List (Bor Text)) (link : Option Text) → texts_of lists ≡ each_once (list_names rules.lists)
+    → refusal query ≡ None → link ≡ meaning rules (filled (texts_of lists) [] (pairs_of query)) → IsLink rules query link
+is_link rules query lists link listed accepted meant =
     record {
       request = accepted;
-      meant = meant ∙ ap (meaning rules) (filled_from ∙ ap (λ names. filled names [] (pairs_of query)) listed);
+      meant = meant ∙ ap (λ names. meaning rules (filled names [] (pairs_of query))) listed;
     }

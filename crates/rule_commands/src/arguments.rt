@@ -7,7 +7,7 @@ ghost use Rattle.rule_commands.specs.Arguments.{AreExpandArguments, NoExpandArgu
 use std::alloc::{AllocError, Global};
 
 /// The arguments after `expand`: the options `--list NAME`, a template and a query.
-#[derive(Clone, Copy, Debug, PartialEq, Eq)]
+#[derive(Clone, Copy, Debug)]
 pub struct ExpandArguments<'w, 'a> {
     pub options: &'w [&'a str],
     pub template: &'a str,
@@ -16,7 +16,8 @@ pub struct ExpandArguments<'w, 'a> {
 
 /// Parses the arguments after `expand`. An argument `--list` before the template is always the option.
 pub fn expand_arguments<'w, 'a>(arguments: &'w [&'a str]) -> Option<ExpandArguments<'w, 'a>>
-    ensures some { IfSome result (λ parsed. AreExpandArguments (texts_of arguments.now) (names_of (texts_of parsed.options.now)) parsed.template.now parsed.query.now) }
+    ensures some { IfSome result (λ parsed. AreExpandArguments (texts_of arguments.now)
+        (names_of (texts_of parsed.options.now)) parsed.template.now parsed.query.now) }
     ensures none { IfNone result (NoExpandArguments (texts_of arguments.now)) }
 {
     let mut rest = arguments;

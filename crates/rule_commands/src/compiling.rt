@@ -13,17 +13,18 @@ use files::Files;
 use rule_parser::Rules;
 use std::alloc::Global;
 
-/// Places the code of the rules at `rules` in a file at `code`, and gives the line that counts its bytes. The code is
-/// written to `CODE.new`, which must not exist, and then renamed.
+/// Places the code of the rules at `rules` in a file at `code`, and gives the line that counts its bytes. The code
+/// is written to `CODE.new`, which must not exist, and then renamed.
 pub fn compile<'a, F: Files>(
     alloc: Global,
     files: &mut F,
     rules: &'a str,
     code: &'a str,
 ) -> Result<String, RuleFault<'a>>
-    ensures ok { IfOk result (λ line. Makes IsCompiled (F.at files.old) rules.now code.now (F.at files.new) (string_bytes line)) }
-    ensures err { IfErr result (IsCompileFault (F.at files.old) rules.now code.now (F.fails files.old Read rules.now files.new)
-        (IsPlaceFailure F.fails code.now)) }
+    ensures ok { IfOk result (λ line.
+        Makes IsCompiled (F.at files.old) rules.now code.now (F.at files.new) (string_bytes line)) }
+    ensures err { IfErr result (IsCompileFault (F.at files.old) rules.now code.now
+        (F.fails files.old Read rules.now files.new) (IsPlaceFailure F.fails code.now)) }
     ensures kept { OnErr result (IsAsBefore F.fails (F.at files.old) code.now (F.at files.new)) }
 {
     let parsed = read_rules(alloc, files, rules)?;

@@ -1,14 +1,21 @@
 //! `link RULES QUERY`: the link that a rule file gives for a request.
 
-ghost use Rattle.std.specs.Prelude.{Some, IfOk, IfErr, string_bytes};
+ghost use Rattle.std.specs.Prelude.{◌≡◌, [], Some, None, IfOk, IfErr, OnOk, string_bytes};
+ghost use Rattle.std.specs.Option.{option_map};
+ghost use Rattle.text_model.specs.Texts.{texts_of};
+ghost use Rattle.kev_read.specs.Pairs.{pairs_of};
+ghost use Rattle.kev_read.specs.Refusal.{refusal};
+ghost use Rattle.kev_read.specs.Filling.{filled};
+ghost use Rattle.rule_parser.specs.Meaning.{meaning as meaning_of};
 ghost use Rattle.files.specs.Changes.{Unchanged};
 ghost use Rattle.files.specs.declared.call.FileCall.TheVariants.{Read};
 ghost use Rattle.command_base.specs.Commands.{Tells};
+ghost use Rattle.command_base.specs.Faults.{IsQueryFault};
 ghost use Rattle.rule_commands.specs.Link.{IsLink, IsLinkLine, IsNoLink, IsLinkFault};
 
 use crate::fault::RuleFault;
 use crate::reading::read_rules;
-use command_base::{ended, environment};
+use command_base::{BaseFault, ended, environment};
 use files::Files;
 use rule_parser::{Rules, meaning};
 use std::alloc::Global;
@@ -20,8 +27,10 @@ pub fn link<'a, F: Files>(
     path: &'a str,
     query: &str,
 ) -> Result<String, RuleFault<'a>>
-    ensures ok { IfOk result (λ line. Tells (IsLinkLine query.now) (F.at files.old) path.now (F.at files.new) (string_bytes line)) }
-    ensures err { IfErr result (IsLinkFault (F.at files.old path.now) path.now (F.fails files.old Read path.now files.new) query.now) }
+    ensures ok { IfOk result (λ line.
+        Tells (IsLinkLine query.now) (F.at files.old) path.now (F.at files.new) (string_bytes line)) }
+    ensures err { IfErr result
+        (IsLinkFault (F.at files.old path.now) path.now (F.fails files.old Read path.now files.new) query.now) }
     ensures same { Unchanged (F.at files.old) (F.at files.new) }
 {
     let rules = read_rules(alloc, files, path)?;
@@ -35,9 +44,24 @@ fn link_of<'a>(alloc: Global, rules: &Rules, query: &str) -> Result<String, Rule
     ensures err { IfErr result (IsNoLink rules.now query.now) }
 {
     let lists = rules.lists(alloc)?;
-    let env = environment(alloc, &lists, query)?;
-    match meaning(alloc, rules, &env)? {
+    match link_with(alloc, rules, &lists, query)? {
         Some(link) => Ok(link),
         None => Err(RuleFault::NoLink),
     }
+}
+
+/// What the rules mean for the request of the query, in which the names of `lists` are lists.
+fn link_with<'a>(
+    alloc: Global,
+    rules: &Rules,
+    lists: &[&str],
+    query: &str,
+) -> Result<Option<String>, BaseFault<'a>>
+    ensures request { OnOk result (refusal query.now ≡ None) }
+    ensures meant { IfOk result (λ link.
+        option_map string_bytes link ≡ meaning_of rules.now (filled (texts_of lists.now) [] (pairs_of query.now))) }
+    ensures err { IfErr result (IsQueryFault query.now) }
+{
+    let env = environment(alloc, lists, query)?;
+    Ok(meaning(alloc, rules, &env)?)
 }

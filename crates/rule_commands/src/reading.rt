@@ -27,7 +27,8 @@ pub fn read_rules<'a, F: Files>(
 ) -> Result<Rules, RuleFault<'a>>
     ensures ok { IfOk result (λ rules. OfFile (F.at files.old path.now) (λ bytes. IsRuleText bytes rules)) }
     ensures exists { OnOk result (F.at files.old path.now ≢ Absent) }
-    ensures err { IfErr result (IsUnread (F.at files.old path.now) path.now (F.fails files.old Read path.now files.new)) }
+    ensures err { IfErr result
+        (IsUnread (F.at files.old path.now) path.now (F.fails files.old Read path.now files.new)) }
     ensures same { Unchanged (F.at files.old) (F.at files.new) }
 {
     let Some(bytes) = read_file(alloc, files, path, MAX_BYTES)? else {

@@ -6,10 +6,10 @@ use Rattle.rule_commands.proofs.linking.link_of.Goals as goal
 
 pub returns-in-Some-clause-ok : goal.returns-in-Some-clause-ok
 returns-in-Some-clause-ok c =
-    is_link _ _ _ _ _ (ap texts_of c.deref.ensures.value ∙ c.in_ok-lists.ensures) c.in_ok-env.ensures.request c.in_ok-env.ensures.pairs
-    (sym (ap (option_map string_bytes) c.in-Some.is) ∙ c.in_ok-link.ensures.value)
+    is_link _ _ _ _ (ap texts_of c.deref.ensures.value ∙ c.in_ok-lists.ensures) c.in_ok-link.ensures.request
+    (sym (ap (option_map string_bytes) c.in-Some.is) ∙ c.in_ok-link.ensures.meant)
 
 pub returns-clause-err : goal.returns-clause-err
 returns-clause-err c =
-    is_link _ _ _ _ _ (ap texts_of c.deref.ensures.value ∙ c.in_ok-lists.ensures) c.in_ok-env.ensures.request c.in_ok-env.ensures.pairs
-    (sym (ap (option_map string_bytes) c.in-None.is) ∙ c.in_ok-link.ensures.value)
+    is_link _ _ _ _ (ap texts_of c.deref.ensures.value ∙ c.in_ok-lists.ensures) c.in_ok-link.ensures.request
+    (sym (ap (option_map string_bytes) c.in-None.is) ∙ c.in_ok-link.ensures.meant)

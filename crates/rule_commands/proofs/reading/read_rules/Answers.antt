@@ -1,13 +1,21 @@
-use Rattle.std.proofs.Common.{IfSome, subst, sym}
+use Rattle.std.proofs.Common.{IfNone, IfSome, subst, sym}
 use Rattle.std.proofs.lemmas.Result.{err_from_is_err_and}
-use Rattle.files.specs.Found.{Gives}
-use Rattle.rule_commands.proofs.FaultLemmas.{unread}
+use Rattle.files.specs.Found.{Gives, IsLong}
+use Rattle.files.specs.declared.call.FileCall.TheVariants.{Read}
+use Rattle.rule_commands.proofs.FaultLemmas.{too_long, unread}
 use Rattle.rule_commands.proofs.reading.read_rules.Goals as goal
+
+pub returns-in_default-clause-err : goal.returns-in_default-clause-err
+returns-in_default-clause-err g c =
+    let found = g.F.Files.at c.args.files.now c.args.path.now in
+    too_long found (subst (λ read. IfNone read (IsLong 65536 found)) c.in_default.is c.in_ok-bytes.ensures.long)
 
 pub returns-in_err-parse-clause-err : goal.returns-in_err-parse-clause-err
 returns-in_err-parse-clause-err g c =
     let found = g.F.Files.at c.args.files.now c.args.path.now in
+    let failed = g.F.Files.fails c.args.files.now Read c.args.path.now c.read_file.new.files in
     let gives : Gives found c.in-Some.bytes.items = subst (λ o. IfSome o (λ bytes. Gives found bytes.items)) c.in-Some.is c.in_ok-bytes.ensures.whole in
     let made = err_from_is_err_and c.from_residual-in_err-parse.result c.from_residual-in_err-parse.ensures.1 in
     rw (made.1, made.2)
-    (unread found c.args.path.now _ c.deref.result.now c.in_err-parse.field-0.0 c.in_ok-bytes.ensures.exists (subst (Gives found) (sym c.deref.ensures.value) gives) c.in_err-parse.ensures.err)
+    (unread found c.args.path.now failed c.deref.result.now c.in_err-parse.field-0.0 c.in_ok-bytes.ensures.exists
+    (subst (Gives found) (sym c.deref.ensures.value) gives) c.in_err-parse.ensures.err)
