@@ -1,9 +1,11 @@
 -- A file that is made of another: it is placed, or not.
-use Rattle.std.proofs.Common.{◌≡◌, length, refl, subst, ap, ◌∙◌}
+use Rattle.std.proofs.Common.{◌≡◌, inl, inr, length, refl, subst, ap, ◌∙◌}
+use Rattle.std.specs.Prelude.{◌⊎◌}
 use Rattle.text_model.specs.Texts.{Text}
 use Rattle.files.specs.Found.{Disk, Gives, IsFree}
 use Rattle.files.specs.Changes.{Unchanged}
-use Rattle.files.specs.Placing.{IsPlaced, beside}
+use Rattle.files.specs.Placing.{IsAsBefore, IsPlaced, beside}
+use Rattle.files.specs.declared.call.FileCall.{FileCall}
 use Rattle.command_base.specs.declared.fault.BaseFault.{BaseFault}
 use Rattle.command_base.specs.Faults.{IsPlaceFault}
 use Rattle.command_base.specs.Commands.{Makes, IsNotPlaced, count_line}
@@ -35,3 +37,16 @@ pub not_placed : {E : Type 0} (of_base : BaseFault → E) (Made : Text → Text 
     → IsNotPlaced of_base Made old source target failed (of_base base)
 not_placed of_base Made old source target failed bytes code base gives made cause =
     record { bytes = bytes; code = code; base = base; read = gives; made = made; cause = cause; same = refl }
+
+same_or : {A : Type 0} {Failed : Type 0} (new between old : A) → between ≡ old → (new ≡ between) ⊎ Failed → (new ≡ old) ⊎ Failed
+same_or new between old same (inl e) = inl (e ∙ same)
+same_or new between old same (inr failed) = inr failed
+
+-- what is left by a placing that failed after calls that changed nothing
+pub as_before : {F : Type 0} (fails : F → FileCall → Text → F → Type 0) (old between new : Disk) (path : Text) → Unchanged old between
+    → IsAsBefore fails between path new → IsAsBefore fails old path new
+as_before fails old between new path same p =
+    record {
+      others = λ other apart. p.others other apart ∙ same other;
+      nothing_left = same_or (new (beside path)) (between (beside path)) (old (beside path)) (same (beside path)) p.nothing_left;
+    }

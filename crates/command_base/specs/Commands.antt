@@ -29,7 +29,8 @@ pub record Makes (Made : Text → Text → Type 0) (old : Disk) (source target :
   pub counted : text ≡ count_line (length code)
 
 -- a file is made of the one at the source, and is not placed at the target
-pub record IsNotPlaced {E : Type 0} (of_base : BaseFault → E) (Made : Text → Text → Type 0) (old : Disk) (source target : Text) (failed : Type 0) (fault : E) : Type 0 where
+pub record IsNotPlaced {E : Type 0} (of_base : BaseFault → E) (Made : Text → Text → Type 0) (old : Disk) (source target : Text) (failed : Type 0) (fault : E)
+    : Type 0 where
   pub bytes : Text
   pub code : Text
   pub base : BaseFault

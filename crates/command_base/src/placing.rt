@@ -9,8 +9,8 @@ use crate::fault::BaseFault;
 use files::{FileError, Files, place};
 use std::alloc::{AllocError, Global};
 
-/// Places a file of these bytes at the path, and gives the line that counts them. The file is written to `PATH.new`, which
-/// must not exist, and then renamed.
+/// Places a file of these bytes at the path, and gives the line that counts them. The file is written to `PATH.new`,
+/// which must not exist, and then renamed.
 pub fn place_counted<'a, F: Files>(
     alloc: Global,
     files: &mut F,

@@ -1,6 +1,6 @@
 //! Files that a command reads.
 
-ghost use Rattle.std.specs.Prelude.{◌≢◌, ◌+◌, ◌<◌, ◌^◌, IfOk, IfErr, OnOk, IfSome, IfNone};
+ghost use Rattle.std.specs.Prelude.{◌≢◌, ◌+◌, ◌<◌, ◌≤◌, ◌^◌, IfOk, IfErr, OnOk, IfSome, IfNone, length};
 ghost use Rattle.files.specs.Found.{Absent, Gives, IsLong};
 ghost use Rattle.files.specs.Changes.{Unchanged};
 ghost use Rattle.files.specs.declared.call.FileCall.TheVariants.{Read};
@@ -10,8 +10,8 @@ use crate::fault::BaseFault;
 use files::{FileError, Files, ReadError, read_whole};
 use std::alloc::Global;
 
-/// All bytes of the file at the path, or `None` if it has more than `limit`. A longer file takes memory for `limit` bytes
-/// and one more.
+/// All bytes of the file at the path, or `None` if it has more than `limit`. A longer file takes memory for `limit`
+/// bytes and one more.
 pub fn read_file<'a, F: Files>(
     alloc: Global,
     files: &mut F,
@@ -20,9 +20,11 @@ pub fn read_file<'a, F: Files>(
 ) -> Result<Option<Vec<u8>>, BaseFault<'a>>
     requires { limit + 1 < 2 ^ 63 }
     ensures whole { IfOk result (λ read. IfSome read (λ bytes. Gives (F.at files.old path.now) bytes.items)) }
+    ensures short { IfOk result (λ read. IfSome read (λ bytes. length bytes.items ≤ limit)) }
     ensures long { IfOk result (λ read. IfNone read (IsLong limit (F.at files.old path.now))) }
     ensures exists { OnOk result (F.at files.old path.now ≢ Absent) }
-    ensures err { IfErr result (IsReadFault (F.at files.old path.now) path.now (F.fails files.old Read path.now files.new)) }
+    ensures err { IfErr result
+        (IsReadFault (F.at files.old path.now) path.now (F.fails files.old Read path.now files.new)) }
     ensures same { Unchanged (F.at files.old) (F.at files.new) }
 {
     match read_whole(alloc, files, path, limit) {
