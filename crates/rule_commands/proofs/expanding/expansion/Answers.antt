@@ -12,7 +12,8 @@ pub returns-in_err-expanded-clause-err : goal.returns-in_err-expanded-clause-err
 returns-in_err-expanded-clause-err c =
     let made = err_from_is_err_and c.from_residual-in_err-expanded.result c.from_residual-in_err-expanded.ensures.1 in
     rw (made.1, made.2)
-    (bad_query c.args.template.now c.args.query.now c.in_ok-template.template.parts c.in_err-expanded.field-0.0 c.in_ok-template.ensures.ok c.in_err-expanded.ensures.err)
+    (bad_query c.args.template.now c.args.query.now c.in_ok-template.template.parts c.in_err-expanded.field-0.0 c.in_ok-template.ensures.ok
+    c.in_err-expanded.ensures.err)
 
 pub returns-clause-ok : goal.returns-clause-ok
 returns-clause-ok c = record {
