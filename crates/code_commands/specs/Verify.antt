@@ -16,7 +16,8 @@ steps_line s0 s1 = codes "steps " ++ (decimal s0 ++ (codes " + " ++ (decimal s1 
 -- the bound on bytes of output, by M and E
 abbrev pub bytes_line : ℕ → ℕ → ℕ → ℕ → Text
 bytes_line o0 o1 o2 o3 =
-    codes "bytes " ++ (decimal o0 ++ (codes " + " ++ (decimal o1 ++ (codes "*M + " ++ (decimal o2 ++ (codes "*E + " ++ (decimal o3 ++ (codes "*M*E" ++ line_feed))))))))
+    codes "bytes " ++ (decimal o0 ++ (codes " + " ++ (decimal o1 ++ (codes "*M + " ++ (decimal o2 ++ (codes "*E + " ++ (decimal o3
+    ++ (codes "*M*E" ++ line_feed))))))))
 
 -- three lines: that the code is accepted, its bound on steps, and its bound on bytes of output
 abbrev pub verdict : Sums → Text

@@ -31,7 +31,8 @@ pub fn read_code<'a, F: Files>(
 ) -> Result<Code, CodeFault<'a>>
     ensures ok { IfOk result (λ code. OfFile (F.at files.old path.now) (λ bytes. IsCodeFile bytes code)) }
     ensures exists { OnOk result (F.at files.old path.now ≢ Absent) }
-    ensures err { IfErr result (IsUnread (F.at files.old path.now) path.now (F.fails files.old Read path.now files.new)) }
+    ensures err { IfErr result
+        (IsUnread (F.at files.old path.now) path.now (F.fails files.old Read path.now files.new)) }
     ensures same { Unchanged (F.at files.old) (F.at files.new) }
 {
     let Some(bytes) = read_file(alloc, files, path, MAX_BYTES)? else {
@@ -48,7 +49,8 @@ pub fn load_code<'a, F: Files>(
 ) -> Result<Verified, CodeFault<'a>>
     ensures ok { IfOk result (λ code. OfFile (F.at files.old path.now) (λ bytes. IsAcceptedFile bytes code)) }
     ensures exists { OnOk result (F.at files.old path.now ≢ Absent) }
-    ensures err { IfErr result (IsUnloaded (F.at files.old path.now) path.now (F.fails files.old Read path.now files.new)) }
+    ensures err { IfErr result
+        (IsUnloaded (F.at files.old path.now) path.now (F.fails files.old Read path.now files.new)) }
     ensures same { Unchanged (F.at files.old) (F.at files.new) }
 {
     let Some(bytes) = read_file(alloc, files, path, MAX_BYTES)? else {

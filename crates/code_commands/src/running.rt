@@ -20,16 +20,18 @@ use target_vars::Env;
 use verified_runs::Outcome;
 use verifier::Verified;
 
-/// The line of the link that the code of the file at the path gives for the query, if it is accepted. A link has at most
-/// 1,048,576 bytes: code that might print more for the request is not begun.
+/// The line of the link that the code of the file at the path gives for the query, if it is accepted. A link has at
+/// most 1,048,576 bytes: code that might print more for the request is not begun.
 pub fn run<'a, F: Files>(
     alloc: Global,
     files: &mut F,
     path: &'a str,
     query: &str,
 ) -> Result<String, CodeFault<'a>>
-    ensures ok { IfOk result (λ line. Tells (IsRunLine query.now) (F.at files.old) path.now (F.at files.new) (string_bytes line)) }
-    ensures err { IfErr result (IsRunFault (F.at files.old path.now) path.now (F.fails files.old Read path.now files.new) query.now) }
+    ensures ok { IfOk result (λ line.
+        Tells (IsRunLine query.now) (F.at files.old) path.now (F.at files.new) (string_bytes line)) }
+    ensures err { IfErr result
+        (IsRunFault (F.at files.old path.now) path.now (F.fails files.old Read path.now files.new) query.now) }
     ensures same { Unchanged (F.at files.old) (F.at files.new) }
 {
     let code = load_code(alloc, files, path)?;

@@ -18,8 +18,10 @@ pub fn show<'a, F: Files>(
     files: &mut F,
     path: &'a str,
 ) -> Result<String, CodeFault<'a>>
-    ensures ok { IfOk result (λ text. Tells IsListing (F.at files.old) path.now (F.at files.new) (string_bytes text)) }
-    ensures err { IfErr result (IsUnread (F.at files.old path.now) path.now (F.fails files.old Read path.now files.new)) }
+    ensures ok { IfOk result (λ text.
+        Tells IsListing (F.at files.old) path.now (F.at files.new) (string_bytes text)) }
+    ensures err { IfErr result
+        (IsUnread (F.at files.old path.now) path.now (F.fails files.old Read path.now files.new)) }
     ensures same { Unchanged (F.at files.old) (F.at files.new) }
 {
     let code = read_code(alloc, files, path)?;

@@ -23,9 +23,10 @@ pub fn upgrade<'a, F: Files>(
     old: &'a str,
     new: &'a str,
 ) -> Result<String, CodeFault<'a>>
-    ensures ok { IfOk result (λ line. Makes IsUpgrade (F.at files.old) old.now new.now (F.at files.new) (string_bytes line)) }
-    ensures err { IfErr result (IsUpgradeFault (F.at files.old) old.now new.now (F.fails files.old Read old.now files.new)
-        (IsPlaceFailure F.fails new.now)) }
+    ensures ok { IfOk result (λ line.
+        Makes IsUpgrade (F.at files.old) old.now new.now (F.at files.new) (string_bytes line)) }
+    ensures err { IfErr result (IsUpgradeFault (F.at files.old) old.now new.now
+        (F.fails files.old Read old.now files.new) (IsPlaceFailure F.fails new.now)) }
     ensures kept { OnErr result (IsAsBefore F.fails (F.at files.old) new.now (F.at files.new)) }
 {
     let code = read_code(alloc, files, old)?;

@@ -13,15 +13,17 @@ use budget::Budget;
 use files::Files;
 use std::alloc::{AllocError, Global};
 
-/// The verdict on the code of the file at the path, if it is accepted: `ok`, its bound on steps, and its bound on bytes of
-/// output.
+/// The verdict on the code of the file at the path, if it is accepted: `ok`, its bound on steps, and its bound on bytes
+/// of output.
 pub fn verify<'a, F: Files>(
     alloc: Global,
     files: &mut F,
     path: &'a str,
 ) -> Result<String, CodeFault<'a>>
-    ensures ok { IfOk result (λ text. Tells IsVerdict (F.at files.old) path.now (F.at files.new) (string_bytes text)) }
-    ensures err { IfErr result (IsUnloaded (F.at files.old path.now) path.now (F.fails files.old Read path.now files.new)) }
+    ensures ok { IfOk result (λ text.
+        Tells IsVerdict (F.at files.old) path.now (F.at files.new) (string_bytes text)) }
+    ensures err { IfErr result
+        (IsUnloaded (F.at files.old path.now) path.now (F.fails files.old Read path.now files.new)) }
     ensures same { Unchanged (F.at files.old) (F.at files.new) }
 {
     let code = load_code(alloc, files, path)?;

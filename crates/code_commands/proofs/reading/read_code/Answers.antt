@@ -1,10 +1,27 @@
-use Rattle.std.proofs.Common.{rules}
-use Rattle.files.specs.Found.{IsLong}
-use Rattle.code_commands.proofs.FaultLemmas.{long_code}
+use Rattle.std.proofs.Common.{IfNone, IfSome, subst, sym}
+use Rattle.std.proofs.lemmas.Result.{err_from_is_err_and}
+use Rattle.files.specs.Found.{Gives, IsLong}
+use Rattle.files.specs.declared.call.FileCall.TheVariants.{Read}
+use Rattle.code_commands.proofs.FaultLemmas.{long_code, unread}
 use Rattle.code_commands.proofs.reading.read_code.Goals as goal
 
 pub returns-in_default-clause-err : goal.returns-in_default-clause-err
 returns-in_default-clause-err g c =
     let found = g.F.Files.at c.args.files.now c.args.path.now in
-    let long : IsLong 65536 found = search rules in
-    long_code found long
+    long_code found (subst (λ read. IfNone read (IsLong 65536 found)) c.in_default.is c.in_ok-bytes.ensures.long)
+
+pub returns-in_err-read-clause-err : goal.returns-in_err-read-clause-err
+returns-in_err-read-clause-err g c =
+    let found = g.F.Files.at c.args.files.now c.args.path.now in
+    let failed = g.F.Files.fails c.args.files.now Read c.args.path.now c.read_file.new.files in
+    let gives : Gives found c.in-Some.bytes.items = subst (λ o. IfSome o (λ bytes. Gives found bytes.items)) c.in-Some.is c.in_ok-bytes.ensures.whole in
+    let made = err_from_is_err_and c.from_residual-in_err-read.result c.from_residual-in_err-read.ensures.1 in
+    rw (made.1, made.2)
+    (unread found c.args.path.now failed c.deref.result.now c.in_err-read.field-0.0 c.in_ok-bytes.ensures.exists
+    (subst (Gives found) (sym c.deref.ensures.value) gives) c.in_err-read.ensures.refused)
+
+pub returns-clause-ok : goal.returns-clause-ok
+returns-clause-ok g c =
+    let found = g.F.Files.at c.args.files.now c.args.path.now in
+    let gives : Gives found c.in-Some.bytes.items = subst (λ o. IfSome o (λ bytes. Gives found bytes.items)) c.in-Some.is c.in_ok-bytes.ensures.whole in
+    (c.deref.result.now, subst (Gives found) (sym c.deref.ensures.value) gives, c.in_ok-read.ensures.code)
