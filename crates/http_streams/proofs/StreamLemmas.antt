@@ -5,7 +5,7 @@ use Rattle.std.proofs.Math.Nat.{add-zero}
 use Rattle.std.proofs.Math.Seq.{take-add, take-append-add}
 use Rattle.std.proofs.lemmas.List.{append-nil, length-append, length-take-le, take-append-le}
 use Rattle.http_streams.specs.HeadReading.{IsReadWhole}
-use Rattle.http_streams.specs.Streams.{Heard, Hears, IsAtEnd, Reads, Said, Says, SaysInPart, Writes, after_failed_write, raised}
+use Rattle.http_streams.specs.Streams.{Heard, Hears, IsAtEnd, Reads, Said, Says, SaysInPart, Writes, raised}
 use Rattle.http_streams.proofs.Counts.{raised-more, raised-none}
 
 -- ---- bytes, where they are told

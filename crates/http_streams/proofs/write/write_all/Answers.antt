@@ -1,6 +1,5 @@
-use Rattle.std.proofs.Common.{arith, length-drop, subst, ◌∙◌, ◌≡◌, length, take}
+use Rattle.std.proofs.Common.{arith, length-drop}
 use Rattle.std.proofs.lemmas.List.{take_rest}
-use Rattle.http_streams.specs.Streams.{Says}
 use Rattle.http_streams.proofs.StreamLemmas.{Says-none, Says-take}
 use Rattle.http_streams.proofs.write.write_all.Goals as goal
 

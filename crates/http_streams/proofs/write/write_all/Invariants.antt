@@ -1,4 +1,4 @@
-use Rattle.std.proofs.Common.{◌≡◌, ◌≤◌, ◌-◌, length, take}
+use Rattle.std.proofs.Common.{◌≤◌, ◌-◌, length, take}
 use Rattle.http_streams.specs.Streams.{Says}
 use Rattle.http_streams.proofs.write.write_all.Given as goal
 

@@ -1,4 +1,4 @@
-use Rattle.http_streams.proofs.StreamLemmas.{Says-both, SaysInPart-first, SaysInPart-second}
+use Rattle.http_streams.proofs.StreamLemmas.{Says-both, SaysInPart-second}
 use Rattle.http_streams.proofs.write.write_both.Goals as goal
 
 pub returns-in-Ok-clause-all : goal.returns-in-Ok-clause-all
