@@ -6,7 +6,7 @@ use Rattle.http_front.specs.Exchange.{IsExchange}
 use Rattle.http_front.specs.declared.exchange.Served.{Served}
 use Rattle.http_front.specs.declared.exchange.Served.TheVariants.{Nothing, Replied}
 use Rattle.http_front.specs.declared.exchange.ServeError.{ServeError}
-use Rattle.http_front.specs.declared.exchange.ServeError.TheVariants.{ReadFault, WriteFault}
+use Rattle.http_front.specs.declared.exchange.ServeError.TheVariants.{ReadFault}
 use Rattle.http_service.specs.declared.counts.Counts.{Counts}
 
 -- ---- connections

@@ -1,6 +1,6 @@
-use Rattle.std.proofs.Common.{◌+◌, ◌++◌, ◌∷◌, [], sym, ap, ◌∙◌, arith, length-append}
+use Rattle.std.proofs.Common.{◌≡◌, ◌++◌, ◌∷◌, [], sym, ap, ◌∙◌, arith, length-append}
 use Rattle.std.specs.Duration.{as_nanos}
-use Rattle.http_service.specs.Connections.{counted, counts_of, outcome}
+use Rattle.http_service.specs.Connections.{counted, counts_of}
 use Rattle.http_service.proofs.ServedLemmas.{served-one_more, counts-one_more, total, total-counts}
 use Rattle.http_service.proofs.service.serve_within.Goals as goal
 
@@ -22,3 +22,12 @@ loop-served-preserved g c =
       ),
       omega (arith, c.loop-served-test.true),
     )
+
+pub returns-clause-served : goal.returns-clause-served
+returns-clause-served g c =
+    let so_far = c.loop-served.invariant.0 in
+    let all : c.loop-served._served ≡ c.args.count = omega arith in
+    (so_far.0, so_far.1, so_far.2 ∙ all, so_far.3)
+
+pub returns-clause-stopped : goal.returns-clause-stopped
+returns-clause-stopped g c = tt
