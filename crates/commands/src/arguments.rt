@@ -9,7 +9,7 @@ use menu_commands::Service;
 use rule_commands::{ExpandArguments, expand_arguments};
 
 /// A command, with what it is given: a query is the text itself, all others are paths.
-#[derive(Clone, Copy, Debug)]
+#[derive(Clone, Copy)]
 pub enum Command<'a> {
     /// `expand [--list NAME].. TEMPLATE QUERY`
     Expand(ExpandArguments<'a, 'a>),

@@ -11,7 +11,7 @@ use std::alloc::AllocError;
 use thiserror::Error;
 
 /// Why a command ends without its result; printed after `openlink: `.
-#[derive(Debug, PartialEq, Eq, Drop, Error)]
+#[derive(Debug, Drop, Error)]
 pub enum Fault<'a> {
     /// Unknown command or wrong arguments.
     #[error("usage")]

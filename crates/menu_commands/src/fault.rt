@@ -10,7 +10,7 @@ use std::alloc::AllocError;
 use thiserror::Error;
 
 /// Why a command on a registry ends without its result.
-#[derive(Debug, PartialEq, Eq, Drop, Error)]
+#[derive(Debug, Drop, Error)]
 pub enum MenuFault<'a> {
     /// A line of the registry file, counted from 1 without blank ones, is not that of a target; 0: the file is too long.
     #[error("registry: line {0}")]

@@ -13,7 +13,7 @@ const MAX_PORT: u32 = 65_535;
 const MAX_COUNT: u32 = 1_000_000;
 
 /// A service of a registry's menus at a port of this machine, for a number of connections.
-#[derive(Clone, Copy, Debug)]
+#[derive(Clone, Copy)]
 pub struct Service<'a> {
     /// The path of the registry file.
     pub registry: &'a str,
