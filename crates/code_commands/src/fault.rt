@@ -11,7 +11,7 @@ use verified_runs::PrepareError;
 use verifier::LoadError;
 
 /// Why `verify`, `show`, `upgrade` or `run` ends without its result.
-#[derive(Debug, PartialEq, Eq, Drop, Error)]
+#[derive(Debug, Drop, Error)]
 pub enum CodeFault<'a> {
     /// The file is no code file: the kind of its first error, and the byte at which it is.
     #[error("code: {0}")]

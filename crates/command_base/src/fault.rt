@@ -20,7 +20,7 @@ pub const REFUSED: u8 = 3;
 pub const FAILED: u8 = 4;
 
 /// An error that any command may have.
-#[derive(Debug, PartialEq, Eq, Drop, Error)]
+#[derive(Debug, Drop, Error)]
 pub enum BaseFault<'a> {
     /// The query is no OpenURL request.
     #[error("query: {0}")]

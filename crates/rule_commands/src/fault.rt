@@ -11,7 +11,7 @@ use thiserror::Error;
 use uri_grammar::{TemplateError, TemplateErrorKind};
 
 /// Why `expand`, `link` or `compile` ends without its result.
-#[derive(Debug, PartialEq, Eq, Drop, Error)]
+#[derive(Debug, Drop, Error)]
 pub enum RuleFault<'a> {
     /// The template is none of RFC 6570: its first error, and the byte at which it is.
     #[error("template: {0}")]
