@@ -1,18 +1,19 @@
 -- The order of pairs by their keys, and which of them have a key.
-use Rattle.std.proofs.Common.{◌≡◌, ℕ, ◌+◌, ◌-◌, ◌≤◌, ◌<◌, ◌==◌, Bool, true, false, List, length, take, drop, get_or, Option, Some, None, refl, sym, ap, ◌∙◌, subst, arith, length-drop}
+use Rattle.std.proofs.Common.{◌≡◌, ℕ, ◌+◌, ◌-◌, ◌≤◌, ◌<◌, ◌==◌, Bool, true, false, List, filter, length, take, drop, get_or, Option, Some, None, refl, sym, ap}
+use Rattle.std.proofs.Common.{◌∙◌, subst, arith, length-drop}
 use Rattle.std.proofs.Math.Logic.{⊎_elim}
 use Rattle.std.proofs.lemmas.Bool.{cases_lt, eqb-true, eq-eqb}
 use Rattle.std.proofs.lemmas.Cmp.{nat_list_cmp_total, nat_list_eq_equiv}
 use Rattle.std.proofs.lemmas.List.{get_or-drop, get_or-take, length-take-le, length-map}
 use Rattle.std.proofs.lemmas.List.Folds.{Any-from_list_any, list_any_at}
 use Rattle.std.proofs.lemmas.List.FromFn.{length-range_with_len, get_or-range_with_len}
-use Rattle.std.proofs.lemmas.List.Sorted.{All-permutation, list_any-IsPermutation, searchable_from_sorted}
+use Rattle.std.proofs.lemmas.List.Sorted.{All-permutation, list_any-IsPermutation, searchable_from_sorted, sum_by-IsPermutation}
 use Rattle.std.proofs.lemmas.Map.Text.{is_eq-slice_cmp}
 use Rattle.std.proofs.lemmas.Option.{slice_get_past}
 use Rattle.std.specs.Cmp.{both_ways}
 use Rattle.std.specs.Cmp.Lexicographic.{options_total}
-use Rattle.std.specs.List.{range_with_len}
-use Rattle.std.specs.List.Sorted.{IsPermutation, IsSortedBy, IsNonDecreasingBy, IsPartitionedBy, IsPartitionPoint}
+use Rattle.std.specs.List.{range_with_len, sum_by}
+use Rattle.std.specs.List.Sorted.{IsPermutation, IsSortedBy, IsStableBy, IsNonDecreasingBy, IsPartitionedBy, IsPartitionPoint}
 use Rattle.std.specs.Option.{option_map_or}
 use Rattle.std.specs.Ordering.{is_lt, is_le, is_eq, ordering_index}
 use Rattle.std.specs.Str.{bytes_eq}
@@ -20,14 +21,15 @@ use Rattle.std.specs.declared.cmp.Ordering.{Ordering}
 use Rattle.std.specs.declared.cmp.Ordering.TheVariants.{Less, Equal, Greater}
 use Rattle.text_model.specs.Texts.{Text}
 use Rattle.kev_read.specs.Pairs.{KeyValue}
-use Rattle.kev_read.specs.Private.KeyOrder.{key_at, passes_at, compared, has_index, IsKeyOrder}
+use Rattle.kev_read.specs.Private.KeyOrder.{key_at, passes_at, compared, has_index, has_key_at, IsKeyOrder}
+use Rattle.kev_read.proofs.StableKeys.{key_lt, stable_keys}
 
 -- ---- the order
 
 -- what a sort of all indices gives
 pub key_order_from_sort : (pairs : List KeyValue) (from to : List ℕ) → from ≡ range_with_len 0 (length pairs) → IsPermutation from to
-    → IsSortedBy (λ a b. is_lt (compared (key_at pairs a) (key_at pairs b))) to → IsKeyOrder pairs to
-key_order_from_sort pairs from to all moved sorted =
+    → IsSortedBy (key_lt pairs) to → IsStableBy (key_lt pairs) from to → IsKeyOrder pairs to
+key_order_from_sort pairs from to all moved sorted stable =
     let count = ap length all ∙ length-range_with_len 0 (length pairs) in
     let at : (i d : ℕ) → i < length pairs → get_or from i d ≡ i = λ i d within. ap (λ xs. get_or xs i d) all ∙ get_or-range_with_len 0 (length pairs) i d within ∙ omega arith in
     record {
@@ -36,6 +38,8 @@ key_order_from_sort pairs from to all moved sorted =
           sym (list_any-IsPermutation (λ other. other == index) from to moved)
           ∙ list_any_at (λ other. other == index) from index index (omega arith) (eq-eqb (get_or from index index) index (at index index within));
       within = All-permutation (λ index. index < length pairs) from to moved (λ k d below. let within : k < length pairs = omega arith in rw (at k d within) within);
+      once = λ weight. sum_by-IsPermutation weight from to moved ∙ ap (sum_by weight) all;
+      stable = λ key. stable_keys pairs from to moved stable key ∙ ap (filter (has_key_at key pairs)) all;
     }
 
 -- ---- a key against the order

@@ -3,6 +3,9 @@ pub mod PairCount
 pub mod ValueBytes
 pub mod ValuesOfKey
 pub mod FillingLemmas
+pub mod GatheredValues
 pub mod PairsInText
+pub mod StableKeys
 pub mod KeyOrders
+pub mod PairsByKey
 pub mod ListMarks

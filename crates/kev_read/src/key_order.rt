@@ -9,13 +9,13 @@ use crate::read::MAX_PAIRS;
 use std::alloc::{AllocError, Global};
 use std::cmp::Ordering;
 
-/// The indices of all pairs, in the order of their keys.
+/// The indices of all pairs, in the order of their keys, and of the query where keys are the same.
 pub(crate) fn key_order(alloc: Global, pairs: &Pairs) -> Result<Vec<u16>, AllocError>
     requires { length pairs.now ≤ MAX_PAIRS }
     ensures { IfOk result (λ order. IsKeyOrder pairs.now order.items) }
 {
     let mut order = indices(alloc, pairs.len() as u16)?;
-    order.sort_unstable_by(|a, b| compare(pairs, *a, pairs.key(*b as usize)));
+    order.sort_by(|a, b| compare(pairs, *a, pairs.key(*b as usize)))?;
     Ok(order)
 }
 

@@ -11,6 +11,7 @@
 //! - A query has at most 65,536 bytes, and 4,096 pairs that are not empty.
 #![tactic(auto)]
 
+mod by_key;
 mod error;
 mod filling;
 mod key_order;

@@ -1,16 +1,18 @@
-ghost use Rattle.std.specs.Prelude.{◌≡◌, ◌≤◌, ◌+◌, ◌*◌, [], length, IfErr, OnOk};
+ghost use Rattle.std.specs.Prelude.{◌≡◌, ◌<◌, ◌≤◌, ◌+◌, ◌*◌, [], length, slice_get, IfErr, IfOk, OnOk, Some};
 ghost use Rattle.std.specs.Option.{option_copied};
-ghost use Rattle.environment_model.specs.Environment.{byte_count, member_count};
+ghost use Rattle.environment_model.specs.Environment.{byte_count, member_count, members_of};
 ghost use Rattle.target_vars.specs.declared.env.TheConstants.{MAX_BYTES, MAX_MEMBERS};
 ghost use Rattle.kev_read.specs.Pairs as spec;
 ghost use Rattle.kev_read.specs.Filling.{filled, StopsAtPair};
-ghost use Rattle.kev_read.specs.declared.read.TheConstants.{MAX_PAIRS};
-ghost use Rattle.text_model.specs.Texts.{texts_of};
+ghost use Rattle.kev_read.specs.declared.read.TheConstants.{MAX_PAIRS, MAX_QUERY_BYTES};
+ghost use Rattle.text_model.specs.Texts.{Text, texts_of};
 ghost use Rattle.kev_read.specs.Private.KeyOrder.{IsKeyOrder};
 
+use crate::by_key::values_by_key;
 use crate::filling::fill;
 use crate::pairs::Pairs;
 use crate::values::Values;
+use std::alloc::{AllocError, Global};
 use std::marker::Model;
 use target_vars::{Env, VarsError};
 
@@ -22,7 +24,7 @@ use target_vars::{Env, VarsError};
 #[derive(Drop)]
 pub struct Request {
     pairs: Pairs,
-    // The indices of the pairs in the order of their keys.
+    // The indices of the pairs in the order of their keys, and of the query where keys are the same.
     order: Vec<u16>,
     // Bounds what the pairs add to an environment.
     query_bytes: usize,
@@ -78,6 +80,28 @@ impl Request {
         ensures bounded { IsBounded self.now }
     {
         self.pairs.len()
+    }
+
+    /// The key and the value of the pair at the index, in the order of the query.
+    pub fn pair(&self, index: usize) -> (&str, &str)
+        requires { index < length self.now.pairs }
+        ensures { slice_get self.now.pairs index ≡ Some record { key = result.0.now; value = result.1.now } }
+    {
+        let pair = self.pairs.at(index);
+        (pair.key, pair.value)
+    }
+
+    /// The values of each key as the list of that name, in the order of the query, whichever keys stand for lists
+    /// elsewhere.
+    ///
+    /// `AllocError` where a growth was refused; an environment has room for any request.
+    pub fn values_by_key(&self, alloc: Global) -> Result<Env, AllocError>
+        ensures lists { IfOk result (λ env.
+            (key : Text) → members_of env.entries key ≡ spec.all_of self.now.pairs key) }
+        ensures short { IfOk result (λ env. length env.buffer ≤ 3 * MAX_QUERY_BYTES) }
+        ensures members { IfOk result (λ env. length env.spans ≤ MAX_PAIRS) }
+    {
+        values_by_key(alloc, &self.pairs, &self.order)
     }
 
     /// Adds each pair to the environment, in order: as a member of its key's list where the key is

@@ -1,11 +1,12 @@
 -- The order of the pairs of a request by their keys.
-use Rattle.std.specs.Prelude.{◌≡◌, ℕ, ◌<◌, ◌==◌, Bool, true, false, List, All, length, map, Option, slice_get}
+use Rattle.std.specs.Prelude.{◌≡◌, ℕ, ◌<◌, ◌==◌, Bool, true, false, List, All, filter, length, map, sum_by, Option, slice_get}
 use Rattle.std.specs.declared.cmp.Ordering.{Ordering}
 use Rattle.std.specs.Ordering.{nat_cmp, is_lt}
 use Rattle.std.specs.Option.{option_cmp, option_map_or}
 use Rattle.std.specs.Cmp.Lexicographic.{slice_cmp}
-use Rattle.std.specs.List.{list_any}
+use Rattle.std.specs.List.{list_any, range_with_len}
 use Rattle.std.specs.List.Sorted.{IsSortedBy}
+use Rattle.std.specs.Str.{bytes_eq}
 use Rattle.text_model.specs.Texts.{Text}
 use Rattle.kev_read.specs.Pairs.{KeyValue}
 
@@ -24,8 +25,14 @@ compared = option_cmp (slice_cmp nat_cmp)
 abbrev pub has_index : ℕ → List ℕ → Bool
 has_index index indices = list_any (λ other. other == index) indices
 
--- the indices of all pairs, in the order of their keys
+-- there is a pair at the index, and it has the key
+abbrev pub has_key_at : Text → List KeyValue → ℕ → Bool
+has_key_at key pairs index = passes_at (λ other. bytes_eq other key) pairs index
+
+-- the indices of all pairs, in the order of their keys, and of the query where keys are the same
 pub record IsKeyOrder (pairs : List KeyValue) (order : List ℕ) : Type 0 where
   pub sorted : IsSortedBy (λ a b. is_lt (compared (key_at pairs a) (key_at pairs b))) order
   pub every : (index : ℕ) → index < length pairs → has_index index order ≡ true
   pub within : All (λ index. index < length pairs) order
+  pub once : (weight : ℕ → ℕ) → sum_by weight order ≡ sum_by weight (range_with_len 0 (length pairs))
+  pub stable : (key : Text) → filter (has_key_at key pairs) order ≡ filter (has_key_at key pairs) (range_with_len 0 (length pairs))

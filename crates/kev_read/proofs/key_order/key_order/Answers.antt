@@ -5,13 +5,18 @@ use Rattle.std.specs.Cmp.Lexicographic.{options_total}
 use Rattle.std.proofs.lemmas.Cmp.{nat_list_cmp_total}
 use Rattle.std.proofs.lemmas.Fn.{always_returns_same}
 use Rattle.std.proofs.lemmas.List.Sorted.{ranks_by}
-use Rattle.kev_read.specs.Private.KeyOrder.{compared, key_at}
+use Rattle.kev_read.specs.Private.KeyOrder.{key_at}
+use Rattle.kev_read.proofs.StableKeys.{key_lt}
 use Rattle.kev_read.proofs.KeyOrders.{key_order_from_sort}
 use Rattle.kev_read.proofs.key_order.key_order.Goals as goal
 
 pub returns : goal.returns
 returns c =
     let pairs = c.args.pairs.now in
-    key_order_from_sort pairs c.in_ok-order.order.items c.sort_unstable_by.new.self.items (c.in_ok-order.ensures ∙ ap (range_with_len 0) c.len.ensures) c.sort_unstable_by.ensures.permutation
-    (c.sort_unstable_by.ensures.sorted _ (ranks_by (options_total nat_list_cmp_total) (key_at pairs))
-    (always_returns_same _ (λ a r. is_lt r ≡ is_lt (compared (key_at pairs a.0.now) (key_at pairs a.1.0.now))) _ (λ a r f' called. search rules)))
+    let ranks = ranks_by (options_total nat_list_cmp_total) (key_at pairs) in
+    let all = c.in_ok-order.ensures ∙ ap (range_with_len 0) c.len.ensures in
+    key_order_from_sort pairs c.in_ok-order.order.items c.sort_by.new.self.items all c.sort_by.ensures.permutation
+    (c.in_ok-sort_by.ensures.sorted _ ranks
+    (always_returns_same _ (λ a r. is_lt r ≡ key_lt pairs a.0.now a.1.0.now) _ (λ a r f' called. search rules)))
+    (c.sort_by.ensures.stable _ ranks
+    (always_returns_same _ (λ a r. is_lt r ≡ key_lt pairs a.0.now a.1.0.now) _ (λ a r f' called. search rules)))
