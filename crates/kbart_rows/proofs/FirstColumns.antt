@@ -1,8 +1,9 @@
 -- Going over the names of a header: the first column of each.
-use Rattle.std.proofs.Common.{◌≡◌, ℕ, ◌+◌, ◌<◌, Bool, true, false, suc, List, [], ◌∷◌, ◌++◌, length, take, drop, get_or, Option, Some, None, refl, sym, ap, ◌∙◌, arith, if◌then◌else◌}
+use Rattle.std.proofs.Common.{◌≡◌, ℕ, ◌+◌, ◌≤◌, ◌<◌, ◌||◌, Bool, true, false, zero, suc, List, [], ◌∷◌, ◌++◌, length, take, drop, get_or, Option, Some, None, is_some, refl, sym, ap, ◌∙◌, arith, if◌then◌else◌}
 use Rattle.std.proofs.lemmas.Iterator.Adapters.{position_from-zero}
 use Rattle.std.proofs.lemmas.List.{drop_more, length-drop, take_all, take_more, length-take-le}
-use Rattle.std.specs.List.{position_from}
+use Rattle.std.proofs.lemmas.Option.{get_or_from_slice_get, none-some, slice_get_within}
+use Rattle.std.specs.List.{position_from, slice_get}
 use Rattle.std.specs.Option.{unwrap_or}
 use Rattle.std.specs.Str.{bytes_eq}
 use Rattle.text_model.specs.Texts.{Text}
@@ -39,6 +40,11 @@ all_passed xs place e =
     let none : 0 ≡ length (drop place xs) = ap length e in
     take_all place xs (omega (arith, none, length-drop place xs))
 
+pub past_end : {X : Type 0} (xs : List X) (place : ℕ) → slice_get xs place ≡ None → length xs ≤ place
+past_end [] place none = omega arith
+past_end (x ∷ xs) zero none = absurd (none-some x (sym none))
+past_end (x ∷ xs) (suc place) none = omega (arith, past_end xs place none)
+
 -- ---- one name more
 
 abbrev or_else : Option ℕ → Option ℕ → Option ℕ
@@ -61,6 +67,21 @@ column_more names name other =
     position_from-zero (bytes_eq other) (names ++ name ∷ []) ∙ position_more (bytes_eq other) 0 names name
     ∙ ap (λ place. or_else (position_from (bytes_eq other) 0 names) (if bytes_eq other name then Some place else None)) size
     ∙ ap (λ found. or_else found (if bytes_eq other name then Some (length names) else None)) (sym (position_from-zero (bytes_eq other) names))
+
+-- whether it has the name
+pub name_known : (header : Row) (column : ℕ) (name other : Text) → slice_get header column ≡ Some name
+    → is_some (column_of (take (column + 1) header) other) ≡ (is_some (column_of (take column header) other) || bytes_eq other name)
+name_known header column name other at =
+    let before = take column header in
+    let names = take_more header column name (slice_get_within header column name at)
+    ∙ ap (λ text. before ++ text ∷ []) (get_or_from_slice_get header column name name at) in
+    ap (λ names. is_some (column_of names other)) names ∙ ap is_some (column_more before name other)
+    ∙ either (column_of before other) (bytes_eq other name) (length before)
+  where
+    either : (found : Option ℕ) (is : Bool) (column : ℕ) → is_some (or_else found (if is then Some column else None)) ≡ (is_some found || is)
+    either None true column = refl
+    either None false column = refl
+    either (Some first) is column = refl
 
 entered : (found : Option ℕ) (is : Bool) (column : ℕ) → (if is then Some (unwrap_or found column) else found) ≡ or_else found (if is then Some column else None)
 entered None true column = refl

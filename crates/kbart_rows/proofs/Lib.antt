@@ -1,7 +1,9 @@
 pub mod LineCells
+pub mod LineRests
 pub mod PlainCells
 pub mod FirstColumns
 pub mod ReadingLines
 pub mod FillingLemmas
 pub mod Rows
+pub mod RowSums
 pub mod Matches

@@ -1,5 +1,5 @@
 -- How a row's cells lie in its line.
-use Rattle.std.proofs.Common.{Bor, ◌≡◌, ◌≢◌, ℕ, ◌+◌, ◌-◌, ◌==◌, ◌<◌, false, zero, suc, List, [], ◌∷◌, ◌++◌, length, map, take, get_or, All, Option, Some, None, refl, sym, ap, ◌∙◌, arith, append_assoc, length-append}
+use Rattle.std.proofs.Common.{Bor, ◌≡◌, ◌≢◌, ℕ, ◌+◌, ◌-◌, ◌==◌, ◌≤◌, ◌<◌, true, false, zero, suc, List, [], ◌∷◌, ◌++◌, length, map, take, get_or, All, Option, Some, None, refl, sym, ap, ◌∙◌, arith, append_assoc, length-append, if◌then◌else◌}
 use Rattle.std.proofs.lemmas.Bool.Decides.{nat_tests}
 use Rattle.std.proofs.lemmas.List.{flat_map_more, take_more}
 use Rattle.std.proofs.lemmas.List.Elements.{All-head, All-tail}
@@ -10,7 +10,8 @@ use Rattle.std.specs.Option.{option_map, unwrap_or}
 use Rattle.csv.specs.Records.{field_at}
 use Rattle.text_model.specs.Texts.{Text}
 use Rattle.kbart_rows.specs.Cells.{Row, row_bytes, tab}
-use Rattle.kbart_rows.specs.Private.Line.{cell_and_tab, line_of, in_front, cells_in, HasNoTab}
+use Rattle.kbart_rows.specs.Lines.{in_front, cells_in}
+use Rattle.kbart_rows.specs.Private.Line.{cell_and_tab, line_of, HasNoTab}
 
 pub no_cells : cells_in [] ≡ []
 unfolding cells_in
@@ -42,6 +43,34 @@ cells_of_line (cell ∷ cells) plain =
     ap cells_in (append_assoc cell (tab ∷ []) (line_of cells))
     ∙ first_cell cell (line_of cells) (All-head HasNoTab cell cells plain)
     ∙ ap (λ rest. cell ∷ rest) (cells_of_line cells (All-tail HasNoTab cell cells plain))
+
+-- a tab makes a cell
+pub few_cells : (line : Text) → length (cells_in line) ≤ length line
+unfolding cells_in
+few_cells [] = omega arith
+few_cells (b ∷ line) =
+    elim (b == tab) as (λ is. length (if is then [] ∷ cells_in line else in_front b (cells_in line)) ≤ suc (length line)) [
+      | true ↦ omega (arith, few_cells line)
+      | false ↦ omega (arith, few_cells line, in_front_cells b (cells_in line))
+    ]
+  where
+    in_front_cells : (b : ℕ) (cells : Row) → length (in_front b cells) ≡ length cells
+    in_front_cells b [] = refl
+    in_front_cells b (cell ∷ cells) = refl
+
+-- the cells are bytes of the line
+pub cells_fit : (line : Text) → sum_by length (cells_in line) ≤ length line
+unfolding cells_in
+cells_fit [] = omega arith
+cells_fit (b ∷ line) =
+    elim (b == tab) as (λ is. sum_by length (if is then [] ∷ cells_in line else in_front b (cells_in line)) ≤ suc (length line)) [
+      | true ↦ omega (arith, cells_fit line, sum_by-cons length [] (cells_in line))
+      | false ↦ omega (arith, cells_fit line, in_front_bytes b (cells_in line))
+    ]
+  where
+    in_front_bytes : (b : ℕ) (cells : Row) → sum_by length (in_front b cells) ≤ suc (sum_by length cells)
+    in_front_bytes b [] = omega arith
+    in_front_bytes b (cell ∷ cells) = omega (arith, sum_by-cons length (b ∷ cell) cells, sum_by-cons length cell cells)
 
 -- a line has a tab for each cell
 pub line_bytes : (cells : Row) → length (line_of cells) ≡ sum_by length cells + length cells

@@ -1,10 +1,11 @@
 //! A row's cells as one text, in which a tab follows each.
 
-ghost use Rattle.std.specs.Prelude.{◌≡◌, ◌<◌, ◌∷◌, [], OnOk, IfSome, IfNone, drop, get_or, length, string_bytes};
+ghost use Rattle.std.specs.Prelude.{◌≡◌, ◌<◌, ◌∷◌, ◌++◌, [], OnOk, IfSome, IfNone, drop, get_or, length, string_bytes};
 ghost use Rattle.csv.specs.Records.{fields_of};
 ghost use Rattle.std.specs.Option.{option_copied};
 ghost use Rattle.kbart_rows.specs.Cells as spec;
-ghost use Rattle.kbart_rows.specs.Private.Line.{cells_in, line_of};
+ghost use Rattle.kbart_rows.specs.Lines.{cells_in};
+ghost use Rattle.kbart_rows.specs.Private.Line.{IsSplit, line_of};
 
 use csv::StringRecord;
 use std::alloc::AllocError;
@@ -24,6 +25,7 @@ pub(crate) fn write_line(cells: &StringRecord, line: &mut String) -> Result<(), 
 /// The first cell of a line, and the line of those behind it.
 pub(crate) fn next_cell(line: &str) -> Option<(&str, &str)>
     ensures cell { IfSome result (λ parts. cells_in line.now ≡ parts.0.now ∷ cells_in parts.1.now) }
+    ensures parts { IfSome result (λ parts. line.now ≡ parts.0.now ++ spec.tab ∷ parts.1.now) }
     ensures shorter { IfSome result (λ parts. length parts.1.now < length line.now) }
     ensures none { IfNone result (cells_in line.now ≡ []) }
 {
@@ -34,6 +36,7 @@ pub(crate) fn next_cell(line: &str) -> Option<(&str, &str)>
 pub(crate) fn split_cell(line: &str) -> (&str, &str)
     ensures cell { result.0.now ≡ get_or (cells_in line.now) 0 [] }
     ensures rest { cells_in result.1.now ≡ drop 1 (cells_in line.now) }
+    ensures parts { IsSplit line.now result.0.now result.1.now }
 {
     next_cell(line).unwrap_or(("", ""))
 }

@@ -4,10 +4,12 @@ ghost use Rattle.std.specs.Option.{option_map_or, unwrap_or};
 ghost use Rattle.std.specs.Str.{bytes_eq};
 ghost use Rattle.text_model.specs.Texts.{Text};
 ghost use Rattle.kbart_rows.specs.Cells.{column_of};
-ghost use Rattle.kbart_rows.specs.Private.Line.{cells_in};
+ghost use Rattle.kbart_rows.specs.Lines.{cells_in};
+ghost use Rattle.kbart_rows.specs.Private.Kept as spec;
 
 use crate::cells::next_cell;
 use crate::keys::Keys;
+use crate::row_cursor::RowCursor;
 use std::alloc::{AllocError, Global};
 use std::collections::HashMap;
 
@@ -43,6 +45,24 @@ fn add_name(
 {
     columns.entry(name)?.or_insert(column);
     Ok(())
+}
+
+/// For each column of the line of a header, whether it is the first of its name.
+pub(crate) fn firsts_of(
+    alloc: Global,
+    header: &str,
+    columns: &HashMap<String, usize, Keys>,
+) -> Result<Vec<bool>, AllocError>
+    requires { (name : Text) → get_by_text columns.now name ≡ column_of (cells_in header.now) name }
+    ensures { IfOk result (λ firsts. firsts.items ≡ spec.firsts_of (cells_in header.now)) }
+{
+    let mut firsts = Vec::new(alloc);
+    let mut names = RowCursor::new(header);
+    while let Some(name) = names.next_cell() {
+        let first = is_first(columns, name, firsts.len());
+        firsts.push(first)?;
+    }
+    Ok(firsts)
 }
 
 /// Whether the column is the first of the name.

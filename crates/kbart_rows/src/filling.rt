@@ -4,7 +4,7 @@ ghost use Rattle.text_model.specs.Texts.{Text};
 ghost use Rattle.kbart_rows.specs.Cells.{column_of, name_cell, named_cells};
 ghost use Rattle.kbart_rows.specs.Private.Kept.{cell_at_first, IsRefusedCell};
 ghost use Rattle.kbart_rows.specs.Filling as spec;
-ghost use Rattle.kbart_rows.specs.Private.Line.{cells_in};
+ghost use Rattle.kbart_rows.specs.Lines.{cells_in};
 
 use crate::cells::{defined, next_cell, split_cell};
 use crate::columns::is_first;

@@ -8,7 +8,7 @@ ghost use Rattle.std.specs.Str.{bytes_eq};
 ghost use Rattle.text_model.specs.Texts.{Text};
 ghost use Rattle.kbart_rows.specs.Identifiers as spec;
 ghost use Rattle.kbart_rows.specs.Private.Kept.{is_id, rows_with};
-ghost use Rattle.kbart_rows.specs.Private.Line.{cells_in};
+ghost use Rattle.kbart_rows.specs.Lines.{cells_in};
 ghost use Rattle.kbart_rows.specs.declared.read.TheConstants.{MAX_ROWS};
 
 use crate::cells::cell_in;

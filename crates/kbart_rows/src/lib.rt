@@ -14,6 +14,7 @@
 #![tactic(auto)]
 
 mod cells;
+mod column_names;
 mod columns;
 mod error;
 mod filling;
@@ -23,10 +24,14 @@ mod index;
 mod keys;
 mod read;
 mod records;
+mod row_cursor;
+mod sums;
 mod table;
 
+pub use column_names::ColumnNames;
 pub use error::TableError;
 pub use ids::Ids;
 pub use keys::Keys;
 pub use read::{MAX_ROW_BYTES, MAX_ROWS, MAX_TABLE_BYTES, tab_separated_reader};
+pub use row_cursor::RowCursor;
 pub use table::Table;

@@ -4,16 +4,17 @@ ghost use Rattle.environment_model.specs.Environment.{byte_count, member_count};
 ghost use Rattle.target_vars.specs.declared.env.TheConstants.{MAX_BYTES, MAX_MEMBERS};
 ghost use Rattle.target_vars.specs.declared.error.VarsError.TheVariants as vars_error;
 ghost use Rattle.kev_read.specs.declared.read.TheConstants.{MAX_PAIRS, MAX_QUERY_BYTES};
-ghost use Rattle.kbart_rows.specs.Cells.{cell_bytes, cell_of, named_cells};
+ghost use Rattle.kbart_rows.specs.Cells.{cell_bytes, cell_of, column_of, named_cells};
 ghost use Rattle.kbart_rows.specs.Filling.{filled, StopsAtCell};
 ghost use Rattle.kbart_rows.specs.Hashing.{begun_by, keyed};
 ghost use Rattle.kbart_rows.specs.Identifiers as spec;
+ghost use Rattle.kbart_rows.specs.Lines.{cells_in};
 ghost use Rattle.kbart_rows.specs.Private.Kept.{lesser_of, rows_with};
 ghost use Rattle.kbart_rows.specs.Reading.{AllFit, IsFault, IsTable};
 ghost use Rattle.kbart_rows.specs.declared.read.TheConstants.{MAX_ROW_BYTES, MAX_ROWS, MAX_TABLE_BYTES};
 
 use crate::cells::cell_in;
-use crate::columns::columns_of;
+use crate::columns::{columns_of, firsts_of};
 use crate::error::TableError;
 use crate::filling::fill;
 use crate::ids::Ids;
@@ -21,6 +22,7 @@ use crate::index::{first_from, index_of};
 use crate::keys::Keys;
 use crate::read::{check_bytes, read_lines};
 use crate::records::Records;
+use crate::sums::sums_of;
 use std::alloc::Global;
 use std::collections::HashMap;
 use std::marker::Model;
@@ -35,6 +37,8 @@ pub struct Table {
     columns: HashMap<String, usize, Keys>,
     // From each normalised identifier to the rows that have it, in rising order.
     index: HashMap<String, Vec<u32>, Keys>,
+    // Of each row, the bytes of its defined cells.
+    bytes: Vec<u32>,
 }
 
 impl Model for Table {
@@ -46,7 +50,7 @@ impl Model for Table {
 
     ghost view = { λ table. holdings_of table.lines (hasher_of table.columns) };
 
-    ghost invariant = { λ table. IsIndexed table.lines table.columns table.index };
+    ghost invariant = { λ table. IsIndexed table.lines table.columns table.index table.bytes };
 }
 
 impl Table {
@@ -84,10 +88,13 @@ impl Table {
         let print = columns.get("print_identifier").copied();
         let online = columns.get("online_identifier").copied();
         let index = index_of(alloc, &lines, print, online, keys)?;
+        let firsts = firsts_of(alloc, lines.line(0), &columns)?;
+        let bytes = sums_of(alloc, &lines, firsts.as_slice())?;
         Ok(Table {
             lines,
             columns,
             index,
+            bytes,
         })
     }
 
@@ -100,6 +107,13 @@ impl Table {
         self.lines.len() - 1
     }
 
+    /// The keys of the hashed look-ups.
+    pub fn keys(&self) -> Keys
+        ensures { result ≡ self.now.keys }
+    {
+        *self.columns.hasher()
+    }
+
     /// The cell of a row, counted from 0, in the first column of the name; `None` where it is empty or
     /// missing, where no column has the name, and past the last row.
     pub fn cell(&self, row: usize, name: &str) -> Option<&str>
@@ -109,6 +123,42 @@ impl Table {
             return None;
         }
         cell_in(self.lines.line(row + 1), self.columns.get(name).copied())
+    }
+
+    /// A row's cells, counted from 0, as one text, in which a tab follows each.
+    pub fn line(&self, row: usize) -> &str
+        requires { row < length self.now.rows }
+        ensures cells { cells_in result.now ≡ get_or self.now.rows row [] }
+        ensures short { length result.now ≤ MAX_ROW_BYTES + 1 }
+    {
+        // The header is the line before.
+        self.lines.line(1 + row)
+    }
+
+    /// The names of the columns as one text, in which a tab follows each.
+    pub fn header(&self) -> &str
+        ensures cells { cells_in result.now ≡ self.now.header }
+        ensures short { length result.now ≤ MAX_ROW_BYTES + 1 }
+    {
+        self.lines.line(0)
+    }
+
+    /// The bytes of a row's defined cells, the row counted from 0; of columns with one name only the first
+    /// counts.
+    pub fn cell_bytes(&self, row: usize) -> usize
+        requires { row < length self.now.rows }
+        ensures value { result ≡ cell_bytes (named_cells self.now.header (get_or self.now.rows row [])) }
+        ensures small { result ≤ MAX_ROW_BYTES }
+    {
+        self.bytes[row] as usize
+    }
+
+    /// The first column that is so named, counted from 0.
+    pub fn column(&self, name: &str) -> Option<usize>
+        ensures first { result ≡ column_of self.now.header name.now }
+        ensures within { IfSome result (λ column. column < length self.now.header) }
+    {
+        self.columns.get(name).copied()
     }
 
     /// The first row at or after `from` whose `print_identifier` or `online_identifier` is one of the
@@ -156,12 +206,7 @@ impl Table {
         ensures request_fits { env.old.entries ≡ []
             → (byte_count env.new.entries + 3 * MAX_QUERY_BYTES ≤ MAX_BYTES) × (member_count env.new.entries + MAX_PAIRS ≤ MAX_MEMBERS) }
     {
-        fill(
-            self.lines.line(0),
-            &self.columns,
-            self.lines.line(row + 1),
-            env,
-        )
+        fill(self.header(), &self.columns, self.lines.line(row + 1), env)
     }
 }
 

@@ -1,5 +1,5 @@
 -- What a table keeps, and how it is read and found.
-use Rattle.std.specs.Prelude.{◌≡◌, ℕ, ◌↔◌, ◌==◌, if◌then◌else◌, ◌+◌, ◌≤◌, ◌<◌, List, [], filter, min, drop, length, get_or, String, Vec, Bool, false, Option, None, Some}
+use Rattle.std.specs.Prelude.{◌≡◌, ℕ, ◌↔◌, ◌==◌, if◌then◌else◌, ◌+◌, ◌≤◌, ◌<◌, List, [], ◌∷◌, filter, map, min, drop, length, get_or, String, Vec, Bool, false, Option, None, Some}
 use Rattle.std.specs.HashMap.{HashMap, get_by_text, hasher_of}
 use Rattle.std.specs.List.{range_with_len}
 use Rattle.std.specs.Option.{option_map_or}
@@ -9,7 +9,7 @@ use Rattle.environment_model.specs.Environment.{Environment, is_there, byte_coun
 use Rattle.target_vars.specs.declared.env.TheConstants.{MAX_BYTES}
 use Rattle.target_vars.specs.declared.error.VarsError.{VarsError}
 use Rattle.target_vars.specs.declared.error.VarsError.TheVariants as vars_error
-use Rattle.kbart_rows.specs.Cells.{Row, Holdings, NamedCell, name_cell, column_of, row_bytes}
+use Rattle.kbart_rows.specs.Cells.{Row, Holdings, NamedCell, cell_bytes, column_of, is_first, name_cell, named_cells, row_bytes}
 use Rattle.kbart_rows.specs.Identifiers.{has_identifier, identifier_columns}
 use Rattle.kbart_rows.specs.Reading.{AllFit}
 use Rattle.kbart_rows.specs.declared.error.TableError.{TableError}
@@ -40,6 +40,21 @@ IsRefusedCell env None e = ⊥
 IsRefusedCell env (Some cell) e =
     (is_there env cell.name ≡ false) × ((e ≡ vars_error.TooLarge) ↔ (MAX_BYTES < byte_count env + length cell.text))
 
+-- ---- the bytes of each row
+
+-- the bytes of a row's defined cells
+abbrev pub bytes_of : Row → Row → ℕ
+bytes_of header cells = cell_bytes (named_cells header cells)
+
+-- of each column, whether it is the first of its name
+abbrev pub firsts_of : Row → List Bool
+firsts_of header = map (is_first header) (range_with_len 0 (length header))
+
+-- the bytes of the cells in the columns that count
+abbrev pub counted_bytes : List Bool → Row → ℕ
+counted_bytes [] cells = 0
+counted_bytes (counts ∷ others) cells = (if counts then length (get_or cells 0 []) else 0) + counted_bytes others (drop 1 cells)
+
 -- ---- the index
 
 -- the text is this identifier, where there is one
@@ -54,8 +69,10 @@ rows_with columns rows id = filter (λ row. has_identifier columns id (get_or ro
 abbrev pub holdings_of : List Row → Keys → Holdings
 holdings_of lines keys = record { header = get_or lines 0 []; rows = drop 1 lines; keys = keys }
 
--- the names of the header lead to their first columns, and the identifiers to the rows that have them, both with the same keys
-pub record IsIndexed {A B C D : Type 0} (lines : List Row) (columns : HashMap (String A) ℕ B) (index : HashMap (String C) (Vec ℕ D) B) : Type 0 where
+-- the names of the header lead to their first columns, and the identifiers to the rows that have them, both with the same keys; each row has
+-- so many bytes
+pub record IsIndexed {A B C D E : Type 0} (lines : List Row) (columns : HashMap (String A) ℕ B) (index : HashMap (String C) (Vec ℕ D) B)
+    (bytes : Vec ℕ E) : Type 0 where
   pub header : 0 < length lines
   pub few : length lines ≤ MAX_ROWS + 1
   pub fit : AllFit lines
@@ -63,6 +80,7 @@ pub record IsIndexed {A B C D : Type 0} (lines : List Row) (columns : HashMap (S
   pub found : (id : Text) → option_map_or (λ rows. rows.items) (get_by_text index id) []
       ≡ rows_with (identifier_columns (get_or lines 0 [])) (drop 1 lines) id
   pub keyed : hasher_of index ≡ hasher_of columns
+  pub counted : bytes.items ≡ map (bytes_of (get_or lines 0 [])) (drop 1 lines)
 
 -- the lesser of two rows, each of which may be missing
 abbrev pub lesser_of : Option ℕ → Option ℕ → Option ℕ

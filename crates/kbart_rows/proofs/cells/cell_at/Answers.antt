@@ -1,6 +1,6 @@
 use Rattle.std.proofs.Common.{◌≡◌, ◌+◌, [], drop, get_or, ap, ◌∙◌, arith, rules}
 use Rattle.std.proofs.lemmas.List.{drop-drop, get_or-drop}
-use Rattle.kbart_rows.specs.Private.Line.{cells_in}
+use Rattle.kbart_rows.specs.Lines.{cells_in}
 use Rattle.kbart_rows.proofs.cells.cell_at.Goals as goal
 
 pub loop-preserved : goal.loop-preserved

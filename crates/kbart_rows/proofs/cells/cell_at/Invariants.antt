@@ -1,7 +1,7 @@
 use Rattle.std.proofs.Common.{◌≡◌, drop}
 use denote.Text.{Utf8}
 use denote.Shadow.{shadow}
-use Rattle.kbart_rows.specs.Private.Line.{cells_in}
+use Rattle.kbart_rows.specs.Lines.{cells_in}
 use Rattle.kbart_rows.proofs.cells.cell_at.Given as goal
 
 -- so many cells were passed over

@@ -3,7 +3,7 @@ use Rattle.std.specs.HashMap.{get_by_text}
 use Rattle.std.specs.Option.{unwrap_or}
 use Rattle.std.specs.Str.{bytes_eq}
 use Rattle.kbart_rows.specs.Cells.{column_of}
-use Rattle.kbart_rows.specs.Private.Line.{cells_in}
+use Rattle.kbart_rows.specs.Lines.{cells_in}
 use Rattle.kbart_rows.proofs.FirstColumns.{stands_at, all_passed, column_entered}
 use Rattle.kbart_rows.proofs.columns.columns_of.Goals as goal
 

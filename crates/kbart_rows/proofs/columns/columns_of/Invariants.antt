@@ -4,7 +4,7 @@ use denote.Shadow.{shadow}
 use Rattle.std.specs.HashMap.{get_by_text, hasher_of}
 use Rattle.text_model.specs.Texts.{Text}
 use Rattle.kbart_rows.specs.Cells.{column_of}
-use Rattle.kbart_rows.specs.Private.Line.{cells_in}
+use Rattle.kbart_rows.specs.Lines.{cells_in}
 use Rattle.kbart_rows.proofs.columns.columns_of.Given as goal
 
 -- the names so far lead to their first columns, with the keys

@@ -4,7 +4,7 @@ use denote.Shadow.{shadow}
 use Rattle.std.specs.List.{filter_map, range_with_len}
 use Rattle.kbart_rows.specs.Cells.{named_cell}
 use Rattle.kbart_rows.specs.Filling.{filled}
-use Rattle.kbart_rows.specs.Private.Line.{cells_in}
+use Rattle.kbart_rows.specs.Lines.{cells_in}
 use Rattle.kbart_rows.proofs.filling.fill.Given as goal
 
 -- the cells of the columns so far were added

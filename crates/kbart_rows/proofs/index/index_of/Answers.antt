@@ -4,7 +4,7 @@ use Rattle.std.specs.List.{range_with_len}
 use Rattle.std.specs.Option.{option_map}
 use Rattle.kbart_rows.specs.Identifiers.{has_identifier, identifier_in}
 use Rattle.kbart_rows.specs.Private.Kept.{is_id}
-use Rattle.kbart_rows.specs.Private.Line.{cells_in}
+use Rattle.kbart_rows.specs.Lines.{cells_in}
 use Rattle.kbart_rows.proofs.Rows.{filter_row, one_of_two}
 use Rattle.kbart_rows.proofs.index.index_of.Goals as goal
 
@@ -18,7 +18,8 @@ loop-row-preserved c = (
       let online = c.args.online in
       let here = get_or (drop 1 lines) row [] in
       let next : row + 1 ≡ 1 + row = omega arith in
-      let at : cells_in c.line-cells.result.now ≡ here = c.line-cells.ensures ∙ ap (λ (place : _). get_or lines place []) next ∙ sym (get_or-drop 1 lines row []) in
+      let at : cells_in c.line-cells.result.now ≡ here = c.line-cells.ensures.cells
+      ∙ ap (λ (place : _). get_or lines place []) next ∙ sym (get_or-drop 1 lines row []) in
       let first = c.in_ok-first.ensures ∙ ap (λ (cells : _). identifier_in cells print) at in
       let second = c.in_ok-second.ensures ∙ ap (λ (cells : _). identifier_in cells online) at in
       let passes : (is_id id (option_map string_bytes c.in_ok-first.first) || is_id id (option_map string_bytes c.in_ok-second.second)) ≡ has_identifier (print ∷ online ∷ []) id here =

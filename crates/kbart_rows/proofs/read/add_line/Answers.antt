@@ -1,6 +1,6 @@
 use Rattle.std.proofs.Common.{[], ◌∷◌, ◌++◌, length, ap, ◌∙◌, arith}
 use Rattle.csv.specs.Records.{fields_of}
-use Rattle.kbart_rows.specs.Private.Line.{cells_in}
+use Rattle.kbart_rows.specs.Lines.{cells_in}
 use Rattle.kbart_rows.proofs.LineCells.{cells_of_line, row_bytes_of_line}
 use Rattle.kbart_rows.proofs.read.add_line.Goals as goal
 

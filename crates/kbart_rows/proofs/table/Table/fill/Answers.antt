@@ -2,32 +2,32 @@ use Rattle.std.proofs.Common.{◌≡◌, ◌≤◌, ◌+◌, ◌∙◌, [], drop
 use Rattle.std.proofs.lemmas.List.{get_or-drop, length-drop}
 use Rattle.environment_model.specs.Environment.{byte_count, member_count}
 use Rattle.kbart_rows.specs.Cells.{Holdings, cell_bytes, named_cells, row_bytes}
-use Rattle.kbart_rows.specs.Private.Line.{cells_in}
+use Rattle.kbart_rows.specs.Lines.{cells_in}
 use Rattle.kbart_rows.specs.declared.read.TheConstants.{MAX_ROW_BYTES}
 use Rattle.kbart_rows.proofs.FillingLemmas.{Reaches, reaches, reached_bytes, reached_members, row_cell_bytes, only_memory}
 use Rattle.kbart_rows.proofs.table.Table.fill.Goals as goal
 
 -- the cells that were added are those of the row
-cells_are : (c : goal.After-fill) → named_cells (cells_in c.line.result.now) (cells_in c.line-2.result.now) ≡ named_cells c.args.self.now.header (get_or c.args.self.now.rows c.args.row [])
+cells_are : (c : goal.After-fill) → named_cells (cells_in c.header.result.now) (cells_in c.line.result.now) ≡ named_cells c.args.self.now.header (get_or c.args.self.now.rows c.args.row [])
 cells_are c =
     let lines = c.self.inside.lines in
     let row = c.args.row in
     let next : row + 1 ≡ 1 + row = omega arith in
-    let header = c.line.ensures ∙ ap (λ (table : Holdings). table.header) c.self.view_is in
-    let cells = c.line-2.ensures ∙ ap (λ (place : _). get_or lines place []) next ∙ sym (get_or-drop 1 lines row [])
+    let header = c.header.ensures.cells in
+    let cells = c.line.ensures.cells ∙ ap (λ (place : _). get_or lines place []) next ∙ sym (get_or-drop 1 lines row [])
     ∙ ap (λ (table : Holdings). get_or table.rows row []) c.self.view_is in
-    ap (λ (names : _). named_cells names (cells_in c.line-2.result.now)) header ∙ ap (named_cells c.args.self.now.header) cells
+    ap (λ (names : _). named_cells names (cells_in c.line.result.now)) header ∙ ap (named_cells c.args.self.now.header) cells
 
 -- and few enough
-small : (c : goal.After-fill) → cell_bytes (named_cells (cells_in c.line.result.now) (cells_in c.line-2.result.now)) ≤ MAX_ROW_BYTES
+small : (c : goal.After-fill) → cell_bytes (named_cells (cells_in c.header.result.now) (cells_in c.line.result.now)) ≤ MAX_ROW_BYTES
 small c =
     let lines = c.self.inside.lines in
     let row = c.args.row in
     let rows : length (drop 1 lines) ≡ length c.args.self.now.rows = ap (λ (table : Holdings). length table.rows) c.self.view_is in
     let fits : row_bytes (get_or lines (row + 1) []) ≤ MAX_ROW_BYTES = c.self.invariant.fit (row + 1) [] (omega (arith, c.requires, rows, length-drop 1 lines)) in
-    omega (arith, row_cell_bytes (cells_in c.line.result.now) (cells_in c.line-2.result.now), ap row_bytes c.line-2.ensures, fits)
+    omega (arith, row_cell_bytes (cells_in c.header.result.now) (cells_in c.line.result.now), ap row_bytes c.line.ensures.cells, fits)
 
-reach : (c : goal.After-fill) → Reaches c.args.env.now.entries (named_cells (cells_in c.line.result.now) (cells_in c.line-2.result.now)) c.fill.new.env.entries
+reach : (c : goal.After-fill) → Reaches c.args.env.now.entries (named_cells (cells_in c.header.result.now) (cells_in c.line.result.now)) c.fill.new.env.entries
 reach c = reaches _ _ _ c.fill.result c.fill.ensures.ok c.fill.ensures.err
 
 pub returns-clause-bytes : goal.returns-clause-bytes

@@ -9,7 +9,7 @@ use Rattle.kbart_rows.proofs.table.Table.read_keyed.Goals as goal
 pub invariant_of-result : goal.invariant_of-result
 invariant_of-result c =
     let lines = c.in_ok-lines.lines in
-    let named = λ (name : _). c.in_ok-columns.ensures.columns name ∙ ap (λ (header : _). column_of header name) c.line.ensures in
+    let named = λ (name : _). c.in_ok-columns.ensures.columns name ∙ ap (λ (header : _). column_of header name) c.line.ensures.cells in
     let print = c.copied-print.ensures ∙ c.get.ensures.value ∙ named (codes "print_identifier") in
     let online = c.copied-online.ensures ∙ c.get-2.ensures.value ∙ named (codes "online_identifier") in
     let columns = ap (λ (first : _). first ∷ c.copied-online.result ∷ []) print ∙ ap (λ (second : _). column_of (get_or lines 0 []) (codes "print_identifier") ∷ second ∷ []) online in
@@ -20,6 +20,7 @@ invariant_of-result c =
       named = named;
       found = λ id. c.in_ok-index.ensures.rows id ∙ ap (λ (columns : _). rows_with columns (drop 1 lines) id) columns;
       keyed = c.in_ok-index.ensures.keyed ∙ sym c.in_ok-columns.ensures.keyed;
+      counted = c.in_ok-bytes.ensures;
     }
 
 pub returns-clause-accepted : goal.returns-clause-accepted

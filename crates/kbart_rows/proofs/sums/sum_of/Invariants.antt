@@ -1,0 +1,11 @@
+use Rattle.std.proofs.Common.{◌≡◌, ◌+◌, drop}
+use denote.Text.{Utf8}
+use denote.Shadow.{shadow}
+use Rattle.kbart_rows.specs.Lines.{cells_in}
+use Rattle.kbart_rows.specs.Private.Kept.{counted_bytes}
+use Rattle.kbart_rows.proofs.sums.sum_of.Given as goal
+
+-- what is left adds the other bytes
+abbrev pub invariant-loop-is_counted : goal.invariant-loop-is_counted
+invariant-loop-is_counted l = shadow (Utf8 l.rest)
+    × (l.sum + counted_bytes (drop l.is_counted-index l.counts) (cells_in l.rest) ≡ counted_bytes l.counts (cells_in l.line))
