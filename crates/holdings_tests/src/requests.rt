@@ -47,6 +47,35 @@ fn counts_the_pairs(rt: HostRuntime) -> Result<(), Fail> {
 
 const QUERY: &[u8] = b"c=1&a=2&b=3&a=4&bb=5&c=6&b=7&=8";
 
+const PAIRS: &[(usize, &str, &str)] = &[(0, "c", "1"), (4, "bb", "5"), (7, "", "8")];
+
+fn has_pairs(request: &Request) -> bool {
+    for &(index, key, value) in PAIRS {
+        if index >= request.pairs() || request.pair(index) != (key, value) {
+            return false;
+        }
+    }
+    true
+}
+
+const BY_KEY: &[(&str, usize)] = &[("a", 2), ("b", 2), ("bb", 1), ("c", 2), ("", 1), ("z", 0)];
+
+const VALUES: &[(&str, usize, Option<&str>)] = &[
+    ("a", 0, Some("2")),
+    ("a", 1, Some("4")),
+    ("b", 1, Some("7")),
+    ("bb", 0, Some("5")),
+    ("", 0, Some("8")),
+];
+
+#[test]
+fn has_the_values_of_each_key(rt: HostRuntime) -> Result<(), Fail> {
+    let request = read(rt.alloc(), QUERY)?;
+    let env = request.values_by_key(rt.alloc())?;
+    assert!(rt; has_pairs(&request) && has_counts(&env, BY_KEY) && has_members(&env, VALUES));
+    Ok(())
+}
+
 const DECLARED: &[(&str, usize)] = &[("a", 2), ("b", 0), ("bb", 0), ("c", 2), ("", 1), ("z", 0)];
 
 const LAST_OF_LIST: &[(&str, usize, Option<&str>)] = &[("c", 1, Some("6"))];

@@ -1,6 +1,6 @@
 use crate::requests::read as read_query;
 use crate::{enter, has_texts, nearly_full};
-use kbart_rows::{Ids, Keys, Table, TableError};
+use kbart_rows::{ColumnNames, Ids, Keys, RowCursor, Table, TableError};
 use kev_read::Request;
 use std::alloc::{AllocError, Global};
 use std::test::Fail;
@@ -83,6 +83,43 @@ fn reads_lines_and_cells(rt: HostRuntime) -> Result<(), Fail> {
     Ok(())
 }
 
+/// Why no table is a front and behind it a text so many times; `None` where they are one.
+fn fault(
+    alloc: Global,
+    front: &str,
+    text: &str,
+    count: usize,
+) -> Result<Option<TableError>, AllocError> {
+    let mut bytes = text.repeat(alloc, count)?;
+    bytes.insert_str(0, front)?;
+    Ok(read(alloc, bytes.as_bytes()).err())
+}
+
+// A front, a text, how often it stands behind it, and why that is no table.
+const LIMITS: &[(&str, &str, usize, Option<TableError>)] = &[
+    ("", "a", 65_536, None),
+    ("", "a", 65_537, Some(TableError::RowTooLong)),
+    // The tabs between cells count, also past the header.
+    ("a\n", "\t", 65_536, None),
+    ("a\n", "\t", 65_537, Some(TableError::RowTooLong)),
+    // The header is no row, and neither are blank lines.
+    ("a\n\n", "1\n", 200_000, None),
+    ("a\n\n", "1\n", 200_001, Some(TableError::TooManyRows)),
+    ("a\n", "\n", 200_001, None),
+];
+
+#[test]
+fn tables_have_limits(rt: HostRuntime) -> Result<(), Fail> {
+    for &(front, text, count, wanted) in LIMITS {
+        assert_eq!(rt;
+            fault(rt.alloc(), front, text, count)?,
+            wanted,
+            "{text:?} {count}"
+        );
+    }
+    Ok(())
+}
+
 #[test]
 fn fills_a_row_into_an_environment(rt: HostRuntime) -> Result<(), Fail> {
     let table = read(rt.alloc(), TITLES)?;
@@ -116,6 +153,50 @@ fn fills_cells_under_the_first_column_of_a_name(rt: HostRuntime) -> Result<(), F
 const LETTERS: &[u8] = b"a\tb\tc\n1\t22\t3\n";
 
 const STOPPED: &[(&str, Option<&str>)] = &[("a", Some("1")), ("b", None), ("c", None)];
+
+// A name, and whether a column of the two tables has it.
+const NAMES: &[(&str, bool)] = &[
+    ("a", true),
+    ("b", true),
+    ("c", true),
+    ("", true),
+    ("A", false),
+    (" a", false),
+    ("B", false),
+    ("1", false),
+];
+
+fn knows_names(names: &ColumnNames) -> bool {
+    for &(name, is_known) in NAMES {
+        if names.contains(name) != is_known {
+            return false;
+        }
+    }
+    true
+}
+
+#[test]
+fn knows_the_columns_of_all_tables(rt: HostRuntime) -> Result<(), Fail> {
+    let mut names = ColumnNames::new(rt.alloc(), Keys::new(1, 2));
+    assert!(rt; !names.contains("") && !names.contains("a"));
+    names.add(rt.alloc(), &read(rt.alloc(), TWICE)?)?;
+    names.add(rt.alloc(), &read(rt.alloc(), LETTERS)?)?;
+    assert!(rt; knows_names(&names));
+    Ok(())
+}
+
+/// Where the cells of two columns start in the line of the header, and their bytes.
+fn header_places(table: &Table) -> ((u32, u32), (u32, u32)) {
+    let mut header = RowCursor::new(table.header());
+    (header.seek(1), header.seek(3))
+}
+
+#[test]
+fn finds_cells_in_a_line(rt: HostRuntime) -> Result<(), Fail> {
+    let table = read(rt.alloc(), TWICE)?;
+    assert!(rt; header_places(&table) == ((2, 1), (6, 0)));
+    Ok(())
+}
 
 #[test]
 fn stops_at_a_refused_cell(rt: HostRuntime) -> Result<(), Fail> {

@@ -1,3 +1,7 @@
+pub mod OnLiterals
+mod IdentifierExamples
+mod ReadingExamples
+mod CellExamples
 pub mod LineCells
 pub mod LineRests
 pub mod PlainCells

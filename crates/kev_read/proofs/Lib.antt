@@ -1,3 +1,6 @@
+pub mod Examples
+pub mod OnLiterals
+pub mod FillingExamples
 pub mod DecodedLength
 pub mod PairCount
 pub mod ValueBytes
