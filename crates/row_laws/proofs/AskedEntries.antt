@@ -1,0 +1,185 @@
+-- What a request alone has under a key.
+use Rattle.std.proofs.Common.{◌≡◌, Bool, true, false, List, [], ◌∷◌, ◌++◌, Option, Some, None, is_some, slice_get, bytes_eq, refl, sym, ap, ◌∙◌, subst}
+use Rattle.std.proofs.Common.{append_assoc}
+use Rattle.std.specs.Prelude.{if◌then◌else◌, sum_by, length}
+use Rattle.std.proofs.lemmas.Slice.Eq.{bytes_eq-Decides}
+use Rattle.text_model.specs.Texts.{Text}
+use Rattle.environment_model.specs.Environment.{Environment, Meaning, Single, Several, look_up, is_there, text_in, text_of, members_in, members_of}
+use Rattle.environment_model.specs.Environment.{meaning_bytes, meaning_members, with_text, with_member, more}
+use Rattle.environment_model.specs.Lists.{is_list}
+use Rattle.environment_model.proofs.Environments.{look_up-empty, look_up-same, look_up-other, look_up-append, with_member-empty, with_member-same}
+use Rattle.environment_model.proofs.Environments.{with_member-other, with_text-new, with_text-known}
+use Rattle.kev_read.specs.Pairs.{KeyValue, all_of, first_of}
+use Rattle.kev_read.specs.Filling as by_pairs
+use Rattle.kev_read.specs.Filling.{added, fill_one}
+use Rattle.row_laws.specs.Shadowing.{asked, found_in, first_bytes, asked_bytes, asked_members}
+use Rattle.row_laws.proofs.Shadowing.{look_up-front}
+use Rattle.row_laws.proofs.NameTests.{itself, undefined}
+
+-- what values make of what a name stands for
+abbrev pub grown : List Text → Bool → Option Meaning → Option Meaning
+grown [] list m = m
+grown (v ∷ vs) true None = Some (Several (v ∷ vs))
+grown (v ∷ vs) false None = Some (Single v)
+grown (v ∷ vs) true (Some (Single t)) = Some (Single t)
+grown (v ∷ vs) false (Some (Single t)) = Some (Single t)
+grown (v ∷ vs) true (Some (Several ts)) = Some (Several (ts ++ v ∷ vs))
+grown (v ∷ vs) false (Some (Several ts)) = Some (Several ts)
+
+grown-more : (v : Text) (vs : List Text) (list : Bool) (m : Option Meaning) → grown vs list (grown (v ∷ []) list m) ≡ grown (v ∷ vs) list m
+grown-more v [] list m = refl
+grown-more v (w ∷ ws) true None = refl
+grown-more v (w ∷ ws) false None = refl
+grown-more v (w ∷ ws) true (Some (Single t)) = refl
+grown-more v (w ∷ ws) false (Some (Single t)) = refl
+grown-more v (w ∷ ws) true (Some (Several ts)) = ap (λ us. Some (Several us)) (append_assoc ts (v ∷ []) (w ∷ ws))
+grown-more v (w ∷ ws) false (Some (Several ts)) = refl
+
+-- ---- one pair
+
+pub with_text-same : (env : Environment) (key t : Text) → look_up (with_text env key t) key ≡ grown (t ∷ []) false (look_up env key)
+with_text-same env key t = by_found (look_up env key) refl
+  where
+    by_found : (o : Option Meaning) → look_up env key ≡ o → look_up (with_text env key t) key ≡ grown (t ∷ []) false (look_up env key)
+    by_found None is =
+        let absent : is_there env key ≡ false = ap is_some is in
+        ap (λ es. look_up es key) (with_text-new env key t absent)
+        ∙ look_up-append env (record { name = key; meaning = Single t } ∷ []) key absent
+        ∙ look_up-same (record { name = key; meaning = Single t }) [] key (itself key)
+        ∙ ap (grown (t ∷ []) false) (sym is)
+    by_found (Some (Single u)) is = ap (λ es. look_up es key) (with_text-known env key t (ap is_some is)) ∙ is ∙ ap (grown (t ∷ []) false) (sym is)
+    by_found (Some (Several us)) is = ap (λ es. look_up es key) (with_text-known env key t (ap is_some is)) ∙ is ∙ ap (grown (t ∷ []) false) (sym is)
+
+pub with_text-differs : (env : Environment) (key t other : Text) → bytes_eq key other ≡ false → look_up (with_text env key t) other ≡ look_up env other
+with_text-differs env key t other differs = by_test (is_there env key) refl
+  where
+    by_other : (b : Bool) → is_there env other ≡ b → look_up (env ++ record { name = key; meaning = Single t } ∷ []) other ≡ look_up env other
+    by_other true there = look_up-front env (record { name = key; meaning = Single t } ∷ []) other there
+    by_other false absent =
+        look_up-append env (record { name = key; meaning = Single t } ∷ []) other absent
+        ∙ look_up-other (record { name = key; meaning = Single t }) [] other differs
+        ∙ look_up-empty other ∙ sym (undefined (look_up env other) absent)
+
+    by_test : (b : Bool) → is_there env key ≡ b → look_up (with_text env key t) other ≡ look_up env other
+    by_test true known = ap (λ es. look_up es other) (with_text-known env key t known)
+    by_test false new = ap (λ es. look_up es other) (with_text-new env key t new) ∙ by_other (is_there env other) refl
+
+with_member-grows : (env : Environment) (key t : Text) → look_up (with_member env key t) key ≡ grown (t ∷ []) true (look_up env key)
+with_member-grows [] key t =
+    ap (λ es. look_up es key) (with_member-empty key t)
+    ∙ look_up-same (record { name = key; meaning = Several (t ∷ []) }) [] key (itself key)
+    ∙ ap (grown (t ∷ []) true) (sym (look_up-empty key))
+with_member-grows (e ∷ env) key t = by_name (bytes_eq e.name key) refl (with_member-grows env key t)
+  where
+    by_meaning : (m : Meaning) → Some (more m t) ≡ grown (t ∷ []) true (Some m)
+    by_meaning (Single u) = refl
+    by_meaning (Several us) = refl
+
+    by_name : (b : Bool) → bytes_eq e.name key ≡ b → look_up (with_member env key t) key ≡ grown (t ∷ []) true (look_up env key)
+        → look_up (with_member (e ∷ env) key t) key ≡ grown (t ∷ []) true (look_up (e ∷ env) key)
+    by_name true same after =
+        ap (λ es. look_up es key) (with_member-same e env key t same)
+        ∙ look_up-same (record { name = e.name; meaning = more e.meaning t }) env key same
+        ∙ by_meaning e.meaning ∙ ap (grown (t ∷ []) true) (sym (look_up-same e env key same))
+    by_name false other after =
+        ap (λ es. look_up es key) (with_member-other e env key t other) ∙ look_up-other e (with_member env key t) key other
+        ∙ after ∙ ap (grown (t ∷ []) true) (sym (look_up-other e env key other))
+
+with_member-differs : (env : Environment) (key t other : Text) → bytes_eq key other ≡ false → look_up (with_member env key t) other ≡ look_up env other
+with_member-differs [] key t other differs =
+    ap (λ es. look_up es other) (with_member-empty key t) ∙ look_up-other (record { name = key; meaning = Several (t ∷ []) }) [] other differs
+with_member-differs (e ∷ env) key t other differs = by_name (bytes_eq e.name key) refl (with_member-differs env key t other differs)
+  where
+    by_name : (b : Bool) → bytes_eq e.name key ≡ b → look_up (with_member env key t) other ≡ look_up env other
+        → look_up (with_member (e ∷ env) key t) other ≡ look_up (e ∷ env) other
+    by_name true same after =
+        let not_other : bytes_eq e.name other ≡ false = ap (λ n. bytes_eq n other) ((bytes_eq-Decides e.name key).0 same) ∙ differs in
+        ap (λ es. look_up es other) (with_member-same e env key t same)
+        ∙ look_up-other (record { name = e.name; meaning = more e.meaning t }) env other not_other ∙ sym (look_up-other e env other not_other)
+    by_name false not_key after = ap (λ es. look_up es other) (with_member-other e env key t not_key) ∙ by_other (bytes_eq e.name other) refl
+      where
+        by_other : (b : Bool) → bytes_eq e.name other ≡ b → look_up (e ∷ with_member env key t) other ≡ look_up (e ∷ env) other
+        by_other true is = look_up-same e (with_member env key t) other is ∙ sym (look_up-same e env other is)
+        by_other false is_not = look_up-other e (with_member env key t) other is_not ∙ after ∙ sym (look_up-other e env other is_not)
+
+own_pair : (env : Environment) (list : Bool) (pair : KeyValue) → look_up (added list env pair) pair.key ≡ grown (pair.value ∷ []) list (look_up env pair.key)
+own_pair env true pair = with_member-grows env pair.key pair.value
+own_pair env false pair = with_text-same env pair.key pair.value
+
+other_pair : (env : Environment) (list : Bool) (pair : KeyValue) (key : Text) → bytes_eq pair.key key ≡ false
+    → look_up (added list env pair) key ≡ look_up env key
+other_pair env true pair key differs = with_member-differs env pair.key pair.value key differs
+other_pair env false pair key differs = with_text-differs env pair.key pair.value key differs
+
+-- ---- all pairs
+
+all_of-own : (pair : KeyValue) (pairs : List KeyValue) (key : Text) → bytes_eq pair.key key ≡ true → all_of (pair ∷ pairs) key ≡ pair.value ∷ all_of pairs key
+all_of-own pair pairs key same = rw same refl
+
+all_of-other : (pair : KeyValue) (pairs : List KeyValue) (key : Text) → bytes_eq pair.key key ≡ false → all_of (pair ∷ pairs) key ≡ all_of pairs key
+all_of-other pair pairs key differs = rw differs refl
+
+look_up-filled : (lists : List Text) (env : Environment) (pairs : List KeyValue) (key : Text)
+    → look_up (by_pairs.filled lists env pairs) key ≡ grown (all_of pairs key) (is_list lists key) (look_up env key)
+look_up-filled lists env [] key = refl
+look_up-filled lists env (pair ∷ pairs) key = look_up-filled lists (fill_one lists env pair) pairs key ∙ by_key (bytes_eq pair.key key) refl
+  where
+    by_key : (b : Bool) → bytes_eq pair.key key ≡ b
+        → grown (all_of pairs key) (is_list lists key) (look_up (fill_one lists env pair) key)
+        ≡ grown (all_of (pair ∷ pairs) key) (is_list lists key) (look_up env key)
+    by_key true same =
+        let one : look_up (fill_one lists env pair) key ≡ grown (pair.value ∷ []) (is_list lists key) (look_up env key) =
+        subst (λ k. look_up (fill_one lists env pair) k ≡ grown (pair.value ∷ []) (is_list lists k) (look_up env k))
+        ((bytes_eq-Decides pair.key key).0 same) (own_pair env (is_list lists pair.key) pair) in
+        ap (grown (all_of pairs key) (is_list lists key)) one
+        ∙ grown-more pair.value (all_of pairs key) (is_list lists key) (look_up env key)
+        ∙ ap (λ vs. grown vs (is_list lists key) (look_up env key)) (sym (all_of-own pair pairs key same))
+    by_key false differs =
+        ap (grown (all_of pairs key) (is_list lists key)) (other_pair env (is_list lists pair.key) pair key differs)
+        ∙ ap (λ vs. grown vs (is_list lists key) (look_up env key)) (sym (all_of-other pair pairs key differs))
+
+pub look_up-asked : (lists : List Text) (pairs : List KeyValue) (key : Text)
+    → look_up (asked lists pairs) key ≡ grown (all_of pairs key) (is_list lists key) None
+look_up-asked lists pairs key = look_up-filled lists [] pairs key ∙ ap (grown (all_of pairs key) (is_list lists key)) (look_up-empty key)
+
+pub text_asked : (lists : List Text) (pairs : List KeyValue) (key : Text)
+    → text_of (asked lists pairs) key ≡ (if is_list lists key then None else first_of pairs key)
+text_asked lists pairs key = ap text_in (look_up-asked lists pairs key) ∙ by_values (all_of pairs key) (is_list lists key)
+  where
+    by_values : (vs : List Text) (b : Bool) → text_in (grown vs b None) ≡ (if b then None else slice_get vs 0)
+    by_values [] true = refl
+    by_values [] false = refl
+    by_values (v ∷ vs) true = refl
+    by_values (v ∷ vs) false = refl
+
+pub members_asked : (lists : List Text) (pairs : List KeyValue) (key : Text)
+    → members_of (asked lists pairs) key ≡ (if is_list lists key then all_of pairs key else [])
+members_asked lists pairs key = ap members_in (look_up-asked lists pairs key) ∙ by_values (all_of pairs key) (is_list lists key)
+  where
+    by_values : (vs : List Text) (b : Bool) → members_in (grown vs b None) ≡ (if b then vs else [])
+    by_values [] true = refl
+    by_values [] false = refl
+    by_values (v ∷ vs) true = refl
+    by_values (v ∷ vs) false = refl
+
+-- ---- how much is under a key
+
+pub bytes_asked : (lists : List Text) (pairs : List KeyValue) (key : Text)
+    → found_in meaning_bytes (look_up (asked lists pairs) key) ≡ asked_bytes lists pairs key
+bytes_asked lists pairs key = ap (found_in meaning_bytes) (look_up-asked lists pairs key) ∙ by_values (all_of pairs key) (is_list lists key)
+  where
+    by_values : (vs : List Text) (b : Bool) → found_in meaning_bytes (grown vs b None) ≡ (if b then sum_by length vs else first_bytes vs)
+    by_values [] true = refl
+    by_values [] false = refl
+    by_values (v ∷ vs) true = refl
+    by_values (v ∷ vs) false = refl
+
+pub members_counted : (lists : List Text) (pairs : List KeyValue) (key : Text)
+    → found_in meaning_members (look_up (asked lists pairs) key) ≡ asked_members lists pairs key
+members_counted lists pairs key = ap (found_in meaning_members) (look_up-asked lists pairs key) ∙ by_values (all_of pairs key) (is_list lists key)
+  where
+    by_values : (vs : List Text) (b : Bool) → found_in meaning_members (grown vs b None) ≡ (if b then length vs else 0)
+    by_values [] true = refl
+    by_values [] false = refl
+    by_values (v ∷ vs) true = refl
+    by_values (v ∷ vs) false = refl

@@ -1,0 +1,11 @@
+pub mod NameTests
+pub mod NamesOnce
+pub mod Columns
+pub mod Shadowing
+pub mod AskedEntries
+pub mod HiddenSums
+pub mod CellsByName
+pub mod RowSums
+pub mod HiddenColumns
+pub mod OneMoreList
+pub mod SmallRequests

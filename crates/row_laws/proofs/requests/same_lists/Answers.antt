@@ -1,0 +1,5 @@
+use Rattle.row_laws.proofs.OneMoreList.{same_asked}
+use Rattle.row_laws.proofs.requests.same_lists.Goals as goal
+
+pub returns : goal.returns
+returns c = same_asked

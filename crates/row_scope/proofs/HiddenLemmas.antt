@@ -1,0 +1,143 @@
+-- Keys of a request that a row hides, column by column.
+use Rattle.std.proofs.Common.{◌≡◌, ℕ, ◌+◌, ◌≤◌, zero, suc, Bool, true, false, ◌&&◌, nat_lt, List, [], ◌∷◌, ◌++◌, All, length, get_or, Option, Some, None, is_some, refl, sym, ap, ◌∙◌, arith, if◌then◌else◌}
+use borrow.Author.Tests.{ltb-false}
+use Rattle.std.specs.Prelude.{sum_by}
+use Rattle.std.specs.List.{filter_map, cons_option, range_with_len}
+use Rattle.std.specs.List.Sorted.{IsNonDecreasingBy}
+use Rattle.std.specs.Option.{option_map_or}
+use Rattle.std.proofs.lemmas.List.Elements.{filter_map-append, All-weaker, All-get_or, All-nil, All-cons}
+use Rattle.std.proofs.lemmas.List.Sums.{sum_by-cons}
+use Rattle.std.proofs.lemmas.Option.{cond_some}
+use Rattle.text_model.specs.Texts.{Text}
+use Rattle.environment_model.specs.Lists.{is_list}
+use Rattle.kev_read.specs.Pairs.{KeyValue, all_of}
+use Rattle.kbart_rows.specs.Cells.{Row, defined, is_first}
+use Rattle.row_laws.specs.Shadowing.{first_bytes, asked_bytes, asked_members, hidden_bytes_at, hidden_members_at}
+use Rattle.row_scope.specs.Private.Kept.{hidden_key, hidden_keys}
+use Rattle.row_scope.specs.declared.hidden.HiddenKey.{HiddenKey}
+
+-- ---- one column more
+
+counting_more : (a n j : ℕ) → a + n ≡ j → range_with_len a (n + 1) ≡ range_with_len a n ++ j ∷ []
+counting_more a n j e = let on : n + 1 ≡ suc n = omega arith in ap (range_with_len a) on ∙ last a n j e
+  where
+    last : (a n j : ℕ) → a + n ≡ j → range_with_len a (suc n) ≡ range_with_len a n ++ j ∷ []
+    last a zero j e = let same : a ≡ j = omega arith in ap (λ k. k ∷ []) same
+    last a (suc n) j e = ap (λ l. a ∷ l) (last (a + 1) n j (omega arith))
+
+pub one_column_more : {Y : Type 0} (f : ℕ → Option Y) (n : ℕ) → filter_map f (range_with_len 0 (n + 1)) ≡ filter_map f (range_with_len 0 n) ++ cons_option (f n) []
+one_column_more f n = ap (filter_map f) (counting_more 0 n n (omega arith)) ∙ filter_map-append f (range_with_len 0 n) (n ∷ [])
+
+-- ---- the columns of the keys rise
+
+module _ {Y : Type 0} (f : ℕ → Option Y) (column : Y → ℕ) (own : (n : ℕ) (y : Y) → f n ≡ Some y → column y ≡ n) where
+  weaker : (a : ℕ) (ys : List Y) → All (λ y. a + 1 ≤ column y) ys → All (λ y. a ≤ column y) ys
+  weaker a ys later = All-weaker (λ y. a + 1 ≤ column y) (λ y. a ≤ column y) (λ y h. omega (arith, h)) ys later
+
+  with_first : (a : ℕ) (o : Option Y) → f a ≡ o → (ys : List Y) → All (λ y. a + 1 ≤ column y) ys → All (λ y. a ≤ column y) (cons_option o ys)
+  with_first a None is ys later = weaker a ys later
+  with_first a (Some y) is ys later = All-cons (λ z. a ≤ column z) y ys (omega (arith, own a y is)) (weaker a ys later)
+
+  from_on : (a n : ℕ) → All (λ y. a ≤ column y) (filter_map f (range_with_len a n))
+  from_on a zero = All-nil (λ y. a ≤ column y)
+  from_on a (suc n) = with_first a (f a) refl (filter_map f (range_with_len (a + 1) n)) (from_on (a + 1) n)
+
+  first_before : (y : Y) (ys : List Y) → All (λ z. column y ≤ column z) ys → IsNonDecreasingBy column ys → IsNonDecreasingBy column (y ∷ ys)
+  first_before y ys first rest zero zero d le within = omega arith
+  first_before y ys first rest zero (suc j) d le within = All-get_or (λ z. column y ≤ column z) ys j d (omega (arith, within)) first
+  first_before y ys first rest (suc i) zero d le within = absurd (omega (arith, le))
+  first_before y ys first rest (suc i) (suc j) d le within = rest i j d (omega (arith, le)) (omega (arith, within))
+
+  rises_with_first : (a : ℕ) (o : Option Y) → f a ≡ o → (ys : List Y) → All (λ y. a + 1 ≤ column y) ys → IsNonDecreasingBy column ys → IsNonDecreasingBy column (cons_option o ys)
+  rises_with_first a None is ys later rest = rest
+  rises_with_first a (Some y) is ys later rest =
+      let here = own a y is in
+      first_before y ys (All-weaker (λ z. a + 1 ≤ column z) (λ z. column y ≤ column z) (λ z h. omega (arith, h, here)) ys later) rest
+
+  rising : (a n : ℕ) → IsNonDecreasingBy column (filter_map f (range_with_len a n))
+  rising a zero = λ i j d le within. absurd (omega (arith, within))
+  rising a (suc n) = rises_with_first a (f a) refl (filter_map f (range_with_len (a + 1) n)) (from_on (a + 1) n) (rising (a + 1) n)
+
+own_column : (header : Row) (lists : List Text) (pairs : List KeyValue) (n : ℕ) (key : HiddenKey) → hidden_key header lists pairs n ≡ Some key → key.column ≡ n
+own_column header lists pairs n key is =
+    let name = get_or header n [] in
+    let made : HiddenKey = record { column = n; bytes = asked_bytes lists pairs name; members = asked_members lists pairs name } in
+    ap (λ (k : HiddenKey). k.column) (sym (cond_some (is_first header n && nat_lt 0 (length (all_of pairs name))) made key is).1)
+
+pub keys_rise : (header : Row) (lists : List Text) (pairs : List KeyValue) → IsNonDecreasingBy (λ key. key.column) (hidden_keys header lists pairs)
+keys_rise header lists pairs = rising (hidden_key header lists pairs) (λ key. key.column) (own_column header lists pairs) 0 (length header)
+
+-- ---- what the keys hide
+
+module _ {X Y : Type 0} (f : X → Option Y) (g : Y → ℕ) (h : X → ℕ) (same : (x : X) → option_map_or g (f x) 0 ≡ h x) where
+  sum-cons_option : (o : Option Y) (n : ℕ) (ys : List Y) → option_map_or g o 0 ≡ n → sum_by g (cons_option o ys) ≡ n + sum_by g ys
+  sum-cons_option None n ys here = omega (arith, here)
+  sum-cons_option (Some y) n ys here = omega (arith, here, sum_by-cons g y ys)
+
+  sum-filter_map : (xs : List X) → sum_by g (filter_map f xs) ≡ sum_by h xs
+  sum-filter_map [] = refl
+  sum-filter_map (x ∷ xs) =
+      omega (arith, sum-cons_option (f x) (h x) (filter_map f xs) (same x), sum_by-cons h x xs, sum-filter_map xs)
+
+-- whether the row hides the key, and how many bytes and members of it
+abbrev pub hides : Row → HiddenKey → Bool
+hides cells key = is_some (defined (get_or cells key.column []))
+
+abbrev pub bytes_under : Row → HiddenKey → ℕ
+bytes_under cells key = if hides cells key then key.bytes else 0
+
+abbrev pub members_under : Row → HiddenKey → ℕ
+members_under cells key = if hides cells key then key.members else 0
+
+no_values : (values : List Text) → nat_lt 0 (length values) ≡ false → values ≡ []
+no_values [] none = refl
+no_values (v ∷ vs) none = absurd (omega (arith, ltb-false 0 (length (v ∷ vs)) none))
+
+nothing_either_way : (b : Bool) → ◌≡◌ {A = ℕ} (if b then 0 else 0) 0
+nothing_either_way true = refl
+nothing_either_way false = refl
+
+module _ (header cells : Row) (lists : List Text) (pairs : List KeyValue) where
+  no_bytes : (key : Text) → nat_lt 0 (length (all_of pairs key)) ≡ false → asked_bytes lists pairs key ≡ 0
+  no_bytes key none =
+      ap (λ values. if is_list lists key then sum_by length values else first_bytes values) (no_values (all_of pairs key) none)
+      ∙ nothing_either_way (is_list lists key)
+
+  no_members : (key : Text) → nat_lt 0 (length (all_of pairs key)) ≡ false → asked_members lists pairs key ≡ 0
+  no_members key none =
+      ap (λ values. if is_list lists key then length values else 0) (no_values (all_of pairs key) none) ∙ nothing_either_way (is_list lists key)
+
+  abbrev kept : ℕ → ℕ → ℕ → HiddenKey
+  kept n bytes members = record { column = n; bytes = bytes; members = members }
+
+  bytes_of_column : (n : ℕ) → option_map_or (bytes_under cells) (hidden_key header lists pairs n) 0 ≡ hidden_bytes_at header cells lists pairs n
+  bytes_of_column n =
+      let name = get_or header n [] in
+      by_first (is_first header n) (nat_lt 0 (length (all_of pairs name))) (asked_bytes lists pairs name) (asked_members lists pairs name) (no_bytes name)
+    where
+      by_first : (first some : Bool) (bytes members : ℕ) → (some ≡ false → bytes ≡ 0)
+          → option_map_or (bytes_under cells) (if (first && some) then Some (kept n bytes members) else None) 0
+          ≡ (if first && is_some (defined (get_or cells n [])) then bytes else 0)
+      by_first false some bytes members none = refl
+      by_first true true bytes members none = refl
+      by_first true false bytes members none =
+          sym (ap (λ b. if is_some (defined (get_or cells n [])) then b else 0) (none refl) ∙ nothing_either_way (is_some (defined (get_or cells n []))))
+
+  members_of_column : (n : ℕ) → option_map_or (members_under cells) (hidden_key header lists pairs n) 0 ≡ hidden_members_at header cells lists pairs n
+  members_of_column n =
+      let name = get_or header n [] in
+      by_first (is_first header n) (nat_lt 0 (length (all_of pairs name))) (asked_bytes lists pairs name) (asked_members lists pairs name) (no_members name)
+    where
+      by_first : (first some : Bool) (bytes members : ℕ) → (some ≡ false → members ≡ 0)
+          → option_map_or (members_under cells) (if (first && some) then Some (kept n bytes members) else None) 0
+          ≡ (if first && is_some (defined (get_or cells n [])) then members else 0)
+      by_first false some bytes members none = refl
+      by_first true true bytes members none = refl
+      by_first true false bytes members none =
+          sym (ap (λ m. if is_some (defined (get_or cells n [])) then m else 0) (none refl) ∙ nothing_either_way (is_some (defined (get_or cells n []))))
+
+  pub bytes_of_keys : sum_by (bytes_under cells) (hidden_keys header lists pairs) ≡ sum_by (hidden_bytes_at header cells lists pairs) (range_with_len 0 (length header))
+  bytes_of_keys = sum-filter_map (hidden_key header lists pairs) (bytes_under cells) (hidden_bytes_at header cells lists pairs) bytes_of_column (range_with_len 0 (length header))
+
+  pub members_of_keys : sum_by (members_under cells) (hidden_keys header lists pairs) ≡ sum_by (hidden_members_at header cells lists pairs) (range_with_len 0 (length header))
+  members_of_keys = sum-filter_map (hidden_key header lists pairs) (members_under cells) (hidden_members_at header cells lists pairs) members_of_column (range_with_len 0 (length header))

@@ -1,0 +1,12 @@
+mod Pieces
+mod EndLemmas
+mod ValueLemmas
+mod ColumnLemmas
+mod ApartLemmas
+mod BindingLemmas
+mod NameLemmas
+mod PlaceLemmas
+mod HiddenLemmas
+mod SumLemmas
+mod CellLemmas
+mod OverLemmas

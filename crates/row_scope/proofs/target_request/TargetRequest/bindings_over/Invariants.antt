@@ -1,0 +1,13 @@
+use Rattle.std.proofs.Common.{◌≡◌, ℕ, ◌<◌, ◌≤◌, length, get_or}
+use Rattle.row_scope.specs.RowEnvironments.{names_of}
+use Rattle.row_scope.proofs.OverLemmas.{AreBoundSoFar}
+use Rattle.row_scope.proofs.target_request.TargetRequest.bindings_over.Given as goal
+
+-- the columns so far were passed over, and no later one is before the cursor's
+abbrev pub invariant-loop-place : goal.invariant-loop-place
+invariant-loop-place l = record {
+  line : l.cells.line ≡ l.line;
+  ahead : (j : ℕ) → l.place-index ≤ j → j < length l.place-items → l.cells.column ≤ (get_or l.place-items j (record { column = 0; number = 0 })).column;
+  one_each : length l.bindings.items ≡ length (names_of l.self.code);
+  bound : AreBoundSoFar l.self l.line l.place-items l.place-index l.bindings.items;
+}

@@ -1,0 +1,15 @@
+use Rattle.std.proofs.Common.{◌≡◌, ℕ, Some, slice_get, length}
+use Rattle.text_model.specs.Texts.{Text}
+use Rattle.row_laws.specs.Shadowing.{asked}
+use Rattle.row_scope.specs.Bindings.{IsBound, laid_in}
+use Rattle.row_scope.specs.RowEnvironments.{lists_of, names_of}
+use Rattle.row_scope.specs.declared.binding.Binding.{Binding}
+use Rattle.row_scope.proofs.target_request.bindings_of.Given as goal
+
+-- the names so far are bound
+abbrev pub invariant-loop-name : goal.invariant-loop-name
+invariant-loop-name l = record {
+  one_each : length l.bindings.items ≡ length l.yielded;
+  bound : (i : ℕ) (name : Text) (b : Binding) → slice_get (names_of l.code) i ≡ Some name → slice_get l.bindings.items i ≡ Some b
+      → IsBound (laid_in l.request.values (asked (lists_of l.code) l.request.pairs)) name b;
+}

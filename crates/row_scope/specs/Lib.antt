@@ -1,0 +1,6 @@
+pub mod RowEnvironments
+pub mod Bindings
+pub mod RequestValues
+pub mod NameColumns
+pub mod RowValue
+pub mod Private

@@ -1,0 +1,24 @@
+//! A row of a table over a request, as an environment that nothing is copied into: a text lies in the row's line, or among
+//! the request's values.
+//!
+//! What is found out when, each from what stands left of it:
+//!
+//! ```text
+//! a request         a code over a table     a request at a target     a row
+//! RequestValues     NameColumns             TargetRequest             RowScope
+//! the values of     which columns have      what its names have in    what its names have, in the
+//! each key          the code's names        the request alone         row or else in the request
+//! ```
+#![tactic(auto)]
+
+mod binding;
+mod hidden;
+mod name_columns;
+mod request_values;
+mod row_scope;
+mod target_request;
+
+pub use name_columns::NameColumns;
+pub use request_values::RequestValues;
+pub use row_scope::RowScope;
+pub use target_request::TargetRequest;

@@ -1,0 +1,106 @@
+//! A code over a table: which columns have its names, and which of its names are lists.
+
+ghost use Rattle.std.specs.Prelude.{◌≡◌, ◌<◌, [], All, IfOk, length};
+ghost use Rattle.environment_model.specs.Lists as spec;
+ghost use Rattle.row_scope.specs.RowEnvironments.{lists_of};
+ghost use Rattle.row_scope.specs.NameColumns.{AreColumns, AreMarked, AreNameColumns, AreOwnLists, names_at};
+
+use code_file::Code;
+use kbart_rows::Table;
+use std::alloc::{AllocError, Global};
+
+/// A column of a table that has a name of a code.
+#[derive(Clone, Copy)]
+pub struct NameColumn {
+    pub(crate) column: usize,
+    /// Where the name stands in the code's table.
+    pub(crate) number: usize,
+}
+
+/// What is known of a code over a table, whatever the request.
+#[derive(Drop)]
+pub struct NameColumns {
+    // Each name that has a column, in the order of the columns.
+    pub(crate) columns: Vec<NameColumn>,
+    // The numbers of the lists that the code declares beside those of the standard, each once.
+    pub(crate) lists: Vec<usize>,
+    // For each name of the code, whether it stands for a list.
+    pub(crate) marks: Vec<bool>,
+}
+
+impl NameColumns {
+    /// `AllocError` where a growth was refused.
+    pub fn new(alloc: Global, code: &Code, table: &Table) -> Result<NameColumns, AllocError>
+        ensures { IfOk result (AreNameColumns code.now table.now.header) }
+    {
+        Ok(NameColumns {
+            columns: columns_of(alloc, code, table)?,
+            lists: own_lists(alloc, code)?,
+            marks: marks_of(alloc, code)?,
+        })
+    }
+}
+
+fn columns_of(alloc: Global, code: &Code, table: &Table) -> Result<Vec<NameColumn>, AllocError>
+    ensures { IfOk result (λ columns. AreColumns code.now table.now.header columns.items) }
+{
+    let mut columns = Vec::new(alloc);
+    for number in 0..code.names().len() {
+        if let Some(column) = table.column(code.name(number).text.as_str()) {
+            columns.push(NameColumn { column, number })?;
+        }
+    }
+    columns.sort_unstable_by_key(|place| place.column);
+    Ok(columns)
+}
+
+fn own_lists(alloc: Global, code: &Code) -> Result<Vec<usize>, AllocError>
+    ensures { IfOk result (λ lists. AreOwnLists code.now lists.items) }
+{
+    let mut lists = Vec::new(alloc);
+    for number in 0..code.names().len() {
+        let name = code.name(number);
+        if name.list && !is_known_list(code, &lists, name.text.as_str()) {
+            lists.push(number)?;
+        }
+    }
+    Ok(lists)
+}
+
+fn marks_of(alloc: Global, code: &Code) -> Result<Vec<bool>, AllocError>
+    ensures { IfOk result (λ marks. AreMarked code.now marks.items) }
+{
+    code.names()
+        .iter()
+        .map(|name| is_list(code, name.text.as_str()))
+        .collect(alloc)
+}
+
+/// Whether a name stands for a list by the standard, or is one of these names of the code.
+fn is_known_list(code: &Code, numbers: &[usize], name: &str) -> bool
+    requires { All (λ number. number < length code.now.names) numbers.now }
+    ensures { result ≡ spec.is_list (names_at code.now numbers.now) name.now }
+{
+    is_standard_list(name)
+        || numbers
+            .iter()
+            .any(|number| code.name(*number).text.as_str() == name)
+}
+
+/// Whether a name stands for a list in a request that is asked by a code.
+pub(crate) fn is_list(code: &Code, name: &str) -> bool
+    ensures { result ≡ spec.is_list (lists_of code.now) name.now }
+{
+    is_standard_list(name)
+        || code
+            .names()
+            .iter()
+            .any(|other| other.list && other.text.as_str() == name)
+}
+
+/// Whether a name stands for a list in every request.
+fn is_standard_list(name: &str) -> bool
+    ensures { result ≡ spec.is_list [] name.now }
+{
+    name == "rft.au" || name == "rft_id"
+}

@@ -1,0 +1,220 @@
+//! The values that a request has under its keys.
+
+ghost use Rattle.std.specs.Prelude.{◌≡◌, ◌+◌, ◌-◌, ◌<◌, ◌≤◌, ◌*◌, [], IfErr, IfOk, List, Some, drop, false, is_ok, length, slice_get, sum_by, take, true};
+ghost use Rattle.text_model.specs.Texts.{Text};
+ghost use Rattle.environment_model.specs.Environment.{byte_count, member_count};
+ghost use Rattle.environment_model.specs.Lists as lists;
+ghost use Rattle.target_vars.specs.EnvValue.{IsWithin, piece_at};
+ghost use Rattle.target_vars.specs.declared.env.TheConstants.{MAX_BYTES, MAX_MEMBERS};
+ghost use Rattle.target_vars.specs.declared.error.VarsError.TheVariants.{NoMemory};
+ghost use Rattle.row_laws.specs.Shadowing.{asked};
+ghost use Rattle.row_scope.specs.Bindings.{IsBound, laid_in};
+ghost use Rattle.row_scope.specs.RequestValues.{AreValues, IsApart, AreValuesAt, bytes_of_key, members_of_key};
+ghost use Rattle.kev_read.specs.Pairs.{all_of};
+ghost use Rattle.kbart_rows.specs.ColumnNames.{has};
+ghost use Rattle.row_scope.specs.Private.Kept.{AreEnds};
+
+use crate::binding::Binding;
+use kbart_rows::ColumnNames;
+use kev_read::Request;
+use row_laws::requests_by_keys;
+use std::alloc::{AllocError, Global};
+use std::marker::Model;
+use target_vars::{Env, VarsError};
+
+/// A request, with the values of each of its keys side by side. Contracts see the pairs, and where the values lie.
+#[derive(Drop)]
+pub struct RequestValues<'a> {
+    request: &'a Request,
+    // Each key is the name of the list of its values.
+    values: Env,
+    // The bytes of all values before each span, and of all of them.
+    ends: Vec<u64>,
+    // E and M of the request where no list is declared.
+    bytes: usize,
+    members: usize,
+    // Whether a key may be the name of a column.
+    meets: bool,
+}
+
+impl<'a> Model for RequestValues<'a> {
+    ghost use Rattle.row_scope.specs.RequestValues.{RequestValue};
+    ghost use Rattle.row_scope.specs.Private.Kept.{IsRequest};
+
+    ghost Value = { RequestValue };
+
+    ghost view = { λ r. record { pairs = r.request.now.pairs; values = r.values; meets = r.meets } };
+
+    ghost invariant = { λ r. IsRequest (record { pairs = r.request.now.pairs; values = r.values; meets = r.meets }) r.ends.items r.bytes r.members };
+}
+
+impl<'a> RequestValues<'a> {
+    /// The values of a request, for tables whose columns are among these.
+    ///
+    /// `AllocError` where a growth was refused.
+    pub fn new(
+        alloc: Global,
+        request: &'a Request,
+        columns: &ColumnNames,
+    ) -> Result<RequestValues<'a>, AllocError>
+        ensures pairs { IfOk result (λ values. values.pairs ≡ request.now.pairs) }
+        ensures apart { IfOk result (λ values. IsApart values (has columns.now)) }
+    {
+        let _bounded = request.pairs();
+        let values = request.values_by_key(alloc)?;
+        let _in_order = values.buffer();
+        let ends = ends_of(alloc, &values)?;
+        let (bytes, members) = sums_without_lists(alloc, request)?;
+        Ok(RequestValues {
+            request,
+            values,
+            ends,
+            bytes,
+            members,
+            meets: names_a_column(request, columns),
+        })
+    }
+
+    /// Whether a key may be the name of a column.
+    pub(crate) fn meets_columns(&self) -> bool
+        ensures { result ≡ self.now.meets }
+    {
+        self.meets
+    }
+
+    /// E and M of the request where no list is declared: the bytes of all texts and members, and the number of members.
+    pub(crate) fn sums(&self) -> (usize, usize)
+        ensures bytes { result.0 ≡ byte_count (asked [] self.now.pairs) }
+        ensures members { result.1 ≡ member_count (asked [] self.now.pairs) }
+        ensures known { AreValues self.now }
+    {
+        (self.bytes, self.members)
+    }
+
+    /// The bytes of all values.
+    pub(crate) fn size(&self) -> usize
+        ensures value { result ≡ length self.now.values.buffer }
+        ensures known { AreValues self.now }
+    {
+        self.values.buffer().len()
+    }
+
+    /// The bytes from `start` to before `end`.
+    pub(crate) fn piece(&self, start: usize, end: usize) -> &[u8]
+        requires forward { start ≤ end }
+        requires within { end ≤ length self.now.values.buffer }
+        ensures { result.now ≡ piece_at self.now.values.buffer (start, end - start) }
+    {
+        &self.values.buffer()[start..end]
+    }
+
+    /// Where a value lies: its offset and its length, in bytes.
+    pub(crate) fn span(&self, i: usize) -> (u32, u32)
+        requires { i < length self.now.values.spans }
+        ensures value { slice_get self.now.values.spans i ≡ Some (result.0, result.1) }
+        ensures within { IsWithin self.now.values (result.0, result.1) }
+    {
+        let _members = self.values.members();
+        self.values.span(i)
+    }
+
+    /// Where the values of a key lie: the first span, and how many.
+    pub(crate) fn values_of(&self, key: &str) -> (u32, u32)
+        ensures place { AreValuesAt self.now key.now result.0 result.1 }
+        ensures known { AreValues self.now }
+    {
+        self.values.members_at(key)
+    }
+
+    /// What a name is bound to in the request alone, as a list or as a text.
+    pub(crate) fn binding(&self, name: &str, is_list: bool) -> Binding
+        ensures { (declared : List Text) → is_list ≡ lists.is_list declared name.now
+            → IsBound (laid_in self.now.values (asked declared self.now.pairs)) name.now result }
+    {
+        requests_by_keys();
+        let (first, count) = self.values_of(name);
+        if count == 0 {
+            Binding::Nothing
+        } else if is_list {
+            Binding::List(first, count)
+        } else {
+            let (start, len) = self.span(first as usize);
+            Binding::Text(start, len)
+        }
+    }
+
+    /// The bytes and the members that the request has under a key, as a list or as a text.
+    pub(crate) fn sums_of(&self, key: &str, is_list: bool) -> (usize, usize)
+        ensures bytes { result.0 ≡ bytes_of_key self.now.pairs is_list key.now }
+        ensures members { result.1 ≡ members_of_key self.now.pairs is_list key.now }
+        ensures small { (result.0 ≤ MAX_BYTES * MAX_MEMBERS) × (result.1 ≤ MAX_MEMBERS) }
+    {
+        let (first, count) = self.values_of(key);
+        if count == 0 {
+            (0, 0)
+        } else if is_list {
+            (self.bytes_of_spans(first, count), count as usize)
+        } else {
+            (self.span(first as usize).1 as usize, 0)
+        }
+    }
+
+    /// The bytes of the values at some spans.
+    fn bytes_of_spans(&self, first: u32, count: u32) -> usize
+        requires { first + count ≤ length self.now.values.spans }
+        ensures value { result ≡ sum_by (λ span. span.1) (take count (drop first self.now.values.spans)) }
+        ensures small { result ≤ MAX_BYTES * MAX_MEMBERS }
+    {
+        let first = first as usize;
+        (self.ends[first + count as usize] - self.ends[first]) as usize
+    }
+}
+
+/// Whether a key of a request is the name of one of the columns.
+fn names_a_column(request: &Request, columns: &ColumnNames) -> bool
+    ensures { result ≡ false → (name : Text) → has columns.now name ≡ true → all_of request.now.pairs name ≡ [] }
+{
+    for index in 0..request.pairs() {
+        if columns.contains(request.pair(index).0) {
+            return true;
+        }
+    }
+    false
+}
+
+/// The bytes of all members before each span, and of all of them.
+fn ends_of(alloc: Global, values: &Env) -> Result<Vec<u64>, AllocError>
+    ensures { IfOk result (λ ends. AreEnds values.now.spans ends.items) }
+{
+    let count = values.members();
+    let mut ends = Vec::with_capacity(alloc, count + 1)?;
+    let mut end: u64 = 0;
+    ends.push(end)?;
+    for i in 0..count {
+        end += values.span(i).1 as u64;
+        ends.push(end)?;
+    }
+    Ok(ends)
+}
+
+/// E and M of a request where no list is declared.
+fn sums_without_lists(alloc: Global, request: &Request) -> Result<(usize, usize), AllocError>
+    ensures bytes { IfOk result (λ sums. sums.0 ≡ byte_count (asked [] request.now.pairs)) }
+    ensures members { IfOk result (λ sums. sums.1 ≡ member_count (asked [] request.now.pairs)) }
+{
+    let mut env = Env::new(alloc);
+    where_it_fits(request.fill(&[], &mut env))?;
+    Ok((env.bytes(), env.members()))
+}
+
+/// What came of a filling that the environment had room for.
+fn where_it_fits(filled: Result<(), VarsError>) -> Result<(), AllocError>
+    requires { IfErr filled (λ e. e ≡ NoMemory) }
+    ensures { is_ok result ≡ is_ok filled }
+{
+    match filled {
+        Ok(()) => Ok(()),
+        Err(VarsError::NoMemory) => Err(AllocError),
+        Err(VarsError::TooLarge) => unreachable!(),
+    }
+}

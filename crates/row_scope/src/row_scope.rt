@@ -1,0 +1,127 @@
+//! A row over a request, as a run sees it.
+
+ghost use Rattle.std.specs.Prelude.{◌≡◌, ◌<◌, Some, length, slice_get};
+ghost use Rattle.text_model.specs.Texts.{Text};
+ghost use Rattle.row_scope.specs.RowEnvironments.{environment_of_row, names_of};
+ghost use Rattle.row_scope.specs.Bindings.{IsBound, laid_over};
+ghost use Rattle.row_scope.specs.Private.Kept.{IsRow};
+
+use crate::binding::Binding;
+use crate::target_request::TargetRequest;
+use std::marker::Model;
+use target_vars::Scope;
+
+/// A row over a request: each text lies among the request's values, or after them in the row's line. Contracts see the
+/// environment, and the names of the code.
+#[derive(Drop)]
+pub struct RowScope<'t, 'a> {
+    target: &'t TargetRequest<'a>,
+    row: usize,
+    line: &'t str,
+    bindings: Vec<Binding>,
+    // E and M.
+    bytes: usize,
+    members: usize,
+}
+
+impl<'t, 'a> Model for RowScope<'t, 'a> {
+    ghost use Rattle.row_scope.specs.RowEnvironments.{environment_of_row, names_of};
+    ghost use Rattle.row_scope.specs.Bindings.{laid_over};
+    ghost use Rattle.row_scope.specs.RowValue.{RowValue};
+    ghost use Rattle.row_scope.specs.Private.Kept.{IsRow};
+
+    ghost Value = { RowValue };
+
+    ghost view = { λ r. record {
+      env = laid_over r.target.now.request.values r.line.now (environment_of_row r.target.now.code r.target.now.table r.target.now.request.pairs r.row);
+      names = names_of r.target.now.code;
+    } };
+
+    ghost invariant = { λ r. IsRow
+        (laid_over r.target.now.request.values r.line.now (environment_of_row r.target.now.code r.target.now.table r.target.now.request.pairs r.row))
+        (names_of r.target.now.code) r.bindings.items r.bytes r.members };
+}
+
+impl<'t, 'a> RowScope<'t, 'a> {
+    pub(crate) fn new(
+        target: &'t TargetRequest<'a>,
+        row: usize,
+        line: &'t str,
+        bindings: Vec<Binding>,
+        bytes: usize,
+        members: usize,
+    ) -> RowScope<'t, 'a>
+        requires { IsRow
+            (laid_over target.now.request.values line.now (environment_of_row target.now.code target.now.table target.now.request.pairs row))
+            (names_of target.now.code) bindings.items bytes members }
+        ensures entries { result.env.entries ≡ environment_of_row target.now.code target.now.table target.now.request.pairs row }
+        ensures names { result.names ≡ names_of target.now.code }
+    {
+        RowScope {
+            target,
+            row,
+            line,
+            bindings,
+            bytes,
+            members,
+        }
+    }
+
+    /// What the name of a number is bound to.
+    fn binding(&self, number: usize) -> Binding
+        requires { number < length self.now.names }
+        ensures { (name : Text) → slice_get self.now.names number ≡ Some name → IsBound self.now.env name result }
+    {
+        self.bindings[number]
+    }
+}
+
+/// A name is looked up by its number in the code.
+impl<'t, 'a> Scope for RowScope<'t, 'a> {
+    ghost use Rattle.std.specs.Prelude.{◌≡◌, Some, slice_get};
+
+    ghost environment = { λ r. r.env };
+
+    ghost is_number = { λ r number name. slice_get r.names number ≡ Some name };
+
+    fn text_at(&self, number: usize, _name: &str) -> Option<(u32, u32)> {
+        match self.binding(number) {
+            Binding::Text(start, len) => Some((start, len)),
+            Binding::Nothing | Binding::List(_, _) => None,
+        }
+    }
+
+    fn members_at(&self, number: usize, _name: &str) -> (u32, u32) {
+        match self.binding(number) {
+            Binding::List(first, count) => (first, count),
+            Binding::Nothing | Binding::Text(_, _) => (0, 0),
+        }
+    }
+
+    fn span(&self, i: usize) -> (u32, u32) {
+        self.target.request().span(i)
+    }
+
+    fn piece(&self, start: usize, end: usize) -> &[u8] {
+        let request = self.target.request();
+        let seam = request.size();
+        if end <= seam {
+            request.piece(start, end)
+        } else {
+            &self.line.as_bytes()[start - seam..end - seam]
+        }
+    }
+
+    fn size(&self) -> usize {
+        let _bytes = self.bytes;
+        self.target.request().size() + self.line.len()
+    }
+
+    fn bytes(&self) -> usize {
+        self.bytes
+    }
+
+    fn members(&self) -> usize {
+        self.members
+    }
+}

@@ -1,0 +1,186 @@
+//! A request as the code and the table of a target see it.
+
+ghost use Rattle.std.specs.Prelude.{◌≡◌, ◌<◌, ◌≤◌, IfOk, length};
+ghost use Rattle.environment_model.specs.Environment.{byte_count, member_count};
+ghost use Rattle.kbart_rows.specs.Lines.{cells_in};
+ghost use Rattle.kbart_rows.specs.Cells.{named_cells};
+ghost use Rattle.kev_read.specs.Filling as by_pairs;
+ghost use Rattle.row_laws.specs.Shadowing.{asked, hidden, row_of};
+ghost use Rattle.row_scope.specs.RowEnvironments.{environment_of_row, lists_of, names_of};
+ghost use Rattle.row_scope.specs.Bindings.{AreBound, laid_in, laid_over};
+ghost use Rattle.row_scope.specs.RequestValues.{IsApartFrom};
+ghost use Rattle.row_scope.specs.NameColumns.{AreNameColumns, AreOwnLists, AreMarked};
+
+use crate::binding::Binding;
+use crate::hidden::{HiddenKey, hidden_keys};
+use crate::name_columns::NameColumns;
+use crate::request_values::RequestValues;
+use crate::row_scope::RowScope;
+use code_file::Code;
+use kbart_rows::{RowCursor, Table};
+use row_laws::{
+    hidden_by_columns, one_more_list, requests_are_small, row_bytes_are_cell_bytes, rows_by_names,
+    rows_shadow_requests, same_lists, sums_of_rows_over_requests,
+};
+use std::alloc::{AllocError, Global};
+use std::marker::Model;
+
+/// A request as the code and the table of a target see it. Contracts see the code, the table and the request.
+#[derive(Drop)]
+pub struct TargetRequest<'a> {
+    code: &'a Code,
+    table: &'a Table,
+    names: &'a NameColumns,
+    request: &'a RequestValues<'a>,
+    // What the names of the code are bound to in the request alone, and its E and M.
+    bindings: Vec<Binding>,
+    bytes: usize,
+    members: usize,
+    hidden: Vec<HiddenKey>,
+}
+
+impl<'a> Model for TargetRequest<'a> {
+    ghost use Rattle.row_scope.specs.RowValue.{TargetRequestValue};
+    ghost use Rattle.row_scope.specs.Private.Kept.{IsTargetRequest};
+
+    ghost Value = { TargetRequestValue };
+
+    ghost view = { λ t. record { code = t.code.now; table = t.table.now; request = t.request.now } };
+
+    ghost invariant = { λ t. IsTargetRequest (record { code = t.code.now; table = t.table.now; request = t.request.now })
+        t.names.now t.bindings.items t.bytes t.members t.hidden.items };
+}
+
+impl<'a> TargetRequest<'a> {
+    /// `AllocError` where a growth was refused.
+    pub fn new(
+        alloc: Global,
+        code: &'a Code,
+        table: &'a Table,
+        names: &'a NameColumns,
+        request: &'a RequestValues<'a>,
+    ) -> Result<TargetRequest<'a>, AllocError>
+        requires names { AreNameColumns code.now table.now.header names.now }
+        requires columns { IsApartFrom request.now table.now.header }
+        ensures { IfOk result (λ t. (t.code ≡ code.now) × (t.table ≡ table.now) × (t.request ≡ request.now)) }
+    {
+        let _known = request.size();
+        let bindings = bindings_of(alloc, code, &names.marks, request)?;
+        let hidden = hidden_keys(alloc, code, table, request)?;
+        let (bytes, members) = sums_with_lists(code, &names.lists, request);
+        Ok(TargetRequest {
+            code,
+            table,
+            names,
+            request,
+            bindings,
+            bytes,
+            members,
+            hidden,
+        })
+    }
+
+    /// A row of the table, counted from 0, over the request.
+    ///
+    /// `AllocError` where a growth was refused.
+    pub fn row<'t>(&'t self, alloc: Global, row: usize) -> Result<RowScope<'t, 'a>, AllocError>
+        requires { row < length self.now.table.rows }
+        ensures entries { IfOk result (λ r. r.env.entries ≡ environment_of_row self.now.code self.now.table self.now.request.pairs row) }
+        ensures names { IfOk result (λ r. r.names ≡ names_of self.now.code) }
+    {
+        requests_are_small();
+        sums_of_rows_over_requests();
+        row_bytes_are_cell_bytes();
+        let line = self.table.line(row);
+        let bindings = self.bindings_over(alloc, line)?;
+        let (hidden_bytes, hidden_members) = self.hidden_by(line);
+        let bytes = self.bytes + self.table.cell_bytes(row) - hidden_bytes;
+        let members = self.members - hidden_members;
+        Ok(RowScope::new(self, row, line, bindings, bytes, members))
+    }
+
+    pub(crate) fn request(&self) -> &RequestValues<'a>
+        ensures { result.now ≡ self.now.request }
+    {
+        self.request
+    }
+
+    /// What the names are bound to in the request, with the cells of a row's line over it.
+    fn bindings_over(&self, alloc: Global, line: &str) -> Result<Vec<Binding>, AllocError>
+        requires { length line.now ≤ 65537 }
+        ensures { IfOk result (λ bindings. AreBound
+            (laid_over self.now.request.values line.now
+            (by_pairs.filled (lists_of self.now.code) (row_of (named_cells self.now.table.header (cells_in line.now))) self.now.request.pairs))
+            (names_of self.now.code) bindings.items) }
+    {
+        rows_shadow_requests();
+        rows_by_names();
+        let mut bindings = Vec::from_slice(alloc, &self.bindings)?;
+        let seam = self.request.size() as u32;
+        let mut cells = RowCursor::new(line);
+        for place in &self.names.columns {
+            let (start, len) = cells.seek(place.column);
+            if len > 0 {
+                bindings[place.number] = Binding::Text(seam + start, len);
+            }
+        }
+        Ok(bindings)
+    }
+
+    /// The bytes and the members of the request that the cells of a row's line hide.
+    fn hidden_by(&self, line: &str) -> (usize, usize)
+        requires { length line.now ≤ 65537 }
+        ensures bytes { result.0 ≡ byte_count (hidden (row_of (named_cells self.now.table.header (cells_in line.now))) (asked (lists_of self.now.code) self.now.request.pairs)) }
+        ensures members { result.1 ≡ member_count (hidden (row_of (named_cells self.now.table.header (cells_in line.now))) (asked (lists_of self.now.code) self.now.request.pairs)) }
+    {
+        hidden_by_columns();
+        requests_are_small();
+        let mut bytes = 0;
+        let mut members = 0;
+        let mut cells = RowCursor::new(line);
+        for key in &self.hidden {
+            let (_, len) = cells.seek(key.column);
+            if len > 0 {
+                bytes += key.bytes;
+                members += key.members;
+            }
+        }
+        (bytes, members)
+    }
+}
+
+/// What each name of a code is bound to in a request alone.
+fn bindings_of(
+    alloc: Global,
+    code: &Code,
+    marks: &[bool],
+    request: &RequestValues,
+) -> Result<Vec<Binding>, AllocError>
+    requires { AreMarked code.now marks.now }
+    ensures { IfOk result (λ bindings. AreBound (laid_in request.now.values (asked (lists_of code.now) request.now.pairs)) (names_of code.now) bindings.items) }
+{
+    let mut bindings = Vec::with_capacity(alloc, marks.len())?;
+    for (name, is_list) in code.names().iter().zip(marks.iter()) {
+        bindings.push(request.binding(name.text.as_str(), *is_list))?;
+    }
+    Ok(bindings)
+}
+
+/// E and M of a request where the lists of a code are declared.
+fn sums_with_lists(code: &Code, lists: &[usize], request: &RequestValues) -> (usize, usize)
+    requires { AreOwnLists code.now lists.now }
+    ensures bytes { result.0 ≡ byte_count (asked (lists_of code.now) request.now.pairs) }
+    ensures members { result.1 ≡ member_count (asked (lists_of code.now) request.now.pairs) }
+{
+    one_more_list();
+    same_lists();
+    requests_are_small();
+    let (mut bytes, mut members) = request.sums();
+    for number in lists {
+        let name = code.name(*number).text.as_str();
+        let (all_bytes, all_members) = request.sums_of(name, true);
+        bytes = bytes + all_bytes - request.sums_of(name, false).0;
+        members += all_members;
+    }
+    (bytes, members)
+}
