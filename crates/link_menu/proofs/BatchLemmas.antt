@@ -1,13 +1,17 @@
 -- The next rows of searches, and what becomes of them.
-use Rattle.std.proofs.Common.{◌≡◌, ℕ, suc, ◌+◌, ◌<◌, List, [], ◌∷◌, ◌++◌, Option, Some, None, refl, sym, ap, ◌∙◌, arith, length, map, get_or, set, take, drop}
-use Rattle.std.specs.Prelude.{Bool, true, false, if◌then◌else◌, is_some, option_and_then, option_map}
+use Rattle.std.proofs.Common.{◌≡◌, ℕ, zero, suc, ◌+◌, ◌<◌, List, [], ◌∷◌, ◌++◌, Option, Some, None, refl, sym, ap, ◌∙◌, arith}
+use Rattle.std.proofs.Common.{length, map, get_or, set, take, drop}
+use Rattle.std.specs.Prelude.{Bool, true, false, if◌then◌else◌, is_some, option_and_then, option_map, slice_get}
 use Rattle.std.specs.List.{cons_option, filter_map, zip}
 use Rattle.std.proofs.lemmas.Bool.{false≢true}
 use Rattle.std.proofs.lemmas.List.{at_drop_more, drop-drop, drop-set-lt, get_or-drop, length-drop, length-map, map_more, take_more, take_more_set}
 use Rattle.std.proofs.lemmas.List.Elements.{filter_map-append}
+use Rattle.std.proofs.lemmas.Simd.{map-map}
 use Rattle.environment_model.specs.Environment.{Environment}
-use Rattle.code_model.specs.Code.{Code}
-use Rattle.kev_read.specs.Pairs.{KeyValue}
+use Rattle.code_model.specs.Code.{Code, Name}
+use Rattle.machine_model.specs.Operands.{text_of_name}
+use Rattle.row_scope.specs.RowEnvironments.{names_of}
+use Rattle.row_scope.specs.RowValue.{RowValue}
 use Rattle.target_vars.specs.EnvValue.{EnvValue}
 use Rattle.verified_runs.specs.RunValue.{RunValue, new_run}
 use Rattle.registry.specs.Fates.{Fate, fate_in, fate_of_row}
@@ -18,7 +22,8 @@ use Rattle.link_menu.specs.declared.batch.Batch.{Batch}
 use Rattle.link_menu.specs.Fates.{fate_of, is_over_budget, runs_of, said}
 use Rattle.link_menu.specs.StepLists.{end_of, ends_of}
 use Rattle.link_menu.specs.RowsByRound.{steps_in, steps_of_row}
-use Rattle.link_menu.specs.Private.Searches.{SearchValue, IsBatchOf, after_fate, after_fate_at, after_row, code_next, ends_next, env_next, fate_next, fates_next, is_open, after_next_row, after_row_at}
+use Rattle.link_menu.specs.Private.Searches.{SearchValue, IsBatchOf, IsNumbered, code_next, ends_next, env_next, fate_next, fates_next, is_open}
+use Rattle.link_menu.specs.Private.Searches.{after_fate, after_fate_at, after_next_row, after_row, after_row_at}
 
 abbrev entries_of : EnvValue → Environment
 entries_of env = env.entries
@@ -32,15 +37,22 @@ by_entries [] envs = refl
 by_entries (code ∷ codes) [] = refl
 by_entries (code ∷ codes) (env ∷ envs) = ap (λ fates. fate_in code env.entries ∷ fates) (by_entries codes envs)
 
-side_by_side : (pairs : List KeyValue) (searches : List SearchValue) → map fate_at (zip (filter_map code_next searches) (filter_map (env_next pairs) searches)) ≡ fates_next pairs searches
-side_by_side pairs [] = refl
-side_by_side pairs (s ∷ searches) = by_next s.next (side_by_side pairs searches)
+-- the codes and the environments of the next rows, where the first search has this one
+abbrev codes_from : SearchValue → Option ℕ → List SearchValue → List Code
+codes_from s next searches = cons_option (option_map (λ row. s.target.code) next) (filter_map code_next searches)
+
+abbrev envs_from : SearchValue → Option ℕ → List SearchValue → List Environment
+envs_from s next searches = cons_option (option_map (λ row. row_environment s.target s.asked.pairs row) next) (filter_map env_next searches)
+
+side_by_side : (searches : List SearchValue) → map fate_at (zip (filter_map code_next searches) (filter_map env_next searches)) ≡ fates_next searches
+side_by_side [] = refl
+side_by_side (s ∷ searches) = by_next s.next (side_by_side searches)
   where
-    by_next : (next : Option ℕ) → map fate_at (zip (filter_map code_next searches) (filter_map (env_next pairs) searches)) ≡ fates_next pairs searches
-        → map fate_at (zip (cons_option (option_map (λ row. s.target.code) next) (filter_map code_next searches)) (cons_option (option_map (λ row. row_environment s.target pairs row) next) (filter_map (env_next pairs) searches)))
-        ≡ cons_option (option_map (λ row. fate_of_row s.target pairs row) next) (fates_next pairs searches)
+    by_next : (next : Option ℕ) → map fate_at (zip (filter_map code_next searches) (filter_map env_next searches)) ≡ fates_next searches
+        → map fate_at (zip (codes_from s next searches) (envs_from s next searches))
+        ≡ cons_option (option_map (λ row. fate_of_row s.target s.asked.pairs row) next) (fates_next searches)
     by_next None rest = rest
-    by_next (Some row) rest = ap (λ fates. fate_of_row s.target pairs row ∷ fates) rest
+    by_next (Some row) rest = ap (λ fates. fate_of_row s.target s.asked.pairs row ∷ fates) rest
 
 -- the steps of a code in an environment, where it has a run
 abbrev steps_at : Code × Environment → Option ℕ
@@ -58,46 +70,64 @@ ends_by_entries (code ∷ codes) [] = refl
 ends_by_entries (code ∷ codes) (env ∷ envs) =
     one_end (is_over_budget code env) (new_run code env) (runs_of (zip codes envs)) (filter_map steps_at (zip codes (map entries_of envs))) (ends_by_entries codes envs)
 
-ends_side_by_side : (pairs : List KeyValue) (searches : List SearchValue)
-    → filter_map steps_at (zip (filter_map code_next searches) (filter_map (env_next pairs) searches)) ≡ ends_next pairs searches
-ends_side_by_side pairs [] = refl
-ends_side_by_side pairs (s ∷ searches) = by_next s.next (ends_side_by_side pairs searches)
+ends_side_by_side : (searches : List SearchValue)
+    → filter_map steps_at (zip (filter_map code_next searches) (filter_map env_next searches)) ≡ ends_next searches
+ends_side_by_side [] = refl
+ends_side_by_side (s ∷ searches) = by_next s.next (ends_side_by_side searches)
   where
-    by_next : (next : Option ℕ) → filter_map steps_at (zip (filter_map code_next searches) (filter_map (env_next pairs) searches)) ≡ ends_next pairs searches
-        → filter_map steps_at (zip (cons_option (option_map (λ row. s.target.code) next) (filter_map code_next searches)) (cons_option (option_map (λ row. row_environment s.target pairs row) next) (filter_map (env_next pairs) searches)))
-        ≡ cons_option (option_and_then (steps_of_row s.target pairs) next) (ends_next pairs searches)
+    by_next : (next : Option ℕ) → filter_map steps_at (zip (filter_map code_next searches) (filter_map env_next searches)) ≡ ends_next searches
+        → filter_map steps_at (zip (codes_from s next searches) (envs_from s next searches))
+        ≡ cons_option (option_and_then (steps_of_row s.target s.asked.pairs) next) (ends_next searches)
     by_next None rest = rest
-    by_next (Some row) rest = ap (cons_option (steps_of_row s.target pairs row)) rest
+    by_next (Some row) rest = ap (cons_option (steps_of_row s.target s.asked.pairs row)) rest
 
-as_many : (pairs : List KeyValue) (searches : List SearchValue) → length (filter_map code_next searches) ≡ length (filter_map (env_next pairs) searches)
-as_many pairs [] = refl
-as_many pairs (s ∷ searches) = by_next s.next (as_many pairs searches)
+as_many : (searches : List SearchValue) → length (filter_map code_next searches) ≡ length (filter_map env_next searches)
+as_many [] = refl
+as_many (s ∷ searches) = by_next s.next (as_many searches)
   where
-    by_next : (next : Option ℕ) → length (filter_map code_next searches) ≡ length (filter_map (env_next pairs) searches)
-        → length (cons_option (option_map (λ row. s.target.code) next) (filter_map code_next searches))
-        ≡ length (cons_option (option_map (λ row. row_environment s.target pairs row) next) (filter_map (env_next pairs) searches))
+    by_next : (next : Option ℕ) → length (filter_map code_next searches) ≡ length (filter_map env_next searches)
+        → length (codes_from s next searches)
+        ≡ length (envs_from s next searches)
     by_next None rest = rest
     by_next (Some row) rest = ap suc rest
 
--- the codes and the environments of all next rows
-pub whole_batch : (pairs : List KeyValue) (searches : List SearchValue) (batch : Batch)
-    → map (λ code. code.now) batch.codes.items ≡ filter_map code_next searches → map (λ env. env.entries) batch.envs.items ≡ filter_map (env_next pairs) searches
-    → IsBatchOf pairs searches batch
-whole_batch pairs searches batch codes envs =
+-- rows that have the names of codes have them at their numbers
+at_number : (names : List Name) (i : ℕ) → i < length names → slice_get (map (λ name. name.text) names) i ≡ Some (text_of_name (slice_get names i))
+at_number [] i inside = absurd (omega (arith, inside))
+at_number (name ∷ names) zero inside = refl
+at_number (name ∷ names) (suc i) inside = at_number names i (omega (arith, inside))
+
+all_numbered : (codes : List Code) (rows : List RowValue) → map (λ row. row.names) rows ≡ map names_of codes
+    → (k : ℕ) (d : Code × RowValue) → k < length (zip codes rows) → IsNumbered (get_or (zip codes rows) k d)
+all_numbered [] rows names k d inside = absurd (omega (arith, inside))
+all_numbered (code ∷ codes) [] names k d inside = absurd (omega (arith, inside))
+all_numbered (code ∷ codes) (row ∷ rows) names zero d inside =
+    λ i within. ap (λ ns. slice_get (get_or ns 0 []) i) names ∙ at_number code.names i within
+all_numbered (code ∷ codes) (row ∷ rows) names (suc k) d inside = all_numbered codes rows (ap (drop 1) names) k d (omega (arith, inside))
+
+-- the codes and the rows of all next rows
+pub whole_batch : (searches : List SearchValue) (batch : Batch) → map (λ code. code.now) batch.codes.items ≡ filter_map code_next searches
+    → map (λ row. row.env.entries) batch.rows.items ≡ filter_map env_next searches
+    → map (λ row. row.names) batch.rows.items ≡ map names_of (filter_map code_next searches)
+    → IsBatchOf searches batch
+whole_batch searches batch codes envs names =
+    let entries : map entries_of (map (λ row. row.env) batch.rows.items) ≡ filter_map env_next searches =
+    map-map entries_of (λ row. row.env) batch.rows.items ∙ envs in
     record {
       many =
-          sym (length-map batch.codes.items (λ code. code.now)) ∙ ap length codes ∙ as_many pairs searches
-          ∙ sym (ap length envs) ∙ length-map batch.envs.items (λ env. env.entries);
+          sym (length-map batch.codes.items (λ code. code.now)) ∙ ap length codes ∙ as_many searches
+          ∙ sym (ap length envs) ∙ length-map batch.rows.items (λ row. row.env.entries);
+      numbered = all_numbered (map (λ code. code.now) batch.codes.items) batch.rows.items (names ∙ ap (map names_of) (sym codes));
       fates =
-          by_entries (map (λ code. code.now) batch.codes.items) batch.envs.items
-          ∙ ap (λ es. map fate_at (zip (map (λ code. code.now) batch.codes.items) es)) envs
-          ∙ ap (λ cs. map fate_at (zip cs (filter_map (env_next pairs) searches))) codes
-          ∙ side_by_side pairs searches;
+          by_entries (map (λ code. code.now) batch.codes.items) (map (λ row. row.env) batch.rows.items)
+          ∙ ap (λ es. map fate_at (zip (map (λ code. code.now) batch.codes.items) es)) entries
+          ∙ ap (λ cs. map fate_at (zip cs (filter_map env_next searches))) codes
+          ∙ side_by_side searches;
       ends =
-          ends_by_entries (map (λ code. code.now) batch.codes.items) batch.envs.items
-          ∙ ap (λ es. filter_map steps_at (zip (map (λ code. code.now) batch.codes.items) es)) envs
-          ∙ ap (λ cs. filter_map steps_at (zip cs (filter_map (env_next pairs) searches))) codes
-          ∙ ends_side_by_side pairs searches;
+          ends_by_entries (map (λ code. code.now) batch.codes.items) (map (λ row. row.env) batch.rows.items)
+          ∙ ap (λ es. filter_map steps_at (zip (map (λ code. code.now) batch.codes.items) es)) entries
+          ∙ ap (λ cs. filter_map steps_at (zip cs (filter_map env_next searches))) codes
+          ∙ ends_side_by_side searches;
     }
 
 -- one more search
@@ -109,13 +139,13 @@ one_more f searches i d inside =
 -- ---- one search after another takes its fate over
 
 -- fates go to opened searches alone
-next_fates : (pairs : List KeyValue) (searches : List SearchValue) (i : ℕ) (d : SearchValue) → i < length searches
-    → fates_next pairs (drop i searches) ≡ cons_option (fate_next pairs (get_or searches i d)) (fates_next pairs (drop (i + 1) searches))
-next_fates pairs searches i d inside = at_drop_more (fates_next pairs) searches i d inside
+next_fates : (searches : List SearchValue) (i : ℕ) (d : SearchValue) → i < length searches
+    → fates_next (drop i searches) ≡ cons_option (fate_next (get_or searches i d)) (fates_next (drop (i + 1) searches))
+next_fates searches i d inside = at_drop_more (fates_next) searches i d inside
 
-module _ (pairs : List KeyValue) (old searches : List SearchValue) (i : ℕ) (new : SearchValue) where
+module _ (old searches : List SearchValue) (i : ℕ) (new : SearchValue) where
   abbrev pub Before : Type 0
-  Before = take i searches ≡ map (after_next_row pairs) (take i old)
+  Before = take i searches ≡ map after_next_row (take i old)
 
   abbrev pub Others : Type 0
   Others = drop i searches ≡ drop i old
@@ -134,13 +164,13 @@ module _ (pairs : List KeyValue) (old searches : List SearchValue) (i : ℕ) (ne
       let at_i : i + 0 ≡ i = omega arith in
       ap (λ k. get_or old k d) (sym at_i) ∙ sym there ∙ ap (λ ss. get_or ss 0 d) (sym others) ∙ here ∙ ap (λ k. get_or searches k d) at_i
 
-  pub before_next : (d : SearchValue) → i < length searches → new ≡ after_next_row pairs (get_or searches i d) → Before → Others
-      → take (i + 1) (set searches i new) ≡ map (after_next_row pairs) (take (i + 1) old)
+  pub before_next : (d : SearchValue) → i < length searches → new ≡ after_next_row (get_or searches i d) → Before → Others
+      → take (i + 1) (set searches i new) ≡ map after_next_row (take (i + 1) old)
   before_next d inside is before others =
       take_more_set searches i new inside
       ∙ ap (λ ss. ss ++ new ∷ []) before
-      ∙ ap (λ s. map (after_next_row pairs) (take i old) ++ s ∷ []) (is ∙ ap (after_next_row pairs) (sym (same_search inside others d)))
-      ∙ sym (map_more (after_next_row pairs) old i d (same_length inside others))
+      ∙ ap (λ s. map after_next_row (take i old) ++ s ∷ []) (is ∙ ap (after_next_row) (sym (same_search inside others d)))
+      ∙ sym (map_more (after_next_row) old i d (same_length inside others))
 
   pub others_next : i < length searches → Others → drop (i + 1) (set searches i new) ≡ drop (i + 1) old
   others_next inside others =
@@ -149,31 +179,32 @@ module _ (pairs : List KeyValue) (old searches : List SearchValue) (i : ℕ) (ne
 
   -- the fates that are left, if the search is open and if not
   next_left : (d : SearchValue) → i < length searches → Others
-      → fates_next pairs (drop i old) ≡ cons_option (fate_next pairs (get_or searches i d)) (fates_next pairs (drop (i + 1) old))
+      → fates_next (drop i old) ≡ cons_option (fate_next (get_or searches i d)) (fates_next (drop (i + 1) old))
   next_left d inside others =
-      next_fates pairs old i d (same_length inside others)
-      ∙ ap (λ s. cons_option (fate_next pairs s) (fates_next pairs (drop (i + 1) old))) (same_search inside others d)
+      next_fates old i d (same_length inside others)
+      ∙ ap (λ s. cons_option (fate_next s) (fates_next (drop (i + 1) old))) (same_search inside others d)
 
   pub taken : (d : SearchValue) (fates rest : List answer.Fate) (fate : answer.Fate) → i < length searches → Others
-      → map said fates ≡ fates_next pairs (drop i old) → fates ≡ fate ∷ rest → is_open (get_or searches i d) ≡ true
-      → (map said rest ≡ fates_next pairs (drop (i + 1) old)) × (after_fate pairs (get_or searches i d) (said fate) ≡ after_next_row pairs (get_or searches i d))
+      → map said fates ≡ fates_next (drop i old) → fates ≡ fate ∷ rest → is_open (get_or searches i d) ≡ true
+      → (map said rest ≡ fates_next (drop (i + 1) old)) × (after_fate (get_or searches i d) (said fate) ≡ after_next_row (get_or searches i d))
   taken d fates rest fate inside others left are opened =
       by_next (get_or searches i d) (get_or searches i d).next opened (sym (ap (map said) are) ∙ left ∙ next_left d inside others)
     where
       by_next : (s : SearchValue) (next : Option ℕ) → is_some next ≡ true
-          → (said fate ∷ map said rest) ≡ cons_option (option_map (λ row. fate_of_row s.target pairs row) next) (fates_next pairs (drop (i + 1) old))
-          → (map said rest ≡ fates_next pairs (drop (i + 1) old)) × (after_fate_at pairs s (said fate) next ≡ after_row_at pairs s next)
+          → (said fate ∷ map said rest) ≡ cons_option (option_map (λ row. fate_of_row s.target s.asked.pairs row) next) (fates_next (drop (i + 1) old))
+          → (map said rest ≡ fates_next (drop (i + 1) old)) × (after_fate_at s (said fate) next ≡ after_row_at s next)
       by_next s None opened is = absurd (false≢true opened)
       by_next s (Some row) opened is =
-          (ap (drop 1) is, ap (λ f. after_row pairs s.target row (resolution_by row f)) (ap (λ fs. get_or fs 0 (said fate)) is))
+          (ap (drop 1) is, ap (λ f. after_row s row (resolution_by row f)) (ap (λ fs. get_or fs 0 (said fate)) is))
 
   pub passed : (d : SearchValue) → i < length searches → Others → is_open (get_or searches i d) ≡ false
-      → (fates_next pairs (drop i old) ≡ fates_next pairs (drop (i + 1) old)) × (get_or searches i d ≡ after_next_row pairs (get_or searches i d))
+      → (fates_next (drop i old) ≡ fates_next (drop (i + 1) old)) × (get_or searches i d ≡ after_next_row (get_or searches i d))
   passed d inside others closed =
       let is = by_next (get_or searches i d) (get_or searches i d).next closed in
       (next_left d inside others ∙ is.0, is.1)
     where
       by_next : (s : SearchValue) (next : Option ℕ) → is_some next ≡ false
-          → (cons_option (option_map (λ row. fate_of_row s.target pairs row) next) (fates_next pairs (drop (i + 1) old)) ≡ fates_next pairs (drop (i + 1) old)) × (s ≡ after_row_at pairs s next)
+          → (cons_option (option_map (λ row. fate_of_row s.target s.asked.pairs row) next) (fates_next (drop (i + 1) old)) ≡ fates_next (drop (i + 1) old))
+          × (s ≡ after_row_at s next)
       by_next s None closed = (refl, refl)
       by_next s (Some row) closed = absurd (false≢true (sym closed))

@@ -7,6 +7,7 @@ use Rattle.std.proofs.lemmas.List.{drop-drop, length-drop}
 use Rattle.kev_read.specs.Pairs.{KeyValue}
 use Rattle.kbart_rows.specs.Identifiers.{first_from}
 use Rattle.menu.specs.Links.{is_link}
+use Rattle.row_scope.specs.RequestValues.{RequestValue}
 use Rattle.registry.specs.Targets.{TargetValue}
 use Rattle.registry.specs.Entries.{matching_rows_of, resolution_of_row}
 use Rattle.link_menu.specs.StepLists.{HasSeenAll, HasSeenSome, step_lists_to_end, with_lists}
@@ -30,25 +31,25 @@ FirstAndRest =
     (target : TargetValue) (pairs : List KeyValue) (from row : ℕ) → first_from from (matching_rows_of target pairs) ≡ Some row
     → filter (nat_le from) (matching_rows_of target pairs) ≡ row ∷ filter (nat_le (row + 1)) (matching_rows_of target pairs)
 
--- a target, and rows that it still has to try
+-- what is asked, a target, and the rows that it still has to try
 abbrev pub Left : Type 0
-Left = TargetValue × List ℕ
+Left = List KeyValue × TargetValue × List ℕ
 
 abbrev pub rows_left_at : List KeyValue → TargetValue → Option ℕ → List ℕ
 rows_left_at pairs target None = []
 rows_left_at pairs target (Some row) = up_to_link target pairs (row ∷ filter (nat_le (row + 1)) (matching_rows_of target pairs))
 
-abbrev pub left_of : List KeyValue → SearchValue → Left
-left_of pairs s = (s.target, rows_left_at pairs s.target s.next)
+abbrev pub left_of : SearchValue → Left
+left_of s = (s.asked.pairs, s.target, rows_left_at s.asked.pairs s.target s.next)
 
 abbrev pub left_after : ℕ → List KeyValue → TargetValue → Left
-left_after k pairs target = (target, drop k (tried_rows target pairs))
+left_after k pairs target = (pairs, target, drop k (tried_rows target pairs))
 
 abbrev pub one_less : Left → Left
-one_less left = (left.0, drop 1 left.1)
+one_less left = (left.0, left.1, drop 1 left.2)
 
-abbrev pub rounds_left : List KeyValue → List SearchValue → ℕ
-rounds_left pairs searches = longest (map (λ left. left.1) (map (left_of pairs) searches))
+abbrev pub rounds_left : List SearchValue → ℕ
+rounds_left searches = longest (map (λ left. left.2) (map left_of searches))
 
 add_one : (k : ℕ) → k + 1 ≡ suc k
 add_one k = omega arith
@@ -58,43 +59,45 @@ drop_one : (k : ℕ) (pairs : List KeyValue) (targets : List TargetValue) → ma
 drop_one k pairs [] = refl
 drop_one k pairs (target ∷ targets) =
     let rows = tried_rows target pairs in
-    ap (λ rest. (target, rest) ∷ map one_less (map (left_after k pairs) targets)) (drop-drop 1 k rows ∙ ap (λ m. drop m rows) (add_one k))
+    ap (λ rest. (pairs, target, rest) ∷ map one_less (map (left_after k pairs) targets)) (drop-drop 1 k rows ∙ ap (λ m. drop m rows) (add_one k))
     ∙ ap (λ lefts. left_after (suc k) pairs target ∷ lefts) (drop_one k pairs targets)
 
-module _ (all_from_start : AllFromStart) (none_from : NoneFrom) (first_and_rest : FirstAndRest) (pairs : List KeyValue) where
-  from_row : (target : TargetValue) (from : ℕ)
+module _ (all_from_start : AllFromStart) (none_from : NoneFrom) (first_and_rest : FirstAndRest) where
+  from_row : (pairs : List KeyValue) (target : TargetValue) (from : ℕ)
       → rows_left_at pairs target (first_from from (matching_rows_of target pairs)) ≡ up_to_link target pairs (filter (nat_le from) (matching_rows_of target pairs))
-  from_row target from = by_next (first_from from (matching_rows_of target pairs)) refl
+  from_row pairs target from = by_next (first_from from (matching_rows_of target pairs)) refl
     where
       by_next : (next : Option ℕ) → first_from from (matching_rows_of target pairs) ≡ next
           → rows_left_at pairs target next ≡ up_to_link target pairs (filter (nat_le from) (matching_rows_of target pairs))
       by_next None is = ap (up_to_link target pairs) (sym (none_from target pairs from is))
       by_next (Some row) is = ap (up_to_link target pairs) (sym (first_and_rest target pairs from row is))
 
-  left_at_start : (targets : List TargetValue) → map (left_of pairs) (map (started pairs) targets) ≡ map (left_after 0 pairs) targets
-  left_at_start [] = refl
-  left_at_start (target ∷ targets) =
-      ap (λ rows. (target, rows) ∷ map (left_of pairs) (map (started pairs) targets)) (from_row target 0 ∙ ap (up_to_link target pairs) (all_from_start target pairs))
-      ∙ ap (λ lefts. left_after 0 pairs target ∷ lefts) (left_at_start targets)
+  left_at_start : (asked : RequestValue) (targets : List TargetValue) → map left_of (map (started asked) targets) ≡ map (left_after 0 asked.pairs) targets
+  left_at_start asked [] = refl
+  left_at_start asked (target ∷ targets) =
+      let pairs = asked.pairs in
+      ap (λ rows. (pairs, target, rows) ∷ map left_of (map (started asked) targets))
+      (from_row pairs target 0 ∙ ap (up_to_link target pairs) (all_from_start target pairs))
+      ∙ ap (λ lefts. left_after 0 pairs target ∷ lefts) (left_at_start asked targets)
 
-  one_tried : (s : SearchValue) → left_of pairs (after_next_row pairs s) ≡ one_less (left_of pairs s)
+  one_tried : (s : SearchValue) → left_of (after_next_row s) ≡ one_less (left_of s)
   one_tried s = by_next s.next refl
     where
       by_link : (row : ℕ) (b : Bool)
-          → rows_left_at pairs s.target (if b then None else first_from (row + 1) (matching_rows_of s.target pairs))
-          ≡ (if b then [] else up_to_link s.target pairs (filter (nat_le (row + 1)) (matching_rows_of s.target pairs)))
+          → rows_left_at s.asked.pairs s.target (if b then None else first_from (row + 1) (matching_rows_of s.target s.asked.pairs))
+          ≡ (if b then [] else up_to_link s.target s.asked.pairs (filter (nat_le (row + 1)) (matching_rows_of s.target s.asked.pairs)))
       by_link row true = refl
-      by_link row false = from_row s.target (row + 1)
+      by_link row false = from_row s.asked.pairs s.target (row + 1)
 
-      by_next : (next : Option ℕ) → s.next ≡ next → left_of pairs (after_row_at pairs s next) ≡ one_less (s.target, rows_left_at pairs s.target next)
-      by_next None is = ap (λ next. (s.target, rows_left_at pairs s.target next)) is
-      by_next (Some row) is = ap (λ rows. (s.target, rows)) (by_link row (is_link (resolution_of_row s.target pairs row)))
+      by_next : (next : Option ℕ) → s.next ≡ next → left_of (after_row_at s next) ≡ one_less (s.asked.pairs, s.target, rows_left_at s.asked.pairs s.target next)
+      by_next None is = ap (λ next. (s.asked.pairs, s.target, rows_left_at s.asked.pairs s.target next)) is
+      by_next (Some row) is = ap (λ rows. (s.asked.pairs, s.target, rows)) (by_link row (is_link (resolution_of_row s.target s.asked.pairs row)))
 
-  all_tried : (searches : List SearchValue) → map (left_of pairs) (map (after_next_row pairs) searches) ≡ map one_less (map (left_of pairs) searches)
+  all_tried : (searches : List SearchValue) → map left_of (map after_next_row searches) ≡ map one_less (map left_of searches)
   all_tried [] = refl
   all_tried (s ∷ searches) =
-      ap (λ left. left ∷ map (left_of pairs) (map (after_next_row pairs) searches)) (one_tried s)
-      ∙ ap (λ lefts. one_less (left_of pairs s) ∷ lefts) (all_tried searches)
+      ap (λ left. left ∷ map left_of (map after_next_row searches)) (one_tried s)
+      ∙ ap (λ lefts. one_less (left_of s) ∷ lefts) (all_tried searches)
 
 -- ---- the runs of the next round
 
@@ -103,25 +106,25 @@ first_left zero rows = refl
 first_left (suc k) [] = refl
 first_left (suc k) (row ∷ rows) = first_left k rows
 
-module _ (pairs : List KeyValue) where
-  abbrev end_at : Left → Option ℕ
-  end_at left = option_and_then (steps_of_row left.0 pairs) (slice_get left.1 0)
+abbrev end_at : Left → Option ℕ
+end_at left = option_and_then (steps_of_row left.1 left.0) (slice_get left.2 0)
 
-  end_of_search : (target : TargetValue) (next : Option ℕ) → option_and_then (steps_of_row target pairs) next ≡ end_at (target, rows_left_at pairs target next)
-  end_of_search target None = refl
-  end_of_search target (Some row) = refl
+end_of_search : (pairs : List KeyValue) (target : TargetValue) (next : Option ℕ)
+    → option_and_then (steps_of_row target pairs) next ≡ end_at (pairs, target, rows_left_at pairs target next)
+end_of_search pairs target None = refl
+end_of_search pairs target (Some row) = refl
 
-  ends_of_searches : (searches : List SearchValue) → ends_next pairs searches ≡ filter_map end_at (map (left_of pairs) searches)
-  ends_of_searches [] = refl
-  ends_of_searches (s ∷ searches) =
-      ap (λ end. cons_option end (ends_next pairs searches)) (end_of_search s.target s.next)
-      ∙ ap (cons_option (end_at (left_of pairs s))) (ends_of_searches searches)
+ends_of_searches : (searches : List SearchValue) → ends_next searches ≡ filter_map end_at (map left_of searches)
+ends_of_searches [] = refl
+ends_of_searches (s ∷ searches) =
+    ap (λ end. cons_option end (ends_next searches)) (end_of_search s.asked.pairs s.target s.next)
+    ∙ ap (cons_option (end_at (left_of s))) (ends_of_searches searches)
 
-  ends_after : (k : ℕ) (targets : List TargetValue) → filter_map end_at (map (left_after k pairs) targets) ≡ ends_in_round k targets pairs
-  ends_after k [] = refl
-  ends_after k (target ∷ targets) =
-      ap (λ row. cons_option (option_and_then (steps_of_row target pairs) row) (filter_map end_at (map (left_after k pairs) targets))) (first_left k (tried_rows target pairs))
-      ∙ ap (cons_option (option_and_then (steps_of_row target pairs) (slice_get (tried_rows target pairs) k))) (ends_after k targets)
+ends_after : (pairs : List KeyValue) (k : ℕ) (targets : List TargetValue) → filter_map end_at (map (left_after k pairs) targets) ≡ ends_in_round k targets pairs
+ends_after pairs k [] = refl
+ends_after pairs k (target ∷ targets) =
+    ap (λ row. cons_option (option_and_then (steps_of_row target pairs) row) (filter_map end_at (map (left_after k pairs) targets))) (first_left k (tried_rows target pairs))
+    ∙ ap (cons_option (option_and_then (steps_of_row target pairs) (slice_get (tried_rows target pairs) k))) (ends_after pairs k targets)
 
 -- ---- how many rounds are left
 
@@ -137,41 +140,42 @@ others_left rest more = omega (arith, more)
 none_left : (rest : ℕ) → rest ≡ 0 → max 0 rest ≡ 0
 none_left rest none = omega (arith, none)
 
-module _ (pairs : List KeyValue) where
-  longest_after : (k : ℕ) (targets : List TargetValue) → longest (map (λ left. left.1) (map (left_after k pairs) targets)) ≡ rounds_of targets pairs - k
-  unfolding longest
-  longest_after k [] = none_less k
-  longest_after k (target ∷ targets) =
-      let rows = tried_rows target pairs in
-      max_less (length (drop k rows)) (longest (map (λ left. left.1) (map (left_after k pairs) targets))) (length rows) (rounds_of targets pairs) k (length-drop k rows) (longest_after k targets)
+longest_after : (pairs : List KeyValue) (k : ℕ) (targets : List TargetValue)
+    → longest (map (λ left. left.2) (map (left_after k pairs) targets)) ≡ rounds_of targets pairs - k
+unfolding longest
+longest_after pairs k [] = none_less k
+longest_after pairs k (target ∷ targets) =
+    let rows = tried_rows target pairs in
+    max_less (length (drop k rows)) (longest (map (λ left. left.2) (map (left_after k pairs) targets))) (length rows) (rounds_of targets pairs) k (length-drop k rows) (longest_after pairs k targets)
 
-  while_open : (searches : List SearchValue) → list_any is_open searches ≡ true → 0 < rounds_left pairs searches
-  unfolding longest
-  while_open [] some = absurd (false≢true some)
-  while_open (s ∷ searches) some = by_next s.next (while_open searches) some
-    where
-      by_next : (next : Option ℕ) → (list_any is_open searches ≡ true → 0 < rounds_left pairs searches) → (is_some next || list_any is_open searches) ≡ true
-          → 0 < max (length (rows_left_at pairs s.target next)) (rounds_left pairs searches)
-      by_next None rest some = others_left (rounds_left pairs searches) (rest some)
-      by_next (Some row) rest some =
-          some_left (length (if is_link (resolution_of_row s.target pairs row) then [] else up_to_link s.target pairs (filter (nat_le (row + 1)) (matching_rows_of s.target pairs)))) (rounds_left pairs searches)
+while_open : (searches : List SearchValue) → list_any is_open searches ≡ true → 0 < rounds_left searches
+unfolding longest
+while_open [] some = absurd (false≢true some)
+while_open (s ∷ searches) some = by_next s.next (while_open searches) some
+  where
+    by_next : (next : Option ℕ) → (list_any is_open searches ≡ true → 0 < rounds_left searches) → (is_some next || list_any is_open searches) ≡ true
+        → 0 < max (length (rows_left_at s.asked.pairs s.target next)) (rounds_left searches)
+    by_next None rest some = others_left (rounds_left searches) (rest some)
+    by_next (Some row) rest some =
+        let pairs = s.asked.pairs in
+        some_left (length (if is_link (resolution_of_row s.target pairs row) then [] else up_to_link s.target pairs (filter (nat_le (row + 1)) (matching_rows_of s.target pairs)))) (rounds_left searches)
 
-  none_open : (searches : List SearchValue) → list_any is_open searches ≡ false → rounds_left pairs searches ≡ 0
-  unfolding longest
-  none_open [] none = refl
-  none_open (s ∷ searches) none = by_next s.next (none_open searches) none
-    where
-      by_next : (next : Option ℕ) → (list_any is_open searches ≡ false → rounds_left pairs searches ≡ 0) → (is_some next || list_any is_open searches) ≡ false
-          → max (length (rows_left_at pairs s.target next)) (rounds_left pairs searches) ≡ 0
-      by_next None rest none = none_left (rounds_left pairs searches) (rest none)
-      by_next (Some row) rest none = absurd (false≢true (sym none))
+none_open : (searches : List SearchValue) → list_any is_open searches ≡ false → rounds_left searches ≡ 0
+unfolding longest
+none_open [] none = refl
+none_open (s ∷ searches) none = by_next s.next (none_open searches) none
+  where
+    by_next : (next : Option ℕ) → (list_any is_open searches ≡ false → rounds_left searches ≡ 0) → (is_some next || list_any is_open searches) ≡ false
+        → max (length (rows_left_at s.asked.pairs s.target next)) (rounds_left searches) ≡ 0
+    by_next None rest none = none_left (rounds_left searches) (rest none)
+    by_next (Some row) rest none = absurd (false≢true (sym none))
 
 -- ---- after some rounds
 
 -- k rounds were carried out, and all that they show was shown
 abbrev pub AfterRounds : List KeyValue → List TargetValue → List SearchValue → Option (List (List ℕ)) → Option (List (List ℕ)) → Type 0
 AfterRounds pairs targets searches told now =
-    (k : ℕ) × (map (left_of pairs) searches ≡ map (left_after k pairs) targets) × (k ≤ rounds_of targets pairs)
+    (k : ℕ) × (map left_of searches ≡ map (left_after k pairs) targets) × (k ≤ rounds_of targets pairs)
     × (now ≡ with_lists told (step_lists_in_rounds k targets pairs))
 
 round_more : (rounds k left : ℕ) → left ≡ rounds - k → 0 < left → suc k ≤ rounds
@@ -185,18 +189,18 @@ no_round rounds k left is none le = omega (arith, is, none, le)
 
 module _ (pairs : List KeyValue) (targets : List TargetValue) (searches : List SearchValue) (told now : Option (List (List ℕ)))
     (after : AfterRounds pairs targets searches told now) where
-  left_then : rounds_left pairs searches ≡ rounds_of targets pairs - after.0
-  left_then = ap (λ lefts. longest (map (λ left. left.1) lefts)) after.1 ∙ longest_after pairs after.0 targets
+  left_then : rounds_left searches ≡ rounds_of targets pairs - after.0
+  left_then = ap (λ lefts. longest (map (λ left. left.2) lefts)) after.1 ∙ longest_after pairs after.0 targets
 
   next_within : list_any is_open searches ≡ true → suc after.0 ≤ rounds_of targets pairs
-  next_within some = round_more (rounds_of targets pairs) after.0 (rounds_left pairs searches) left_then (while_open pairs searches some)
+  next_within some = round_more (rounds_of targets pairs) after.0 (rounds_left searches) left_then (while_open searches some)
 
-  next_ends : ends_next pairs searches ≡ ends_in_round after.0 targets pairs
-  next_ends = ends_of_searches pairs searches ∙ ap (filter_map (end_at pairs)) after.1 ∙ ends_after pairs after.0 targets
+  next_ends : ends_next searches ≡ ends_in_round after.0 targets pairs
+  next_ends = ends_of_searches searches ∙ ap (filter_map end_at) after.1 ∙ ends_after pairs after.0 targets
 
   pub all_rounds : list_any is_open searches ≡ false → HasSeenAll (step_lists_in_all_rounds targets pairs) told now
   all_rounds none =
-      let all = no_round (rounds_of targets pairs) after.0 (rounds_left pairs searches) left_then (none_open pairs searches none) after.2 in
+      let all = no_round (rounds_of targets pairs) after.0 (rounds_left searches) left_then (none_open searches none) after.2 in
       after.3 ∙ ap (λ k. with_lists told (step_lists_in_rounds k targets pairs)) all
 
   pub some_rounds : HasSeenSome (step_lists_in_all_rounds targets pairs) told now
@@ -204,7 +208,7 @@ module _ (pairs : List KeyValue) (targets : List TargetValue) (searches : List S
   some_rounds =
       first_of (λ k. step_lists_in_rounds k targets pairs) (λ k. step_lists_to_end (ends_in_round k targets pairs)) (λ k. refl) after.0 (rounds_of targets pairs) told now after.2 after.3
 
-  pub part_of_round : (ends : List ℕ) (new : Option (List (List ℕ))) → list_any is_open searches ≡ true → ends ≡ ends_next pairs searches
+  pub part_of_round : (ends : List ℕ) (new : Option (List (List ℕ))) → list_any is_open searches ≡ true → ends ≡ ends_next searches
       → HasSeenSome (step_lists_to_end ends) now new → HasSeenSome (step_lists_in_all_rounds targets pairs) told new
   unfolding step_lists_in_rounds
   part_of_round ends new opened are seen =
@@ -222,30 +226,32 @@ module _ (pairs : List KeyValue) (targets : List TargetValue) (searches : List S
       apart a b c d = simp append_assoc
 
 module _ (all_from_start : AllFromStart) (none_from : NoneFrom) (first_and_rest : FirstAndRest) (pairs : List KeyValue) (targets : List TargetValue) where
-  pub at_first : (told : Option (List (List ℕ))) → AfterRounds pairs targets (map (started pairs) targets) told told
+  pub at_first : (asked : RequestValue) (told : Option (List (List ℕ))) → asked.pairs ≡ pairs
+      → AfterRounds pairs targets (map (started asked) targets) told told
   unfolding step_lists_in_rounds
-  at_first told = (0, left_at_start all_from_start none_from first_and_rest pairs targets, omega arith, with_none told)
+  at_first asked told same =
+      (0, left_at_start all_from_start none_from first_and_rest asked targets ∙ ap (λ ps. map (left_after 0 ps) targets) same, omega arith, with_none told)
 
   pub one_round : (searches : List SearchValue) (told now new : Option (List (List ℕ))) (ends : List ℕ) → AfterRounds pairs targets searches told now
-      → list_any is_open searches ≡ true → ends ≡ ends_next pairs searches → HasSeenAll (step_lists_to_end ends) now new
-      → AfterRounds pairs targets (map (after_next_row pairs) searches) told new
+      → list_any is_open searches ≡ true → ends ≡ ends_next searches → HasSeenAll (step_lists_to_end ends) now new
+      → AfterRounds pairs targets (map after_next_row searches) told new
   unfolding step_lists_in_rounds
   one_round searches told now new ends after opened are seen =
       let k = after.0 in
       let before = step_lists_in_rounds k targets pairs in
       let round = step_lists_to_end (ends_in_round k targets pairs) in (
         suc k,
-        all_tried all_from_start none_from first_and_rest pairs searches ∙ ap (map one_less) after.1 ∙ drop_one k pairs targets,
+        all_tried all_from_start none_from first_and_rest searches ∙ ap (map one_less) after.1 ∙ drop_one k pairs targets,
         next_within pairs targets searches told now after opened,
         seen ∙ ap (λ es. with_lists now (step_lists_to_end es)) (are ∙ next_ends pairs targets searches told now after)
             ∙ ap (λ lists. with_lists lists round) after.3 ∙ with_more told before round,
       )
 
   pub fewer_rounds : (searches : List SearchValue) (told now : Option (List (List ℕ))) → AfterRounds pairs targets searches told now
-      → list_any is_open searches ≡ true → rounds_left pairs (map (after_next_row pairs) searches) < rounds_left pairs searches
+      → list_any is_open searches ≡ true → rounds_left (map after_next_row searches) < rounds_left searches
   fewer_rounds searches told now after opened =
       let k = after.0 in
       let left = left_then pairs targets searches told now after in
-      let next = all_tried all_from_start none_from first_and_rest pairs searches ∙ ap (map one_less) after.1 ∙ drop_one k pairs targets in
-      let left_next = ap (λ lefts. longest (map (λ l. l.1) lefts)) next ∙ longest_after pairs (suc k) targets in
-      round_less (rounds_of targets pairs) k (rounds_left pairs searches) (rounds_left pairs (map (after_next_row pairs) searches)) left left_next (while_open pairs searches opened)
+      let next = all_tried all_from_start none_from first_and_rest searches ∙ ap (map one_less) after.1 ∙ drop_one k pairs targets in
+      let left_next = ap (λ lefts. longest (map (λ l. l.2) lefts)) next ∙ longest_after pairs (suc k) targets in
+      round_less (rounds_of targets pairs) k (rounds_left searches) (rounds_left (map after_next_row searches)) left left_next (while_open searches opened)

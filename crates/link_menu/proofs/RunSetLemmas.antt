@@ -1,5 +1,5 @@
 -- Which runs are begun, and that they end.
-use Rattle.std.proofs.Common.{◌≡◌, ℕ, ◌<◌, List, [], ◌∷◌, ◌++◌, Some, None, true, false, refl, sym, ap, ◌∙◌, subst, arith, length, get_or, take, map}
+use Rattle.std.proofs.Common.{◌≡◌, ℕ, ◌<◌, List, [], ◌∷◌, ◌++◌, Option, Some, None, true, false, refl, sym, ap, ◌∙◌, subst, arith, length, get_or, take, map}
 use Rattle.std.specs.Prelude.{◌↔◌, ◌+◌, if◌then◌else◌, Bool, min}
 use Rattle.std.specs.List.{cons_option, zip}
 use Rattle.std.proofs.lemmas.Bool.{lt-ltb}
@@ -17,7 +17,6 @@ use Rattle.machine_model.specs.Safe.{IsSafe}
 use Rattle.target_vars.specs.EnvValue.{EnvValue}
 use Rattle.verified_runs.specs.RunValue.{RunValue, new_run, most_bytes}
 use Rattle.verified_runs.specs.declared.run.TheConstants.{MAX_LINK_BYTES}
-use Rattle.link_menu.specs.declared.run_set.RunSet.{RunSet}
 use Rattle.link_menu.specs.Fates.{is_over_budget, run_of, runs_of}
 use Rattle.link_menu.specs.Private.Rounds.{IsFresh, AreFresh}
 use Rattle.link_menu.specs.Private.RunSets.{excess_of, IsRunSetOf}
@@ -68,16 +67,16 @@ all_fresh : (runs more : List RunValue) → AreFresh runs → AreFresh more → 
 all_fresh [] more fresh other = other
 all_fresh (run ∷ runs) more fresh other = (fresh.0, all_fresh runs more fresh.1 other)
 
-module _ (pairs : List (Code × EnvValue)) (n : ℕ) (p : Code × EnvValue) (old new : RunSet) where
-  pub one_more : n < length pairs → ((d : Code × EnvValue) → p ≡ get_or pairs n d) → IsRunSetOf (take n pairs) old
-      → new.over_budget.items ≡ old.over_budget.items ++ excess_of p ∷ [] → new.runs.items ≡ old.runs.items ++ runs_of (p ∷ []) → AreFresh (runs_of (p ∷ []))
-      → IsRunSetOf (take (n + 1) pairs) new
+module _ (pairs : List (Code × EnvValue)) (n : ℕ) (p : Code × EnvValue) (over_old over_new : List (Option ℕ)) (old new : List RunValue) where
+  pub one_more : n < length pairs → ((d : Code × EnvValue) → p ≡ get_or pairs n d) → IsRunSetOf (take n pairs) over_old old
+      → over_new ≡ over_old ++ excess_of p ∷ [] → new ≡ old ++ runs_of (p ∷ []) → AreFresh (runs_of (p ∷ []))
+      → IsRunSetOf (take (n + 1) pairs) over_new new
   one_more inside here before excess runs fresh =
       let next : take (n + 1) pairs ≡ take n pairs ++ p ∷ [] = take_more pairs n p inside ∙ ap (λ q. take n pairs ++ q ∷ []) (sym (here p)) in
-      subst (λ ps. IsRunSetOf ps new) (sym next) (record {
-        over_budget = excess ∙ ap (λ os. os ++ excess_of p ∷ []) before.over_budget ∙ sym (map-append excess_of (take n pairs) (p ∷ []));
+      subst (λ ps. IsRunSetOf ps over_new new) (sym next) (record {
+        excesses = excess ∙ ap (λ os. os ++ excess_of p ∷ []) before.excesses ∙ sym (map-append excess_of (take n pairs) (p ∷ []));
         runs = runs ∙ ap (λ rs. rs ++ runs_of (p ∷ [])) before.runs ∙ sym (filter_map-append run_of (take n pairs) (p ∷ []));
-        fresh = subst AreFresh (sym runs) (all_fresh old.runs.items (runs_of (p ∷ [])) before.fresh fresh);
+        fresh = subst AreFresh (sym runs) (all_fresh old (runs_of (p ∷ [])) before.fresh fresh);
       })
 
 -- ---- a code and its environment, side by side

@@ -9,6 +9,7 @@ use Rattle.menu.specs.Links.{is_link}
 use Rattle.menu.specs.declared.entry.MenuEntry.{MenuEntry}
 use Rattle.menu.specs.declared.entry.Resolution.{Resolution}
 use Rattle.menu.specs.declared.entry.Resolution.TheVariants.{NoRow}
+use Rattle.row_scope.specs.RequestValues.{RequestValue}
 use Rattle.registry.specs.Targets.{TargetValue}
 use Rattle.registry.specs.Entries.{entry_of, matching_rows_of, menu_of, resolution_from, resolution_of, resolution_of_row}
 use Rattle.link_menu.specs.Private.Searches.{SearchValue, entry_so_far, is_open, started, after_next_row, after_row_at}
@@ -23,8 +24,8 @@ abbrev pub resolution_at : List KeyValue → TargetValue → Resolution → Opti
 resolution_at pairs target so_far None = so_far
 resolution_at pairs target so_far (Some row) = resolution_after pairs target row (resolution_of_row target pairs row)
 
-abbrev pub entry_in_the_end : List KeyValue → SearchValue → MenuEntry
-entry_in_the_end pairs s = record { name = s.target.name; resolution = resolution_at pairs s.target s.resolution s.next }
+abbrev pub entry_in_the_end : SearchValue → MenuEntry
+entry_in_the_end s = record { name = s.target.name; resolution = resolution_at s.asked.pairs s.target s.resolution s.next }
 
 -- ---- rows in order
 
@@ -48,10 +49,10 @@ PastNoLink =
     → first_from from (matching_rows_of target pairs) ≡ Some row → is_link (resolution_of_row target pairs row) ≡ false
     → resolution_from target pairs from so_far ≡ resolution_from target pairs (row + 1) (resolution_of_row target pairs row)
 
-module _ (begins : Begins) (no_more : NoMore) (at_link : AtLink) (past_no_link : PastNoLink) (pairs : List KeyValue) where
-  from_next : (target : TargetValue) (from : ℕ) (so_far : Resolution)
+module _ (begins : Begins) (no_more : NoMore) (at_link : AtLink) (past_no_link : PastNoLink) where
+  from_next : (pairs : List KeyValue) (target : TargetValue) (from : ℕ) (so_far : Resolution)
       → resolution_at pairs target so_far (first_from from (matching_rows_of target pairs)) ≡ resolution_from target pairs from so_far
-  from_next target from so_far = by_next (first_from from (matching_rows_of target pairs)) refl
+  from_next pairs target from so_far = by_next (first_from from (matching_rows_of target pairs)) refl
     where
       by_link : (row : ℕ) (b : Bool) → first_from from (matching_rows_of target pairs) ≡ Some row → is_link (resolution_of_row target pairs row) ≡ b
           → (if b then resolution_of_row target pairs row else resolution_from target pairs (row + 1) (resolution_of_row target pairs row)) ≡ resolution_from target pairs from so_far
@@ -63,46 +64,44 @@ module _ (begins : Begins) (no_more : NoMore) (at_link : AtLink) (past_no_link :
       by_next (Some row) is = by_link row (is_link (resolution_of_row target pairs row)) is refl
 
   -- a search keeps what it comes to
-  tried_comes_to : (s : SearchValue) → entry_in_the_end pairs (after_next_row pairs s) ≡ entry_in_the_end pairs s
+  tried_comes_to : (s : SearchValue) → entry_in_the_end (after_next_row s) ≡ entry_in_the_end s
   tried_comes_to s = by_next s.next refl
     where
-      resolution_with : Option ℕ → Resolution
-      resolution_with next = resolution_at pairs s.target s.resolution next
-
       by_link : (row : ℕ) (resolution : Resolution) (b : Bool)
-          → resolution_at pairs s.target resolution (if b then None else first_from (row + 1) (matching_rows_of s.target pairs))
-          ≡ (if b then resolution else resolution_from s.target pairs (row + 1) resolution)
+          → resolution_at s.asked.pairs s.target resolution (if b then None else first_from (row + 1) (matching_rows_of s.target s.asked.pairs))
+          ≡ (if b then resolution else resolution_from s.target s.asked.pairs (row + 1) resolution)
       by_link row resolution true = refl
-      by_link row resolution false = from_next s.target (row + 1) resolution
+      by_link row resolution false = from_next s.asked.pairs s.target (row + 1) resolution
 
       by_next : (next : Option ℕ) → s.next ≡ next
-          → entry_in_the_end pairs (after_row_at pairs s next) ≡ record { name = s.target.name; resolution = resolution_at pairs s.target s.resolution next }
-      by_next None is = ap (λ next. record { name = s.target.name; resolution = resolution_at pairs s.target s.resolution next }) is
+          → entry_in_the_end (after_row_at s next) ≡ record { name = s.target.name; resolution = resolution_at s.asked.pairs s.target s.resolution next }
+      by_next None is = ap (λ next. record { name = s.target.name; resolution = resolution_at s.asked.pairs s.target s.resolution next }) is
       by_next (Some row) is =
-          let resolution = resolution_of_row s.target pairs row in
+          let resolution = resolution_of_row s.target s.asked.pairs row in
           ap (λ r. record { name = s.target.name; resolution = r }) (by_link row resolution (is_link resolution))
 
-  pub menu_at_start : (targets : List TargetValue) → map (entry_in_the_end pairs) (map (started pairs) targets) ≡ menu_of targets pairs
-  menu_at_start [] = refl
-  menu_at_start (target ∷ targets) =
-      let resolution = from_next target 0 NoRow ∙ sym (begins target pairs) in
-      ap (λ r. record { name = target.name; resolution = r } ∷ map (entry_in_the_end pairs) (map (started pairs) targets)) resolution
-      ∙ ap (λ entries. entry_of target pairs ∷ entries) (menu_at_start targets)
+  pub menu_at_start : (asked : RequestValue) (targets : List TargetValue) → map entry_in_the_end (map (started asked) targets) ≡ menu_of targets asked.pairs
+  menu_at_start asked [] = refl
+  menu_at_start asked (target ∷ targets) =
+      let resolution = from_next asked.pairs target 0 NoRow ∙ sym (begins target asked.pairs) in
+      ap (λ r. record { name = target.name; resolution = r } ∷ map entry_in_the_end (map (started asked) targets)) resolution
+      ∙ ap (λ entries. entry_of target asked.pairs ∷ entries) (menu_at_start asked targets)
 
-  pub menu_after_round : (searches : List SearchValue) → map (entry_in_the_end pairs) (map (after_next_row pairs) searches) ≡ map (entry_in_the_end pairs) searches
+  pub menu_after_round : (searches : List SearchValue) → map entry_in_the_end (map after_next_row searches) ≡ map entry_in_the_end searches
   menu_after_round [] = refl
   menu_after_round (s ∷ searches) =
-      ap (λ entry. entry ∷ map (entry_in_the_end pairs) (map (after_next_row pairs) searches)) (tried_comes_to s)
-      ∙ ap (λ entries. entry_in_the_end pairs s ∷ entries) (menu_after_round searches)
+      ap (λ entry. entry ∷ map entry_in_the_end (map after_next_row searches)) (tried_comes_to s)
+      ∙ ap (λ entries. entry_in_the_end s ∷ entries) (menu_after_round searches)
 
 -- where no search is open, it has come there
-pub menu_at_end : (pairs : List KeyValue) (searches : List SearchValue) → list_any is_open searches ≡ false → map (entry_in_the_end pairs) searches ≡ map entry_so_far searches
-menu_at_end pairs [] none = refl
-menu_at_end pairs (s ∷ searches) none = by_next s.next (menu_at_end pairs searches) none
+pub menu_at_end : (searches : List SearchValue) → list_any is_open searches ≡ false → map entry_in_the_end searches ≡ map entry_so_far searches
+menu_at_end [] none = refl
+menu_at_end (s ∷ searches) none = by_next s.next (menu_at_end searches) none
   where
-    by_next : (next : Option ℕ) → (list_any is_open searches ≡ false → map (entry_in_the_end pairs) searches ≡ map entry_so_far searches)
+    by_next : (next : Option ℕ) → (list_any is_open searches ≡ false → map entry_in_the_end searches ≡ map entry_so_far searches)
         → (is_some next || list_any is_open searches) ≡ false
-        → (record { name = s.target.name; resolution = resolution_at pairs s.target s.resolution next } ∷ map (entry_in_the_end pairs) searches) ≡ map entry_so_far (s ∷ searches)
+        → (record { name = s.target.name; resolution = resolution_at s.asked.pairs s.target s.resolution next } ∷ map entry_in_the_end searches)
+        ≡ map entry_so_far (s ∷ searches)
     by_next None rest none = ap (λ entries. entry_so_far s ∷ entries) (rest none)
     by_next (Some row) rest none = absurd (grind (arith, none))
 
@@ -112,8 +111,8 @@ written_back : {X : Type 0} (new old : List X) (len : ℕ) → length old ≡ le
 written_back new old len long same =
     ap (λ rest. take len (new ++ rest)) (drop_all (length new) old (omega (arith, same))) ∙ ap (take len) (append-nil new) ∙ take_all len new (omega (arith, same, long))
 
-pub all_written_back : (pairs citation : List KeyValue) (old slice new : List SearchValue) (len : ℕ) → citation ≡ pairs → slice ≡ old → length slice ≡ len
-    → new ≡ map (after_next_row citation) slice → take len (new ++ drop (length new) old) ≡ map (after_next_row pairs) old
-all_written_back pairs citation old slice new len same are long is =
-    let all : new ≡ map (after_next_row pairs) old = is ∙ ap (λ ps. map (after_next_row ps) slice) same ∙ ap (map (after_next_row pairs)) are in
-    written_back new old len (sym (ap length are) ∙ long) (ap length all ∙ length-map old (after_next_row pairs)) ∙ all
+pub all_written_back : (old slice new : List SearchValue) (len : ℕ) → slice ≡ old → length slice ≡ len
+    → new ≡ map after_next_row slice → take len (new ++ drop (length new) old) ≡ map after_next_row old
+all_written_back old slice new len are long is =
+    let all : new ≡ map after_next_row old = is ∙ ap (map after_next_row) are in
+    written_back new old len (sym (ap length are) ∙ long) (ap length all ∙ length-map old after_next_row) ∙ all

@@ -2,57 +2,54 @@
 
 ghost use Rattle.std.specs.Prelude.{◌≡◌, ◌++◌, ◌∷◌, [], IfOk, OnOk, map};
 ghost use Rattle.std.specs.List.{filter_map};
+ghost use Rattle.row_scope.specs.RowEnvironments.{names_of};
 ghost use Rattle.link_menu.specs.Private.Searches.{IsBatchOf, code_next, env_next};
 
-use crate::citation::Citation;
 use crate::target_search::TargetSearch;
+use row_scope::RowScope;
 use std::alloc::{AllocError, Global};
-use target_vars::Env;
 use verifier::Verified;
 
-/// The codes and the environments of the rows that are tried in one round, in the order of their targets.
+/// The rows that are tried in one round, each over the request, and their codes, in the order of their targets.
 #[derive(Drop)]
-pub(crate) struct Batch<'a> {
-    pub(crate) codes: Vec<&'a Verified>,
-    pub(crate) envs: Vec<Env>,
+pub(crate) struct Batch<'t, 'a> {
+    pub(crate) codes: Vec<&'t Verified>,
+    pub(crate) rows: Vec<RowScope<'t, 'a>>,
 }
 
-impl<'a> Batch<'a> {
+impl<'t, 'a> Batch<'t, 'a> {
     /// The next row of each search that has one.
     ///
     /// `AllocError` where a growth was refused.
     pub(crate) fn of(
         alloc: Global,
-        searches: &[TargetSearch<'a>],
-        citation: &Citation,
-    ) -> Result<Batch<'a>, AllocError>
-        ensures { IfOk result (IsBatchOf citation.now searches.now) }
+        searches: &'t [TargetSearch<'a>],
+    ) -> Result<Batch<'t, 'a>, AllocError>
+        ensures { IfOk result (IsBatchOf searches.now) }
     {
         let mut batch = Batch {
             codes: Vec::new(alloc),
-            envs: Vec::new(alloc),
+            rows: Vec::new(alloc),
         };
         for search in searches {
-            batch.add(alloc, search, citation)?;
+            batch.add(alloc, search)?;
         }
         Ok(batch)
     }
 
-    fn add(
-        &mut self,
-        alloc: Global,
-        search: &TargetSearch<'a>,
-        citation: &Citation,
-    ) -> Result<(), AllocError>
+    fn add(&mut self, alloc: Global, search: &'t TargetSearch<'a>) -> Result<(), AllocError>
         ensures codes { OnOk result (map (λ code. code.now) self.new.codes.items
             ≡ map (λ code. code.now) self.old.codes.items ++ filter_map code_next (search.now ∷ [])) }
-        ensures envs { OnOk result (map (λ env. env.entries) self.new.envs.items
-            ≡ map (λ env. env.entries) self.old.envs.items ++ filter_map (env_next citation.now) (search.now ∷ [])) }
+        ensures envs { OnOk result (map (λ row. row.env.entries) self.new.rows.items
+            ≡ map (λ row. row.env.entries) self.old.rows.items ++ filter_map env_next (search.now ∷ [])) }
+        ensures names { OnOk result (map (λ row. row.names) self.new.rows.items
+            ≡ map (λ row. row.names) self.old.rows.items ++ map names_of (filter_map code_next (search.now ∷ []))) }
     {
         if let Some(row) = search.next {
-            let env = search.target.row_environment(alloc, row, citation.request)?;
+            let request = search.request.as_ref().unwrap();
+            let row = request.row(alloc, row)?;
             self.codes.push(search.target.code())?;
-            self.envs.push(env)?;
+            self.rows.push(row)?;
         }
         Ok(())
     }

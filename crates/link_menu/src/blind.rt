@@ -2,6 +2,7 @@
 
 use crate::watch::Watch;
 use std::alloc::AllocError;
+use target_vars::Scope;
 use verified_runs::Run;
 
 /// A watch that does not look: it keeps nothing, and is never refused memory.
@@ -14,7 +15,7 @@ impl Watch for Blind {
     ghost lists = { λ _. None };
 
     /// Takes no memory, and is never refused any.
-    fn seen(&mut self, _runs: &[Run]) -> Result<(), AllocError>
+    fn seen<E: Scope>(&mut self, _runs: &[Run<'_, E>]) -> Result<(), AllocError>
         ensures never_refused { result ≡ Ok tt }
     {
         Ok(())

@@ -1,46 +1,57 @@
 //! What is asked of all targets.
 
 ghost use Rattle.std.specs.Prelude.{◌≡◌, ◌<◌, IfOk, IfSome, length};
+ghost use Rattle.kbart_rows.specs.ColumnNames.{has};
 ghost use Rattle.kbart_rows.specs.Identifiers.{first_from};
+ghost use Rattle.row_scope.specs.RequestValues.{IsApart};
 ghost use Rattle.registry.specs.Entries.{matching_rows_of};
 
-use kbart_rows::Ids;
+use kbart_rows::{ColumnNames, Ids};
 use kev_read::Request;
 use registry::Target;
+use row_scope::RequestValues;
 use std::alloc::{AllocError, Global};
 use std::marker::Model;
 
-/// A request, and the identifiers of the title that it cites. Contracts see the request's pairs.
+/// The values of a request, and the identifiers of the title that it cites. Contracts see the values.
 #[derive(Drop)]
 pub(crate) struct Citation<'a> {
-    pub(crate) request: &'a Request,
+    pub(crate) values: RequestValues<'a>,
     ids: Ids,
 }
 
 impl<'a> Model for Citation<'a> {
-    ghost use Rattle.std.specs.Prelude.{◌≡◌, List};
-    ghost use Rattle.kev_read.specs.Pairs.{KeyValue};
+    ghost use Rattle.std.specs.Prelude.{◌≡◌};
     ghost use Rattle.kbart_rows.specs.Identifiers.{ids_of};
+    ghost use Rattle.row_scope.specs.RequestValues.{RequestValue};
 
-    ghost Value = { List KeyValue };
+    ghost Value = { RequestValue };
 
-    ghost view = { λ citation. citation.request.now.pairs };
+    ghost view = { λ citation. citation.values };
 
-    ghost invariant = { λ citation. citation.ids ≡ ids_of citation.request.now.pairs };
+    ghost invariant = { λ citation. citation.ids ≡ ids_of citation.values.pairs };
 }
 
 impl<'a> Citation<'a> {
+    /// What a request cites, for targets whose tables have columns of these names.
+    ///
     /// `AllocError` where a growth was refused.
-    pub(crate) fn new(alloc: Global, request: &'a Request) -> Result<Citation<'a>, AllocError>
-        ensures { IfOk result (λ citation. citation ≡ request.now.pairs) }
+    pub(crate) fn new(
+        alloc: Global,
+        request: &'a Request,
+        columns: &ColumnNames,
+    ) -> Result<Citation<'a>, AllocError>
+        ensures pairs { IfOk result (λ citation. citation.pairs ≡ request.now.pairs) }
+        ensures apart { IfOk result (λ citation. IsApart citation (has columns.now)) }
     {
+        let values = RequestValues::new(alloc, request, columns)?;
         let ids = Ids::of(alloc, request)?;
-        Ok(Citation { request, ids })
+        Ok(Citation { values, ids })
     }
 
     /// The first row of a target at or after `from` that has the title.
     pub(crate) fn next_row(&self, target: &Target, from: usize) -> Option<usize>
-        ensures first { result ≡ first_from from (matching_rows_of target.now self.now) }
+        ensures first { result ≡ first_from from (matching_rows_of target.now self.now.pairs) }
         ensures within { IfSome result (λ row. row < length target.now.table.rows) }
     {
         target.table().next_match(&self.ids, from)

@@ -5,15 +5,16 @@
 //!
 //! ```text
 //! TargetSearch ──> Batch ──> RunSet ──> Fate ──> Resolution ──> MenuEntry
-//! the next row     its code  its run,   what     a link, or     the target's
-//! that the         and its   or that    its run  why there      name and its
-//! Citation has     environ-  it is over  came    is none        resolution
-//!      ^           ment      budget     to           │
+//! the next row     its code, its run,   what     a link, or     the target's
+//! that the         and it    or that    its run  why there      name and its
+//! Citation has     over the  it is over came     is none        resolution
+//!      ^           request   budget     to           │
 //!      └──────────── no link, and a further row ─────┘
 //! ```
 //!
 //! All targets are searched side by side: a [`round`] tries one row of each. A [`Watch`] is shown the runs of a round
-//! after each turn; [`Shown`] keeps what it was shown, and [`Blind`] keeps nothing.
+//! after each turn; [`Shown`] keeps what it was shown, and [`Blind`] keeps nothing. Turns, watches and [`round_over`]
+//! work over any [`Scope`](target_vars::Scope), which is an environment as a run sees it.
 #![tactic(auto)]
 
 mod batch;
@@ -32,6 +33,6 @@ pub use blind::Blind;
 pub use fate::Fate;
 pub use recorder::Shown;
 pub use resolver::{resolve, resolve_watched};
-pub use rounds::round;
+pub use rounds::{round, round_over};
 pub use turns::{play, turn_all};
 pub use watch::Watch;

@@ -5,6 +5,7 @@ ghost use Rattle.std.specs.Prelude.{◌≡◌, [], map};
 use crate::watch::Watch;
 use std::alloc::{AllocError, Global};
 use std::marker::Model;
+use target_vars::Scope;
 use verified_runs::Run;
 
 /// A watch that keeps, each time, how many steps each run has carried out. Contracts see its lists, in their order.
@@ -46,7 +47,7 @@ impl Watch for Shown {
 
     ghost lists = { λ shown. Some shown };
 
-    fn seen(&mut self, runs: &[Run]) -> Result<(), AllocError> {
+    fn seen<E: Scope>(&mut self, runs: &[Run<'_, E>]) -> Result<(), AllocError> {
         let steps = runs
             .iter()
             .map(|run| run.steps())

@@ -1,10 +1,11 @@
 //! The menu of a registry and a request.
 
-ghost use Rattle.std.specs.Prelude.{◌≡◌, IfOk, OnErr, OnOk, map};
+ghost use Rattle.std.specs.Prelude.{◌≡◌, All, IfOk, OnErr, OnOk, map};
 ghost use Rattle.std.specs.List.{list_any};
+ghost use Rattle.row_scope.specs.RequestValues.{IsApartFrom};
 ghost use Rattle.registry.specs.Entries.{menu_of};
 ghost use Rattle.link_menu.specs.Fates.{said};
-ghost use Rattle.link_menu.specs.StepLists.{HasSeenAll, HasSeenSome};
+ghost use Rattle.link_menu.specs.StepLists.{HasSeenAll, HasSeenSome, step_lists_to_end};
 ghost use Rattle.link_menu.specs.RowsByRound.{step_lists_in_all_rounds};
 ghost use Rattle.link_menu.specs.Private.Searches as spec;
 
@@ -12,7 +13,7 @@ use crate::batch::Batch;
 use crate::blind::Blind;
 use crate::citation::Citation;
 use crate::fate::Fate;
-use crate::rounds::round;
+use crate::rounds::round_over;
 use crate::target_search::TargetSearch;
 use crate::watch::Watch;
 use kev_read::Request;
@@ -31,9 +32,9 @@ pub fn resolve(alloc: Global, registry: &Registry, request: &Request) -> Result<
     resolve_watched(alloc, registry, request, &mut Blind)
 }
 
-/// The menu of a request, with a watch that is shown the runs. It comes in rounds: in each, every target that has no web
-/// link yet tries its next matching row, all of them side by side, as [`round`] runs them. The watch is shown what each
-/// round shows, one round after another.
+/// The menu of a request, with a watch that is shown the runs. It comes in rounds: in each, every target that has no
+/// web link yet tries its next matching row, all of them side by side, as [`round_over`] runs them. The watch is shown
+/// what each round shows, one round after another.
 ///
 /// `AllocError` where a growth was refused; the watch then has seen what was shown until then.
 pub fn resolve_watched<W: Watch>(
@@ -48,27 +49,30 @@ pub fn resolve_watched<W: Watch>(
 {
     rows_are_tried_in_order();
     matching_rows_rise();
-    let citation = Citation::new(alloc, request)?;
+    let citation = Citation::new(alloc, request, registry.columns())?;
     let mut searches = begin_all(alloc, registry.targets(), &citation)?;
     while is_any_open(&searches) {
-        let batch = Batch::of(alloc, &searches, &citation)?;
-        let fates = round(alloc, &batch.codes, &batch.envs, watch)?;
-        take_over_all(searches.as_mut_slice(), fates, &citation);
+        try_next_rows(alloc, searches.as_mut_slice(), watch)?;
     }
     menu_so_far(alloc, searches)
 }
 
+/// A search for each target, which has tried no row.
+///
+/// `AllocError` where a growth was refused.
 fn begin_all<'a>(
     alloc: Global,
     targets: &'a [Target],
-    citation: &Citation,
+    citation: &'a Citation<'a>,
 ) -> Result<Vec<TargetSearch<'a>>, AllocError>
+    requires { All (λ target. IsApartFrom citation.now target.table.header) targets.now }
     ensures { IfOk result (λ searches. searches.items ≡ map (spec.started citation.now) targets.now) }
 {
-    targets
-        .iter()
-        .map(|target| TargetSearch::begin(target, citation))
-        .collect(alloc)
+    let mut searches = Vec::with_capacity(alloc, targets.len())?;
+    for target in targets {
+        searches.push(TargetSearch::begin(alloc, target, citation)?)?;
+    }
+    Ok(searches)
 }
 
 fn is_any_open(searches: &[TargetSearch]) -> bool
@@ -77,15 +81,48 @@ fn is_any_open(searches: &[TargetSearch]) -> bool
     searches.iter().any(|search| search.is_open())
 }
 
+/// One round: the next row of each search that has one is tried, all of them side by side.
+///
+/// `AllocError` where a growth was refused; the watch then has seen what was shown until then.
+fn try_next_rows<W: Watch>(
+    alloc: Global,
+    searches: &mut [TargetSearch],
+    watch: &mut W,
+) -> Result<(), AllocError>
+    ensures ok { OnOk result (searches.new ≡ map spec.after_next_row searches.old) }
+    ensures shown { OnOk result (HasSeenAll (step_lists_to_end (spec.ends_next searches.old)) (W.lists watch.old) (W.lists watch.new)) }
+    ensures err { OnErr result (HasSeenSome (step_lists_to_end (spec.ends_next searches.old)) (W.lists watch.old) (W.lists watch.new)) }
+{
+    let fates = run_next_rows(alloc, searches, watch)?;
+    take_over_all(searches, fates);
+    Ok(())
+}
+
+/// What becomes of the next rows, which are run side by side.
+///
+/// `AllocError` where a growth was refused; the watch then has seen what was shown until then.
+fn run_next_rows<W: Watch>(
+    alloc: Global,
+    searches: &[TargetSearch],
+    watch: &mut W,
+) -> Result<Vec<Fate>, AllocError>
+    ensures fates { IfOk result (λ fates. map said fates.items ≡ spec.fates_next searches.now) }
+    ensures shown { OnOk result (HasSeenAll (step_lists_to_end (spec.ends_next searches.now)) (W.lists watch.old) (W.lists watch.new)) }
+    ensures err { OnErr result (HasSeenSome (step_lists_to_end (spec.ends_next searches.now)) (W.lists watch.old) (W.lists watch.new)) }
+{
+    let batch = Batch::of(alloc, searches)?;
+    round_over(alloc, &batch.codes, &batch.rows, watch)
+}
+
 /// Takes over the fates of one round, which are those of the searches that have a next row.
-fn take_over_all(searches: &mut [TargetSearch], fates: Vec<Fate>, citation: &Citation)
-    requires { map said fates.items ≡ spec.fates_next citation.now searches.old }
-    ensures { searches.new ≡ map (spec.after_next_row citation.now) searches.old }
+fn take_over_all(searches: &mut [TargetSearch], fates: Vec<Fate>)
+    requires { map said fates.items ≡ spec.fates_next searches.old }
+    ensures { searches.new ≡ map spec.after_next_row searches.old }
 {
     let mut fates = fates.into_iter();
     for search in searches.iter_mut() {
         if search.is_open() {
-            search.take_over(fates.next().unwrap(), citation);
+            search.take_over(fates.next().unwrap());
         }
     }
 }

@@ -1,8 +1,9 @@
 //! Many codes, run side by side until each has ended.
 
-ghost use Rattle.std.specs.Prelude.{◌≡◌, IfOk, OnErr, OnOk, length, map};
+ghost use Rattle.std.specs.Prelude.{◌≡◌, All, IfOk, OnErr, OnOk, length, map};
 ghost use Rattle.std.specs.List.{zip};
 ghost use Rattle.verified_runs.specs.declared.run.TheConstants.{MAX_LINK_BYTES};
+ghost use Rattle.verified_runs.specs.Names.{AreNumbered};
 ghost use Rattle.link_menu.specs.Fates.{fate_of, said};
 ghost use Rattle.link_menu.specs.Private.Rounds.{AreFresh, AreOfTheSame};
 ghost use Rattle.link_menu.specs.StepLists.{HasSeenAll, HasSeenSome, ends_of, step_lists_of, step_lists_to_end};
@@ -13,7 +14,7 @@ use crate::turns::turn_all;
 use crate::watch::Watch;
 use machine_laws::{run_ends_once, states_after_steps_are_decided};
 use std::alloc::{AllocError, Global};
-use target_vars::Env;
+use target_vars::{Env, Scope};
 use verified_runs::Run;
 use verifier::Verified;
 
@@ -38,6 +39,24 @@ pub fn round<W: Watch>(
     ensures turn { TURN ≡ 64 }
     ensures limit { MAX_LINK_BYTES ≡ 1048576 }
 {
+    round_over(alloc, codes, envs, watch)
+}
+
+/// [`round`], over any environments that tell each name of a code by its place in the code's table of names.
+///
+/// `AllocError` where a growth was refused; the watch then has seen what was shown until then.
+pub fn round_over<E: Scope, W: Watch>(
+    alloc: Global,
+    codes: &[&Verified],
+    envs: &[E],
+    watch: &mut W,
+) -> Result<Vec<Fate>, AllocError>
+    requires equal { length codes.now ≡ length envs.now }
+    requires names { All (λ p. AreNumbered (E.is_number p.1) p.0) (zip (map (λ code. code.now) codes.now) envs.now) }
+    ensures fates { IfOk result (λ fates. map said fates.items ≡ map fate_of (zip (map (λ code. code.now) codes.now) (map E.environment envs.now))) }
+    ensures shown { OnOk result (HasSeenAll (step_lists_of (zip (map (λ code. code.now) codes.now) (map E.environment envs.now))) (W.lists watch.old) (W.lists watch.new)) }
+    ensures err { OnErr result (HasSeenSome (step_lists_of (zip (map (λ code. code.now) codes.now) (map E.environment envs.now))) (W.lists watch.old) (W.lists watch.new)) }
+{
     let mut run_set = RunSet::begin_all(alloc, codes, envs)?;
     turn_until_ended(run_set.runs.as_mut_slice(), watch)?;
     run_set.finish_all(alloc)
@@ -47,7 +66,10 @@ pub fn round<W: Watch>(
 /// takes no memory, but what the watch takes. Where there is no run, nothing is shown.
 ///
 /// `AllocError` where the watch was refused memory; the runs then stand where they last were.
-pub(crate) fn turn_until_ended<W: Watch>(runs: &mut [Run], watch: &mut W) -> Result<(), AllocError>
+pub(crate) fn turn_until_ended<E: Scope, W: Watch>(
+    runs: &mut [Run<'_, E>],
+    watch: &mut W,
+) -> Result<(), AllocError>
     requires { AreFresh runs.old }
     ensures same { AreOfTheSame runs.old runs.new }
     ensures ok { OnOk result (HasSeenAll (step_lists_to_end (ends_of runs.old)) (W.lists watch.old) (W.lists watch.new)) }

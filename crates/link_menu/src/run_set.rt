@@ -1,7 +1,8 @@
 //! Runs that are begun together, and what is over budget beside them.
 
-ghost use Rattle.std.specs.Prelude.{◌≡◌, ◌++◌, [], ◌∷◌, IfOk, OnOk, length, map, count_by, is_none};
+ghost use Rattle.std.specs.Prelude.{◌≡◌, All, ◌++◌, [], ◌∷◌, IfOk, OnOk, length, map, count_by, is_none};
 ghost use Rattle.std.specs.List.{zip};
+ghost use Rattle.verified_runs.specs.Names.{AreNumbered};
 ghost use Rattle.link_menu.specs.Fates.{runs_of, said};
 ghost use Rattle.link_menu.specs.Private.Rounds.{AreFresh};
 ghost use Rattle.link_menu.specs.Private.RunSets.{IsRunSetOf, excess_of, fates_in, outcome_in_the_end};
@@ -9,29 +10,30 @@ ghost use Rattle.link_menu.specs.Private.RunSets.{IsRunSetOf, excess_of, fates_i
 use crate::fate::Fate;
 use machine_laws::course_is_decided;
 use std::alloc::{AllocError, Global};
-use target_vars::Env;
+use target_vars::Scope;
 use verified_runs::{PrepareError, Run, prepare};
 use verifier::Verified;
 
 /// Codes on environments whose runs are begun together.
 #[derive(Drop)]
-pub(crate) struct RunSet<'a> {
+pub(crate) struct RunSet<'a, E: Scope> {
     /// For each, in order, the bound on its bytes where that is over budget. All others have a run.
     pub(crate) over_budget: Vec<Option<u64>>,
-    pub(crate) runs: Vec<Run<'a>>,
+    pub(crate) runs: Vec<Run<'a, E>>,
 }
 
-impl<'a> RunSet<'a> {
+impl<'a, E: Scope> RunSet<'a, E> {
     /// Begins the run of each code on its environment, but of those that are over budget.
     ///
     /// `AllocError` where a growth was refused.
     pub(crate) fn begin_all(
         alloc: Global,
         codes: &[&'a Verified],
-        envs: &'a [Env],
-    ) -> Result<RunSet<'a>, AllocError>
-        requires { length codes.now ≡ length envs.now }
-        ensures { IfOk result (IsRunSetOf (zip (map (λ c. c.now) codes.now) envs.now)) }
+        envs: &'a [E],
+    ) -> Result<RunSet<'a, E>, AllocError>
+        requires equal { length codes.now ≡ length envs.now }
+        requires names { All (λ p. AreNumbered (E.is_number p.1) p.0) (zip (map (λ c. c.now) codes.now) envs.now) }
+        ensures { IfOk result (λ run_set. IsRunSetOf (zip (map (λ c. c.now) codes.now) (map E.environment envs.now)) run_set.over_budget.items run_set.runs.items) }
     {
         let mut run_set = RunSet {
             over_budget: Vec::new(alloc),
@@ -43,10 +45,11 @@ impl<'a> RunSet<'a> {
         Ok(run_set)
     }
 
-    fn begin(&mut self, alloc: Global, code: &'a Verified, env: &'a Env) -> Result<(), AllocError>
-        ensures over_budget { OnOk result (self.new.over_budget.items ≡ self.old.over_budget.items ++ excess_of (code.now, env.now) ∷ []) }
-        ensures runs { OnOk result (self.new.runs.items ≡ self.old.runs.items ++ runs_of ((code.now, env.now) ∷ [])) }
-        ensures fresh { OnOk result (AreFresh (runs_of ((code.now, env.now) ∷ []))) }
+    fn begin(&mut self, alloc: Global, code: &'a Verified, env: &'a E) -> Result<(), AllocError>
+        requires { AreNumbered (E.is_number env.now) code.now }
+        ensures over_budget { OnOk result (self.new.over_budget.items ≡ self.old.over_budget.items ++ excess_of (code.now, E.environment env.now) ∷ []) }
+        ensures runs { OnOk result (self.new.runs.items ≡ self.old.runs.items ++ runs_of ((code.now, E.environment env.now) ∷ [])) }
+        ensures fresh { OnOk result (AreFresh (runs_of ((code.now, E.environment env.now) ∷ []))) }
     {
         course_is_decided();
         let _accepted = code.code();

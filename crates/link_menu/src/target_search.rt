@@ -2,6 +2,7 @@
 
 ghost use Rattle.std.specs.Prelude.{◌≡◌, IfOk};
 ghost use Rattle.menu.specs.Links as links;
+ghost use Rattle.row_scope.specs.RequestValues.{IsApartFrom};
 ghost use Rattle.link_menu.specs.Fates.{said};
 ghost use Rattle.link_menu.specs.Private.Searches as spec;
 
@@ -9,39 +10,62 @@ use crate::citation::Citation;
 use crate::fate::Fate;
 use menu::{MenuEntry, Resolution, Text};
 use registry::Target;
+use row_scope::TargetRequest;
 use std::alloc::{AllocError, Global};
 use std::marker::Model;
 
-/// The search for a target's link. Contracts see the target, the row to be tried next, and the resolution so far.
+/// The search for a target's link. Contracts see what is asked, the target, the row to be tried next, and the
+/// resolution so far.
 #[derive(Drop)]
 pub(crate) struct TargetSearch<'a> {
+    citation: &'a Citation<'a>,
     pub(crate) target: &'a Target,
+    /// The request as the target sees it. A target without a matching row has none.
+    pub(crate) request: Option<TargetRequest<'a>>,
     /// None where a row gave a link, or no more row matches.
     pub(crate) next: Option<usize>,
     pub(crate) resolution: Resolution,
 }
 
 impl<'a> Model for TargetSearch<'a> {
-    ghost use Rattle.std.specs.Prelude.{◌<◌, IfSome, length};
-    ghost use Rattle.link_menu.specs.Private.Searches.{SearchValue};
+    ghost use Rattle.link_menu.specs.Private.Searches.{SearchValue, IsReady};
 
     ghost Value = { SearchValue };
 
-    ghost view = { λ s. record { target = s.target.now; next = s.next; resolution = s.resolution } };
+    ghost view = { λ s. record {
+      asked = s.citation.now;
+      target = s.target.now;
+      next = s.next;
+      resolution = s.resolution;
+    } };
 
-    ghost invariant = { λ s. IfSome s.next (λ row. row < length s.target.now.table.rows) };
+    ghost invariant = { λ s. IsReady s.citation.now s.target.now s.request s.next };
 }
 
 impl<'a> TargetSearch<'a> {
     /// A search that has tried no row.
-    pub(crate) fn begin(target: &'a Target, citation: &Citation) -> TargetSearch<'a>
-        ensures { result ≡ spec.started citation.now target.now }
+    ///
+    /// `AllocError` where a growth was refused.
+    pub(crate) fn begin(
+        alloc: Global,
+        target: &'a Target,
+        citation: &'a Citation<'a>,
+    ) -> Result<TargetSearch<'a>, AllocError>
+        requires { IsApartFrom citation.now target.now.table.header }
+        ensures { IfOk result (λ search. search ≡ spec.started citation.now target.now) }
     {
-        TargetSearch {
+        let next = citation.next_row(target, 0);
+        let request = match next {
+            Some(_) => Some(target.request(alloc, &citation.values)?),
+            None => None,
+        };
+        Ok(TargetSearch {
+            citation,
             target,
-            next: citation.next_row(target, 0),
+            request,
+            next,
             resolution: Resolution::NoRow,
-        }
+        })
     }
 
     pub(crate) fn is_open(&self) -> bool
@@ -51,8 +75,8 @@ impl<'a> TargetSearch<'a> {
     }
 
     /// Takes over what became of the next row, and goes on to the one after it, unless it gave a link.
-    pub(crate) fn take_over(&mut self, fate: Fate, citation: &Citation)
-        ensures { self.new ≡ spec.after_fate citation.now self.old (said fate) }
+    pub(crate) fn take_over(&mut self, fate: Fate)
+        ensures { self.new ≡ spec.after_fate self.old (said fate) }
     {
         let Some(row) = self.next else {
             return;
@@ -62,7 +86,7 @@ impl<'a> TargetSearch<'a> {
         self.next = if is_link(&resolution) {
             None
         } else {
-            citation.next_row(self.target, row + 1)
+            self.citation.next_row(self.target, row + 1)
         };
         self.resolution = resolution;
     }

@@ -5,10 +5,11 @@ ghost use Rattle.verified_runs.specs.RunValue.{RunValue};
 ghost use Rattle.link_menu.specs.Turns.{IsMoved, IsPlayed, is_live, own_turns};
 
 use machine_laws::states_after_steps_are_decided;
+use target_vars::Scope;
 use verified_runs::Run;
 
 /// Carries out up to `n` steps of each run, in their order, and answers how many have not ended. It takes no memory.
-pub fn turn_all(runs: &mut [Run], n: u64) -> usize
+pub fn turn_all<E: Scope>(runs: &mut [Run<'_, E>], n: u64) -> usize
     ensures count { length runs.new ≡ length runs.old }
     ensures moved { (i : ℕ) (d : RunValue) → i < length runs.old → IsMoved (get_or runs.old i d) n (get_or runs.new i d) }
     ensures live { result ≡ count_by is_live runs.new }
@@ -26,7 +27,7 @@ pub fn turn_all(runs: &mut [Run], n: u64) -> usize
 /// Carries out a schedule: in each turn `(i, n)`, up to `n` steps of run i. It takes no memory.
 ///
 /// A run's own turns move it by their sum, whatever the order of all turns, and those of others leave it as it is.
-pub fn play(runs: &mut [Run], turns: &[(usize, u64)])
+pub fn play<E: Scope>(runs: &mut [Run<'_, E>], turns: &[(usize, u64)])
     requires { All (λ turn. turn.0 < length runs.old) turns.now }
     ensures count { length runs.new ≡ length runs.old }
     ensures played { (i : ℕ) (d : RunValue) → i < length runs.old → IsPlayed (get_or runs.old i d) (own_turns i turns.now) (get_or runs.new i d) }

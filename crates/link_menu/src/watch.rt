@@ -4,6 +4,7 @@ ghost use Rattle.std.specs.Prelude.{◌≡◌, ℕ, List, OnErr, OnOk, Option, m
 ghost use Rattle.link_menu.specs.StepLists.{with_list, steps_of};
 
 use std::alloc::AllocError;
+use target_vars::Scope;
 use verified_runs::Run;
 
 /// Who looks on while runs are carried on side by side.
@@ -14,7 +15,7 @@ pub trait Watch {
     /// Looks at the runs, between two turns of all.
     ///
     /// `AllocError` where a growth was refused; what it was shown before stays.
-    fn seen(&mut self, runs: &[Run]) -> Result<(), AllocError>
+    fn seen<E: Scope>(&mut self, runs: &[Run<'_, E>]) -> Result<(), AllocError>
         ensures ok { OnOk result (lists self.new ≡ with_list (lists self.old) (steps_of runs.now)) }
         ensures err { OnErr result (lists self.new ≡ lists self.old) };
 }

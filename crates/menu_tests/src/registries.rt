@@ -1,11 +1,13 @@
-//! What is given back of a target that is not added, and the environment of a row and a request.
+//! What is given back of a target that is not added, and what a row over a request counts.
 
 use crate::add;
 use crate::codes::{FAIL_CODE, LIST_CODE};
 use kev_read::read_kev;
 use registry::{AddError, AddErrorKind, Registry};
+use row_scope::RequestValues;
 use std::alloc::{AllocError, Global};
 use std::test::Fail;
+use target_vars::Scope;
 
 /// What is given back of a target with a bad name, if it is.
 fn refused(alloc: Global) -> Result<Option<AddError>, Fail> {
@@ -41,7 +43,7 @@ fn gives_the_parts_back(rt: HostRuntime) -> Result<(), Fail> {
 const QUERY: &[u8] = b"rft.issn=1234567x&title_url=http%3A%2F%2Fevil.example&list=a&x=1&list=b&x=2\
         &date_last_issue_online=2005";
 
-/// How many bytes the environment of the second row and the request has, if there is such a row.
+/// How many bytes the second row over the request has, if there is such a row.
 fn bytes_of_second(alloc: Global) -> Result<Option<usize>, Fail> {
     let mut registry = Registry::new(alloc);
     if let Err(error) = add(alloc, &mut registry, "alpha", LIST_CODE)? {
@@ -54,7 +56,9 @@ fn bytes_of_second(alloc: Global) -> Result<Option<usize>, Fail> {
         return Ok(None);
     }
     let request = read_kev(alloc, QUERY)?;
-    Ok(Some(target.row_environment(alloc, 1, &request)?.bytes()))
+    let values = RequestValues::new(alloc, &request, registry.columns())?;
+    let request = target.request(alloc, &values)?;
+    Ok(Some(request.row(alloc, 1)?.bytes()))
 }
 
 /// The cells of the row are counted, and of the request what the row has no cell for.

@@ -163,6 +163,6 @@ fn rounds(rt: HostRuntime) -> Result<(), Fail> {
         assert!(rt; fates.as_str().starts_with(said), "{said}");
         assert_eq!(rt; lists(rt.alloc(), &shown)?.as_str(), wanted);
     }
-    Blind.seen(&[])?;
+    Blind.seen::<Env>(&[])?;
     Ok(())
 }

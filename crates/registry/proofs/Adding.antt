@@ -2,14 +2,19 @@
 use Rattle.std.proofs.Common.{◌≡◌, ◌≢◌, ℕ, ◌<◌, Bool, true, false, List, [], ◌∷◌, ◌++◌, length, get_or, sym, ◌∙◌, subst, arith, if◌then◌else◌}
 use Rattle.std.proofs.lemmas.Bool.{false≢true}
 use Rattle.std.proofs.lemmas.List.{length_push}
-use Rattle.std.proofs.lemmas.List.Elements.{All-push}
+use Rattle.std.proofs.lemmas.List.Elements.{All-nil, All-push, All-weaker}
 use Rattle.std.proofs.lemmas.List.Folds.{list_any_at}
 use Rattle.std.proofs.lemmas.List.Quantifiers.{all_pairs_push}
 use Rattle.std.proofs.lemmas.Slice.Eq.{bytes_eq-Decides}
+use Rattle.std.specs.Prelude.{◌==◌}
 use Rattle.std.specs.Str.{bytes_eq}
 use Rattle.machine_model.specs.Safe.{IsSafe}
 use Rattle.menu.specs.Contained.{IsTargetName}
-use Rattle.registry.specs.Targets.{TargetValue, IsRegistry, has_name}
+use Rattle.text_model.specs.Texts.{Text}
+use Rattle.kbart_rows.specs.ColumnNames.{has}
+use Rattle.kbart_rows.specs.declared.column_names.ColumnNames.{ColumnNames}
+use Rattle.row_scope.specs.RequestValues.{AreAmong}
+use Rattle.registry.specs.Targets.{TargetValue, IsRegistry, AreAllAmong, has_name}
 use Rattle.registry.specs.Refusals.{MayBeAdded}
 
 -- none of the targets has a name that is new
@@ -36,3 +41,23 @@ pub after_adding : (targets : List TargetValue) (target : TargetValue) (came : B
     → now ≡ (if came then targets ++ target ∷ [] else targets) → IsRegistry now
 after_adding targets target true now known safe may is = subst IsRegistry (sym is) (with_one_more targets target known safe may)
 after_adding targets target false now known safe may is = subst IsRegistry (sym is) known
+
+-- the names of columns stay among those of all tables; for the first target they are begun anew
+all_stay : (targets : List TargetValue) (old new : ColumnNames) (is_first : Bool) → is_first ≡ (length targets == 0)
+    → (is_first ≡ false → (name : Text) → has old name ≡ true → has new name ≡ true) → AreAllAmong old targets → AreAllAmong new targets
+all_stay [] old new is_first is kept among = All-nil (λ target. AreAmong new target.table.header)
+all_stay (t ∷ targets) old new is_first is kept among =
+    All-weaker (λ target. AreAmong old target.table.header) (λ target. AreAmong new target.table.header)
+    (λ target names name named. kept (grind (arith, is)) name (names name named)) (t ∷ targets) among
+
+with_its_columns : (targets : List TargetValue) (target : TargetValue) (came : Bool) (now : List TargetValue) (columns : ColumnNames)
+    → AreAllAmong columns targets → AreAmong columns target.table.header → now ≡ (if came then targets ++ target ∷ [] else targets) → AreAllAmong columns now
+with_its_columns targets target true now columns others its is =
+    subst (AreAllAmong columns) (sym is) (All-push (λ other. AreAmong columns other.table.header) targets target others its)
+with_its_columns targets target false now columns others its is = subst (AreAllAmong columns) (sym is) others
+
+-- the names of the columns of all tables, after a target came, or did not
+pub among_after_adding : (targets : List TargetValue) (target : TargetValue) (came : Bool) (now : List TargetValue) (old new : ColumnNames) (is_first : Bool)
+    → AreAllAmong old targets → is_first ≡ (length targets == 0) → (is_first ≡ false → (name : Text) → has old name ≡ true → has new name ≡ true)
+    → AreAmong new target.table.header → now ≡ (if came then targets ++ target ∷ [] else targets) → AreAllAmong new now
+among_after_adding targets target came now old new is_first among is kept its = with_its_columns targets target came now new (all_stay targets old new is_first is kept among) its

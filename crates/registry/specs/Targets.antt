@@ -6,6 +6,8 @@ use Rattle.text_model.specs.Texts.{Text}
 use Rattle.code_model.specs.Code.{Code}
 use Rattle.machine_model.specs.Safe.{IsSafe}
 use Rattle.kbart_rows.specs.Cells.{Holdings}
+use Rattle.kbart_rows.specs.declared.column_names.ColumnNames.{ColumnNames}
+use Rattle.row_scope.specs.RequestValues.{AreAmong}
 use Rattle.menu.specs.Contained.{IsTargetName}
 use Rattle.registry.specs.declared.registry.TheConstants.{MAX_TARGETS}
 
@@ -25,6 +27,10 @@ pub record IsRegistry (targets : List TargetValue) : Type 0 where
   pub named : All (λ target. IsTargetName target.name) targets
   pub safe : All (λ target. IsSafe target.code) targets
   pub once : AllPairs (λ a b. a.name ≢ b.name) targets
+
+-- the columns of each target's table are among those
+abbrev pub AreAllAmong : ColumnNames → List TargetValue → Type 0
+AreAllAmong columns targets = All (λ target. AreAmong columns target.table.header) targets
 
 -- one more target may have the name
 pub record IsFreeName (targets : List TargetValue) (name : Text) : Type 0 where

@@ -1,7 +1,6 @@
 //! The registry of targets, and the menu that a registry and a request have by definition.
 #![tactic(auto)]
 
-mod environment;
 mod error;
 pub mod laws;
 mod name;

@@ -1,15 +1,21 @@
 //! The registry of all targets.
 
-ghost use Rattle.std.specs.Prelude.{◌≡◌, ◌++◌, ◌∷◌, [], IfErr, IfOk, MatchOption, OnErr, OnOk, string_bytes};
+ghost use Rattle.std.specs.Prelude.{◌≡◌, ◌++◌, ◌∷◌, [], IfErr, IfOk, MatchOption, OnErr, OnOk, false, string_bytes, true};
 ghost use Rattle.registry.specs.Targets as spec;
-ghost use Rattle.registry.specs.Targets.{IsRegistry};
+ghost use Rattle.text_model.specs.Texts.{Text};
+ghost use Rattle.kbart_rows.specs.ColumnNames.{has};
+ghost use Rattle.row_scope.specs.NameColumns.{AreNameColumns};
+ghost use Rattle.row_scope.specs.RequestValues.{AreAmong};
+ghost use Rattle.registry.specs.Targets.{IsRegistry, AreAllAmong};
 ghost use Rattle.registry.specs.Refusals.{IsRefusal, MayBeAdded};
 
 use crate::error::{AddError, AddErrorKind};
 use crate::name::is_target_name;
 use crate::target::Target;
-use kbart_rows::Table;
-use std::alloc::Global;
+use code_file::Code;
+use kbart_rows::{ColumnNames, Keys, Table};
+use row_scope::NameColumns;
+use std::alloc::{AllocError, Global};
 use std::marker::Model;
 use verifier::Verified;
 
@@ -19,18 +25,21 @@ pub const MAX_TARGETS: usize = 256;
 /// Targets in the order in which they were added; no two have one name. Each has safe code.
 #[derive(Drop)]
 pub struct Registry {
+    alloc: Global,
+    // The names of the columns of all tables.
+    columns: ColumnNames,
     targets: Vec<Target>,
 }
 
 impl Model for Registry {
     ghost use Rattle.std.specs.Prelude.{List};
-    ghost use Rattle.registry.specs.Targets.{TargetValue, IsRegistry};
+    ghost use Rattle.registry.specs.Targets.{TargetValue, IsRegistry, AreAllAmong};
 
     ghost Value = { List TargetValue };
 
     ghost view = { λ registry. registry.targets.items };
 
-    ghost invariant = { λ registry. IsRegistry registry.targets.items };
+    ghost invariant = { λ registry. IsRegistry registry.targets.items × AreAllAmong registry.columns registry.targets.items };
 }
 
 impl Registry {
@@ -40,6 +49,8 @@ impl Registry {
         ensures limits { MAX_TARGETS ≡ 256 }
     {
         Registry {
+            alloc,
+            columns: ColumnNames::new(alloc, Keys::new(0, 0)),
             targets: Vec::new(alloc),
         }
     }
@@ -52,6 +63,13 @@ impl Registry {
         &self.targets
     }
 
+    /// The names of the columns of all tables, and perhaps of tables that were refused. It takes no memory.
+    pub fn columns(&self) -> &ColumnNames
+        ensures { AreAllAmong result.now self.now }
+    {
+        &self.columns
+    }
+
     /// Adds a target behind the others.
     ///
     /// Refuses it by the first of the reasons of [`AddErrorKind`], and gives its parts back; nothing has changed then.
@@ -62,11 +80,25 @@ impl Registry {
         ensures refused { IfErr result (λ e. IsRefusal self.old (string_bytes name) e.kind) }
         ensures parts { IfErr result (λ e. (string_bytes e.name ≡ string_bytes name) × (e.code ≡ code) × (e.table ≡ table)) }
     {
-        let _accepted = code.code();
-        let target = Target::new(name, code, table);
-        if let Some(kind) = self.refusal(target.name()) {
-            return Err(AddError::new(kind, target));
+        if let Some(kind) = self.refusal(name.as_str()) {
+            return Err(AddError {
+                kind,
+                name,
+                code,
+                table,
+            });
         }
+        let is_first = self.targets().is_empty();
+        let Ok(names) = names_of(self.alloc, &mut self.columns, is_first, code.code(), &table)
+        else {
+            return Err(AddError {
+                kind: AddErrorKind::NoMemory,
+                name,
+                code,
+                table,
+            });
+        };
+        let target = Target::new(name, code, table, names);
         match self.targets.push(target) {
             Ok(()) => Ok(()),
             Err(failed) => Err(AddError::new(AddErrorKind::NoMemory, failed.value)),
@@ -85,6 +117,26 @@ impl Registry {
             None
         }
     }
+}
+
+/// The columns of a table that have the names of a code. The names of all its columns are added to `columns`, which has the
+/// keys of the first table.
+fn names_of(
+    alloc: Global,
+    columns: &mut ColumnNames,
+    is_first: bool,
+    code: &Code,
+    table: &Table,
+) -> Result<NameColumns, AllocError>
+    ensures names { IfOk result (AreNameColumns code.now table.now.header) }
+    ensures among { OnOk result (AreAmong columns.new table.now.header) }
+    ensures kept { is_first ≡ false → (name : Text) → has columns.old name ≡ true → has columns.new name ≡ true }
+{
+    if is_first {
+        *columns = ColumnNames::new(alloc, table.keys());
+    }
+    columns.add(alloc, table)?;
+    NameColumns::new(alloc, code, table)
 }
 
 /// Whether one of the targets has the name.

@@ -1,8 +1,12 @@
 //! Targets: content providers.
 
-ghost use Rattle.std.specs.Prelude.{◌≡◌, string_bytes};
+ghost use Rattle.std.specs.Prelude.{◌≡◌, IfOk, string_bytes};
+ghost use Rattle.row_scope.specs.NameColumns.{AreNameColumns};
+ghost use Rattle.row_scope.specs.RequestValues.{IsApartFrom};
 
 use kbart_rows::Table;
+use row_scope::{NameColumns, RequestValues, TargetRequest};
+use std::alloc::{AllocError, Global};
 use std::marker::Model;
 use verifier::Verified;
 
@@ -12,22 +16,32 @@ pub struct Target {
     pub(crate) name: String,
     pub(crate) code: Verified,
     pub(crate) table: Table,
+    names: NameColumns,
 }
 
 impl Model for Target {
     ghost use Rattle.std.specs.Prelude.{string_bytes};
     ghost use Rattle.registry.specs.Targets.{TargetValue};
+    ghost use Rattle.row_scope.specs.NameColumns.{AreNameColumns};
 
     ghost Value = { TargetValue };
 
     ghost view = { λ target. record { name = string_bytes target.name; code = target.code; table = target.table } };
+
+    ghost invariant = { λ target. AreNameColumns target.code target.table.header target.names };
 }
 
 impl Target {
-    pub(crate) fn new(name: String, code: Verified, table: Table) -> Target
+    pub(crate) fn new(name: String, code: Verified, table: Table, names: NameColumns) -> Target
+        requires { AreNameColumns code table.header names }
         ensures { result ≡ record { name = string_bytes name; code = code; table = table } }
     {
-        Target { name, code, table }
+        Target {
+            name,
+            code,
+            table,
+            names,
+        }
     }
 
     /// The name, which no other target of the registry has.
@@ -49,5 +63,19 @@ impl Target {
         ensures { result.now ≡ self.now.table }
     {
         &self.table
+    }
+
+    /// A request as the code and the table of the target see it.
+    ///
+    /// `AllocError` where a growth was refused.
+    pub fn request<'a>(
+        &'a self,
+        alloc: Global,
+        request: &'a RequestValues<'a>,
+    ) -> Result<TargetRequest<'a>, AllocError>
+        requires { IsApartFrom request.now self.now.table.header }
+        ensures { IfOk result (λ t. (t.code ≡ self.now.code) × (t.table ≡ self.now.table) × (t.request ≡ request.now)) }
+    {
+        TargetRequest::new(alloc, self.code.code(), &self.table, &self.names, request)
     }
 }

@@ -6,7 +6,6 @@ use Rattle.machine_model.specs.Next.{outcome_of}
 use Rattle.target_vars.specs.EnvValue.{EnvValue}
 use Rattle.verified_runs.specs.RunValue.{RunValue, most_bytes}
 use Rattle.registry.specs.Fates.{Fate, OverBudget, ended}
-use Rattle.link_menu.specs.declared.run_set.RunSet.{RunSet}
 use Rattle.link_menu.specs.Fates.{is_over_budget, runs_of}
 use Rattle.link_menu.specs.Private.Rounds.{AreFresh}
 
@@ -15,10 +14,10 @@ abbrev pub excess_of : Code × EnvValue → Option ℕ
 excess_of p = if is_over_budget p.0 p.1 then Some (most_bytes p.0 p.1) else None
 
 -- each code is over budget on its environment, or its run is at its start
-pub record IsRunSetOf (pairs : List (Code × EnvValue)) (b : RunSet) : Type 0 where
-  pub over_budget : b.over_budget.items ≡ map excess_of pairs
-  pub runs : b.runs.items ≡ runs_of pairs
-  pub fresh : AreFresh b.runs.items
+pub record IsRunSetOf (pairs : List (Code × EnvValue)) (over_budget : List (Option ℕ)) (begun : List RunValue) : Type 0 where
+  pub excesses : over_budget ≡ map excess_of pairs
+  pub runs : begun ≡ runs_of pairs
+  pub fresh : AreFresh begun
 
 -- what a run comes to in the end
 abbrev pub outcome_in_the_end : RunValue → Outcome

@@ -3,7 +3,9 @@ use Rattle.std.specs.Prelude.{IfOk}
 use Rattle.std.specs.List.{list_any}
 use Rattle.link_menu.specs.StepLists.{HasSeenAll, HasSeenSome}
 use Rattle.link_menu.specs.RowsByRound.{step_lists_in_all_rounds}
-use Rattle.link_menu.specs.Private.Searches.{is_open, started}
+use Rattle.registry.specs.Entries.{menu_of}
+use Rattle.registry.specs.Targets.{AreAllAmong}
+use Rattle.link_menu.specs.Private.Searches.{ends_next, is_open, started}
 use Rattle.link_menu.proofs.RoundLemmas.{AfterRounds, all_rounds, at_first, fewer_rounds, one_round, part_of_round, rounds_left, some_rounds}
 use Rattle.link_menu.proofs.SearchLemmas.{all_written_back, entry_in_the_end, menu_after_round, menu_at_end, menu_at_start}
 use Rattle.link_menu.proofs.StepListLemmas.{nothing_seen, on_err, on_ok}
@@ -23,6 +25,14 @@ returns-in_err-searches-clause-err g c =
     let told = g.W.Watch.lists c.args.watch.now in
     on_err c.from_residual-in_err-searches.result (HasSeenSome lists told told) (nothing_seen lists told)
 
+-- the columns of each target's table are among the registry's, and the citation is for those
+pub begin_all-requires : goal.begin_all-requires
+begin_all-requires g c =
+    let targets = c.targets.result.now in
+    let asked = c.in_ok-citation.citation in
+    let among = subst (λ ts. AreAllAmong c.columns.result.now ts) (sym c.targets.ensures.value) c.columns.ensures in
+    λ k d inside apart name has. c.in_ok-citation.ensures.apart apart name (among k d inside name has)
+
 pub loop-searches-init : goal.loop-searches-init
 loop-searches-init g c =
     let pairs = c.args.request.now.pairs in
@@ -30,34 +40,30 @@ loop-searches-init g c =
     let laws = c.rows_are_tried_in_order.ensures in
     let rise = c.matching_rows_rise.ensures in
     let told = g.W.Watch.lists c.args.watch.now in
-    let run_set : c.in_ok-searches.searches.items ≡ map (started pairs) targets = cc (c.in_ok-searches.ensures, c.in_ok-citation.ensures, c.targets.ensures.value) in
+    let asked = c.in_ok-citation.citation in
+    let same : asked.pairs ≡ pairs = c.in_ok-citation.ensures.pairs in
+    let begun : c.in_ok-searches.searches.items ≡ map (started asked) targets = cc (c.in_ok-searches.ensures, c.targets.ensures.value) in
     record {
-      menu = ap (map (entry_in_the_end pairs)) run_set ∙ menu_at_start laws.start laws.no_more laws.link laws.no_link pairs targets;
-      rounds = subst (λ searches. AfterRounds pairs targets searches told told) (sym run_set) (at_first rise.start rise.no_more rise.next pairs targets told);
+      menu = ap (map entry_in_the_end) begun ∙ menu_at_start laws.start laws.no_more laws.link laws.no_link asked targets ∙ ap (menu_of targets) same;
+      rounds =
+          subst (λ searches. AfterRounds pairs targets searches told told) (sym begun)
+          (at_first rise.start rise.no_more rise.next pairs targets asked told same);
     }
 
 -- ---- a round
 
-pub returns-in_err-batch-clause-err : goal.returns-in_err-batch-clause-err
-returns-in_err-batch-clause-err g c =
-    let pairs = c.args.request.now.pairs in
-    let targets = c.args.registry.now in
-    let told = g.W.Watch.lists c.args.watch.now in
-    let shown = g.W.Watch.lists c.loop-searches.watch in
-    on_err c.from_residual-in_err-batch.result (HasSeenSome (step_lists_in_all_rounds targets pairs) told shown)
-    (some_rounds pairs targets c.loop-searches.searches.items told shown c.loop-searches.invariant.rounds)
-
-pub returns-in_err-fates-clause-err : goal.returns-in_err-fates-clause-err
-returns-in_err-fates-clause-err g c =
+pub returns-in_err-try_next_rows-clause-err : goal.returns-in_err-try_next_rows-clause-err
+returns-in_err-try_next_rows-clause-err g c =
     let pairs = c.args.request.now.pairs in
     let targets = c.args.registry.now in
     let searches = c.loop-searches.searches.items in
     let told = g.W.Watch.lists c.args.watch.now in
     let before = g.W.Watch.lists c.loop-searches.watch in
-    let shown = g.W.Watch.lists c.round.new.watch in
+    let shown = g.W.Watch.lists c.try_next_rows.new.watch in
     let opened : list_any is_open searches ≡ true = cc (c.is_any_open.ensures, c.deref.ensures.value, c.loop-searches-test.true) in
-    on_err c.from_residual-in_err-fates.result (HasSeenSome (step_lists_in_all_rounds targets pairs) told shown)
-    (part_of_round pairs targets searches told before c.loop-searches.invariant.rounds _ shown opened (cc (c.in_ok-batch.ensures.ends, c.deref-in-loop-searches.ensures.value, c.deref-in-loop-searches-2.ensures.value, c.deref-in-loop-searches-3.ensures.value, c.in_ok-citation.ensures)) c.in_err-fates.ensures.err)
+    on_err c.from_residual-in_err-try_next_rows.result (HasSeenSome (step_lists_in_all_rounds targets pairs) told shown)
+    (part_of_round pairs targets searches told before c.loop-searches.invariant.rounds _ shown opened
+    (ap ends_next c.as_mut_slice.ensures.value) c.in_err-try_next_rows.ensures.err)
 
 pub loop-searches-smaller : goal.loop-searches-smaller
 loop-searches-smaller g c =
@@ -68,9 +74,9 @@ loop-searches-smaller g c =
     let told = g.W.Watch.lists c.args.watch.now in
     let shown = g.W.Watch.lists c.loop-searches.watch in
     let slice = c.as_mut_slice.ensures in
-    let back = all_written_back pairs _ searches.items _ c.take_over_all.new.searches searches.len c.in_ok-citation.ensures slice.value slice.len c.take_over_all.ensures in
+    let back = all_written_back searches.items _ c.try_next_rows.new.searches searches.len slice.value slice.len c.in_ok-try_next_rows.ensures.ok in
     let opened : list_any is_open searches.items ≡ true = cc (c.is_any_open.ensures, c.deref.ensures.value, c.loop-searches-test.true) in
-    subst (λ now. rounds_left pairs now < rounds_left pairs searches.items) (sym back)
+    subst (λ now. rounds_left now < rounds_left searches.items) (sym back)
     (fewer_rounds rise.start rise.no_more rise.next pairs targets searches.items told shown c.loop-searches.invariant.rounds opened)
 
 pub loop-searches-preserved : goal.loop-searches-preserved
@@ -83,15 +89,17 @@ loop-searches-preserved g c =
     let searches = c.loop-searches.searches in
     let told = g.W.Watch.lists c.args.watch.now in
     let before = g.W.Watch.lists c.loop-searches.watch in
-    let shown = g.W.Watch.lists c.round.new.watch in
+    let shown = g.W.Watch.lists c.try_next_rows.new.watch in
     let slice = c.as_mut_slice.ensures in
-    let back = all_written_back pairs _ searches.items _ c.take_over_all.new.searches searches.len c.in_ok-citation.ensures slice.value slice.len c.take_over_all.ensures in
+    let round = c.in_ok-try_next_rows.ensures in
+    let back = all_written_back searches.items _ c.try_next_rows.new.searches searches.len slice.value slice.len round.ok in
     let opened : list_any is_open searches.items ≡ true = cc (c.is_any_open.ensures, c.deref.ensures.value, c.loop-searches-test.true) in
     record {
-      menu = ap (map (entry_in_the_end pairs)) back ∙ menu_after_round laws.start laws.no_more laws.link laws.no_link pairs searches.items ∙ inv.menu;
+      menu = ap (map entry_in_the_end) back ∙ menu_after_round laws.start laws.no_more laws.link laws.no_link searches.items ∙ inv.menu;
       rounds =
           subst (λ now. AfterRounds pairs targets now told shown) (sym back)
-          (one_round rise.start rise.no_more rise.next pairs targets searches.items told before shown _ inv.rounds opened (cc (c.in_ok-batch.ensures.ends, c.deref-in-loop-searches.ensures.value, c.deref-in-loop-searches-2.ensures.value, c.deref-in-loop-searches-3.ensures.value, c.in_ok-citation.ensures)) c.in_ok-fates.ensures.shown);
+          (one_round rise.start rise.no_more rise.next pairs targets searches.items told before shown _ inv.rounds opened
+          (ap ends_next slice.value) round.shown);
     }
 
 -- ---- after the last round
@@ -101,7 +109,7 @@ returns-clause-menu g c =
     let pairs = c.args.request.now.pairs in
     let searches = c.loop-searches.searches in
     let none : list_any is_open searches.items ≡ false = cc (c.is_any_open.ensures, c.deref.ensures.value, c.loop-searches-test.false) in
-    subst (λ all. IfOk c.menu_so_far.result (λ menu. menu ≡ all)) (sym (menu_at_end pairs searches.items none) ∙ c.loop-searches.invariant.menu) c.menu_so_far.ensures
+    subst (λ all. IfOk c.menu_so_far.result (λ menu. menu ≡ all)) (sym (menu_at_end searches.items none) ∙ c.loop-searches.invariant.menu) c.menu_so_far.ensures
 
 pub returns-clause-shown : goal.returns-clause-shown
 returns-clause-shown g c =

@@ -6,9 +6,9 @@ use Rattle.link_menu.proofs.resolver.resolve_watched.Given as goal
 
 abbrev pub invariant-loop-searches : goal.invariant-loop-searches
 invariant-loop-searches g l = record {
-  menu : map (entry_in_the_end l.request.pairs) l.searches.items ≡ menu_of l.registry l.request.pairs;
+  menu : map entry_in_the_end l.searches.items ≡ menu_of l.registry l.request.pairs;
   rounds : AfterRounds l.request.pairs l.registry l.searches.items (g.W.Watch.lists l.fn.watch) (g.W.Watch.lists l.watch);
 }
 
 abbrev pub decreases-loop-searches : goal.decreases-loop-searches
-decreases-loop-searches g l = rounds_left l.request.pairs l.searches.items
+decreases-loop-searches g l = rounds_left l.searches.items

@@ -7,7 +7,7 @@ use Rattle.link_menu.proofs.resolver.take_over_all.Given as goal
 -- the searches before the place have gone on, and the fates that are left are those of the others
 abbrev pub invariant-loop-search : goal.invariant-loop-search
 invariant-loop-search l = record {
-  fates : map said (into_iter_items l.fates) ≡ fates_next l.citation (drop l.search-index l.fn.searches);
-  before : take l.search-index l.searches ≡ map (after_next_row l.citation) (take l.search-index l.fn.searches);
+  fates : map said (into_iter_items l.fates) ≡ fates_next (drop l.search-index l.fn.searches);
+  before : take l.search-index l.searches ≡ map after_next_row (take l.search-index l.fn.searches);
   others : drop l.search-index l.searches ≡ drop l.search-index l.fn.searches;
 }

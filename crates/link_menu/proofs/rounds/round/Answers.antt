@@ -1,43 +1,31 @@
-use Rattle.std.proofs.Common.{◌≡◌, ap, sym, ◌∙◌, subst, map, length}
-use Rattle.std.specs.Prelude.{IfOk}
+use Rattle.std.proofs.Common.{◌≡◌, List, [], ◌∷◌, map, refl, ap, subst}
+use Rattle.std.specs.Prelude.{IfOk, OnOk, OnErr}
 use Rattle.std.specs.List.{zip}
-use Rattle.link_menu.specs.Fates.{said}
-use Rattle.link_menu.specs.Private.Rounds.{AreOfTheSame}
+use Rattle.target_vars.specs.EnvValue.{EnvValue}
+use Rattle.link_menu.specs.Fates.{fate_of, said}
 use Rattle.link_menu.specs.StepLists.{HasSeenAll, HasSeenSome, step_lists_of}
-use Rattle.link_menu.proofs.FateLemmas.{fates_after_turns, runs_after_turns}
-use Rattle.link_menu.proofs.StepListLemmas.{all_seen, nothing_seen, on_err}
 use Rattle.link_menu.proofs.rounds.round.Goals as goal
 
-pub returns-in_err-run_set-clause-err : goal.returns-in_err-run_set-clause-err
-returns-in_err-run_set-clause-err g c =
-    let lists = step_lists_of (zip (map (λ code. code.now) c.args.codes.now) c.args.envs.now) in
-    let told = g.W.Watch.lists c.args.watch.now in
-    on_err c.from_residual.result (HasSeenSome lists told told) (nothing_seen lists told)
-
-pub finish_all-requires : goal.finish_all-requires
-finish_all-requires g c =
-    let pairs = zip (map (λ code. code.now) c.args.codes.now) c.args.envs.now in
-    let run_set = c.in_ok-run_set.run_set in
-    let new = c.turn_until_ended.new.runs in
-    let same : AreOfTheSame run_set.runs.items new = cc (c.turn_until_ended.ensures.same, c.as_mut_slice.ensures.value) in
-    let long = sym (ap length c.as_mut_slice.ensures.value) ∙ c.as_mut_slice.ensures.len in
-    runs_after_turns pairs run_set.over_budget.items run_set.runs.items new run_set.runs.len c.in_ok-run_set.ensures.over_budget c.in_ok-run_set.ensures.runs long same
+-- an environment is what it tells
+each_itself : (envs : List EnvValue) → map (λ env. env) envs ≡ envs
+each_itself [] = refl
+each_itself (env ∷ envs) = ap (λ es. env ∷ es) (each_itself envs)
 
 pub returns-clause-fates : goal.returns-clause-fates
 returns-clause-fates g c =
-    let pairs = zip (map (λ code. code.now) c.args.codes.now) c.args.envs.now in
-    let run_set = c.in_ok-run_set.run_set in
-    let new = c.turn_until_ended.new.runs in
-    let same : AreOfTheSame run_set.runs.items new = cc (c.turn_until_ended.ensures.same, c.as_mut_slice.ensures.value) in
-    let long = sym (ap length c.as_mut_slice.ensures.value) ∙ c.as_mut_slice.ensures.len in
-    subst (λ all. IfOk c.finish_all.result (λ fates. map said fates.items ≡ all))
-    (fates_after_turns pairs run_set.over_budget.items run_set.runs.items new run_set.runs.len c.in_ok-run_set.ensures.over_budget c.in_ok-run_set.ensures.runs long same)
-    c.finish_all.ensures
+    subst (λ envs. IfOk c.round_over.result (λ fates. map said fates.items ≡ map fate_of (zip (map (λ code. code.now) c.args.codes.now) envs)))
+    (each_itself c.args.envs.now) c.round_over.ensures.fates
+
+pub returns-clause-shown : goal.returns-clause-shown
+returns-clause-shown g c =
+    let told = g.W.Watch.lists c.args.watch.now in
+    let shown = g.W.Watch.lists c.round_over.new.watch in
+    subst (λ envs. OnOk c.round_over.result (HasSeenAll (step_lists_of (zip (map (λ code. code.now) c.args.codes.now) envs)) told shown))
+    (each_itself c.args.envs.now) c.round_over.ensures.shown
 
 pub returns-clause-err : goal.returns-clause-err
 returns-clause-err g c =
-    let lists = step_lists_of (zip (map (λ code. code.now) c.args.codes.now) c.args.envs.now) in
     let told = g.W.Watch.lists c.args.watch.now in
-    let shown = g.W.Watch.lists c.turn_until_ended.new.watch in
-    let all : HasSeenAll lists told shown = cc (c.in_ok-turn_until_ended.ensures.ok, c.as_mut_slice.ensures.value, c.in_ok-run_set.ensures.runs) in
-    on_err c.finish_all.result (HasSeenSome lists told shown) (all_seen lists told shown all)
+    let shown = g.W.Watch.lists c.round_over.new.watch in
+    subst (λ envs. OnErr c.round_over.result (HasSeenSome (step_lists_of (zip (map (λ code. code.now) c.args.codes.now) envs)) told shown))
+    (each_itself c.args.envs.now) c.round_over.ensures.err

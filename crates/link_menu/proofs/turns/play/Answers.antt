@@ -6,7 +6,7 @@ use Rattle.link_menu.proofs.TurnLemmas.{played_next}
 use Rattle.link_menu.proofs.turns.play.Goals as goal
 
 pub loop-turn-preserved : goal.loop-turn-preserved
-loop-turn-preserved c =
+loop-turn-preserved g c =
     let inv = c.loop-turn.invariant in
     let old = c.args.runs.now in
     let runs = c.loop-turn.runs in

@@ -4,7 +4,7 @@ use Rattle.link_menu.specs.Turns.{IsPlayed, own_turns}
 use Rattle.link_menu.proofs.turns.play.Given as goal
 
 abbrev pub invariant-loop-turn : goal.invariant-loop-turn
-invariant-loop-turn l = record {
+invariant-loop-turn g l = record {
   count : length l.runs ≡ length l.fn.runs;
   played : (i : ℕ) (d : RunValue) → i < length l.fn.runs → IsPlayed (get_or l.fn.runs i d) (own_turns i (take l.turn-index l.turns)) (get_or l.runs i d);
 }

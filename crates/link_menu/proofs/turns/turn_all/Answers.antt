@@ -9,7 +9,7 @@ use Rattle.link_menu.proofs.turns.turn_all.Goals as goal
 use Rattle.link_menu.proofs.turns.turn_all.Goals.{then-not-advance, else-not-advance}
 
 pub loop-run-preserved : goal.loop-run-preserved
-loop-run-preserved c =
+loop-run-preserved g c =
     let inv = c.loop-run.invariant in
     let old = c.args.runs.now in
     let runs = c.loop-run.runs in

@@ -1,9 +1,24 @@
-use Rattle.std.proofs.Common.{IfErr, subst}
+use Rattle.std.proofs.Common.{IfErr, IfOk, subst}
 use Rattle.std.proofs.Math.Path.{fun_ext}
-use Rattle.std.proofs.lemmas.Result.{IfErr-weaker}
-use Rattle.registry_file.specs.Loading.{IsNotLoaded, IsRegistryFault}
+use Rattle.std.proofs.lemmas.Result.{IfErr-weaker, IfOk-weaker}
+use Rattle.registry_file.specs.Loading.{AreTargetsOf, IsLoaded, IsNotLoaded, IsRegistryFault}
 use Rattle.registry_file.proofs.LoadLemmas.{IsRead, not_loaded}
 use Rattle.registry_file.proofs.load.load_registry.Goals as goal
+
+pub returns-clause-ok : goal.returns-clause-ok
+returns-clause-ok g c =
+    let draws = g.K.KeySource.draws in
+    let disk = g.F.Files.at c.args.files.now in
+    let keys = c.in_ok-keys.keys in
+    let all = subst (λ disk. IfOk c.registry_of.result (AreTargetsOf disk keys c.deref.result.now)) (fun_ext c.read_whole.ensures.same) c.registry_of.ensures.ok in
+    IfOk-weaker c.registry_of.result (AreTargetsOf disk keys c.deref.result.now) (IsLoaded draws disk c.args.keys.now c.args.path.now c.draw.new.self)
+    (λ targets held. record {
+      bytes = c.in_ok-bytes.bytes.items;
+      keys = keys;
+      file = c.in_ok-bytes.ensures.whole;
+      drawn = c.in_ok-keys.ensures.drawn;
+      held = subst (λ bytes. AreTargetsOf disk keys bytes targets) c.deref.ensures.value held;
+    }) all
 
 pub returns-clause-err : goal.returns-clause-err
 returns-clause-err g c =

@@ -4,4 +4,5 @@ use Rattle.link_menu.specs.Private.RunSets.{IsRunSetOf}
 use Rattle.link_menu.proofs.run_set.RunSet.begin_all.Given as goal
 
 abbrev pub invariant-loop-code : goal.invariant-loop-code
-invariant-loop-code l = IsRunSetOf (take (length l.yielded) (zip (map (λ c. c.now) l.codes) l.envs)) l.run_set
+invariant-loop-code g l =
+    IsRunSetOf (take (length l.yielded) (zip (map (λ c. c.now) l.codes) (map g.E.Scope.environment l.envs))) l.run_set.over_budget.items l.run_set.runs.items

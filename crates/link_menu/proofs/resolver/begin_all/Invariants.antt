@@ -1,0 +1,6 @@
+use Rattle.std.proofs.Common.{◌≡◌, map, take}
+use Rattle.link_menu.specs.Private.Searches.{started}
+use Rattle.link_menu.proofs.resolver.begin_all.Given as goal
+
+abbrev pub invariant-loop-target : goal.invariant-loop-target
+invariant-loop-target l = l.searches.items ≡ map (started l.citation) (take l.target-index l.targets)
