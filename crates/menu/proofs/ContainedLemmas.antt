@@ -1,16 +1,20 @@
 -- What is written of a link and of a name stays where it is.
-use Rattle.std.proofs.Common.{◌≡◌, ◌≢◌, ℕ, Bool, true, false, [], ◌∷◌, ◌++◌, ◌⊎◌, inl, inr, refl, sym, ap, ◌∙◌, subst, arith, append_assoc}
-use Rattle.std.specs.Prelude.{◌==◌, if◌then◌else◌, All}
+use Rattle.std.proofs.Common.{◌≡◌, ◌≢◌, ℕ, Bool, true, false, [], ◌∷◌, ◌++◌, ◌⊎◌, inl, inr, refl, ap, subst, arith}
+use Rattle.std.specs.Prelude.{◌==◌, ◌||◌, if◌then◌else◌, All}
+use Rattle.std.specs.List.{list_all}
 use Rattle.std.proofs.lemmas.Bool.{eqb-false}
-use Rattle.std.proofs.lemmas.Bool.Decides.{nat_tests}
-use Rattle.std.proofs.lemmas.Grind.{flat_map-append}
-use Rattle.std.proofs.lemmas.List.Elements.{All-nil, All-cons, All-append, All-weaker}
+use Rattle.std.proofs.lemmas.Bool.Decides.{nat_tests, Decides-by_and}
+use Rattle.std.proofs.lemmas.List.Elements.{All-nil, All-cons, All-head, All-tail, All-append, All-push, All-weaker}
 use Rattle.text_model.specs.Texts.{Text, percent, is_unreserved, is_reserved, is_hexadecimal}
 use Rattle.text_model.specs.Writing.{is_unreserved_or_reserved}
 use Rattle.text_model.specs.UriText.{IsUriText, nothing, and_character, and_triplet}
 use Rattle.menu.specs.Contained.{is_delimiter, is_markup, BeginsWith, IsContained, is_name_character, IsTargetName}
 use Rattle.menu.specs.Escaping.{ampersand, apostrophe, ampersand_reference, apostrophe_reference, escaped_byte, escaped}
 use Rattle.menu.proofs.ReadingLemmas.{head_of, rest_of}
+
+-- each element passes a test
+pub All-from_test : (test : ℕ → Bool) (t : Text) → list_all test t ≡ true → All (λ b. test b ≡ true) t
+All-from_test test t e = (Decides-by_and test (λ b. test b ≡ true) (list_all test) (λ _. (λ x. x, λ x. x)) refl (λ _ _. refl) t).0 e
 
 -- ---- delimiters
 
@@ -28,38 +32,55 @@ ampersand_harmless = five ampersand 0x61 0x6D 0x70 0x3B refl refl refl refl refl
 apostrophe_harmless : All harmless apostrophe_reference
 apostrophe_harmless = five ampersand 0x23 0x33 0x39 0x3B refl refl refl refl refl
 
--- written as it is, or as a reference
-byte_harmless : (b : ℕ) → (b ≢ apostrophe → is_delimiter b ≡ false) → All harmless (escaped_byte b)
-byte_harmless b h = by_tests (b == ampersand) (b == apostrophe) refl
-  where
-    by_tests : (x y : Bool) → (b == apostrophe) ≡ y
-        → All harmless (if x then ampersand_reference else (if y then apostrophe_reference else (b ∷ [])))
-    by_tests true y e = ampersand_harmless
-    by_tests false true e = apostrophe_harmless
-    by_tests false false e = All-cons harmless b [] (h (eqb-false b apostrophe e)) (All-nil harmless)
+-- a byte of URI text
+abbrev pub is_uri_byte : ℕ → Bool
+is_uri_byte b = is_unreserved_or_reserved b || b == percent
 
-character_harmless : (b : ℕ) → is_unreserved_or_reserved b ≡ true → b ≢ apostrophe → is_delimiter b ≡ false
+character_is_uri : (b : ℕ) → is_unreserved_or_reserved b ≡ true → is_uri_byte b ≡ true
+character_is_uri b e = rw e
+
+hexadecimal_is_uri : (b : ℕ) → is_hexadecimal b ≡ true → is_uri_byte b ≡ true
 unfolding is_unreserved is_reserved
-character_harmless b e n = grind (arith, nat_tests)
+hexadecimal_is_uri b e = grind (arith, nat_tests)
 
-hexadecimal_harmless : (b : ℕ) → is_hexadecimal b ≡ true → is_delimiter b ≡ false
-hexadecimal_harmless b e = grind (arith, nat_tests)
+abbrev in_uri : ℕ → Type 0
+in_uri b = is_uri_byte b ≡ true
 
--- one more byte at the end
-then_byte : (t : Text) (b : ℕ) → All harmless (escaped t) → (b ≢ apostrophe → is_delimiter b ≡ false)
-    → All harmless (escaped (t ++ b ∷ []))
-then_byte t b all h =
-    subst (All harmless) (sym (flat_map-append escaped_byte t (b ∷ [])))
-    (All-append harmless (escaped t) (escaped (b ∷ [])) all (All-append harmless (escaped_byte b) [] (byte_harmless b h) (All-nil harmless)))
+uri_bytes : (t : Text) → IsUriText t → All in_uri t
+unfolding is_unreserved is_reserved
+uri_bytes _ nothing = All-nil in_uri
+uri_bytes _ (and_character t b u e) = All-push in_uri t b (uri_bytes t u) (character_is_uri b e)
+uri_bytes _ (and_triplet t high low u e f) =
+    All-append in_uri t (percent ∷ high ∷ low ∷ []) (uri_bytes t u)
+    (All-cons in_uri percent (high ∷ low ∷ []) refl (All-cons in_uri high (low ∷ []) (hexadecimal_is_uri high e)
+    (All-cons in_uri low [] (hexadecimal_is_uri low f) (All-nil in_uri))))
+
+-- what holds of the bytes of the two references, and of each byte that is written as it is
+module _ (P : ℕ → Type 0) (of_ampersand : All P ampersand_reference) (of_apostrophe : All P apostrophe_reference)
+    (of_byte : (b : ℕ) → is_uri_byte b ≡ true → b ≢ apostrophe → P b) where
+  one_byte : (b : ℕ) → is_uri_byte b ≡ true → All P (escaped_byte b)
+  one_byte b u = by_tests (b == ampersand) (b == apostrophe) refl
+    where
+      by_tests : (x y : Bool) → (b == apostrophe) ≡ y
+          → All P (if x then ampersand_reference else (if y then apostrophe_reference else (b ∷ [])))
+      by_tests true y e = of_ampersand
+      by_tests false true e = of_apostrophe
+      by_tests false false e = All-cons P b [] (of_byte b u (eqb-false b apostrophe e)) (All-nil P)
+
+  each_byte : (t : Text) → All in_uri t → All P (escaped t)
+  each_byte [] all = All-nil P
+  each_byte (b ∷ t) all =
+      All-append P (escaped_byte b) (escaped t) (one_byte b (All-head in_uri b t all)) (each_byte t (All-tail in_uri b t all))
+
+  pub All-escaped : (t : Text) → IsUriText t → All P (escaped t)
+  All-escaped t u = each_byte t (uri_bytes t u)
+
+byte_harmless : (b : ℕ) → is_uri_byte b ≡ true → b ≢ apostrophe → is_delimiter b ≡ false
+unfolding is_unreserved is_reserved
+byte_harmless b e n = grind (arith, nat_tests)
 
 no_delimiter : (t : Text) → IsUriText t → All harmless (escaped t)
-no_delimiter _ nothing = All-nil harmless
-no_delimiter _ (and_character t b u e) = then_byte t b (no_delimiter t u) (character_harmless b e)
-no_delimiter _ (and_triplet t high low u e f) =
-    subst (λ x. All harmless (escaped x)) (append_assoc (t ++ percent ∷ []) (high ∷ []) (low ∷ []) ∙ append_assoc t (percent ∷ []) (high ∷ low ∷ []))
-    (then_byte ((t ++ percent ∷ []) ++ high ∷ []) low
-    (then_byte (t ++ percent ∷ []) high (then_byte t percent (no_delimiter t u) (λ _. refl)) (λ _. hexadecimal_harmless high e))
-    (λ _. hexadecimal_harmless low f))
+no_delimiter t u = All-escaped harmless ampersand_harmless apostrophe_harmless byte_harmless t u
 
 -- ---- ampersands
 

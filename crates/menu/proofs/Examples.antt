@@ -1,30 +1,59 @@
 -- The definitions computed: the texts of small menus are written out here, and the checker compares.
-use Rattle.std.proofs.Common.{◌≡◌, true, false, List, [], ◌∷◌, ◌++◌, length, refl, codes}
-use Rattle.std.specs.Prelude.{map}
+use Rattle.std.proofs.Common.{◌≡◌, ℕ, true, false, not, List, [], ◌∷◌, ◌++◌, length, refl, codes, arith, lit<, lit≤}
+use Rattle.std.specs.Prelude.{map, replicate}
+use Rattle.std.specs.List.{filter, range_with_len}
+use Rattle.std.specs.Str.{bytes_eq}
 use Rattle.std.specs.Fmt.{digits}
 use Rattle.text_model.specs.Texts.{Text}
 use Rattle.menu.specs.declared.entry.MenuEntry.{MenuEntry}
 use Rattle.menu.specs.declared.entry.Resolution.{Resolution}
 use Rattle.menu.specs.declared.entry.Resolution.TheVariants as resolution
-use Rattle.menu.specs.Links.{is_empty}
+use Rattle.menu.specs.Links.{links, is_empty}
 use Rattle.menu.specs.Escaping.{escaped}
 use Rattle.menu.specs.Printed.{text, report, html}
 use Rattle.menu.specs.WebLink.{is_web_link}
+use Rattle.menu.specs.Contained.{is_name_character, is_markup, IsTargetName}
+use Rattle.menu.proofs.ContainedLemmas.{All-from_test}
 
 -- ---- menus
 
-abbrev entry : Text → Resolution → MenuEntry
+abbrev pub all_bytes : List ℕ
+all_bytes = range_with_len 0 256
+
+abbrev pub entry : Text → Resolution → MenuEntry
 entry name resolution = record { name = name; resolution = resolution }
 
-abbrev alpha : MenuEntry
+abbrev pub alpha : MenuEntry
 alpha = entry (codes "alpha") (resolution.Link 1 (codes "http://e.org/b"))
 
 -- one link, and a target without one
-abbrev one_link : List MenuEntry
+abbrev pub one_link : List MenuEntry
 one_link = alpha ∷ entry (codes "beta") resolution.NotAWebLink ∷ []
 
-abbrev no_link : List MenuEntry
+abbrev pub no_link : List MenuEntry
 no_link = entry (codes "alpha") resolution.NoRow ∷ entry (codes "beta") resolution.NoRow ∷ []
+
+-- rows count from 0, and the order is that of the targets
+abbrev two_links : List MenuEntry
+two_links =
+    entry (codes "b") (resolution.Link 0 (codes "http://e.org/2")) ∷ entry (codes "c") resolution.NoLink
+    ∷ entry (codes "a") (resolution.Link 7 (codes "https://e.org/?x=1&y='2'")) ∷ []
+
+links_of_two : links two_links
+    ≡ record { name = codes "b"; link = codes "http://e.org/2" } ∷ record { name = codes "a"; link = codes "https://e.org/?x=1&y='2'" } ∷ []
+links_of_two = refl
+
+html_of_two : html two_links
+    ≡ codes "<!DOCTYPE html>\n<title>Links</title>\n<ul>\n<li><a href=\"http://e.org/2\">b</a></li>\n"
+    ++ codes "<li><a href=\"https://e.org/?x=1&amp;y=&#39;2&#39;\">a</a></li>\n</ul>\n"
+html_of_two = refl
+
+text_of_two : text two_links ≡ codes "b\thttp://e.org/2\na\thttps://e.org/?x=1&y='2'\n"
+text_of_two = refl
+
+report_of_two : report two_links ≡ codes "b\tlink 0\nc\tno link\na\tlink 7\n"
+unfolding digits
+report_of_two = refl
 
 text_of_one : text one_link ≡ codes "alpha\thttp://e.org/b\n"
 text_of_one = refl
@@ -60,8 +89,45 @@ empty_menus = refl
 written_links : map escaped (codes "http://e.org/?a=1&b='c'" ∷ codes "&amp;" ∷ [] ∷ []) ≡ codes "http://e.org/?a=1&amp;b=&#39;c&#39;" ∷ codes "&amp;amp;" ∷ [] ∷ []
 written_links = refl
 
-web_links : map is_web_link (codes "http://e.org/b" ∷ codes "HTTPS://x" ∷ codes "http://" ∷ codes "hTTp://x" ∷ []) ≡ true ∷ true ∷ true ∷ true ∷ []
+-- the bytes that are written as something else
+escaped_bytes : filter (λ b. not (bytes_eq (escaped (b ∷ [])) (b ∷ []))) all_bytes ≡ codes "&'"
+escaped_bytes = refl
+
+web_links : map is_web_link (codes "http://e.org/b" ∷ codes "HTTPS://x" ∷ codes "http://" ∷ codes "hTTp://x" ∷ codes "HTTP://" ∷ codes "hTTps://x" ∷ [])
+    ≡ true ∷ true ∷ true ∷ true ∷ true ∷ true ∷ []
 web_links = refl
 
-other_links : map is_web_link (codes "" ∷ codes "httpx://" ∷ codes "javascript:x" ∷ codes "http:/e" ∷ codes " http://e" ∷ []) ≡ false ∷ false ∷ false ∷ false ∷ false ∷ []
+other_links : map is_web_link (codes "" ∷ codes "httpx://" ∷ codes "javascript:x" ∷ codes "http:/e" ∷ codes " http://e" ∷ [])
+    ≡ false ∷ false ∷ false ∷ false ∷ false ∷ []
 other_links = refl
+
+-- a reference without a scheme, and a scheme without `//`
+relative_links : map is_web_link (codes "//e.org" ∷ codes "/" ∷ codes "e.org" ∷ []) ≡ false ∷ false ∷ false ∷ []
+relative_links = refl
+
+schemes_alone : map is_web_link (codes "http:" ∷ codes "https:" ∷ codes "http:e" ∷ codes "https:e" ∷ codes "https:/" ∷ [])
+    ≡ false ∷ false ∷ false ∷ false ∷ false ∷ []
+schemes_alone = refl
+
+-- ---- names of targets
+
+name_characters : filter is_name_character all_bytes ≡ codes "-.0123456789ABCDEFGHIJKLMNOPQRSTUVWXYZ_abcdefghijklmnopqrstuvwxyz"
+name_characters = refl
+
+markup : filter is_markup all_bytes ≡ codes "\"&'<>"
+markup = refl
+
+one_character : IsTargetName (codes "a")
+one_character = record { some = lit≤ tt; few = lit≤ tt; characters = All-from_test is_name_character (codes "a") refl }
+
+longest_name : IsTargetName (replicate 64 0x61)
+longest_name = record { some = lit≤ tt; few = lit≤ tt; characters = All-from_test is_name_character (replicate 64 0x61) refl }
+
+too_long_name : IsTargetName (replicate 65 0x61) → ⊥
+too_long_name h = omega (arith, h.few)
+
+no_name : IsTargetName [] → ⊥
+no_name h = omega (arith, h.some)
+
+name_with_colon : IsTargetName (codes "a:b") → ⊥
+name_with_colon h = absurd (cc (h.characters 1 0 (lit< tt)))

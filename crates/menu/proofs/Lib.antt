@@ -5,3 +5,6 @@ pub mod WebLinks
 pub mod ContainedLemmas
 pub mod ReadingLemmas
 pub mod Examples
+pub mod OneReading
+pub mod PageLemmas
+pub mod PageExamples

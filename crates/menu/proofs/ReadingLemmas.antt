@@ -27,7 +27,7 @@ behind_reference : Text → Text
 behind_reference t = rest_of (rest_of (rest_of (rest_of (rest_of t))))
 
 -- a text is read as one text alone
-one_reading : (written other t u : Text) → written ≡ other → IsReadAs written t → IsReadAs other u → t ≡ u
+pub one_reading : (written other t u : Text) → written ≡ other → IsReadAs written t → IsReadAs other u → t ≡ u
 unfolding head_of rest_of behind_reference
 one_reading _ _ _ _ e read_nothing read_nothing = refl
 one_reading _ _ _ _ e read_nothing (read_ampersand t u h) = absurd (cc)

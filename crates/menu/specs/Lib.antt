@@ -3,3 +3,4 @@ pub mod Escaping
 pub mod Printed
 pub mod WebLink
 pub mod Contained
+pub mod PageReading
