@@ -1,1 +1,2 @@
 pub mod Safely
+pub mod Faultless

@@ -1,5 +1,6 @@
 -- What is known of accepted code says how its run ends, and why it is not begun.
-use Rattle.std.proofs.Common.{◌≡◌, ℕ, ◌<◌, ◌≤◌, Err, length, refl, ap, subst, arith}
+use Rattle.std.proofs.Common.{◌≡◌, ℕ, ◌<◌, ◌≤◌, Err, length, refl, ap, subst, inl, inr, arith}
+use Rattle.std.proofs.lemmas.Bool.{cases_lt}
 use Rattle.std.specs.Prelude.{◌↔◌, Result}
 use Rattle.text_model.specs.Texts.{Text}
 use Rattle.text_model.specs.UriText.{IsUriText}
@@ -9,11 +10,8 @@ use Rattle.machine_model.specs.States.{Ended}
 use Rattle.machine_model.specs.States as end
 use Rattle.machine_model.specs.Runs.{After, EndsAfter, HasOutcome}
 use Rattle.machine_model.specs.Runs as run
-use Rattle.machine_model.specs.Form.{HasGoodForm}
-use Rattle.machine_model.specs.Typable.{IsTypable}
 use Rattle.machine_model.specs.Safe.{IsSafe}
 use Rattle.target_vars.specs.EnvValue.{EnvValue}
-use Rattle.code_file.specs.Grammar.{IsCodeFile}
 use Rattle.verified_runs.specs.RunValue.{most_steps, most_bytes, outcome_of}
 use Rattle.verified_runs.specs.declared.outcome.Outcome.{Outcome}
 use Rattle.verified_runs.specs.declared.outcome.Outcome.TheVariants.{Link, NoLink}
@@ -21,7 +19,7 @@ use Rattle.verified_runs.specs.declared.run.TheConstants.{MAX_LINK_BYTES}
 use Rattle.verified_runs.specs.declared.error.PrepareError.{PrepareError}
 use Rattle.verified_runs.specs.declared.error.PrepareError.TheVariants.{OverBudget, NoMemory}
 use Rattle.safe_runs.specs.declared.error.RunError.TheVariants.{Prepare}
-use Rattle.safe_runs.specs.Ending.{EndsSafely}
+use Rattle.safe_runs.specs.Ending.{EndsSafely, IsAcceptedFile}
 use Rattle.safe_runs.specs.Causes.{IsCause}
 
 abbrev pub EndsOnce : Type 0
@@ -43,6 +41,7 @@ module _ (once : EndsOnce) (c : Code) (e : EnvValue) (safe : IsSafe c) where
     steps = k;
     comes = after;
     in_time = in_time k (end.Link t, after);
+    printed = λ n s. safe.bounded e.entries n s;
     bounded = λ u same. subst (λ x. length x ≤ most_bytes c e) (link_is t u same) (safe.bounded e.entries k (Ended (end.Link t)) after);
     uri = λ u same. subst IsUriText (link_is t u same) (safe.uri e.entries k (Ended (end.Link t)) after);
   }
@@ -53,6 +52,7 @@ module _ (once : EndsOnce) (c : Code) (e : EnvValue) (safe : IsSafe c) where
     steps = h.0;
     comes = h.1;
     in_time = in_time h.0 (end.NoLink, h.1);
+    printed = λ n s. safe.bounded e.entries n s;
     bounded = λ u same. absurd (cc);
     uri = λ u same. absurd (cc);
   }
@@ -68,12 +68,27 @@ error_is T d f same = cc
 pub same_over : (T U : Type 0) (d : PrepareError) (n : ℕ) (P : Type 0) → (wrong T d ≡ wrong T (OverBudget n)) ↔ P → (wrong U d ≡ wrong U (OverBudget n)) ↔ P
 same_over T U d n P h = ((λ same. h.0 (ap (wrong T) (error_is U d (OverBudget n) same))), (λ p. ap (wrong U) (error_is T d (OverBudget n) (h.1 p))))
 
--- what is known of an error of the run
-abbrev pub IsExact : Code → EnvValue → PrepareError → Type 0
-IsExact c e error = (n : ℕ) → error ≡ OverBudget n → (n ≡ most_bytes c e) × (MAX_LINK_BYTES < n)
+-- an error that is not over budget comes only within the limit, since every bound over the limit is answered as such
+pub within_limit : (T : Type 0) (d : PrepareError) (most : ℕ)
+    → ((n : ℕ) → (wrong T d ≡ wrong T (OverBudget n)) ↔ ((n ≡ most) × (MAX_LINK_BYTES < n))) → d ≡ NoMemory → most ≤ MAX_LINK_BYTES
+within_limit T d most over same = elim (cases_lt MAX_LINK_BYTES most) [
+  | inr within ↦ within
+  | inl passes ↦
+      let is_over : d ≡ OverBudget most = error_is T d (OverBudget most) ((over most).1 (refl, passes)) in
+      absurd (cc (is_over, same))
+]
 
-pub is_cause : (bytes : Text) (c : Code) (e : EnvValue) (error : PrepareError) → IsCodeFile bytes c → HasGoodForm c → IsTypable c → IsExact c e error → IsCause bytes e (Prepare error)
-is_cause bytes c e (OverBudget n) file form typable exact =
-    let over = exact n refl in
-    record { code = c; is_file = file; form = form; typable = typable; bound = over.0; passes = over.1 }
-is_cause bytes c e NoMemory file form typable exact = (c, file)
+-- out of memory is one error, of a result of any type
+pub no_memory_is : (U : Type 0) (d : PrepareError) → wrong U d ≡ wrong U NoMemory → d ≡ NoMemory
+no_memory_is U d same = error_is U d NoMemory same
+
+-- what is known of an error of the run
+pub record IsExact (c : Code) (e : EnvValue) (error : PrepareError) : Type 0 where
+  pub over : (n : ℕ) → error ≡ OverBudget n → (n ≡ most_bytes c e) × (MAX_LINK_BYTES < n)
+  pub no_memory : error ≡ NoMemory → most_bytes c e ≤ MAX_LINK_BYTES
+
+pub is_cause : (bytes : Text) (c : Code) (e : EnvValue) (error : PrepareError) → IsAcceptedFile bytes c → IsExact c e error → IsCause bytes e (Prepare error)
+is_cause bytes c e (OverBudget n) file exact =
+    let over = exact.over n refl in
+    record { code = c; file = file; bound = over.0; passes = over.1 }
+is_cause bytes c e NoMemory file exact = record { code = c; file = file; within = exact.no_memory refl }

@@ -1,28 +1,39 @@
 -- Why the code of a file is not run.
-use Rattle.std.specs.Prelude.{◌≡◌, ℕ, ◌<◌}
+use Rattle.std.specs.Prelude.{◌≡◌, ℕ, ◌<◌, ◌≤◌}
 use Rattle.text_model.specs.Texts.{Text}
 use Rattle.code_model.specs.Code.{Code}
-use Rattle.machine_model.specs.Form.{HasGoodForm}
-use Rattle.machine_model.specs.Typable.{IsTypable}
 use Rattle.target_vars.specs.EnvValue.{EnvValue}
-use Rattle.code_file.specs.Grammar.{IsCodeFile}
 use Rattle.verifier.specs.Faults.{IsLoadFault}
 use Rattle.verified_runs.specs.RunValue.{most_bytes}
 use Rattle.verified_runs.specs.declared.run.TheConstants.{MAX_LINK_BYTES}
 use Rattle.verified_runs.specs.declared.error.PrepareError.TheVariants.{OverBudget, NoMemory}
+use Rattle.safe_runs.specs.Ending.{IsAcceptedFile}
 use Rattle.safe_runs.specs.declared.error.RunError.{RunError}
 use Rattle.safe_runs.specs.declared.error.RunError.TheVariants.{Load, Prepare}
 
--- the code of the bytes is of good form and typable, and its bound on output is this number, past the limit
+-- the bytes are the file of accepted code that might print more than a link may have
 pub record IsOverBudget (bytes : Text) (e : EnvValue) (n : ℕ) : Type 0 where
+  -- the verifier accepts the code of the bytes
   pub code : Code
-  pub is_file : IsCodeFile bytes code
-  pub form : HasGoodForm code
-  pub typable : IsTypable code
+  pub file : IsAcceptedFile bytes code
+  -- the number is its bound on output bytes
   pub bound : n ≡ most_bytes code e
+  -- the number is over the limit
   pub passes : MAX_LINK_BYTES < n
 
+-- the bytes are the file of accepted code that might print at most what a link may have
+pub record IsWithinBudget (bytes : Text) (e : EnvValue) : Type 0 where
+  -- the verifier accepts the code of the bytes
+  pub code : Code
+  pub file : IsAcceptedFile bytes code
+  -- its bound on output bytes is within the limit
+  pub within : most_bytes code e ≤ MAX_LINK_BYTES
+
+-- what each error says of the bytes
 abbrev pub IsCause : Text → EnvValue → RunError → Type 0
+-- this is the fault for which the verifier rejects them, or they are a code file and memory ran out while it was loaded
 IsCause bytes e (Load error) = IsLoadFault bytes error
+-- they are accepted, and the bound on output bytes, this number, is over the limit
 IsCause bytes e (Prepare (OverBudget n)) = IsOverBudget bytes e n
-IsCause bytes e (Prepare NoMemory) = (c : Code) × IsCodeFile bytes c
+-- they are accepted, the bound is within the limit, and memory ran out before the first step
+IsCause bytes e (Prepare NoMemory) = IsWithinBudget bytes e

@@ -3,24 +3,51 @@ use Rattle.std.specs.Prelude.{◌≡◌, ℕ, ◌≤◌, length}
 use Rattle.text_model.specs.Texts.{Text}
 use Rattle.text_model.specs.UriText.{IsUriText}
 use Rattle.code_model.specs.Code.{Code}
-use Rattle.machine_model.specs.Runs.{Outcome, Link, ComesTo}
+use Rattle.machine_model.specs.States.{State}
+use Rattle.machine_model.specs.Runs.{Outcome, Link, After, ComesTo}
+use Rattle.machine_model.specs.Safe.{output_of}
 use Rattle.target_vars.specs.EnvValue.{EnvValue}
 use Rattle.code_file.specs.Grammar.{IsCodeFile}
+use Rattle.verifier.specs.Accepted.{IsAccepted}
+use Rattle.verifier.specs.Faults.{IsLoadFault}
+use Rattle.verifier.specs.declared.error.LoadError.{LoadError}
+use Rattle.verifier.specs.declared.error.LoadError.TheVariants as load
 use Rattle.verified_runs.specs.RunValue.{most_steps, most_bytes}
 use Rattle.verified_runs.specs.declared.run.TheConstants.{MAX_LINK_BYTES}
 
--- the machine's own outcome, within the steps of the code's budget; a link has no more bytes than the budget says, and
--- is URI text
+-- the verifier finds no fault of the file, of form or of kinds in the bytes: it can only run out of memory
+abbrev pub HasNoFault : Text → Type 0
+HasNoFault bytes = (e : LoadError) → IsLoadFault bytes e → e ≡ load.NoMemory
+
+-- the bytes are the file of a code that the verifier accepts
+pub record IsAcceptedFile (bytes : Text) (c : Code) : Type 0 where
+  -- the bytes are the file of this code
+  pub is_file : IsCodeFile bytes c
+  -- the code has good form, is typable, and is safe on every environment
+  pub accepted : IsAccepted c
+  -- the verifier rejects the bytes for no fault
+  pub no_fault : HasNoFault bytes
+
+-- the run of a code on an environment, with its outcome
 pub record EndsSafely (c : Code) (e : EnvValue) (o : Outcome) : Type 0 where
+  -- the outcome is the machine's own, after this number of steps
   pub steps : ℕ
   pub comes : ComesTo c e.entries steps o
+  -- the steps are within the budget of the code
   pub in_time : steps ≤ most_steps c e
+  -- at every moment the output has at most the bytes of the budget, also in a run that gives no link
+  pub printed : (k : ℕ) (s : State) → After c e.entries k s → length (output_of s) ≤ most_bytes c e
+  -- a link has at most the bytes of the budget
   pub bounded : (link : Text) → o ≡ Link link → length link ≤ most_bytes c e
+  -- a link is URI text (RFC 3986, sections 2.1 to 2.3)
   pub uri : (link : Text) → o ≡ Link link → IsUriText link
 
--- the code of these bytes, whose bound on output is within the limit, ends so
+-- the run of a code file on an environment, with its outcome
 pub record FileEndsSafely (bytes : Text) (e : EnvValue) (o : Outcome) : Type 0 where
+  -- the verifier accepts the code of the bytes
   pub code : Code
-  pub is_file : IsCodeFile bytes code
+  pub file : IsAcceptedFile bytes code
+  -- its bound on output bytes is within the limit
   pub within : most_bytes code e ≤ MAX_LINK_BYTES
+  -- its run ends safely, with this outcome
   pub ends : EndsSafely code e o

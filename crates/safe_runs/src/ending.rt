@@ -1,27 +1,34 @@
 //! Runs of accepted code, from the start to the end.
 
 ghost use Rattle.std.specs.Prelude.{◌≡◌, ℕ, ◌<◌, ◌≤◌, ◌↔◌, Err, IfOk, IfErr};
+ghost use Rattle.verifier.specs.Accepted.{IsAccepted};
 ghost use Rattle.verified_runs.specs.RunValue.{most_bytes, outcome_of};
-ghost use Rattle.verified_runs.specs.declared.error.PrepareError.TheVariants.{OverBudget};
+ghost use Rattle.verified_runs.specs.declared.error.PrepareError.TheVariants.{OverBudget, NoMemory};
 ghost use Rattle.safe_runs.specs.Ending.{EndsSafely, FileEndsSafely};
 ghost use Rattle.safe_runs.specs.Causes.{IsCause};
 
 use crate::error::RunError;
+use crate::laws::accepted_file_has_no_fault;
 use machine_laws::run_ends_once;
 use std::alloc::Global;
 use target_vars::Env;
 use verified_runs::{MAX_LINK_BYTES, Outcome, PrepareError, prepare};
 use verifier::{Verified, load};
 
-/// Runs accepted code on an environment, whoever wrote it and whatever the environment has: the run ends as the machine
-/// does, within the steps and bytes of its budget, with URI text or without a link.
+/// Runs accepted code on an environment. Nobody has to trust the writer of the code, nor what the environment has:
+/// the run ends as the machine does, within the steps and bytes of its budget, with a link that is URI text or
+/// without one.
 ///
-/// `OverBudget` with the bound on bytes, exactly where that is more than [`MAX_LINK_BYTES`]; `NoMemory` where a growth
-/// was refused. Both come before the first step.
+/// Both errors come before the first step. `OverBudget` has the bound on output bytes, and is returned exactly if
+/// that is more than [`MAX_LINK_BYTES`], 1,048,576 bytes. `NoMemory` is returned if memory runs out, and never for
+/// code over that limit.
 pub fn run_verified(alloc: Global, code: &Verified, env: &Env) -> Result<Outcome, PrepareError>
+    ensures accepted { IsAccepted code.now }
     ensures ends { IfOk result (λ outcome. EndsSafely code.now env.now (outcome_of outcome)) }
-    ensures over { (n : ℕ) → (result ≡ Err (OverBudget n)) ↔ ((n ≡ most_bytes code.now env.now) × (MAX_LINK_BYTES < n)) }
     ensures within { IfOk result (λ _. most_bytes code.now env.now ≤ MAX_LINK_BYTES) }
+    ensures over { (n : ℕ) →
+        (result ≡ Err (OverBudget n)) ↔ ((n ≡ most_bytes code.now env.now) × (MAX_LINK_BYTES < n)) }
+    ensures no_memory { result ≡ Err NoMemory → most_bytes code.now env.now ≤ MAX_LINK_BYTES }
 {
     run_ends_once();
     let _accepted = code.code();
@@ -31,13 +38,17 @@ pub fn run_verified(alloc: Global, code: &Verified, env: &Env) -> Result<Outcome
     }
 }
 
-/// Runs the code of a file on an environment, as [`run_verified`] does, where the file is accepted.
+/// Runs the code of a file on an environment, as [`run_verified`] does, if the verifier accepts it. Code that the
+/// verifier rejects is never run: an outcome is returned only for bytes in which it finds no fault.
 ///
-/// The error says why it is not: of the file, or of the run.
+/// `Load` has the fault for which the verifier rejects the bytes, or says that memory ran out while a code file was
+/// loaded. `Prepare` is returned for accepted code alone: `OverBudget` if its bound on output bytes is over
+/// [`MAX_LINK_BYTES`], 1,048,576 bytes, and `NoMemory`, for code within that limit alone, if memory runs out.
 pub fn run_file(alloc: Global, bytes: &[u8], env: &Env) -> Result<Outcome, RunError>
     ensures ends { IfOk result (λ outcome. FileEndsSafely bytes.now env.now (outcome_of outcome)) }
     ensures refused { IfErr result (IsCause bytes.now env.now) }
 {
+    accepted_file_has_no_fault();
     let code = load(alloc, bytes)?;
     match run_verified(alloc, &code, env) {
         Ok(outcome) => Ok(outcome),

@@ -3,6 +3,7 @@
 
 mod ending;
 mod error;
+pub mod laws;
 
 pub use ending::{run_file, run_verified};
 pub use error::RunError;
