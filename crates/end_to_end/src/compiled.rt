@@ -1,12 +1,11 @@
-//! Rules, by their code.
+//! Rules, run by their code.
 
 ghost use Rattle.std.specs.Prelude.{◌≡◌, IfOk, IfErr};
-ghost use Rattle.rule_parser.specs.Meaning.{meaning};
-ghost use Rattle.compiler_model.specs.Answer.{answer};
 ghost use Rattle.verified_runs.specs.RunValue.{outcome_of};
-ghost use Rattle.end_to_end.specs.Causes.{IsRulesCause};
+ghost use Rattle.end_to_end.specs.Ending.{RulesEndSafely, RuleFileEndsSafely};
+ghost use Rattle.end_to_end.specs.Causes.{IsRulesCause, IsRuleFileCause};
 
-use crate::error::RulesError;
+use crate::error::{RuleFileError, RulesError};
 use crate::laws::files_of_rules_are_accepted;
 use code_file::laws::file_has_one_code;
 use compiler::compile;
@@ -16,14 +15,18 @@ use std::alloc::Global;
 use target_vars::Env;
 use verified_runs::Outcome;
 
-/// Compiles rules, writes their code as a file, and loads and runs that file on an environment. It comes to what the
-/// rules mean: to the link of the first rule whose guards all hold, which is the expansion of its template, and to no
-/// link exactly where there is none.
+/// Compiles rules, writes their code as a file, and verifies and runs that file on an environment. The outcome is what
+/// the rules mean: the link of the first rule whose guards all hold, which is the expansion of its template, or no link
+/// if there is no such rule.
 ///
-/// The error is the limit that the code passes, the bound on bytes that is more than a link may have, or want of
-/// memory; there is no other.
+/// The errors come before the first step of the run, in this order:
+/// - `Compile`: the first limit that the code is over (256 names, 1,024 literals, 4,096 instructions, 65,536 bytes of
+///   file), or `NoMemory` while the code is made. Rules over a limit get no further.
+/// - `NoMemory`: memory runs out while the file is written.
+/// - `Run`: `OverBudget`, with the bound on output bytes, if that is over 1,048,576; or `NoMemory`, while the file is
+///   loaded, or while a run within that limit is prepared. The verifier never rejects the file for a fault.
 pub fn run_rules(alloc: Global, rules: &Rules, env: &Env) -> Result<Outcome, RulesError>
-    ensures means { IfOk result (λ outcome. answer (meaning rules.now env.now.entries) ≡ outcome_of outcome) }
+    ensures ends { IfOk result (λ outcome. RulesEndSafely rules.now env.now (outcome_of outcome)) }
     ensures refused { IfErr result (IsRulesCause rules.now env.now) }
 {
     files_of_rules_are_accepted();
@@ -32,4 +35,17 @@ pub fn run_rules(alloc: Global, rules: &Rules, env: &Env) -> Result<Outcome, Rul
     let code = compile(alloc, rules)?;
     let file = code.write(alloc)?;
     Ok(run_file(alloc, &file, env)?)
+}
+
+/// Parses a rule file of at most 65,536 bytes, and runs its rules as [`run_rules`] does.
+///
+/// `Parse` has the first fault of bytes that are no rule file, and its line, from 1, or 0 where the fault is no line's;
+/// or it says that memory ran out, which is never said of bytes that are too many or are not UTF-8. `Run` says why the
+/// rules of the file are not run.
+pub fn run_rule_file(alloc: Global, bytes: &[u8], env: &Env) -> Result<Outcome, RuleFileError>
+    ensures ends { IfOk result (λ outcome. RuleFileEndsSafely bytes.now env.now (outcome_of outcome)) }
+    ensures refused { IfErr result (IsRuleFileCause bytes.now env.now) }
+{
+    let rules = Rules::parse(alloc, bytes)?;
+    Ok(run_rules(alloc, &rules, env)?)
 }

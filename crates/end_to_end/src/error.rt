@@ -1,6 +1,7 @@
 //! Why rules are not run by their code.
 
 use compiler::CompileError;
+use rule_parser::RuleError;
 use safe_runs::RunError;
 use std::alloc::AllocError;
 use thiserror::Error;
@@ -8,13 +9,13 @@ use thiserror::Error;
 /// Why rules are not run by their code.
 #[derive(Clone, Copy, Debug, PartialEq, Eq, Error)]
 pub enum RulesError {
-    /// They have no code within its limits, or want of memory.
+    /// Their code is over a limit of the compiler, or memory ran out while it was made.
     #[error("{0}")]
     Compile(CompileError),
-    /// A growth was refused while the file was written.
+    /// Memory ran out while the file was written.
     #[error("NoMemory")]
     NoMemory,
-    /// The file is not run: too much might be printed, or want of memory.
+    /// The file is not run: too much might be printed, or memory ran out.
     #[error("{0}")]
     Run(RunError),
 }
@@ -49,5 +50,38 @@ impl From<RunError> for RulesError {
 
     fn from(error: RunError) -> RulesError {
         RulesError::Run(error)
+    }
+}
+
+/// Why the rules of a rule file are not run by their code.
+#[derive(Clone, Copy, Debug, PartialEq, Eq, Error)]
+pub enum RuleFileError {
+    /// The bytes are no rule file, or memory ran out while they were parsed.
+    #[error("{0}")]
+    Parse(RuleError),
+    /// The rules are not run.
+    #[error("{0}")]
+    Run(RulesError),
+}
+
+impl From<RuleError> for RuleFileError {
+    ghost use Rattle.std.specs.Prelude.{◌≡◌};
+    ghost use Rattle.end_to_end.specs.declared.error.RuleFileError.TheVariants.{Parse};
+
+    ghost from_gives = { λ error r. r ≡ Parse error };
+
+    fn from(error: RuleError) -> RuleFileError {
+        RuleFileError::Parse(error)
+    }
+}
+
+impl From<RulesError> for RuleFileError {
+    ghost use Rattle.std.specs.Prelude.{◌≡◌};
+    ghost use Rattle.end_to_end.specs.declared.error.RuleFileError.TheVariants as file;
+
+    ghost from_gives = { λ error r. r ≡ file.Run error };
+
+    fn from(error: RulesError) -> RuleFileError {
+        RuleFileError::Run(error)
     }
 }

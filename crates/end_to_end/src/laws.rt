@@ -1,4 +1,4 @@
-//! What holds of rules and the files of their code. These functions do nothing: their contracts are the laws.
+//! What holds of rules and the files of their code. These functions have empty bodies; each contract is a theorem.
 
 ghost use Rattle.std.specs.Prelude.{◌≡◌, ◌↔◌};
 ghost use Rattle.text_model.specs.Texts.{Text};
@@ -10,27 +10,24 @@ ghost use Rattle.rule_parser.specs.Rules.{RuleSet, IsSound};
 ghost use Rattle.rule_parser.specs.Meaning.{meaning};
 ghost use Rattle.compiler_model.specs.Compiled.{code_of};
 ghost use Rattle.compiler_model.specs.Answer.{answer};
-ghost use Rattle.verifier.specs.Faults.{IsLoadFault};
-ghost use Rattle.verifier.specs.declared.error.LoadError.{LoadError};
-ghost use Rattle.verifier.specs.declared.error.LoadError.TheVariants.{NoMemory};
+ghost use Rattle.safe_runs.specs.Ending.{IsAcceptedFile};
 
-use code_file::laws::{file_has_no_fault, file_has_one_code};
+use code_file::laws::file_has_one_code;
 use compiler_model::laws::{code_comes_to_what_rules_mean, compiled_code_is_accepted};
-use machine_laws::{form_is_decided, mismatch_is_exact};
+use safe_runs::laws::accepted_file_has_no_fault;
 
-/// The file of the code of rules is refused for no cause but want of memory, and the code that is read from it comes
-/// to what the rules mean: on every environment to the link of the first rule whose guards all hold, and to no link
-/// exactly where there is none.
+/// The verifier accepts the file of the code of rules: it can only run out of memory. The code that is read from the
+/// file gives what the rules mean on every environment: the link of the first rule whose guards all hold, or no link if
+/// there is no such rule.
 pub fn files_of_rules_are_accepted()
-    ensures accepted { (rules : RuleSet) (bytes : Text) (e : LoadError) → IsSound rules → IsCodeFile bytes (code_of rules) →
-        IsLoadFault bytes e → e ≡ NoMemory }
-    ensures means { (rules : RuleSet) (bytes : Text) (read : Code) (v : Environment) (o : Outcome) → IsSound rules → IsCodeFile bytes (code_of rules) →
-        IsCodeFile bytes read → HasOutcome read v o ↔ (answer (meaning rules v) ≡ o) }
+    ensures accepted { (rules : RuleSet) (bytes : Text) →
+        IsSound rules → IsCodeFile bytes (code_of rules) → IsAcceptedFile bytes (code_of rules) }
+    ensures means { (rules : RuleSet) (bytes : Text) (read : Code) (v : Environment) (o : Outcome) →
+        IsSound rules → IsCodeFile bytes (code_of rules) → IsCodeFile bytes read →
+        HasOutcome read v o ↔ (answer (meaning rules v) ≡ o) }
 {
-    file_has_no_fault();
     file_has_one_code();
-    form_is_decided();
-    mismatch_is_exact();
+    accepted_file_has_no_fault();
     compiled_code_is_accepted();
     code_comes_to_what_rules_mean();
 }

@@ -5,6 +5,6 @@ mod compiled;
 mod error;
 pub mod laws;
 
-pub use compiled::run_rules;
-pub use error::RulesError;
+pub use compiled::{run_rule_file, run_rules};
+pub use error::{RuleFileError, RulesError};
 pub use safe_runs::{RunError, run_file, run_verified};

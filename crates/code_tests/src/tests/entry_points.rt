@@ -1,9 +1,9 @@
-//! Files and rules, run by one call.
+//! Code files, rules and rule files, run by one call.
 
 use super::assembler::file;
 use super::tables::{LIST_FILE, OPTIONAL, VARIABLES};
 use super::{Entry, environment, shown};
-use end_to_end::{run_file, run_rules};
+use end_to_end::{run_file, run_rule_file, run_rules};
 use rule_parser::Rules;
 use std::alloc::Global;
 use std::test::Fail;
@@ -60,6 +60,61 @@ const RULES: [(&str, &[Entry], &str); 3] = [
 fn runs_rules(rt: HostRuntime) -> Result<(), Fail> {
     for (rules, entries, wanted) in RULES {
         let came = came_of_rules(rt.alloc(), rules, entries)?;
+        assert_eq!(rt; came.as_str(), wanted);
+    }
+    Ok(())
+}
+
+fn came_of_rule_file(alloc: Global, file: &str, entries: &[Entry]) -> Result<String, Fail> {
+    let env = environment(alloc, entries)?;
+    Ok(match run_rule_file(alloc, file.as_bytes(), &env) {
+        Ok(outcome) => shown(alloc, outcome)?,
+        Err(error) => format!(in alloc; "{error}")?,
+    })
+}
+
+/// Rule files that are no rules: their first errors.
+const FAULTS: [(&str, &str); 3] = [
+    ("rule\nwhen has x\n", "line 1: NoLink"),
+    ("# a comment\nrule\nwhen x\nlink {x}\n", "line 3: BadLine"),
+    (
+        "list x\nrule\nwhen given x\nlink {x}\n",
+        "line 3: KindMismatch",
+    ),
+];
+
+#[test]
+fn runs_rule_files(rt: HostRuntime) -> Result<(), Fail> {
+    for (file, entries, wanted) in RULES {
+        let came = came_of_rule_file(rt.alloc(), file, entries)?;
+        assert_eq!(rt; came.as_str(), wanted);
+    }
+    for (file, wanted) in FAULTS {
+        let came = came_of_rule_file(rt.alloc(), file, VARIABLES)?;
+        assert_eq!(rt; came.as_str(), wanted);
+    }
+    Ok(())
+}
+
+/// A rule with this many guards, each of a name of its own.
+fn rules_with_names(alloc: Global, names: usize) -> Result<String, Fail> {
+    let mut rules = String::from_str(alloc, "rule\n")?;
+    for name in 0..names {
+        let line = format!(in alloc; "when lacks v{name}\n")?;
+        rules.push_str(&line)?;
+    }
+    rules.push_str("link http://e.org/\n")?;
+    Ok(rules)
+}
+
+/// Code has at most 256 names. The rules mean a link all the same.
+#[test]
+fn refuses_rules_over_a_limit(rt: HostRuntime) -> Result<(), Fail> {
+    for (names, wanted) in [(256, "link http://e.org/"), (257, "TooManyNames")] {
+        let rules = rules_with_names(rt.alloc(), names)?;
+        let came = came_of_rule_file(rt.alloc(), &rules, VARIABLES)?;
+        assert_eq!(rt; came.as_str(), wanted);
+        let came = came_of_rules(rt.alloc(), &rules, VARIABLES)?;
         assert_eq!(rt; came.as_str(), wanted);
     }
     Ok(())
