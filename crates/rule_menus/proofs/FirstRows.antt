@@ -1,0 +1,104 @@
+-- What is chosen of a range of rows: the link of the first row that passes a test and has one.
+use Rattle.std.proofs.Common.{◌≡◌, ℕ, zero, suc, ◌+◌, ◌≤◌, ◌<◌, List, ◌∷◌, Some, Bool, true, false, cond, map, filter, refl, sym, ap, ◌∙◌, subst, arith, ⊎_elim}
+use Rattle.std.specs.Prelude.{find, if◌then◌else◌}
+use Rattle.std.specs.List.{range_with_len}
+use Rattle.std.specs.Option.{unwrap_or}
+use Rattle.std.proofs.lemmas.Bool.{cases_lt, false≢true}
+use Rattle.text_model.specs.Texts.{Text}
+use Rattle.menu.specs.Links.{is_link}
+use Rattle.menu.specs.declared.entry.Resolution.{Resolution}
+use Rattle.menu.specs.declared.entry.Resolution.TheVariants.{Link}
+use Rattle.registry.specs.Entries.{chosen, last_resolution}
+
+-- what each row gives, and which rows are tried; a link that a row gives has the row's number
+module _ (f : ℕ → Resolution) (p : ℕ → Bool) (own : (row place : ℕ) (link : Text) → f row ≡ Link place link → place ≡ row) where
+  -- of the n rows from one on, the row is the first that is tried and gives a link
+  pub record IsFirstFrom (from n row : ℕ) (link : Text) : Type 0 where
+    pub after : from ≤ row
+    pub there : row < from + n
+    pub passes : p row ≡ true
+    pub links : f row ≡ Link row link
+    pub first : (other : ℕ) → from ≤ other → other < from + n → p other ≡ true → is_link (f other) ≡ true → row ≤ other
+
+  abbrev tried : ℕ → ℕ → List Resolution
+  tried from n = map f (filter p (range_with_len from n))
+
+  -- a row before them that is not tried, or has no link, changes nothing
+  wider : (from n row : ℕ) (link : Text) → (p from ≡ true → is_link (f from) ≡ true → ⊥) → IsFirstFrom (from + 1) n row link → IsFirstFrom from (suc n) row link
+  wider from n row link none h =
+      record {
+        after = omega (arith, h.after);
+        there = omega (arith, h.there);
+        passes = h.passes;
+        links = h.links;
+        first = λ other low high passes links. ⊎_elim
+            (λ lt. h.first other (omega arith) (omega arith) passes links)
+            (λ le. let same : other ≡ from = omega arith in absurd (none (subst (λ k. p k ≡ true) same passes) (subst (λ k. is_link (f k) ≡ true) same links)))
+            (cases_lt from other);
+      }
+
+  narrower : (from n row : ℕ) (link : Text) → from < row → IsFirstFrom from (suc n) row link → IsFirstFrom (from + 1) n row link
+  narrower from n row link lt h =
+      record {
+        after = omega arith;
+        there = omega (arith, h.there);
+        passes = h.passes;
+        links = h.links;
+        first = λ other low high passes links. h.first other (omega arith) (omega arith) passes links;
+      }
+
+  -- what the rows behind the first one give
+  abbrev FirstIfChosen : ℕ → ℕ → ℕ → Text → Type 0
+  FirstIfChosen from n row link = (before : Resolution) → is_link before ≡ false → chosen before (tried from n) ≡ Link row link → IsFirstFrom from n row link
+
+  abbrev ChosenIfFirst : ℕ → ℕ → ℕ → Text → Type 0
+  ChosenIfFirst from n row link = (before : Resolution) → IsFirstFrom from n row link → chosen before (tried from n) ≡ Link row link
+
+  pub first_if_chosen : (n from : ℕ) (before : Resolution) (row : ℕ) (link : Text) → is_link before ≡ false → chosen before (tried from n) ≡ Link row link
+      → IsFirstFrom from n row link
+  first_if_chosen zero from before row link unlinked_before is = absurd (false≢true (sym unlinked_before ∙ ap is_link is))
+  first_if_chosen (suc n) from before row link unlinked_before is = by_test (p from) refl is (λ last. first_if_chosen n (from + 1) last row link)
+    where
+      by_link : (b : Bool) → is_link (f from) ≡ b → p from ≡ true
+          → unwrap_or (cond b (Some (f from)) (find is_link (tried (from + 1) n))) (last_resolution (f from) (tried (from + 1) n)) ≡ Link row link
+          → FirstIfChosen (from + 1) n row link → IsFirstFrom from (suc n) row link
+      by_link true linked passes is rest =
+          let same : row ≡ from = own from row link is in
+          record {
+            after = omega arith;
+            there = omega arith;
+            passes = subst (λ k. p k ≡ true) (sym same) passes;
+            links = subst (λ k. f k ≡ Link row link) (sym same) is;
+            first = λ other low high passes links. omega arith;
+          }
+      by_link false unlinked passes is rest = wider from n row link (λ pass linked. false≢true (sym unlinked ∙ linked)) (rest (f from) unlinked is)
+
+      by_test : (b : Bool) → p from ≡ b
+          → chosen before (map f (if b then (from ∷ filter p (range_with_len (from + 1) n)) else filter p (range_with_len (from + 1) n))) ≡ Link row link
+          → FirstIfChosen (from + 1) n row link → IsFirstFrom from (suc n) row link
+      by_test true passes is rest = by_link (is_link (f from)) refl passes is rest
+      by_test false fails is rest = wider from n row link (λ pass linked. false≢true (sym fails ∙ pass)) (rest before unlinked_before is)
+
+  pub chosen_if_first : (n from : ℕ) (before : Resolution) (row : ℕ) (link : Text) → IsFirstFrom from n row link → chosen before (tried from n) ≡ Link row link
+  chosen_if_first zero from before row link h = absurd (omega (arith, h.after, h.there))
+  chosen_if_first (suc n) from before row link h = by_test (p from) refl (λ last. chosen_if_first n (from + 1) last row link)
+    where
+      -- the row is behind the first one, if it is not that one
+      behind : (row ≡ from → ⊥) → IsFirstFrom (from + 1) n row link
+      behind other =
+          narrower from n row link
+          (⊎_elim (λ lt. lt) (λ le. let same : row ≡ from = omega (arith, h.after) in absurd (other same)) (cases_lt from row)) h
+
+      by_link : (b : Bool) → is_link (f from) ≡ b → p from ≡ true → ChosenIfFirst (from + 1) n row link
+          → unwrap_or (cond b (Some (f from)) (find is_link (tried (from + 1) n))) (last_resolution (f from) (tried (from + 1) n)) ≡ Link row link
+      by_link true linked passes rest =
+          let le : row ≤ from = h.first from (omega arith) (omega arith) passes linked in
+          let same : row ≡ from = omega (arith, h.after) in
+          subst (λ k. f k ≡ Link row link) same h.links
+      by_link false unlinked passes rest =
+          rest (f from) (behind (λ same. false≢true (sym unlinked ∙ ap (λ k. is_link (f k)) (sym same) ∙ ap is_link h.links)))
+
+      by_test : (b : Bool) → p from ≡ b → ChosenIfFirst (from + 1) n row link
+          → chosen before (map f (if b then (from ∷ filter p (range_with_len (from + 1) n)) else filter p (range_with_len (from + 1) n))) ≡ Link row link
+      by_test true passes rest = by_link (is_link (f from)) refl passes rest
+      by_test false fails rest = rest before (behind (λ same. false≢true (sym fails ∙ ap p (sym same) ∙ h.passes)))

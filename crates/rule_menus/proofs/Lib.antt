@@ -1,0 +1,9 @@
+pub mod DeclaredNames
+mod Examples
+pub mod FirstLinks
+pub mod FirstRows
+pub mod Menus
+pub mod SameFiles
+pub mod SameMeaning
+pub mod SameNames
+pub mod SameRuns

@@ -1,0 +1,70 @@
+-- The menu by codes and the menu by rules, target after target.
+use Rattle.std.proofs.Common.{◌≡◌, ℕ, List, [], ◌∷◌, Option, Some, None, Bool, true, false, map, nat_lt, refl, ap, ◌∙◌}
+use Rattle.std.specs.Prelude.{◌↔◌, All, if◌then◌else◌}
+use Rattle.std.proofs.lemmas.List.Elements.{All-head, All-tail}
+use Rattle.text_model.specs.Texts.{Text}
+use Rattle.environment_model.specs.Environment.{Environment}
+use Rattle.code_model.specs.Code.{Code}
+use Rattle.machine_model.specs.Next.{outcome_of}
+use Rattle.machine_model.specs.Runs.{HasOutcome, Outcome}
+use Rattle.kev_read.specs.Pairs.{KeyValue}
+use Rattle.kbart_rows.specs.Identifiers.{ids_of, matching_rows}
+use Rattle.rule_parser.specs.Rules.{IsSound}
+use Rattle.rule_parser.specs.Meaning.{meaning}
+use Rattle.compiler_model.specs.Answer.{answer}
+use Rattle.compiler_model.specs.Compiled.{code_of}
+use Rattle.verified_runs.specs.declared.run.TheConstants.{MAX_LINK_BYTES}
+use Rattle.menu.specs.declared.entry.Resolution.TheVariants.{NoRow}
+use Rattle.registry.specs.Fates.{OverBudget, ended, fate_in}
+use Rattle.registry.specs.Entries.{chosen, entry_of, menu_of, resolution_by, resolution_of, resolution_of_row}
+use Rattle.rule_menus.specs.RuleMenus.{RuleTarget, HasSoundRules, coded, environment_by_code, environment_by_rules, most_bytes_of_row, fate_of_meaning, fate_by_rules, resolution_of_row_by_rules, resolution_by_rules, entry_by_rules, menu_by_rules}
+use Rattle.rule_menus.proofs.SameMeaning.{LawsBelow, same_meaning}
+
+-- how a run ends is computed
+abbrev pub OutcomesAreDecided : Type 0
+OutcomesAreDecided = (c : Code) (v : Environment) (o : Outcome) → HasOutcome c v o ↔ (outcome_of c v ≡ o)
+
+same_map : {X Y : Type 0} (f g : X → Y) (xs : List X) → ((x : X) → f x ≡ g x) → map f xs ≡ map g xs
+same_map f g [] same = refl
+same_map f g (x ∷ xs) same =
+    let first = same x in
+    let others = same_map f g xs same in
+    cc
+
+answer_ends : (m : Option Text) → ended (answer m) ≡ fate_of_meaning m
+answer_ends None = refl
+answer_ends (Some link) = refl
+
+module _ (laws : LawsBelow) (decided : OutcomesAreDecided) where
+  same_fate : (target : RuleTarget) (pairs : List KeyValue) (row : ℕ) → IsSound target.rules
+      → fate_in (code_of target.rules) (environment_by_code target pairs row) ≡ fate_by_rules target pairs row
+  unfolding fate_in
+  same_fate target pairs row sound = by_test (nat_lt MAX_LINK_BYTES (most_bytes_of_row target pairs row))
+    where
+      by_test : (b : Bool)
+          → (if b then OverBudget (most_bytes_of_row target pairs row) else ended (outcome_of (code_of target.rules) (environment_by_code target pairs row)))
+          ≡ (if b then OverBudget (most_bytes_of_row target pairs row) else fate_of_meaning (meaning target.rules (environment_by_rules target pairs row)))
+      by_test true = refl
+      by_test false =
+          let env = environment_by_code target pairs row in
+          let result = answer (meaning target.rules env) in
+          let has = (laws.means target.rules sound env result).1 refl in
+          ap ended ((decided (code_of target.rules) env result).0 has)
+          ∙ answer_ends (meaning target.rules env)
+          ∙ ap fate_of_meaning (same_meaning laws target sound pairs row)
+
+  pub same_resolution : (target : RuleTarget) (pairs : List KeyValue) → HasSoundRules target
+      → resolution_of (coded target) pairs ≡ resolution_by_rules target pairs
+  same_resolution target pairs sound =
+      ap (chosen NoRow)
+      (same_map (resolution_of_row (coded target) pairs) (resolution_of_row_by_rules target pairs) (matching_rows target.table (ids_of pairs))
+      (λ row. ap (resolution_by row) (same_fate target pairs row sound)))
+
+  pub same_menu : (targets : List RuleTarget) (pairs : List KeyValue) → All HasSoundRules targets
+      → menu_of (map coded targets) pairs ≡ menu_by_rules targets pairs
+  same_menu [] pairs sound = refl
+  same_menu (target ∷ targets) pairs sound =
+      let first : entry_of (coded target) pairs ≡ entry_by_rules target pairs =
+      ap (λ resolution. record { name = target.name; resolution = resolution }) (same_resolution target pairs (All-head HasSoundRules target targets sound)) in
+      let others = same_menu targets pairs (All-tail HasSoundRules target targets sound) in
+      cc

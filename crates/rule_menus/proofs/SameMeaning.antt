@@ -1,0 +1,100 @@
+-- Rules mean the same in the environment by the code's lists as in the one by their own.
+use Rattle.std.proofs.Common.{◌≡◌, ℕ, List, [], Option, Some, None, Bool, true, false, refl, sym, ap, ◌∙◌}
+use Rattle.std.specs.Prelude.{◌↔◌, if◌then◌else◌}
+use Rattle.text_model.specs.Texts.{Text}
+use Rattle.environment_model.specs.Environment.{Environment, look_up, is_there, text_in, members_in, text_of, members_of}
+use Rattle.environment_model.specs.Lists.{is_list}
+use Rattle.code_model.specs.Code.{Code}
+use Rattle.machine_model.specs.Runs.{HasOutcome, Outcome}
+use Rattle.kev_read.specs.Pairs.{KeyValue, first_of, all_of}
+use Rattle.kev_read.specs.Filling.{filled}
+use Rattle.kbart_rows.specs.Cells.{NamedCell, named_cells}
+use Rattle.row_laws.specs.Shadowing.{asked, row_of}
+use Rattle.row_scope.specs.RowEnvironments.{cells_of_row, lists_of}
+use Rattle.rule_parser.specs.Rules.{RuleSet, IsSound}
+use Rattle.rule_parser.specs.Meaning.{meaning}
+use Rattle.compiler_model.specs.Answer.{answer}
+use Rattle.compiler_model.specs.Compiled.{code_of}
+use Rattle.rule_menus.specs.RuleMenus.{RuleTarget, environment_by_code, environment_by_rules}
+use Rattle.rule_menus.proofs.DeclaredNames.{names_declared}
+use Rattle.rule_menus.proofs.SameNames.{same_kind}
+use Rattle.rule_menus.proofs.SameRuns.{AgreeOn, same_states}
+
+-- ---- what lower crates say
+
+pub record LawsBelow : Type 0 where
+  -- a cell hides the request's value of its name
+  pub shadow : (lists : List Text) (cells : List NamedCell) (pairs : List KeyValue) (name : Text)
+      → look_up (filled lists (row_of cells) pairs) name
+      ≡ (if is_there (row_of cells) name then look_up (row_of cells) name else look_up (asked lists pairs) name)
+  -- a request has the first value of a key as a text, or all of them as a list
+  pub texts : (lists : List Text) (pairs : List KeyValue) (key : Text)
+      → text_of (asked lists pairs) key ≡ (if is_list lists key then None else first_of pairs key)
+  pub members : (lists : List Text) (pairs : List KeyValue) (key : Text)
+      → members_of (asked lists pairs) key ≡ (if is_list lists key then all_of pairs key else [])
+  -- the code of rules ends with what they mean
+  pub means : (rules : RuleSet) → IsSound rules → (v : Environment) (o : Outcome) → HasOutcome (code_of rules) v o ↔ (answer (meaning rules v) ≡ o)
+
+module _ (laws : LawsBelow) where
+  -- ---- look-ups
+
+  module _ (lists others : List Text) (cells : List NamedCell) (pairs : List KeyValue) where
+    abbrev entries : Environment
+    entries = row_of cells
+
+    text_agrees : (name : Text) → is_list lists name ≡ is_list others name
+        → text_of (filled lists entries pairs) name ≡ text_of (filled others entries pairs) name
+    text_agrees name same =
+        ap text_in (laws.shadow lists cells pairs name) ∙ by_row (is_there entries name) ∙ ap text_in (sym (laws.shadow others cells pairs name))
+      where
+        by_row : (b : Bool) → text_in (if b then look_up entries name else look_up (asked lists pairs) name)
+            ≡ text_in (if b then look_up entries name else look_up (asked others pairs) name)
+        by_row true = refl
+        by_row false = laws.texts lists pairs name ∙ ap (λ b. if b then None else first_of pairs name) same ∙ sym (laws.texts others pairs name)
+
+    members_agree : (name : Text) → is_list lists name ≡ is_list others name
+        → members_of (filled lists entries pairs) name ≡ members_of (filled others entries pairs) name
+    members_agree name same =
+        ap members_in (laws.shadow lists cells pairs name) ∙ by_row (is_there entries name) ∙ ap members_in (sym (laws.shadow others cells pairs name))
+      where
+        by_row : (b : Bool) → members_in (if b then look_up entries name else look_up (asked lists pairs) name)
+            ≡ members_in (if b then look_up entries name else look_up (asked others pairs) name)
+        by_row true = refl
+        by_row false = laws.members lists pairs name ∙ ap (λ b. if b then all_of pairs name else []) same ∙ sym (laws.members others pairs name)
+
+  -- ---- runs
+
+  module _ (target : RuleTarget) (sound : IsSound target.rules) (pairs : List KeyValue) (row : ℕ) where
+    abbrev code : Code
+    code = code_of target.rules
+
+    abbrev by_code : Environment
+    by_code = environment_by_code target pairs row
+
+    abbrev by_rules : Environment
+    by_rules = environment_by_rules target pairs row
+
+    agree : AgreeOn code by_code by_rules
+    agree k name at =
+        let lists = lists_of code in
+        let own = target.rules.lists in
+        let cells = named_cells target.table.header (cells_of_row target.table row) in
+        let same = same_kind own code.names k name (names_declared target.rules sound) at in
+        (text_agrees lists own cells pairs name.text same, members_agree lists own cells pairs name.text same)
+
+    same_ending : (m : Option Text) → HasOutcome code by_code (answer m) → HasOutcome code by_rules (answer m)
+    same_ending None has = (has.0, same_states code by_code by_rules agree has.0 _ has.1)
+    same_ending (Some link) has = (has.0, same_states code by_code by_rules agree has.0 _ has.1)
+
+    one_answer : (m n : Option Text) → answer m ≡ answer n → m ≡ n
+    one_answer None None same = refl
+    one_answer None (Some link) same = absurd (cc)
+    one_answer (Some link) None same = absurd (cc)
+    one_answer (Some link) (Some other) same = cc
+
+    -- what is declared and not used changes no meaning
+    pub same_meaning : meaning target.rules by_code ≡ meaning target.rules by_rules
+    same_meaning =
+        let m = meaning target.rules by_code in
+        let there = same_ending m ((laws.means target.rules sound by_code (answer m)).1 refl) in
+        sym (one_answer (meaning target.rules by_rules) m ((laws.means target.rules sound by_rules (answer m)).0 there))

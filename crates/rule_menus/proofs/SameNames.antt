@@ -1,0 +1,91 @@
+-- A name of the code of rules is a list in the request's environment by the code exactly where it is one by the rules.
+use Rattle.std.proofs.Common.{◌≡◌, ℕ, zero, suc, List, [], ◌∷◌, Some, Bool, true, false, refl, sym, ap, ◌∙◌, subst, slice_get}
+use Rattle.std.specs.Prelude.{◌||◌, filter, map, if◌then◌else◌}
+use Rattle.std.specs.List.{AllByRecursion}
+use Rattle.std.specs.Str.{bytes_eq}
+use Rattle.std.proofs.lemmas.Bool.{false≢true}
+use Rattle.std.proofs.lemmas.List.Folds.{list_any-append}
+use Rattle.std.proofs.lemmas.Slice.Eq.{bytes_eq-Decides}
+use Rattle.text_model.specs.Texts.{Text}
+use Rattle.environment_model.specs.Environment.{is_among}
+use Rattle.environment_model.specs.Lists.{is_list, standard_lists}
+use Rattle.code_model.specs.Code.{Name}
+use Rattle.rule_menus.proofs.DeclaredNames.{IsDeclared}
+
+-- the names that a table has as lists
+abbrev list_texts : List Name → List Text
+list_texts names = map (λ name. name.text) (filter (λ name. name.list) names)
+
+or_true : (a b : Bool) → b ≡ true → (a || b) ≡ true
+or_true true b h = refl
+or_true false b h = h
+
+or_cases : (a b : Bool) → (a || b) ≡ true → a ≡ false → b ≡ true
+or_cases true b h is = absurd (cc)
+or_cases false b h is = h
+
+first_false : (a b : Bool) → (a || b) ≡ false → a ≡ false
+first_false true b h = h
+first_false false b h = refl
+
+-- each entry of the table is at its index, declared
+declared_at : (lists : List Text) (names : List Name) (k : ℕ) (name : Name) → AllByRecursion (IsDeclared lists) names → slice_get names k ≡ Some name
+    → IsDeclared lists name
+declared_at lists [] k name all at = absurd (cc)
+declared_at lists (n ∷ names) zero name all at = let same : n ≡ name = cc in subst (IsDeclared lists) same all.0
+declared_at lists (n ∷ names) (suc k) name all at = declared_at lists names k name all.1 at
+
+-- an entry of a list is among the lists of the table
+among_lists : (names : List Name) (k : ℕ) (name : Name) → slice_get names k ≡ Some name → name.list ≡ true → is_among name.text (list_texts names) ≡ true
+among_lists [] k name at list = absurd (cc)
+among_lists (n ∷ names) zero name at list =
+    let same : n ≡ name = cc in
+    let is : n.list ≡ true = ap (λ (m : Name). m.list) same ∙ list in
+    let found : bytes_eq n.text name.text ≡ true = (bytes_eq-Decides n.text name.text).1 (ap (λ (m : Name). m.text) same) in
+    rw is (rw found refl)
+among_lists (n ∷ names) (suc k) name at list = by_kind n.list (among_lists names k name at list)
+  where
+    by_kind : (b : Bool) → is_among name.text (list_texts names) ≡ true
+        → is_among name.text (map (λ m. m.text) (if b then (n ∷ filter (λ m. m.list) names) else filter (λ m. m.list) names)) ≡ true
+    by_kind true rest = or_true (bytes_eq n.text name.text) (is_among name.text (list_texts names)) rest
+    by_kind false rest = rest
+
+-- what is among the lists of the table is declared as a list
+lists_declared : (lists : List Text) (names : List Name) (text : Text) → AllByRecursion (IsDeclared lists) names → is_among text (list_texts names) ≡ true
+    → is_list lists text ≡ true
+lists_declared lists [] text all among = absurd (cc)
+lists_declared lists (n ∷ names) text all among = by_kind n.list refl among (lists_declared lists names text all.1)
+  where
+    by_text : (b : Bool) → bytes_eq n.text text ≡ b → n.list ≡ true → (b || is_among text (list_texts names)) ≡ true
+        → (is_among text (list_texts names) ≡ true → is_list lists text ≡ true) → is_list lists text ≡ true
+    by_text true same list among rest = subst (λ t. is_list lists t ≡ true) ((bytes_eq-Decides n.text text).0 same) (all.0 ∙ list)
+    by_text false same list among rest = rest among
+
+    by_kind : (b : Bool) → n.list ≡ b → is_among text (map (λ m. m.text) (if b then (n ∷ filter (λ m. m.list) names) else filter (λ m. m.list) names)) ≡ true
+        → (is_among text (list_texts names) ≡ true → is_list lists text ≡ true) → is_list lists text ≡ true
+    by_kind true list among rest = by_text (bytes_eq n.text text) refl list among rest
+    by_kind false list among rest = rest among
+
+-- a name of the table is a list by the table exactly where it is one by the declared lists
+pub same_kind : (lists : List Text) (names : List Name) (k : ℕ) (name : Name) → AllByRecursion (IsDeclared lists) names → slice_get names k ≡ Some name
+    → is_list (list_texts names) name.text ≡ is_list lists name.text
+same_kind lists names k name all at = by_kind name.list refl (declared_at lists names k name all at)
+  where
+    parts : is_list (list_texts names) name.text ≡ (is_among name.text standard_lists || is_among name.text (list_texts names))
+    parts = list_any-append (λ n. bytes_eq n name.text) standard_lists (list_texts names)
+
+    by_kind : (b : Bool) → name.list ≡ b → is_list lists name.text ≡ b → is_list (list_texts names) name.text ≡ is_list lists name.text
+    by_kind true list is =
+        parts ∙ or_true (is_among name.text standard_lists) (is_among name.text (list_texts names)) (among_lists names k name at list) ∙ sym is
+    by_kind false list is = by_test (is_list (list_texts names) name.text) refl
+      where
+        not_standard : is_among name.text standard_lists ≡ false
+        not_standard =
+            first_false (is_among name.text standard_lists) (is_among name.text lists)
+            (sym (list_any-append (λ n. bytes_eq n name.text) standard_lists lists) ∙ is)
+
+        by_test : (b : Bool) → is_list (list_texts names) name.text ≡ b → is_list (list_texts names) name.text ≡ is_list lists name.text
+        by_test true among =
+            let own = or_cases (is_among name.text standard_lists) (is_among name.text (list_texts names)) (sym parts ∙ among) not_standard in
+            absurd (false≢true (sym is ∙ lists_declared lists names name.text all own))
+        by_test false among = among ∙ sym is

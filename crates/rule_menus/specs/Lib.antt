@@ -1,0 +1,3 @@
+pub mod RuleMenus
+pub mod FirstLinks
+pub mod RuleFiles
