@@ -102,8 +102,7 @@ class Door:
             shutil.rmtree(f"{etc}/{part}", ignore_errors=True)
             os.mkdir(f"{etc}/{part}")
         shutil.copy(f"{site}/openlink.conf", f"{etc}/conf.d")
-        for name in ("find.js", "targets.json", "menu.css"):
-            shutil.copy(f"{site}/{name}", f"{etc}/openlink")
+        shutil.copytree(site, f"{etc}/openlink", dirs_exist_ok=True)
         with open(f"{etc}/nginx.conf", "r+") as file:
             text = re.sub(r"worker_connections \d+", f"worker_connections {worker_connections}", file.read())
             file.seek(0)

@@ -74,13 +74,73 @@ function testLimits() {
 
 function testMenus() {
     expect('menus are joined', door.joined('a\tx\nb\ty\n', 'b\tz\nc\tw\n'), 'a\tx\nb\ty\nc\tw');
+    expect('reports are joined', door.joinedReports('a\tlink 0\nb\tno row\nc\tno link\nd\tno row\n', 'a\tno row\nb\tlink 2\nc\tlink 1\nd\tno row\n'),
+        'a\tlink 0\nb\tlink 2\nc\tno link\nd\tno row\n');
     const site = { groups: [{ name: 'A' }, { name: 'B', onlyWithout: 'A' }], targets: { b: { group: 'B', label: 'Bee', note: 'n' }, constructor: {} } };
-    const shown = function (menu) { return JSON.stringify(door.shownGroups(door.groupsOf(menu, site))); };
+    const shown = function (menu) { return JSON.stringify(door.shownGroups(door.groupsOf(menu, door.siteIn(site, '')))); };
     expect('a group that another one hides', shown('b\thttp://b/\na\thttp://a/\n'),
         '[{"name":"A","links":[{"target":"a","label":"a","url":"http://a/"}]}]');
     expect('a group alone', shown('b\thttp://b/\n'), '[{"name":"B","links":[{"target":"b","label":"Bee","url":"http://b/","note":"n"}]}]');
     expect('links that are none', shown('a\tjavascript:x\na\thttp://a/ b\na\thttp://\u00e9/\nx\n'), '[]');
     expect('names of every object', shown('constructor\thttp://c/\ntoString\thttp://t/\n').split('"target"').length, 3);
+}
+
+// A header, the languages that are offered, and the one that is chosen.
+const HEADERS = [
+    ['', 'en de', 'en'], ['de', 'en de', 'de'], ['DE', 'en de', 'de'], ['de-AT', 'en de', 'de'], ['de-Latn-AT', 'en de', 'de'],
+    ['de-AT, en;q=0.9', 'en de', 'de'], ['en;q=0.3, de;q=0.8', 'en de', 'de'], ['fr, de;q=0.5', 'en de', 'de'],
+    ['fr', 'en de', 'en'], ['de;q=0', 'de en', 'en'], ['de;q=0.000, fr', 'de en', 'en'], ['en;q=0, de;q=0', 'de en', 'de'],
+    ['*', 'en de', 'en'], ['*, en;q=0.5', 'en de', 'de'], ['fr, *;q=0.1', 'en de', 'en'], ['*;q=0', 'en de', 'en'],
+    ['de, *;q=0', 'en de', 'de'], ['de;q=0.5, en;q=0.5', 'en de', 'de'], ['de ; q=1.000 , en', 'en de', 'de'],
+    ['de;q=0.001', 'en de', 'de'], ['pt', 'en pt-BR', 'pt-BR'], ['pt-PT', 'en pt-BR', 'en'], ['pt-br', 'en pt pt-BR', 'pt-BR'],
+    ['pt', 'en pt-BR pt', 'pt'], ['zh-Hant-TW', 'en zh zh-Hant', 'zh-Hant'], ['den', 'en de', 'en'], ['d', 'en de', 'en'],
+    ['de;q=2, en', 'de en', 'en'], ['de;q=0.1234, en', 'de en', 'en'], ['de;q=, en', 'de en', 'en'], ['de;level=1, en', 'de en', 'en'],
+    ['de_AT, en', 'de en', 'en'], ['<de>, "en", \u00e9, de\r\nX: y', 'en de', 'en'], [',,,de,,', 'en de', 'de'], ['__proto__', 'en', 'en']
+];
+
+function testHeaders() {
+    HEADERS.forEach(function (it) { expect('language for ' + it[0], door.chosen(it[0], it[1].split(' ')), it[2]); });
+    expect('500 bytes', door.chosen(repeated(' ', 498) + 'de', ['en', 'de']), 'de');
+    expect('a range that is cut', door.chosen(repeated(' ', 498) + 'de-AT', ['en', 'de']), 'en');
+    expect('commas', door.chosen(repeated(',', 8192), ['en', 'de']), 'en');
+    expect('ranges beyond the twentieth', door.chosen(repeated('fr,', 20) + 'de', ['en', 'de']), 'en');
+}
+
+// The languages that a site offers and the texts that a page has in them.
+function testWords() {
+    globalThis.words_en = { heading: 'Find', links: 'Links', nothing: 'Nothing' };
+    globalThis.words_de = { heading: 'Finden', links: 3, nothing: '  ' };
+    globalThis.words_pt_BR = {};
+    globalThis.words_he = {};
+    const site = function (targets, header) { return door.siteIn(targets, header); };
+    const chosen = function (list, header) { return site({ languages: list }, header).language; };
+    expect('no languages', chosen(undefined, 'de'), 'en');
+    expect('languages that are none', [3, {}, 'de', [], [3], ['fr'], ['de_', 7]].map(function (it) { return chosen(it, 'de'); }).join(' '), 'en en en en en en en');
+    expect('one that is not loaded', chosen(['fr', 'de', 'en'], 'fr'), 'de');
+    expect('a region', chosen(['en', 'pt-BR'], 'pt'), 'pt-BR');
+    expect('the direction', site({ languages: ['he', 'en'] }, '').dir + ' ' + site({ languages: ['he', 'en'] }, 'en').dir, 'rtl ltr');
+    const heading = function (words, header) {
+        const menu = 'a\thttp://a/\n';  // no group is named, so there is one with the word `links`
+        return door.groupsOf(menu, site({ languages: ['en', 'de'], words: words }, header))[0].name;
+    };
+    expect('a word', heading({}, 'en'), 'Links');
+    expect('a word that is no text', heading({}, 'de'), 'Links');
+    globalThis.words_de.links = 'Verweise';
+    expect('a word in another language', heading({}, 'de'), 'Verweise');
+    expect('a word of the site', heading({ links: 'A' }, 'en') + ' ' + heading({ links: 'A' }, 'de'), 'A Verweise');
+    expect('words of the site', heading({ links: { en: 'A', de: 'B' } }, 'en') + ' ' + heading({ links: { en: 'A', de: 'B' } }, 'de'), 'A B');
+    expect('a word of the site for one language', heading({ links: { de: 'B' } }, 'en') + ' ' + heading({ links: { en: 'A' } }, 'de'), 'Links Verweise');
+    delete globalThis.words_de.links;
+    expect('a plain word for all languages', heading({ links: 'A' }, 'de'), 'A');
+    const labels = { languages: ['en', 'de'], groups: [{ name: 'G', label: { de: 'H' } }],
+        targets: { a: { label: { en: 'A', de: 'B' }, note: { de: 'n' } }, b: { label: { en: 'C' } }, c: { label: { fr: 'D' } } } };
+    const menu = 'a\thttp://a/\nb\thttp://b/\nc\thttp://c/\n';
+    const shown = function (header) {
+        const group = door.shownGroups(door.groupsOf(menu, site(labels, header)))[0];
+        return group.name + ' ' + group.label + ': ' + group.links.map(function (it) { return it.label + ' ' + it.note; }).join(', ');
+    };
+    expect('labels', shown('en'), 'G undefined: A undefined, C undefined, c undefined');
+    expect('labels in another language', shown('de'), 'G H: B n, C undefined, c undefined');
 }
 
 // A request of nginx whose subrequests get these statuses; -1 throws.
@@ -121,5 +181,7 @@ testCases();
 testGoodForm();
 testLimits();
 testMenus();
+testHeaders();
+testWords();
 testCases();
 testReplies().then(() => { console.log((failures === 0 ? 'ok ' : 'FAILED ') + count); });

@@ -1,8 +1,8 @@
 """The tests of the front door; checks/front_door starts it at the top of the repository."""
-import concurrent.futures, json, os, re, shutil, signal, subprocess, sys, tempfile, threading, time
+import concurrent.futures, glob, json, os, re, shutil, signal, subprocess, sys, tempfile, threading, time
 from urllib.parse import quote
 import targets
-from running import Site
+from running import Site, free_ports
 
 HERE = os.path.dirname(os.path.abspath(__file__))
 ARTICLE = "sid=google&issn=2901-0012&volume=12&issue=3&spage=101&date=2003&atitle=Storm+surges&title=Annals+of+Tidal+Studies"
@@ -21,7 +21,8 @@ def test_rules(folder):
     """The unit tests, in njs and in node if there is one."""
     for name in ("cases.js", "rules.js"):
         shutil.copy(f"{HERE}/{name}", folder)
-    shutil.copy("deploy/nginx/find.js", folder)
+    for name in glob.glob("deploy/nginx/*.js"):
+        shutil.copy(name, folder)
     library = "examples/library"
     # Those that begin with any- are what anyOf makes, not requests of a source.
     queries = sorted(name for name in os.listdir(library) if name.endswith(".query") and not name.startswith("any-"))
@@ -45,6 +46,8 @@ def test_rules(folder):
                 counts["tests"] += int(lines[-1][3:])
 
 
+# Requests, and the milliseconds that each may take.
+REQUESTS = {"usual": 1, "long": 10, "many": 10, "latin": 10}
 SPEED = """import door from './find.js';
 import sample from './sample.js';
 const requests = { usual: sample[0], long: (sample[0] + '&rft.description=' + 'word+and%2C+'.repeat(700)).slice(0, 8192),
@@ -53,20 +56,29 @@ for (let i = 0; i < COUNT; i++) door.requestOf(requests.NAME);
 """
 
 
+# Headers of 8 KB for Accept-Language.
+LANGUAGES = """import door from './find.js';
+const headers = { commas: ','.repeat(8192), ranges: 'x-1-2-3-4-5-6;q=0.001,'.repeat(370), hyphens: 'de' + '-a'.repeat(4095),
+    spaces: 'de' + ' '.repeat(8190), stars: '*,'.repeat(4096) };
+const offered = 'en de fr es pt-BR zh-Hant ar he pl cs'.split(' ');
+for (let i = 0; i < COUNT; i++) door.chosen(headers.NAME, offered);
+"""
+
+
 def test_speed(folder):
-    """The processor time of a request in njs: a usual one below 1 ms, one of 8 KB below 10 ms."""
+    """The processor time in njs of a request, a usual one below 1 ms, one of 8 KB below 10 ms; of a header below 1 ms."""
     def took(name, count):
         with open(f"{folder}/speed.js", "w") as file:
-            file.write(SPEED.replace("NAME", name).replace("COUNT", str(count)))
+            file.write((SPEED if name in REQUESTS else LANGUAGES).replace("NAME", name).replace("COUNT", str(count)))
         child = subprocess.Popen(["njs", "-p", folder, f"{folder}/speed.js"])
         _, status, usage = os.wait4(child.pid, 0)
         child.returncode = status
         expect(f"speed of {name}", status, 0)
         return usage.ru_utime + usage.ru_stime
 
-    for name, most in (("usual", 1), ("long", 10), ("many", 10), ("latin", 10)):
+    for name, most in {**REQUESTS, **dict.fromkeys(("commas", "ranges", "hyphens", "spaces", "stars"), 1)}.items():
         time_of_one = (took(name, 200) - took(name, 0)) * 1000 / 200
-        expect(f"a request, {name}: {time_of_one:.2f} ms", time_of_one < most)
+        expect(f"speed of {name}: {time_of_one:.2f} ms", time_of_one < most)
 
 
 SLIPS = [
@@ -82,15 +94,34 @@ SLIPS = [
     (b'{"groups": [{"name": "A"}], "targets": {"a b": {}}}', 'target "a b": no target can have this name'),
     (b'{"groups": [{"name": "A"}], "words": {"libary": "x"}}', 'words: unknown name "libary"'),
     (b'{"groups": [{"name": "A"}], "words": {"library": 3}}', "words: library is not a text"),
+    (b'{"groups": [{"name": "A"}], "words": {"library": {"en": 3}}}', "words: library: en is not a text"),
+    (b'{"groups": [{"name": "A"}], "words": {"library": {"de": "x"}}}', 'words: library: "de" is none of the languages'),
+    (b'{"groups": [{"name": {"en": "A"}}]}', "group 1: name is not a text"),
+    (b'{"languages": "en", "groups": [{"name": "A"}]}', "languages is not a list of languages"),
+    (b'{"languages": ["en_GB"], "groups": [{"name": "A"}]}', 'languages: "en_GB" is no tag of a language'),
+    (b'{"languages": ["fr"], "groups": [{"name": "A"}]}', "languages: no words/fr.json"),
+    (b'{"groups": [{"name": "A"}], "targets": {"a": {"label": {"e": "x"}}}}', 'target "a": label: "e" is none of the languages'),
+]
+SLIPS_OF_WORDS = [
+    (b'{"heading": "x"', "line 1, column"),
+    (b'[]', "not an object"),
+    (b'{"heading": "x"}', "words: no unavailable"),
+    (b'{"heading": {"en": "x"}}', "words: heading is not a text"),
+    (b'{"titel": "x"}', 'words: unknown name "titel"'),
+    (b'{"volume": "vol."}', "words: volume has not 1 of {}"),
 ]
 
 
 def test_targets():
     expect("targets.json", targets.faults_in("deploy/nginx/targets.json"), [])
     with open("deploy/nginx/targets.json") as file:
-        expect("targets.json has every word", set(json.load(file)["words"]), targets.words())
+        site = json.load(file)
+    expect("targets.json has the library's words", set(site["words"]), set(targets.OF_THE_LIBRARY))
+    expect("it offers all languages", {f"{language}.json" for language in site["languages"]}, set(os.listdir("deploy/nginx/words")))
     for data, fault in SLIPS:
-        expect(f"targets.json: {fault}", any(fault in found for found in targets.faults_of(data)))
+        expect(f"targets.json: {fault}", any(fault in found for found in targets.faults_of(data, {"en", "de"})))
+    for data, fault in SLIPS_OF_WORDS:
+        expect(f"words: {fault}", any(fault in found for found in targets.faults_of_words(data)))
 
 
 def test_style():
@@ -187,6 +218,64 @@ def test_json(site):
     expect("a page has no origin", site.get("/find").headers["Access-Control-Allow-Origin"], None)
 
 
+def test_languages(site):
+    """The page and the JSON in the language that a header asks for, and one that is read from right to left."""
+    def reply_in(header, target=f"/find?{ARTICLE}"):
+        return site.get(target, headers={} if header is None else {"Accept-Language": header})
+
+    for header, language in ((None, "en"), ("", "en"), ("en-GB,en;q=0.9", "en"), ("de-AT,de;q=0.9,en;q=0.8", "de"), ("fr", "en"),
+                             ("fr;q=0.9,de;q=0.1", "de"), ("de;q=0", "en"), ("," * 8000, "en"), ("de" + ",x" * 3000, "de"),
+                             ("\u00e4\u00fc,de".encode().decode("latin-1"), "de")):
+        reply = reply_in(header)
+        name = f"Accept-Language {(header or '')[:20]}"
+        expect(name, (reply.status, reply.headers["Content-Language"], reply.headers["Vary"]), (200, language, "Accept-Language"))
+        expect(f"{name}: the page", f'<html lang="{language}" dir="ltr">' in reply.text)
+    reply = reply_in("de")
+    tidy("a page in German", reply.text)
+    for part in ("<title>Storm surges – Bibliothek der Beispieluniversität</title>", "<h1>Diesen Titel finden</h1>", "Bd. 12", "Nr. 3",
+                 "S. 101", "<h2>Volltext</h2>", ">Bibliothekskatalog</a>", ">Im Web suchen</a>"):
+        expect(f"the page in German has {part}", part in reply.text)
+    note = reply_in("de", "/find?issn=2943-081X&date=2012").text
+    expect("a note in German", "Außerhalb des Campus" in note)
+    expect("no full text in German", "Fragen Sie die Auskunft" in reply_in("de", "/find?issn=3006-1962&atitle=x").text)
+    reply = reply_in("de", f"/find.json?{ARTICLE}")
+    group = json.loads(reply.text)["groups"][1]
+    expect("JSON in German", (group["name"], group["label"], group["links"][0]["label"]),
+           ("In the library", "In der Bibliothek", "Bibliothekskatalog"))
+    expect("headers of JSON", (reply.headers["Content-Language"], reply.headers["Vary"]), ("de", "Accept-Language"))
+    for target, method in (("/none", "GET"), ("/find", "DELETE")):
+        reply = site.get(target, method, headers={"Accept-Language": "de"})
+        expect(f"a fault in German: {method}", ("<h1>Diesen Titel finden</h1>" in reply.text, reply.headers["Content-Language"],
+                                                    reply.headers["Vary"]), (True, "de", "Accept-Language"))
+    expect("a redirect has no language", site.get("/go?issn=2943-081X&date=2012").headers["Content-Language"], None)
+    tidy("a page from right to left", hebrew(site).text)
+
+
+def hebrew(site):
+    """Adds Hebrew as an operator does, with one word in it, and returns the page that is read in it."""
+    with open(site.path("openlink/words/he.json"), "w") as file:
+        json.dump({"heading": "חיפוש"}, file)
+    with open(site.path("openlink.conf")) as file:
+        conf = file.read()
+    german = f"js_preload_object words_de from {site.path('openlink/words/de.json')};\n"
+    expect("openlink.conf loads the words", german in conf)
+    with open(site.path("openlink.conf"), "w") as file:
+        file.write(conf.replace(german, german + german.replace("words_de", "words_he").replace("de.json", "he.json")))
+    with open(site.path("openlink/targets.json")) as file:
+        data = json.load(file)
+    with open(site.path("openlink/targets.json"), "w") as file:
+        json.dump({**data, "languages": ["de", "he", "fr"]}, file)
+    site.reload()
+    reply = site.get("/find?" + ARTICLE, headers={"Accept-Language": "he-IL, fr"})
+    expect("Hebrew", ('<html lang="he" dir="rtl">' in reply.text, "<h1>חיפוש</h1>" in reply.text, "Bd. 12" in reply.text), (True,) * 3)
+    expect("another default", site.get("/find", headers={"Accept-Language": "en, fr"}).headers["Content-Language"], "de")
+    shutil.copy("deploy/nginx/targets.json", site.path("openlink"))
+    with open(site.path("openlink.conf"), "w") as file:
+        file.write(conf)
+    site.reload()
+    return reply
+
+
 def test_go(site):
     def go(query):
         reply = site.get(f"/go?{query}")
@@ -229,17 +318,24 @@ def test_hostile(site):
 def test_hostile_labels(site):
     path = site.path("openlink/targets.json")
     words = {name: HOSTILE for name in targets.words()}
+    with open(site.path("openlink/words/de.json"), "w") as file:
+        json.dump({**words, "volume": 3, "heading": {"de": HOSTILE}, "issue": None}, file)
     with open(path, "w") as file:
-        json.dump({"words": words, "groups": [{"name": HOSTILE}, {"name": "B" + HOSTILE}], "targets": {
+        json.dump({"languages": ["en", "de", HOSTILE], "words": words, "groups": [{"name": HOSTILE}, {"name": "B" + HOSTILE}], "targets": {
             "tidal-press": {"label": HOSTILE, "note": HOSTILE}, "catalogue": {"label": HOSTILE, "group": "B" + HOSTILE}}}, file)
     site.reload()
     for query in (ARTICLE, "", "id=doi:10.1000/a"):
         reply = site.get(f"/find?{query}")
         expect("hostile labels", (reply.status, "<script" in reply.text, "<img" in reply.text, "&lt;script&gt;" in reply.text),
                (200, False, False, True))
+    reply = site.get(f"/find?{ARTICLE}", headers={"Accept-Language": "de"})
+    expect("hostile words", (reply.status, reply.headers["Content-Language"], "<script" in reply.text, reply.headers["X-Evil"]),
+           (200, "de", False, None))
     # Members of wrong types that the module has to survive.
     for data in ({}, {"words": 3, "groups": {}, "targets": []}, {"groups": [3, {"name": {}}], "targets": {"tidal-press": 7}},
-                 {"groups": [{"name": "A", "onlyWithout": "A"}], "words": {"heading": None}}, [], "x"):
+                 {"groups": [{"name": "A", "onlyWithout": "A"}], "words": {"heading": None}}, [], "x",
+                 {"languages": {"length": 3}, "words": {"heading": {"en": 3}}}, {"languages": [["de"], 3, None, "x" * 99]},
+                 {"targets": {"tidal-press": {"label": {}, "note": {"en": []}}}}):
         with open(path, "w") as file:
             json.dump(data, file)
         site.reload()
@@ -250,6 +346,7 @@ def test_hostile_labels(site):
         file.write("{")
     expect("nginx refuses a targets.json that is no JSON", site.test_configuration()[0] != 0)
     shutil.copy("deploy/nginx/targets.json", path)
+    shutil.copy("deploy/nginx/words/de.json", site.path("openlink/words"))
     site.reload()
 
 
@@ -257,6 +354,7 @@ def test_faults(site):
     form = {"Content-Type": "application/x-www-form-urlencoded"}
     for target, method, body, status in (("/none", "GET", None, 404), ("/find", "DELETE", None, 403), ("/go", "POST", b"", 403),
                                          ("/openurl", "POST", b"", 403), ("/report", "GET", None, 404), ("/_menu", "GET", None, 404),
+                                         ("/report.txt", "GET", None, 404), ("/_report", "GET", None, 404),
                                          ("/fault", "GET", None, 404), ("/find", "TRACE", None, 405),
                                          ("/find", "POST", b"a" * 9000, 413), ("/find?" + "a" * 9000, "GET", None, 414)):
         reply = site.get(target, method, body, form)
@@ -295,6 +393,14 @@ def test_passed_on(site):
                    site.get(f"{path}?{query}", port=site.ports[0]).body if query != "ctx_ver=wrong" else b"")
     report = site.get("/report?rft.issn=2901-0012", port=site.report_port)
     expect("the report", (report.status, "catalogue\tlink 0\n" in report.text), (200, True))
+    report = site.get(f"/report.txt?{ARTICLE}", port=site.report_port)
+    lines = report.text.split("\n")
+    expect("the report of both queries", (report.status, report.headers["Content-Type"]), (200, "text/plain; charset=utf-8"))
+    expect("its reasons", [line for line in lines if line.split("\t")[0] in ("tidal-press", "coastal-law", "web-search", "pubmed")],
+           ["tidal-press\tlink 0", "coastal-law\tno row", "pubmed\tno link", "web-search\tlink 0"])
+    expect("the report has each target once", len({line.split("\t")[0] for line in lines}), len(lines))
+    for target in ("/_report?a=b", "/find"):
+        expect(f"{target} on the server of the reports", site.get(target, port=site.report_port).status, 404)
 
 
 def test_limit(site):
@@ -375,12 +481,67 @@ def test_processes(site):
     expect("no process, passed on", site.get(f"/openurl?{ARTICLE}").status in (502, 503, 504))
 
 
+def probe(*words):
+    done = subprocess.run(["deploy/probe", *words], capture_output=True, text=True)
+    return done.returncode, done.stdout, done.stderr
+
+
+def test_probes(folder):
+    """The probes of the sample library hold; slips in them, and addresses without a front door, are told apart."""
+    site = Site(1, is_sample=True)
+    file = f"{folder}/probes.tsv"
+
+    def tried(text, front_door=None, reports=None):
+        with open(file, "wb") as probes:
+            probes.write(text)
+        return probe(file, front_door or f"http://127.0.0.1:{site.port}", reports or f"http://127.0.0.1:{site.report_port}")
+
+    article = ARTICLE.encode()
+    try:
+        site.start()
+        with open("examples/library/probes.tsv", "rb") as probes:
+            text = probes.read()
+        expect("probes of the sample library", len(re.findall(rb"^[^#\n].*\t", text, re.M)), 30)
+        expect("they hold", tried(text), (0, "", ""))
+        expect("they hold with line ends of Windows", tried(text.replace(b"\n", b"\r\n")), (0, "", ""))
+        shown = b"\ttidal-press aggregate-net catalogue web-search"
+        expect("an order", tried(article + b"\tweb-search catalogue aggregate-net tidal-press\n"), (0, "", ""))
+        expect("no page", tried(b"sid=Entrez:PubMed\tnone")[0], 0)
+        expect("what differs", tried(b"# a source\n\n" + article + b"\ttidal-press coastal-law interlibrary-loan pubmed nobody web-search\n"
+                                     + article + shown),
+               (1, f"{file}:3: {ARTICLE}\n  missing coastal-law: no row\n"
+                   "  missing interlibrary-loan: link 0 but not shown: onlyWithout in targets.json hides its group\n"
+                   "  missing pubmed: no link\n  missing nobody: not in the registry\n  too many aggregate-net: link 0\n"
+                   "  too many catalogue: link 0\n1 of 2 probes differ\n", ""))
+        expect("none, and some are shown", tried(article + b"\tnone")[1].count("too many"), 4)
+        expect("a hostile query", tried(b"rft.atitle=\xff\x00\r \"#$(id)\x1b&issn=2901-0012\ttidal-press")[0], 1)
+        expect("a query that is too long", "the front door refuses" in tried(b"a" * 9000 + b"\tnone")[1])
+        expect("no reports", "no report: " in tried(article + b"\tpubmed", reports=f"http://127.0.0.1:{free_ports(1)[0]}")[1])
+        for reason, status, words in (("nothing listens", 4, {"front_door": f"http://127.0.0.1:{free_ports(1)[0]}"}),
+                                      ("another server", 4, {"front_door": f"http://127.0.0.1:{site.ports[0]}"}),
+                                      ("no address", 2, {"front_door": "127.0.0.1"})):
+            got = tried(article + shown, **words)
+            expect(f"probe: {reason}", (got[0], got[1], got[2] != ""), (status, "", True))
+        for text in (b"", b"# none\n", article, article + b"\t", article + b"\tnone tidal-press", article + b"\ta/b"):
+            expect(f"a slip: {text[-20:]}", tried(text)[0], 3)
+        expect("no file", probe(f"{folder}/none")[0], 3)
+        expect("no arguments", probe()[0], 2)
+        for process in site.processes.values():
+            process.kill()
+            process.wait()
+        expect("no process", tried(article + shown)[:2], (4, ""))
+    finally:
+        site.stop()
+
+
 def test_logs(site):
     with open(site.path("log/openlink.log")) as file:
         lines = file.read().split("\n")[:-1]
-    form = re.compile(r"\S+ \d{3} \S+ \S.* [\d.]+ found=(\d+/\d+)? from=[\w:.\/-]*")
+    form = re.compile(r"\S+ \d{3} \S+ \S.* [\d.]+ found=(\d+/\d+)? targets=[\w.,-]* from=[\w:.\/-]*")
     expect("the log", [line for line in lines if not form.fullmatch(line)][:3], [])
-    expect("the log has links and sources", any(re.search(r" 200 GET /find [\d.]+ found=2/5 from=info:sid/google$", line) for line in lines))
+    expect("the log has links and sources", any(re.search(
+        r" 200 GET /find [\d.]+ found=2/5 targets=tidal-press,aggregate-net,catalogue,web-search from=info:sid/google$", line) for line in lines))
+    expect("the log has redirects", any(re.search(r" 302 GET /go [\d.]+ found=1/2 targets=estuary-online from=$", line) for line in lines))
     expect("the log has no query", [line for line in lines if "issn" in line], [])
     for name in ("openlink-error.log", "error.log", "start.log"):
         if os.path.exists(site.path(f"log/{name}")):
@@ -404,11 +565,13 @@ def main():
         status, text = site.test_configuration()
         expect("nginx -t", (status, text if status else ""), (0, ""))
         site.start()
-        for test in (test_requests, test_page, test_json, test_go, test_hostile, test_form, test_passed_on, test_faults, test_limit,
+        for test in (test_requests, test_page, test_json, test_languages, test_go, test_hostile, test_form, test_passed_on, test_faults, test_limit,
                      test_hostile_labels, test_processes, test_logs):
             test(site)
     finally:
         site.stop()
+    with tempfile.TemporaryDirectory() as folder:
+        test_probes(folder)
     if counts["failures"] == 0:
         print(f"checks/front_door: {counts['tests']} tests in {time.time() - start:.0f} s")
     return 1 if counts["failures"] else 0

@@ -54,7 +54,8 @@ class Reply:
 
 
 class Site:
-    def __init__(self, processes=4):
+    def __init__(self, processes=4, is_sample=False):
+        """With the targets above, or with those of the sample library as it is."""
         self.folder = tempfile.mkdtemp(prefix="front_door.")
         self.port, self.report_port, *self.ports = free_ports(2 + processes)
         self.processes = {}
@@ -62,7 +63,10 @@ class Site:
         for name in ("log", "temp", "targets"):
             os.mkdir(f"{self.folder}/{name}")
         shutil.copytree("deploy/nginx", f"{self.folder}/openlink")
-        self.write_registry()
+        if is_sample:
+            subprocess.run(["examples/library/build", PROGRAM, self.folder], check=True, stdout=subprocess.DEVNULL)
+        else:
+            self.write_registry()
         self.write_configuration()
 
     def path(self, name):

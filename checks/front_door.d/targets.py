@@ -1,48 +1,105 @@
-"""Checks a targets.json and says where it is wrong: nginx gives no reason."""
-import json, re
+"""Checks a targets.json, and files of words, and says where they are wrong: nginx gives no reason."""
+import glob, json, os, re
 
-WORDS = r"const WORDS = \{(.*?)\n\};"
+SAMPLE = "deploy/nginx/words/en.json"
+# The words that are the library's own, and in no file of a language.
+OF_THE_LIBRARY = ("library", "help", "helpLink")
+# Names of groups, which are the same in all languages.
+PLAIN = ("name", "group", "onlyWithout")
+TAG = r"[A-Za-z]{2,8}(-[A-Za-z0-9]{1,8})*"
 
 
 def words():
-    """The names that `words` may have: those that find.js reads."""
-    with open("deploy/nginx/find.js") as file:
-        text = re.search(WORDS, file.read(), re.S).group(1)
-    return set(re.findall(r"(\w+): '", text))
+    """The names that `words` may have."""
+    with open(SAMPLE) as file:
+        return {*json.load(file), *OF_THE_LIBRARY}
 
 
-def texts(place, value, names, faults):
-    """Faults of an object whose members are texts under known names."""
+def texts(place, value, names, languages, faults):
+    """Faults of an object whose members are texts under known names, some of them by language if there are languages."""
     if not isinstance(value, dict):
         faults.append(f"{place} is not an object")
         return
     for name, text in value.items():
         if name not in names:
             faults.append(f"{place}: unknown name {json.dumps(name)}")
+        elif isinstance(text, dict) and languages is not None and name not in PLAIN:
+            by_language(f"{place}: {name}", text, languages, faults)
         elif not isinstance(text, str):
             faults.append(f"{place}: {name} is not a text")
 
 
-def faults_of(data):
+def by_language(place, value, languages, faults):
+    for language, text in value.items():
+        if language not in languages:
+            faults.append(f"{place}: {json.dumps(language)} is none of the languages")
+        elif not isinstance(text, str):
+            faults.append(f"{place}: {language} is not a text")
+
+
+def parsed(data, faults):
+    """The JSON of a file that nginx preloads; None, and a fault, if it refuses it."""
     if data.startswith(b"\xef\xbb\xbf"):
-        return ["line 1: begins with a byte order mark"]
+        faults.append("line 1: begins with a byte order mark")
+        return None
     try:
-        site = json.loads(data.decode("utf-8"))
+        value = json.loads(data.decode("utf-8"))
     except UnicodeDecodeError as fault:
-        return [f"line {data[:fault.start].count(10) + 1}: not UTF-8"]
+        faults.append(f"line {data[:fault.start].count(10) + 1}: not UTF-8")
+        return None
     except json.JSONDecodeError as fault:
-        return [f"line {fault.lineno}, column {fault.colno}: {fault.msg}"]
-    if not isinstance(site, dict):
-        return ["not an object"]
-    faults = [f"unknown name {json.dumps(name)}" for name in site if name not in ("words", "groups", "targets")]
-    texts("words", site.get("words", {}), words(), faults)
+        faults.append(f"line {fault.lineno}, column {fault.colno}: {fault.msg}")
+        return None
+    if not isinstance(value, dict):
+        faults.append("not an object")
+        return None
+    return value
+
+
+def faults_of_words(data):
+    """Faults of a file of words: it has the names of the English one, and the same places for values."""
+    faults = []
+    found = parsed(data, faults)
+    if found is None:
+        return faults
+    with open(SAMPLE) as file:
+        wanted = json.load(file)
+    texts("words", found, wanted, None, faults)
+    faults += [f"words: no {name}" for name in wanted if name not in found]
+    return faults + [f"words: {name} has not {wanted[name].count('{}')} of {{}}" for name in wanted
+                     if isinstance(found.get(name), str) and found[name].count("{}") != wanted[name].count("{}")]
+
+
+def languages_of(site, loaded, faults):
+    """The languages that a targets.json offers, the default first."""
+    languages = site.get("languages", ["en"])
+    if not isinstance(languages, list) or not languages or not all(isinstance(it, str) for it in languages):
+        faults.append("languages is not a list of languages")
+        return ["en"]
+    for language in languages:
+        if not re.fullmatch(TAG, language):
+            faults.append(f"languages: {json.dumps(language)} is no tag of a language")
+        elif loaded is not None and language not in loaded:
+            faults.append(f"languages: no words/{language}.json")
+    return languages
+
+
+def faults_of(data, loaded=None):
+    """Faults of a targets.json; `loaded` has the languages whose words are there."""
+    faults = []
+    site = parsed(data, faults)
+    if site is None:
+        return faults
+    faults += [f"unknown name {json.dumps(name)}" for name in site if name not in ("languages", "words", "groups", "targets")]
+    languages = languages_of(site, loaded, faults)
+    texts("words", site.get("words", {}), words(), languages, faults)
     groups = site.get("groups", [])
     targets = site.get("targets", {})
     if not isinstance(groups, list) or not groups:
         return faults + ["groups is not a list of groups"]
     names = [group.get("name") if isinstance(group, dict) else None for group in groups]
     for number, group in enumerate(groups, 1):
-        texts(f"group {number}", group, ("name", "onlyWithout"), faults)
+        texts(f"group {number}", group, ("name", "label", "onlyWithout"), languages, faults)
         if names[number - 1] is None:
             faults.append(f"group {number} has no name")
         elif "onlyWithout" in group and group["onlyWithout"] not in names:
@@ -51,7 +108,7 @@ def faults_of(data):
         return faults + ["targets is not an object"]
     for name, target in targets.items():
         place = f"target {json.dumps(name)}"
-        texts(place, target, ("label", "group", "note"), faults)
+        texts(place, target, ("label", "group", "note"), languages, faults)
         if not re.fullmatch(r"[A-Za-z0-9_.-]{1,64}", name):
             faults.append(f"{place}: no target can have this name")
         if isinstance(target, dict) and target.get("group", names[0]) not in names:
@@ -60,5 +117,12 @@ def faults_of(data):
 
 
 def faults_in(path):
+    """Faults of a targets.json and of the files of words beside it."""
+    files = sorted(glob.glob(os.path.join(glob.escape(os.path.dirname(path)), "words", "*.json")))
+    loaded = {os.path.basename(file)[:-len(".json")] for file in files}
     with open(path, "rb") as file:
-        return [f"{path}: {fault}" for fault in faults_of(file.read())]
+        faults = [f"{path}: {fault}" for fault in faults_of(file.read(), loaded)]
+    for name in files:
+        with open(name, "rb") as file:
+            faults += [f"{name}: {fault}" for fault in faults_of_words(file.read())]
+    return faults

@@ -1,9 +1,11 @@
-// The front door of the link resolver: reads an OpenURL of any source, asks the program for its menu, and makes the
-// reader's page. An operator edits nothing here: labels and words are in targets.json.
+// The front door of the link resolver: reads an OpenURL of any source, asks the program for its menu, and replies with the
+// reader's page of pages.js. An operator edits nothing here: labels are in targets.json, words in words/.
 //
 // It runs in njs 0.7.9 and later. That version lacks for-of, destructuring, spread, default parameters and classes. It
 // frees no memory before the reply is sent, and `test`, `exec`, `match` and `replace` take 5 KB where nothing matches,
 // but `search` takes none: so it goes first. A function expression in an array literal turns its index into a text.
+import languages from './languages.js';
+import pages from './pages.js';
 
 const MOST_PAIRS = 300;
 const MOST_BYTES = 12000;
@@ -31,9 +33,8 @@ function windows1252(text) {
     }).join('');
 }
 
-const HAS = Object.prototype.hasOwnProperty;
-function own(object, key) { return object && HAS.call(object, key) ? object[key] : undefined; }
-function is(form, text) { return text.search(form) >= 0; }
+const own = languages.own;
+const is = languages.is;
 function encode(text) { return is(UNRESERVED, text) ? text : encodeURIComponent(text); }
 
 // ---------------------------------------------------------------- A query
@@ -366,152 +367,24 @@ function anyText(q) { return q.text('rft.issn=ANY', ROW_KEYS); }
 function requestOf(args) { return requestText(queryOf(args)); }
 function anyOf(args) { return anyText(queryOf(args)); }
 
-// ---------------------------------------------------------------- The page
-// The words that targets.json does not have. `{}` is where the value goes.
-const WORDS = {
-    lang: 'en', dir: 'ltr', library: 'Library', heading: 'Find this item', noCitation: 'No reference was given.',
-    nothing: 'We found no full text online.', help: '', helpLink: '', links: 'Links',
-    volume: 'vol. {}', issue: 'no. {}', pages: 'p. {}', others: '{} and others',
-    doi: 'DOI {}', pmid: 'PubMed {}', issn: 'ISSN {}', isbn: 'ISBN {}',
-    unreadable: 'This request could not be read. Please go back and follow the link again.',
-    refused: 'This kind of request is not accepted here.', missing: 'There is no such page.',
-    tooLong: 'This request is too long. Please go back and search with fewer words.',
-    busy: 'There are too many requests just now. Please try again in a moment.',
-    unavailable: 'The service is being restarted. Please try again in a minute.'
-};
-
-// Text without control characters and noncharacters, which neither HTML nor a header field may hold.
-const CONTROLS = /[\u0000-\u001f\u007f-\u009f\u2028\u2029\ufdd0-\ufdef\ufffe\uffff]/g;
-function clean(value) {
-    const text = is(CONTROLS, value) ? value.replace(CONTROLS, ' ') : value;
-    return (is(/\s\s/, text) ? text.replace(/\s+/g, ' ') : text).trim();
-}
-function textOr(value, other) { return typeof value === 'string' && clean(value) !== '' ? clean(value) : other; }
-function word(site, name) { return textOr(own(own(site, 'words'), name), WORDS[name]); }
-function filled(site, name, value) { return word(site, name).split('{}').join(value); }
-const ENTITIES = { '&': '&amp;', '<': '&lt;', '>': '&gt;', '"': '&quot;', "'": '&#39;' };
-function escape(text) { return is(/[&<>"']/, text) ? text.replace(/[&<>"']/g, (c) => ENTITIES[c]) : text; }
-function isWeb(link) { return is(/^https?:\/\/[\x21-\x7e]+$/i, link); }
-
-function authorOf(q, site) {
-    const authors = q.all('rft.au').map(clean).filter(Boolean);
-    const given = clean(q.first('rft.aufirst') || q.first('rft.auinit') || q.first('rft.auinit1'));
-    const last = clean(q.first('rft.aulast'));
-    if (authors.length > 3) return filled(site, 'others', authors.slice(0, 3).join('; '));
-    if (authors.length > 0) return authors.join('; ');
-    return last === '' ? clean(q.first('rft.aucorp')) : given === '' ? last : last + ', ' + given;
-}
-
-// What the page and the JSON say of a request, and the keys that it is taken from.
-const CITED = {
-    title: 'rft.atitle rft.btitle rft.title', journal: 'rft.jtitle rft.stitle rft.btitle rft.title', year: 'rft.date',
-    volume: 'rft.volume', issue: 'rft.issue', pages: 'rft.pages rft.spage rft.artnum',
-    doi: 'x.doi', pmid: 'x.pmid', issn: 'x.issn', isbn: 'x.isbn'
-};
-function citationOf(q, site) {
-    const citation = {};
-    const author = authorOf(q, site);
-    if (author !== '') citation.author = author;
-    Object.keys(CITED).forEach((name) => {
-        const found = CITED[name].split(' ').map((key) => clean(q.first(key))).filter(Boolean);
-        if (found.length > 0) citation[name] = name === 'year' ? found[0].slice(0, 4) : found[0];
-    });
-    if (citation.journal === citation.title) delete citation.journal;
-    return citation;
-}
-
-function emptyGroups(site) {
-    const groups = [];
-    const named = own(site, 'groups') || NONE;
-    for (let i = 0; i < named.length; i++) {  // a preloaded array has no methods in njs 0.7.9
-        const name = textOr(own(named[i], 'name'), '');
-        if (name !== '') groups.push({ name: name, onlyWithout: own(named[i], 'onlyWithout'), links: [] });
-    }
-    return groups.length > 0 ? groups : [{ name: word(site, 'links'), links: [] }];
-}
-
-// All groups of the site with the links of a menu's text. A target without a group is in the first.
-function groupsOf(menu, site) {
-    const groups = emptyGroups(site);
-    menu.split('\n').forEach((line) => {
-        const at = line.indexOf('\t');
-        const url = line.slice(at + 1);
-        if (at < 0 || !isWeb(url)) return;
-        const name = line.slice(0, at);
-        const target = own(own(site, 'targets'), name);
-        const group = textOr(own(target, 'group'), '');
-        const link = { target: name, label: textOr(own(target, 'label'), name), url: url };
-        if (textOr(own(target, 'note'), '') !== '') link.note = clean(target.note);
-        (groups.filter((g) => g.name === group)[0] || groups[0]).links.push(link);
-    });
-    return groups;
-}
-
-// The groups that a reader sees: those with links, except where `onlyWithout` names a group that has some.
-function shownGroups(groups) {
-    const full = groups.filter((g) => g.links.length > 0);
-    return full.filter((g) => !full.some((other) => other.name === g.onlyWithout))
-        .map((g) => ({ name: g.name, links: g.links }));
-}
-
-function citationHtml(c, site) {
-    const text = (value) => value ? '<bdi>' + escape(value) + '</bdi>' : '';
-    const named = (name) => c[name] ? text(filled(site, name, c[name])) : '';
-    const numbers = c.title ? [] : c.doi || c.pmid ? ['doi', 'pmid'] : c.journal ? [] : ['issn', 'isbn'];
-    const parts = [text(c.author), c.title ? '<strong>' + text(c.title) + '</strong>' : '',
-        c.journal ? '<cite>' + text(c.journal) + '</cite>' : '', text(c.year)]
-        .concat(['volume', 'issue', 'pages'].concat(numbers).map(named)).filter(Boolean);
-    return parts.length > 0 ? parts.join(', ') : escape(word(site, 'noCitation'));
-}
-
-function documentOf(title, body, site) {
-    const w = (name) => escape(word(site, name));
-    return ['<!DOCTYPE html>', '<html lang="' + w('lang') + '" dir="' + w('dir') + '">', '<head>',
-        '<meta charset="utf-8">', '<meta name="viewport" content="width=device-width, initial-scale=1">',
-        '<title>' + escape(title) + ' – ' + w('library') + '</title>', '<link rel="stylesheet" href="/menu.css">',
-        '</head>', '<body>', '<header><p>' + w('library') + '</p></header>', '<main>', '<h1>' + w('heading') + '</h1>']
-        .concat(body, ['</main>', '</body>', '</html>', '']).join('\n');
-}
-
-function helpHtml(site) {
-    const help = word(site, 'help');
-    const link = word(site, 'helpLink');
-    return help === '' ? [] : ['<p class="help">' + (isWeb(link) ? anchor(link, help) : escape(help)) + '</p>'];
-}
-function anchor(url, text) { return '<a href="' + escape(url) + '">' + escape(text) + '</a>'; }
-function noteHtml(note) { return note ? '<p>' + escape(note) + '</p>' : ''; }
-function linkHtml(link) { return '<li>' + anchor(link.url, link.label) + noteHtml(link.note) + '</li>'; }
-function notice(name, site) { return '<p class="nothing">' + escape(word(site, name)) + '</p>'; }
-
-function pageOf(citation, groups, site) {
-    let body = ['<p class="citation">' + citationHtml(citation, site) + '</p>'];
-    if (groups[0].links.length === 0) {
-        if (Object.keys(citation).length > 0) body.push(notice('nothing', site));
-        body = body.concat(helpHtml(site));
-    }
-    shownGroups(groups).forEach((g) => {
-        body = body.concat(['<h2>' + escape(g.name) + '</h2>', '<ul>'], g.links.map(linkHtml), ['</ul>']);
-    });
-    return documentOf((citation.title || citation.journal || word(site, 'heading')).slice(0, 100), body, site);
-}
-
-const FAULTS = { 403: 'refused', 404: 'missing', 405: 'refused', 413: 'tooLong', 414: 'tooLong', 429: 'busy' };
-function faultOf(status, site) {
-    const name = FAULTS[status] || (status < 500 ? 'unreadable' : 'unavailable');
-    return documentOf(word(site, 'heading'), [notice(name, site)].concat(helpHtml(site)), site);
-}
-
 // ---------------------------------------------------------------- nginx
-function siteOf() { return typeof targets === 'undefined' ? {} : targets; }
+function targetsOf() { return typeof targets === 'undefined' ? {} : targets; }
+function siteOf(r) { return languages.siteIn(targetsOf(), String(r.headersIn['Accept-Language'] || '')); }
 function send(r, status, type, text) {
     r.headersOut['Content-Type'] = type;
     r.return(status, text);
 }
-function sendPage(r, status, text) { send(r, status, 'text/html; charset=utf-8', text); }
-function sendJson(r, status, data) { send(r, status, 'application/json', JSON.stringify(data) + '\n'); }
+// Sends a text in the reader's language, which another reader may not get from a cache.
+function sendIn(r, site, status, type, text) {
+    r.headersOut['Content-Language'] = site.language;
+    r.headersOut.Vary = 'Accept-Language';
+    send(r, status, type, text);
+}
+function sendPage(r, status, text, site) { sendIn(r, site, status, 'text/html; charset=utf-8', text); }
+function sendJson(r, status, data, site) { sendIn(r, site, status, 'application/json', JSON.stringify(data) + '\n'); }
 function sendFault(r, status, site) {
-    if (/^\/find\.json(?:\?|$)/.test(String(r.variables.request_uri))) sendJson(r, status, { error: status });
-    else sendPage(r, status, faultOf(status, site));
+    if (/^\/find\.json(?:\?|$)/.test(String(r.variables.request_uri))) sendJson(r, status, { error: status }, site);
+    else sendPage(r, status, pages.faultOf(status, site), site);
 }
 
 // The query of the address and of a form, as ASCII. Every other byte is escaped, line ends first of all: a subrequest's
@@ -531,40 +404,61 @@ function argsOf(r) {
 }
 
 // Asks the program, and once more if no process can be reached: all of them are back within 400 ms of a restart.
-async function ask(r, args) {
-    const reply = await r.subrequest('/_menu', { args: args });
+async function ask(r, place, args) {
+    const reply = await r.subrequest(place, { args: args });
     if (reply.status !== 502) return reply;
     await new Promise(function (done) { setTimeout(done, 400); });
-    return r.subrequest('/_menu', { args: args });
+    return r.subrequest(place, { args: args });
+}
+// Asks with both queries; gives the worse status and both texts.
+async function askBoth(r, place, q) {
+    const replies = await Promise.all([ask(r, place, requestText(q)), ask(r, place, anyText(q))]);
+    const status = Math.max(replies[0].status, replies[1].status);
+    return { status: status, texts: replies.map((reply) => reply.responseText || '') };
 }
 
+function nameOf(line) { return line.slice(0, line.indexOf('\t')); }
 // Both menus in one. A target of the first is not taken from the second again.
 function joined(first, second) {
     const names = Object.create(null);
-    const nameOf = (line) => line.slice(0, line.indexOf('\t'));
     first.split('\n').forEach((line) => { names[nameOf(line)] = true; });
     return first + second.split('\n').filter((line) => names[nameOf(line)] !== true).join('\n');
 }
+// Both reports in one. A target that has no row for the first query has the reason that the second gives.
+function joinedReports(first, second) {
+    const lines = Object.create(null);
+    second.split('\n').forEach((line) => { lines[nameOf(line)] = line; });
+    return first.split('\n').map((line) => is(/\tno row$/, line) ? lines[nameOf(line)] || line : line).join('\n');
+}
 
+function faultStatus(replies) { return replies.status >= 400 && replies.status < 500 ? 400 : 503; }
 // Asks the program, unless the query is empty, and gives the citation and the groups to `reply`.
 async function answer(r, q, reply) {
-    const site = siteOf();
+    const site = siteOf(r);
     let menu = '';
     r.variables.openlink_source = q.first('rfr_id').replace(/[^\w:.\/-]/g, '_').slice(0, 60);
     if (q.pairs.length > 0) {
-        const replies = await Promise.all([ask(r, requestText(q)), ask(r, anyText(q))]);
-        const worst = Math.max(replies[0].status, replies[1].status);
-        if (worst !== 200) return sendFault(r, worst >= 400 && worst < 500 ? 400 : 503, site);
-        menu = joined(replies[0].responseText || '', replies[1].responseText || '');
+        const replies = await askBoth(r, '/_menu', q);
+        if (replies.status !== 200) return sendFault(r, faultStatus(replies), site);
+        menu = joined(replies.texts[0], replies.texts[1]);
     }
-    const groups = groupsOf(menu, site);
-    const all = groups.reduce((sum, group) => sum + group.links.length, 0);
-    r.variables.openlink_found = groups[0].links.length + '/' + all;
-    reply(r, citationOf(q, site), groups, site);
+    const groups = pages.groupsOf(menu, site);
+    if (q.pairs.length > 0) logLinks(r, groups);
+    reply(r, pages.citationOf(q, site), groups, site);
 }
 
-function replyPage(r, citation, groups, site) { sendPage(r, 200, pageOf(citation, groups, site)); }
-function replyJson(r, citation, groups) { sendJson(r, 200, { citation: citation, groups: shownGroups(groups) }); }
+function linksOf(groups) { return groups.reduce((links, group) => links.concat(group.links), []); }
+function logTargets(r, links) { r.variables.openlink_targets = links.map((link) => link.target).join(','); }
+// Writes to the log how many links there are, and the targets that the reader sees.
+function logLinks(r, groups) {
+    r.variables.openlink_found = groups[0].links.length + '/' + linksOf(groups).length;
+    logTargets(r, linksOf(pages.shownGroups(groups)));
+}
+
+function replyPage(r, citation, groups, site) { sendPage(r, 200, pages.pageOf(citation, groups, site), site); }
+function replyJson(r, citation, groups, site) {
+    sendJson(r, 200, { citation: citation, groups: pages.shownGroups(groups) }, site);
+}
 function find(r) { return answer(r, queryOf(argsOf(r)), replyPage); }
 function json(r) { return answer(r, queryOf(argsOf(r)), replyJson); }
 // The first link, if there is one alone in the first group or `first=1` asks for it; otherwise the page.
@@ -574,27 +468,36 @@ function go(r) {
     q.drop('first');
     return answer(r, q, function (r, citation, groups, site) {
         const links = groups[0].links;
-        if (links.length === 1 || (isFirst && links.length > 0)) r.return(302, links[0].url);
-        else replyPage(r, citation, groups, site);
+        if (links.length !== 1 && !(isFirst && links.length > 0)) return replyPage(r, citation, groups, site);
+        logTargets(r, links.slice(0, 1));
+        r.return(302, links[0].url);
     });
 }
 
-// The page in place of nginx's own text.
-function fault(r) { sendFault(r, Number(r.variables.status) || 503, siteOf()); }
+// For the operator: why each target has a link or none, for a query of any source.
+async function report(r) {
+    const replies = await askBoth(r, '/_report', queryOf(argsOf(r)));
+    if (replies.status !== 200) return sendFault(r, faultStatus(replies), siteOf(r));
+    send(r, 200, 'text/plain; charset=utf-8', joinedReports(replies.texts[0], replies.texts[1]));
+}
 
-// An exception would close the connection without a byte. The page has no words of the site: they may be the cause.
+// The page in place of nginx's own text.
+function fault(r) { sendFault(r, Number(r.variables.status) || 503, siteOf(r)); }
+
+// An exception would close the connection without a byte. The page has no words of targets.json: they may be the cause.
 function guarded(handler) {
     return async function (r) {
         try {
             await handler(r);
         } catch (e) {
-            r.variables.openlink_found = 'exception:' + clean(String(e.message)).replace(/[^\w.]/g, '_').slice(0, 60);
-            sendFault(r, 503, {});
+            r.variables.openlink_found = 'exception:' + pages.clean(String(e.message)).replace(/[^\w.]/g, '_').slice(0, 60);
+            sendFault(r, 503, languages.siteIn({ languages: own(targetsOf(), 'languages') }, ''));
         }
     };
 }
 
 export default {
-    requestOf: requestOf, anyOf: anyOf, joined: joined, groupsOf: groupsOf, shownGroups: shownGroups,
-    find: guarded(find), json: guarded(json), go: guarded(go), fault: guarded(fault)
+    requestOf: requestOf, anyOf: anyOf, joined: joined, joinedReports: joinedReports,
+    groupsOf: pages.groupsOf, shownGroups: pages.shownGroups, chosen: languages.chosen, siteIn: languages.siteIn,
+    find: guarded(find), json: guarded(json), go: guarded(go), report: guarded(report), fault: guarded(fault)
 };

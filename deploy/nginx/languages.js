@@ -1,0 +1,103 @@
+// The language of the reader's page, and the words in it. An operator edits nothing here: the words of a language are in
+// words/, and targets.json says which languages are offered.
+//
+// It runs in njs 0.7.9 and later, as find.js does; what that version lacks is said there. Each file of words is an object
+// that openlink.conf loads: words/pt-BR.json is `words_pt_BR`.
+
+const MOST_BYTES = 500;  // of a header; browsers send less than 200
+const MOST_RANGES = 20;
+const MOST_LANGUAGES = 100;
+const TAG = /^[a-z]{2,8}(?:-[a-z0-9]{1,8})*$/i;
+const RANGE = /^(\*|[a-z]{1,8}(?:-[a-z0-9]{1,8})*)\s*(?:;\s*q=(0(?:\.\d{0,3})?|1(?:\.0{0,3})?)\s*)?$/i;
+// Languages and scripts that are read from right to left.
+const RIGHT_TO_LEFT = new RegExp('^(?!.*-latn)(?:(?:ar|arc|ckb|dv|fa|he|nqo|ps|sd|syr|ug|ur|yi)(?:-|$)'
+    + '|.*-(?:arab|hebr|nkoo|syrc|thaa)(?:-|$))', 'i');
+
+const HAS = Object.prototype.hasOwnProperty;
+function own(object, key) { return object && HAS.call(object, key) ? object[key] : undefined; }
+function is(form, text) { return text.search(form) >= 0; }
+function isObject(value) { return typeof value === 'object' && value !== null; }
+
+// ---------------------------------------------------------------- Accept-Language
+// The ranges of a header in their order, each with its quality. Those of another form are left out, and the rest of a
+// header that no browser sends.
+function rangesOf(header) {
+    const pieces = header.slice(0, MOST_BYTES).split(',');
+    if (header.length > MOST_BYTES) pieces.pop();
+    const texts = pieces.map((piece) => piece.trim()).filter(Boolean).slice(0, MOST_RANGES);
+    return texts.filter((text) => is(RANGE, text)).map((text) => {
+        const found = RANGE.exec(text);
+        return { tag: found[1].toLowerCase(), quality: found[2] === undefined ? 1 : Number(found[2]) };
+    });
+}
+
+// Whether a tag such as `de` is another one or the beginning of it, such as `de-AT`. In small letters.
+function covers(tag, other) { return (other + '-').slice(0, tag.length + 1) === tag + '-'; }
+
+// The language that a range names: itself, else one that the range covers (`pt-BR` for `pt`), else the longest one that
+// covers the range (`de` for `de-AT`).
+function named(range, languages) {
+    const small = (language) => language.toLowerCase();
+    const exact = languages.filter((language) => small(language) === range);
+    const within = languages.filter((language) => covers(range, small(language)));
+    const around = languages.filter((language) => covers(small(language), range));
+    return exact[0] || within[0] || around.reduce((a, b) => a && a.length > b.length ? a : b, undefined);
+}
+
+// The language of `languages` that a header prefers; the first of equals, and the first of all if none is preferred. `*`
+// stands for those that no other range names. A quality of 0 refuses a language.
+function chosen(header, languages) {
+    const ranges = rangesOf(header);
+    const isIn = (range, language) => range.tag !== '*' && covers(range.tag, language.toLowerCase());
+    const free = languages.filter((language) => !ranges.some((range) => range.quality === 0 && isIn(range, language)));
+    const others = free.filter((language) => !ranges.some((range) => isIn(range, language)));
+    let best = { language: free[0] || languages[0], quality: 0 };
+    ranges.forEach((range) => {
+        if (range.quality <= best.quality) return;
+        const language = range.tag === '*' ? others[0] : named(range.tag, free);
+        if (language) best = { language: language, quality: range.quality };
+    });
+    return best.language;
+}
+
+// ---------------------------------------------------------------- Words
+function wordsIn(language) { return globalThis['words_' + language.split('-').join('_')]; }
+
+// The languages that targets.json offers and openlink.conf has loaded; English if it names none. The first is the default.
+function offered(targets) {
+    const list = own(targets, 'languages');
+    const languages = [];
+    for (let i = 0; isObject(list) && i < list.length && i < MOST_LANGUAGES; i++) {  // a preloaded array has no methods
+        const language = typeof list[i] === 'string' ? list[i] : '';
+        if (is(TAG, language) && isObject(wordsIn(language))) languages.push(language);
+    }
+    return languages.length > 0 ? languages : ['en'];
+}
+
+// What is in targets.json, for a reader whose browser sends this header.
+function siteIn(targets, header) {
+    const languages = offered(targets);
+    const language = chosen(header, languages);
+    return { language: language, main: languages[0], dir: is(RIGHT_TO_LEFT, language) ? 'rtl' : 'ltr',
+        words: own(targets, 'words'), groups: own(targets, 'groups'), targets: own(targets, 'targets') };
+}
+
+// A text of targets.json in a language. It is the same in all languages, or an object of texts by language.
+function textIn(value, language) { return isObject(value) ? own(value, language) : value; }
+// Such a text for a reader: in the default language if there is none in the reader's.
+function textOf(value, site) {
+    const text = textIn(value, site.language);
+    return text === undefined ? textIn(value, site.main) : text;
+}
+
+// The texts that a word may have, in the order of preference: those of targets.json come before those of the files, but a
+// plain text there is in the default language.
+function candidates(name, site) {
+    const text = own(site.words, name);
+    const ofFile = (language) => own(wordsIn(language), name);
+    const isOther = site.language !== site.main && !isObject(text);
+    return (isOther ? [ofFile(site.language)] : [textIn(text, site.language), ofFile(site.language)])
+        .concat([textIn(text, site.main), ofFile(site.main)]);
+}
+
+export default { own: own, is: is, chosen: chosen, siteIn: siteIn, textOf: textOf, candidates: candidates };
