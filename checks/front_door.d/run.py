@@ -219,7 +219,7 @@ def test_json(site):
 
 
 def test_languages(site):
-    """The page and the JSON in the language that a header asks for, and one that is read from right to left."""
+    """The page and the JSON are in the language that the header prefers; a language may be read from right to left."""
     def reply_in(header, target=f"/find?{ARTICLE}"):
         return site.get(target, headers={} if header is None else {"Accept-Language": header})
 
@@ -258,7 +258,7 @@ def hebrew(site):
     with open(site.path("openlink.conf")) as file:
         conf = file.read()
     german = f"js_preload_object words_de from {site.path('openlink/words/de.json')};\n"
-    expect("openlink.conf loads the words", german in conf)
+    expect("openlink.conf loads the German texts", german in conf)
     with open(site.path("openlink.conf"), "w") as file:
         file.write(conf.replace(german, german + german.replace("words_de", "words_he").replace("de.json", "he.json")))
     with open(site.path("openlink/targets.json")) as file:
@@ -487,7 +487,8 @@ def probe(*words):
 
 
 def test_probes(folder):
-    """The probes of the sample library hold; slips in them, and addresses without a front door, are told apart."""
+    """The probes of the sample library hold; mistakes in a file of probes and a front door that does not answer each have
+    their own message and exit status."""
     site = Site(1, is_sample=True)
     file = f"{folder}/probes.tsv"
 

@@ -1,4 +1,4 @@
-"""Starts nginx with the front door and processes of the program, in a temporary folder and on free ports of loopback."""
+"""Starts nginx with the front door and processes of the program, in a temporary folder and on free local ports."""
 import http.client, os, re, shutil, signal, socket, subprocess, tempfile, time
 
 PROGRAM = os.path.abspath("crates/openlink/out/openlink")

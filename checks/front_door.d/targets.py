@@ -2,7 +2,7 @@
 import glob, json, os, re
 
 SAMPLE = "deploy/nginx/words/en.json"
-# The words that are the library's own, and in no file of a language.
+# Texts that depend on the library, so no file of a language has them.
 OF_THE_LIBRARY = ("library", "help", "helpLink")
 # Names of groups, which are the same in all languages.
 PLAIN = ("name", "group", "onlyWithout")
@@ -10,7 +10,7 @@ TAG = r"[A-Za-z]{2,8}(-[A-Za-z0-9]{1,8})*"
 
 
 def words():
-    """The names that `words` may have."""
+    """Returns the names that `words` may have."""
     with open(SAMPLE) as file:
         return {*json.load(file), *OF_THE_LIBRARY}
 
@@ -117,7 +117,7 @@ def faults_of(data, loaded=None):
 
 
 def faults_in(path):
-    """Faults of a targets.json and of the files of words beside it."""
+    """Returns the errors in a targets.json and in the files of texts in words/ next to it."""
     files = sorted(glob.glob(os.path.join(glob.escape(os.path.dirname(path)), "words", "*.json")))
     loaded = {os.path.basename(file)[:-len(".json")] for file in files}
     with open(path, "rb") as file:

@@ -1,5 +1,5 @@
 // The front door of the link resolver: reads an OpenURL of any source, asks the program for its menu, and replies with the
-// reader's page of pages.js. An operator edits nothing here: labels are in targets.json, words in words/.
+// reader's page of pages.js. An operator edits nothing here: labels are in targets.json, the page's texts in words/.
 //
 // It runs in njs 0.7.9 and later. That version lacks for-of, destructuring, spread, default parameters and classes. It
 // frees no memory before the reply is sent, and `test`, `exec`, `match` and `replace` take 5 KB where nothing matches,

@@ -1,4 +1,4 @@
-// The language of the reader's page, and the words in it. An operator edits nothing here: the words of a language are in
+// The language of the reader's page, and its texts. An operator edits nothing here: the texts of a language are in
 // words/, and targets.json says which languages are offered.
 //
 // It runs in njs 0.7.9 and later, as find.js does; what that version lacks is said there. Each file of words is an object
@@ -44,8 +44,9 @@ function named(range, languages) {
     return exact[0] || within[0] || around.reduce((a, b) => a && a.length > b.length ? a : b, undefined);
 }
 
-// The language of `languages` that a header prefers; the first of equals, and the first of all if none is preferred. `*`
-// stands for those that no other range names. A quality of 0 refuses a language.
+// The language of `languages` that an Accept-Language header prefers (RFC 9110, section 12.5.4): the first of those with
+// the same quality, and the first of all if the header prefers none. `*` matches every language that no other range
+// matches. A quality of 0 rejects a language.
 function chosen(header, languages) {
     const ranges = rangesOf(header);
     const isIn = (range, language) => range.tag !== '*' && covers(range.tag, language.toLowerCase());
