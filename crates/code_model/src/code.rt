@@ -1,3 +1,5 @@
+//! Code as data: an instruction as a code file has it, and what it says to do.
+
 /// One instruction as a code file has it: the number of an operation, and four fields.
 #[derive(Clone, Copy, PartialEq, Eq)]
 pub struct Instr {

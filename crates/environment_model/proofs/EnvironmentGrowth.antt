@@ -3,7 +3,8 @@ use Rattle.std.proofs.Common.{ℕ, ◌+◌, ◌≤◌, true, false, cond, [], �
 use Rattle.std.proofs.lemmas.List.Sums.{sum_by-cons, sum_by_push}
 use Rattle.std.specs.Str.{bytes_eq}
 use Rattle.text_model.specs.Texts.{Text}
-use Rattle.environment_model.specs.Environment.{Meaning, Single, Several, Entry, Environment, is_there, meaning_bytes, meaning_members, byte_count, member_count, with_text, more, with_member}
+use Rattle.environment_model.specs.Environment.{Meaning, Single, Several, Entry, Environment, is_there, meaning_bytes, meaning_members, byte_count}
+use Rattle.environment_model.specs.Environment.{member_count, with_text, more, with_member}
 
 abbrev entry_bytes : Entry → ℕ
 entry_bytes e = meaning_bytes e.meaning

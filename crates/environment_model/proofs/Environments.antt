@@ -2,7 +2,8 @@
 use Rattle.std.proofs.Common.{◌≡◌, ◌+◌, [], ◌∷◌, ◌++◌, Bool, true, false, length, is_some, bytes_eq, Some, None, refl, sym, ap, ◌∙◌, arith, length-append}
 use Rattle.std.proofs.lemmas.List.Sums.{sum_by-cons, sum_by_push}
 use Rattle.text_model.specs.Texts.{Text}
-use Rattle.environment_model.specs.Environment.{Environment, Entry, Meaning, Single, Several, look_up, is_there, text_in, text_of, byte_count, member_count, meaning_bytes, meaning_members, with_text, with_member, more}
+use Rattle.environment_model.specs.Environment.{Environment, Entry, Meaning, Single, Several, look_up, is_there, text_in, text_of, byte_count, member_count}
+use Rattle.environment_model.specs.Environment.{meaning_bytes, meaning_members, with_text, with_member, more}
 
 -- ---- one entry in front
 
@@ -22,11 +23,13 @@ pub with_member-empty : (name t : Text) → with_member [] name t ≡ record { n
 unfolding with_member
 with_member-empty name t = refl
 
-pub with_member-same : (e : Entry) (env : Environment) (name t : Text) → bytes_eq e.name name ≡ true → with_member (e ∷ env) name t ≡ record { name = e.name; meaning = more e.meaning t } ∷ env
+pub with_member-same : (e : Entry) (env : Environment) (name t : Text) → bytes_eq e.name name ≡ true
+    → with_member (e ∷ env) name t ≡ record { name = e.name; meaning = more e.meaning t } ∷ env
 unfolding with_member
 with_member-same e env name t same = rw same refl
 
-pub with_member-other : (e : Entry) (env : Environment) (name t : Text) → bytes_eq e.name name ≡ false → with_member (e ∷ env) name t ≡ e ∷ with_member env name t
+pub with_member-other : (e : Entry) (env : Environment) (name t : Text) → bytes_eq e.name name ≡ false
+    → with_member (e ∷ env) name t ≡ e ∷ with_member env name t
 unfolding with_member
 with_member-other e env name t other = rw other refl
 
@@ -48,22 +51,27 @@ look_up-append [] back name absent = refl
 look_up-append (e ∷ front) back name absent =
     look_up-other e (front ++ back) name (other_in_front e front name absent) ∙ look_up-append front back name (absent_behind e front name absent)
 
-pub with_member-append : (front back : Environment) (name t : Text) → is_there front name ≡ false → with_member (front ++ back) name t ≡ front ++ with_member back name t
+pub with_member-append : (front back : Environment) (name t : Text) → is_there front name ≡ false → with_member (front ++ back) name t
+    ≡ front ++ with_member back name t
 with_member-append [] back name t absent = refl
 with_member-append (e ∷ front) back name t absent =
-    with_member-other e (front ++ back) name t (other_in_front e front name absent) ∙ ap (λ es. e ∷ es) (with_member-append front back name t (absent_behind e front name absent))
+    with_member-other e (front ++ back) name t (other_in_front e front name absent)
+    ∙ ap (λ es. e ∷ es) (with_member-append front back name t (absent_behind e front name absent))
 
-pub is_there-append : (front back : Environment) (name : Text) → is_there front name ≡ false → is_there back name ≡ false → is_there (front ++ back) name ≡ false
+pub is_there-append : (front back : Environment) (name : Text) → is_there front name ≡ false → is_there back name ≡ false
+    → is_there (front ++ back) name ≡ false
 is_there-append front back name absent absent' = ap is_some (look_up-append front back name absent) ∙ absent'
 
 -- the list of a new name comes last
-pub with_member-new : (env : Environment) (name t : Text) → is_there env name ≡ false → with_member env name t ≡ env ++ record { name = name; meaning = Several (t ∷ []) } ∷ []
+pub with_member-new : (env : Environment) (name t : Text) → is_there env name ≡ false
+    → with_member env name t ≡ env ++ record { name = name; meaning = Several (t ∷ []) } ∷ []
 with_member-new [] name t absent = with_member-empty name t
 with_member-new (e ∷ env) name t absent =
     with_member-other e env name t (other_in_front e env name absent) ∙ ap (λ es. e ∷ es) (with_member-new env name t (absent_behind e env name absent))
 
 -- the text of a new name comes last
-pub with_text-new : (env : Environment) (name t : Text) → is_there env name ≡ false → with_text env name t ≡ env ++ record { name = name; meaning = Single t } ∷ []
+pub with_text-new : (env : Environment) (name t : Text) → is_there env name ≡ false
+    → with_text env name t ≡ env ++ record { name = name; meaning = Single t } ∷ []
 with_text-new env name t absent = rw absent refl
 
 pub with_text-known : (env : Environment) (name t : Text) → is_there env name ≡ true → with_text env name t ≡ env
@@ -78,9 +86,11 @@ with_member-text (e ∷ env) name t is_text = by_cases (bytes_eq e.name name) re
     keeps (Single u) h = refl
     keeps (Several us) h = absurd (cc)
 
-    by_cases : (b : Bool) → bytes_eq e.name name ≡ b → (is_some (text_of env name) ≡ true → with_member env name t ≡ env) → with_member (e ∷ env) name t ≡ e ∷ env
+    by_cases : (b : Bool) → bytes_eq e.name name ≡ b → (is_some (text_of env name) ≡ true → with_member env name t ≡ env)
+        → with_member (e ∷ env) name t ≡ e ∷ env
     by_cases true same behind =
-        with_member-same e env name t same ∙ ap (λ m. record { name = e.name; meaning = m } ∷ env) (keeps e.meaning (ap (λ o. is_some (text_in o)) (sym (look_up-same e env name same)) ∙ is_text))
+        with_member-same e env name t same ∙ ap (λ m. record { name = e.name; meaning = m } ∷ env)
+        (keeps e.meaning (ap (λ o. is_some (text_in o)) (sym (look_up-same e env name same)) ∙ is_text))
     by_cases false other behind =
         with_member-other e env name t other ∙ ap (λ es. e ∷ es) (behind (ap (λ o. is_some (text_in o)) (sym (look_up-other e env name other)) ∙ is_text))
 
@@ -106,7 +116,8 @@ member_count-with_text env name t = by_cases (is_there env name) refl
   where
     by_cases : (b : Bool) → is_there env name ≡ b → member_count (with_text env name t) ≡ member_count env
     by_cases true there = ap member_count (with_text-known env name t there)
-    by_cases false absent = ap member_count (with_text-new env name t absent) ∙ let pushed = member_count-push env (record { name = name; meaning = Single t }) in omega arith
+    by_cases false absent = ap member_count (with_text-new env name t absent) ∙ let pushed =
+        member_count-push env (record { name = name; meaning = Single t }) in omega arith
 
 -- a member adds its bytes to a list
 more_bytes : (m : Meaning) (t : Text) → is_some (text_in (Some m)) ≡ false → meaning_bytes (more m t) ≡ meaning_bytes m + length t
@@ -117,14 +128,18 @@ more_members : (m : Meaning) (t : Text) → is_some (text_in (Some m)) ≡ false
 more_members (Single u) t h = absurd (cc)
 more_members (Several us) t h = length-append us (t ∷ [])
 
-pub byte_count-with_member : (env : Environment) (name t : Text) → is_some (text_of env name) ≡ false → byte_count (with_member env name t) ≡ byte_count env + length t
+pub byte_count-with_member : (env : Environment) (name t : Text) → is_some (text_of env name) ≡ false → byte_count (with_member env name t)
+    ≡ byte_count env + length t
 byte_count-with_member [] name t no_text =
-    ap byte_count (with_member-empty name t) ∙ let one = byte_count-push [] (record { name = name; meaning = Several (t ∷ []) }) in let bytes = sum_by_push length [] t in omega arith
+    ap byte_count (with_member-empty name t) ∙ let one = byte_count-push [] (record { name = name; meaning = Several (t ∷ []) }) in let bytes =
+    sum_by_push length [] t in omega arith
 byte_count-with_member (e ∷ env) name t no_text = by_cases (bytes_eq e.name name) refl (byte_count-with_member env name t)
   where
-    by_cases : (b : Bool) → bytes_eq e.name name ≡ b → (is_some (text_of env name) ≡ false → byte_count (with_member env name t) ≡ byte_count env + length t) → byte_count (with_member (e ∷ env) name t) ≡ byte_count (e ∷ env) + length t
+    by_cases : (b : Bool) → bytes_eq e.name name ≡ b → (is_some (text_of env name) ≡ false → byte_count (with_member env name t) ≡ byte_count env + length t)
+        → byte_count (with_member (e ∷ env) name t) ≡ byte_count (e ∷ env) + length t
     by_cases true same behind =
-        let grown : meaning_bytes (more e.meaning t) ≡ meaning_bytes e.meaning + length t = more_bytes e.meaning t (ap (λ o. is_some (text_in o)) (sym (look_up-same e env name same)) ∙ no_text) in
+        let grown : meaning_bytes (more e.meaning t) ≡ meaning_bytes e.meaning + length t =
+        more_bytes e.meaning t (ap (λ o. is_some (text_in o)) (sym (look_up-same e env name same)) ∙ no_text) in
         let before = byte_count-cons e env in
         let after = byte_count-cons (record { name = e.name; meaning = more e.meaning t }) env in
         ap byte_count (with_member-same e env name t same) ∙ omega arith
@@ -134,14 +149,17 @@ byte_count-with_member (e ∷ env) name t no_text = by_cases (bytes_eq e.name na
         let after = byte_count-cons e (with_member env name t) in
         ap byte_count (with_member-other e env name t other) ∙ omega arith
 
-pub member_count-with_member : (env : Environment) (name t : Text) → is_some (text_of env name) ≡ false → member_count (with_member env name t) ≡ member_count env + 1
+pub member_count-with_member : (env : Environment) (name t : Text) → is_some (text_of env name) ≡ false → member_count (with_member env name t)
+    ≡ member_count env + 1
 member_count-with_member [] name t no_text =
     ap member_count (with_member-empty name t) ∙ member_count-push [] (record { name = name; meaning = Several (t ∷ []) })
 member_count-with_member (e ∷ env) name t no_text = by_cases (bytes_eq e.name name) refl (member_count-with_member env name t)
   where
-    by_cases : (b : Bool) → bytes_eq e.name name ≡ b → (is_some (text_of env name) ≡ false → member_count (with_member env name t) ≡ member_count env + 1) → member_count (with_member (e ∷ env) name t) ≡ member_count (e ∷ env) + 1
+    by_cases : (b : Bool) → bytes_eq e.name name ≡ b → (is_some (text_of env name) ≡ false → member_count (with_member env name t) ≡ member_count env + 1)
+        → member_count (with_member (e ∷ env) name t) ≡ member_count (e ∷ env) + 1
     by_cases true same behind =
-        let grown : meaning_members (more e.meaning t) ≡ meaning_members e.meaning + 1 = more_members e.meaning t (ap (λ o. is_some (text_in o)) (sym (look_up-same e env name same)) ∙ no_text) in
+        let grown : meaning_members (more e.meaning t) ≡ meaning_members e.meaning + 1 =
+        more_members e.meaning t (ap (λ o. is_some (text_in o)) (sym (look_up-same e env name same)) ∙ no_text) in
         let before = member_count-cons e env in
         let after = member_count-cons (record { name = e.name; meaning = more e.meaning t }) env in
         ap member_count (with_member-same e env name t same) ∙ omega arith
@@ -158,14 +176,18 @@ pub is_there-with_member : (env : Environment) (name t other : Text) → is_ther
 is_there-with_member [] name t other there = let none : is_there [] name ≡ false = ap is_some (look_up-empty name) in absurd (cc)
 is_there-with_member (e ∷ env) name t other there = by_cases (bytes_eq e.name name) refl (is_there-with_member env name t other)
   where
-    front : (e e' : Entry) (es es' : Environment) → e.name ≡ e'.name → is_there es other ≡ is_there es' other → is_there (e ∷ es) other ≡ is_there (e' ∷ es') other
+    front : (e e' : Entry) (es es' : Environment) → e.name ≡ e'.name → is_there es other ≡ is_there es' other
+        → is_there (e ∷ es) other ≡ is_there (e' ∷ es') other
     front e e' es es' same behind = by_name (bytes_eq e.name other) refl
       where
         by_name : (b : Bool) → bytes_eq e.name other ≡ b → is_there (e ∷ es) other ≡ is_there (e' ∷ es') other
-        by_name true is = ap is_some (look_up-same e es other is ∙ refl) ∙ sym (ap is_some (look_up-same e' es' other (ap (λ n. bytes_eq n other) (sym same) ∙ is)))
-        by_name false not_is = ap is_some (look_up-other e es other not_is) ∙ behind ∙ sym (ap is_some (look_up-other e' es' other (ap (λ n. bytes_eq n other) (sym same) ∙ not_is)))
+        by_name true is = ap is_some (look_up-same e es other is ∙ refl)
+            ∙ sym (ap is_some (look_up-same e' es' other (ap (λ n. bytes_eq n other) (sym same) ∙ is)))
+        by_name false not_is = ap is_some (look_up-other e es other not_is) ∙ behind
+            ∙ sym (ap is_some (look_up-other e' es' other (ap (λ n. bytes_eq n other) (sym same) ∙ not_is)))
 
-    by_cases : (b : Bool) → bytes_eq e.name name ≡ b → (is_there env name ≡ true → is_there (with_member env name t) other ≡ is_there env other) → is_there (with_member (e ∷ env) name t) other ≡ is_there (e ∷ env) other
+    by_cases : (b : Bool) → bytes_eq e.name name ≡ b → (is_there env name ≡ true → is_there (with_member env name t) other ≡ is_there env other)
+        → is_there (with_member (e ∷ env) name t) other ≡ is_there (e ∷ env) other
     by_cases true same behind =
         ap (λ es. is_there es other) (with_member-same e env name t same) ∙ front (record { name = e.name; meaning = more e.meaning t }) e env env refl refl
     by_cases false not_same behind =

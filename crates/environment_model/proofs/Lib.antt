@@ -1,2 +1,4 @@
 pub mod EnvironmentGrowth
 pub mod Environments
+mod EnvironmentExamples
+mod ListExamples

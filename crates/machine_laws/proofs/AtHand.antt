@@ -33,7 +33,8 @@ module _ (c : Code) where
   kept_at r p zero q k low high = absurd (omega arith)
   kept_at r p (suc n) q k low high =
       let both = and_parts (is_kept c r p n) (not (writes r (reading_at c (p + n)))) k in
-      ⊎_elim (λ lt. kept_at r p n q both.0 low lt) (λ le. let e : p + n ≡ q = omega arith in subst (λ m. writes r (reading_at c m) ≡ false) e (denied (writes r (reading_at c (p + n))) both.1)) (cases_lt q (p + n))
+      ⊎_elim (λ lt. kept_at r p n q both.0 low lt) (λ le. let e : p + n ≡ q = omega arith in
+      subst (λ m. writes r (reading_at c m) ≡ false) e (denied (writes r (reading_at c (p + n))) both.1)) (cases_lt q (p + n))
     where
       denied : (t : Bool) → not t ≡ true → t ≡ false
       denied false h = refl
@@ -47,14 +48,16 @@ module _ (c : Code) where
       kept_at b.element b.start (b.end - b.start) p k low (omega arith)
 
   -- on in the same loop, or in none, it stays
-  pub hand_stays : (s f : Frame) (i : Instruction) → option_map body_of s.loop ≡ body_at c s.place → reading_at c s.place ≡ Some i → f.loop ≡ s.loop → KeepsOthers i s f → at_hand f ≡ at_hand s
+  pub hand_stays : (s f : Frame) (i : Instruction) → option_map body_of s.loop ≡ body_at c s.place → reading_at c s.place ≡ Some i → f.loop ≡ s.loop
+      → KeepsOthers i s f → at_hand f ≡ at_hand s
   hand_stays s f i b r same kept = subst (λ l. hand_in f.registers l ≡ hand_in s.registers s.loop) (sym same) (by_loop s.loop b)
     where
       by_loop : (l : Option Loop) → option_map body_of l ≡ body_at c s.place → hand_in f.registers l ≡ hand_in s.registers l
       by_loop None e = refl
       by_loop (Some l) e = by_test (keeps_element c (body_of l)) refl
         where
-          by_test : (t : Bool) → keeps_element c (body_of l) ≡ t → (if t then value_bytes (f.registers l.element) else 0) ≡ (if t then value_bytes (s.registers l.element) else 0)
+          by_test : (t : Bool) → keeps_element c (body_of l) ≡ t → (if t then value_bytes (f.registers l.element) else 0)
+              ≡ (if t then value_bytes (s.registers l.element) else 0)
           by_test false k = refl
           by_test true k = ap value_bytes (kept l.element (subst (λ o. writes l.element o ≡ false) r (unwritten s.place (body_of l) (sym e) k)))
 

@@ -45,7 +45,9 @@ module _ (c : Code) (v : Environment) where
   -- a running state comes before the end
   pub running_before : (k m : ℕ) (s : Frame) (b : End) → After c v k (Running s) → After c v m (Ended b) → k < m
   running_before k m s b h g =
-      ⊎_elim (λ lt. lt) (λ le. ⊎_elim (λ lt. absurd (no_later m k (Ended b) (Running s) (λ new st. st) lt g h)) (λ le'. let e : m ≡ k = omega arith in let f : Ended b ≡ Running s = after_one c v k (Ended b) (Running s) (subst (λ n. After c v n (Ended b)) e g) h in absurd (cc)) (cases_lt m k)) (cases_lt k m)
+      ⊎_elim (λ lt. lt) (λ le. ⊎_elim (λ lt. absurd (no_later m k (Ended b) (Running s) (λ new st. st) lt g h)) (λ le'. let e : m ≡ k = omega arith in
+      let f : Ended b ≡ Running s = after_one c v k (Ended b) (Running s) (subst (λ n. After c v n (Ended b)) e g) h in absurd (cc)) (cases_lt m k))
+      (cases_lt k m)
 
   -- ---- courses
 
@@ -74,7 +76,9 @@ module _ (c : Code) (v : Environment) where
   found zero k s e h = comes_to k s h (λ new st. let le = within_limit c v (k + 1) new (after_more k s new h st) in absurd (omega (arith, le, e)))
   found (suc n) k s e h = by_next (λ new a. found n (suc k) new (omega (arith, e)) a) (next_state c v s) refl
     where
-      by_next : ((new : State) → After c v (suc k) new → ComesTo c v (course_from c v n (suc k) new).steps (course_from c v n (suc k) new).outcome) → (o : Option State) → next_state c v s ≡ o → (λ (x : Course). ComesTo c v x.steps x.outcome) (on_from o (course_from c v n (suc k)) (record { outcome = outcome_at s; steps = k }))
+      by_next : ((new : State) → After c v (suc k) new → ComesTo c v (course_from c v n (suc k) new).steps (course_from c v n (suc k) new).outcome)
+          → (o : Option State) → next_state c v s ≡ o
+          → (λ (x : Course). ComesTo c v x.steps x.outcome) (on_from o (course_from c v n (suc k)) (record { outcome = outcome_at s; steps = k }))
       by_next go None q = comes_to k s h (λ new st. let f = Step-next_state c v s new st in absurd (cc (q, f)))
       by_next go (Some new) q = go new (after_suc k s new h (next_state-Step c v s new q))
 

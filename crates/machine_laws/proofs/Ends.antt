@@ -11,7 +11,7 @@ use Rattle.machine_model.specs.Form.{body_at, is_in_body, HasGoodForm}
 use Rattle.machine_model.specs.Typable.{Table, IsClosed, MeetsNeeds}
 use Rattle.machine_model.specs.Budget.{where_inside, inside, sums_of, steps_bound}
 use Rattle.machine_laws.proofs.Sums.{total_zero}
-use Rattle.machine_laws.proofs.Sound.{reached, stepping}
+use Rattle.machine_laws.proofs.Safety.{reached, stepping}
 use Rattle.machine_laws.proofs.Potential.{spent_at_end}
 use Rattle.machine_laws.proofs.AtHand.{at_hand}
 use Rattle.machine_laws.proofs.Spending.{StateSpent, within_weight, spent_step}
@@ -31,15 +31,20 @@ module _ (c : Code) (form : HasGoodForm c) (some : 0 < length c.instrs) (t : Tab
   steps_spent zero s h = subst (λ x. StateSpent c (λ p. 1) (λ p. 0) (member_count v) (byte_count v) x 0) (sym h) (omega arith)
   steps_spent (suc k) s h = by_state h.0 h.1 h.2 (steps_spent k h.0 h.1)
     where
-      by_state : (old : State) → After c v k old → Step c v old s → StateSpent c (λ p. 1) (λ p. 0) (member_count v) (byte_count v) old k → StateSpent c (λ p. 1) (λ p. 0) (member_count v) (byte_count v) s (suc k)
+      by_state : (old : State) → After c v k old → Step c v old s → StateSpent c (λ p. 1) (λ p. 0) (member_count v) (byte_count v) old k
+          → StateSpent c (λ p. 1) (λ p. 0) (member_count v) (byte_count v) s (suc k)
       by_state (Ended e) a st sp = absurd st
-      by_state (Running o) a st sp = spent_step c form some t closed meets v (λ p. 1) (λ p. 0) k o s k (suc k) a st sp (within_weight c (λ p. 1) (λ p. 0) (member_count v) (byte_count v) o.loop (at_hand c o) o.place k (suc k) (omega arith))
+      by_state (Running o) a st sp =
+          spent_step c form some t closed meets v (λ p. 1) (λ p. 0) k o s k (suc k) a st sp
+          (within_weight c (λ p. 1) (λ p. 0) (member_count v) (byte_count v) o.loop (at_hand c o) o.place k (suc k) (omega arith))
 
   -- a running state has a step left within the bound
   steps_left : (k : ℕ) (s : Frame) → After c v k (Running s) → k + 1 ≤ steps_bound (sums_of c) (member_count v)
   steps_left k s h =
       let r = reached c form some t closed meets v k (Running s) h in
-      let a = spent_at_end c (λ p. 1) (λ p. 0) (member_count v) (byte_count v) s.place k (k + 1) (at_hand c s) s.loop r.body r.within (steps_spent k (Running s) h) (within_weight c (λ p. 1) (λ p. 0) (member_count v) (byte_count v) s.loop (at_hand c s) s.place k (k + 1) (omega arith)) in
+      let a = spent_at_end c (λ p. 1) (λ p. 0) (member_count v) (byte_count v) s.place k (k + 1) (at_hand c s) s.loop r.body r.within
+      (steps_spent k (Running s) h) (within_weight c (λ p. 1) (λ p. 0) (member_count v) (byte_count v) s.loop (at_hand c s) s.place k (k + 1)
+      (omega arith)) in
       let z : byte_count v * inside c (λ p. 0) ≡ 0 = rw (no_second c) (omega arith) in
       omega (arith, mul_comm (member_count v) (inside c (λ p. 1)), a, z)
 

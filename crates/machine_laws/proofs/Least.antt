@@ -51,7 +51,8 @@ all_met : (ks : Kinds) (ns : List Need) → first_unmet ks ns ≡ None → AllBy
 all_met ks [] h = tt
 all_met ks (n ∷ ns) h = by_test (all_met ks ns) (kind_le (ks n.register) n.kind) refl h
   where
-    by_test : (first_unmet ks ns ≡ None → AllByRecursion (IsMet ks) ns) → (t : Bool) → kind_le (ks n.register) n.kind ≡ t → (if t then first_unmet ks ns else Some n.register) ≡ None → AllByRecursion (IsMet ks) (n ∷ ns)
+    by_test : (first_unmet ks ns ≡ None → AllByRecursion (IsMet ks) ns) → (t : Bool) → kind_le (ks n.register) n.kind ≡ t
+        → (if t then first_unmet ks ns else Some n.register) ≡ None → AllByRecursion (IsMet ks) (n ∷ ns)
     by_test rest true e h = (e, rest h)
     by_test rest false e h = absurd (cc)
 
@@ -79,7 +80,8 @@ pub mismatch_decides : (c : Code) (t : Table) → MeetsNeeds c t ↔ (first_mism
 mismatch_decides c t = (
   λ m. first_none (mismatch_at c t) (length c.instrs) (λ p lt. met_at c t p m),
   λ h. record {
-    at = λ p ks known. ⊎_elim (λ lt. all_met_at c t p ks known (none_below (mismatch_at c t) (length c.instrs) h p lt)) (λ le. subst (AllByRecursion (IsMet ks)) (sym (needs_past c p le)) tt) (cases_lt p (length c.instrs));
+    at = λ p ks known. ⊎_elim (λ lt. all_met_at c t p ks known (none_below (mismatch_at c t) (length c.instrs) h p lt))
+        (λ le. subst (AllByRecursion (IsMet ks)) (sym (needs_past c p le)) tt) (cases_lt p (length c.instrs));
   },
 )
 

@@ -1,4 +1,5 @@
 pub mod Sound
+pub mod Safety
 pub mod Least
 pub mod Shapes
 pub mod Small
@@ -13,4 +14,5 @@ pub mod Courses
 pub mod Registers
 pub mod PassLemmas
 pub mod Upgrades
+pub mod UpgradedForm
 mod SafeExample

@@ -18,7 +18,8 @@ use Rattle.machine_laws.proofs.Small.{FrameSmall, IsSmall, text_limit, small_aft
 
 -- an instruction is read in the code alone
 pub reads_within : (c : Code) (p : ℕ) (i : Instruction) → Reads c p i → p < length c.instrs
-reads_within c p i r = ⊎_elim (λ lt. lt) (λ le. let e : slice_get c.instrs p ≡ None = slice_get_past c.instrs p le in absurd (cc (e, r.spelled))) (cases_lt p (length c.instrs))
+reads_within c p i r = ⊎_elim (λ lt. lt) (λ le. let e : slice_get c.instrs p ≡ None = slice_get_past c.instrs p le in absurd (cc (e, r.spelled)))
+    (cases_lt p (length c.instrs))
 
 -- ---- arithmetic: W steps a place, B places in a body
 
@@ -65,18 +66,21 @@ module _ (c : Code) (v : Environment) where
   left_in_turn : (p k : ℕ) (l : Loop) (h : InTurn l p k) (turns : ℕ) → h.turns ≡ turns → p < length c.instrs → k + 1 ≤ (member_count v + 1) * length c.instrs
   left_in_turn p k l h zero e lt =
       let low : l.start ≤ p = h.low in
-      let bound : k ≤ (member_count v + 1) * l.start + 0 * (l.end - l.start) + (p - l.start) = subst (λ n. k ≤ (member_count v + 1) * l.start + n * (l.end - l.start) + (p - l.start)) e h.bound in
+      let bound : k ≤ (member_count v + 1) * l.start + 0 * (l.end - l.start) + (p - l.start) =
+      subst (λ n. k ≤ (member_count v + 1) * l.start + n * (l.end - l.start) + (p - l.start)) e h.bound in
       let le : p + 1 ≤ length c.instrs = omega arith in
       let m = mul-le-mul_left (member_count v + 1) le in
       let same : p + 1 ≡ l.start + (p + 1 - l.start) = omega arith in
-      let split : (member_count v + 1) * (p + 1) ≡ (member_count v + 1) * l.start + (member_count v + 1) * (p + 1 - l.start) = parts (member_count v + 1) l.start (p + 1 - l.start) (p + 1) same in
+      let split : (member_count v + 1) * (p + 1) ≡ (member_count v + 1) * l.start + (member_count v + 1) * (p + 1 - l.start) =
+      parts (member_count v + 1) l.start (p + 1 - l.start) (p + 1) same in
       let few : p + 1 - l.start ≤ (member_count v + 1) * (p + 1 - l.start) = at_least (member_count v) (p + 1 - l.start) in
       omega arith
   left_in_turn p k l h (suc turns) e lt =
       let high : p < l.end = h.high in
       let low : l.start ≤ p = h.low in
       let fits : l.end ≤ length c.instrs = h.whole (omega (arith, e)) in
-      let last : InTurn l (l.end - 1) (k + (l.end - 1 - p)) = record { low = omega arith; high = omega arith; turns = h.turns; few = h.few; whole = h.whole; bound = omega (arith, h.bound) } in
+      let last : InTurn l (l.end - 1) (k + (l.end - 1 - p)) =
+      record { low = omega arith; high = omega arith; turns = h.turns; few = h.few; whole = h.whole; bound = omega (arith, h.bound) } in
       let over = past_body (l.end - 1) (k + (l.end - 1 - p)) l last (omega arith) in
       let m = mul-le-mul_left (member_count v + 1) fits in
       omega arith
@@ -96,7 +100,8 @@ module _ (c : Code) (v : Environment) where
       let low : l.start ≤ p = h.low in
       record { low = i.0; high = i.1; turns = h.turns; few = h.few; whole = h.whole; bound = omega (arith, h.bound) }
 
-  by_shape : (s : Frame) (i : Instruction) (m : Move) (new : State) (k : ℕ) → FrameSmall (member_count v) (byte_count v) (text_limit c v) s → s.place < length c.instrs → Shape s i m → Leads c s.place m new → AtMost s.loop s.place k → StateAtMost new (k + 1)
+  by_shape : (s : Frame) (i : Instruction) (m : Move) (new : State) (k : ℕ) → FrameSmall (member_count v) (byte_count v) (text_limit c v) s
+      → s.place < length c.instrs → Shape s i m → Leads c s.place m new → AtMost s.loop s.place k → StateAtMost new (k + 1)
   by_shape s i _ new k small lt (ends e) led h = subst (λ x. StateAtMost x (k + 1)) (sym led) tt
   by_shape s i _ new k small lt (onward f same kept) led h =
       let here : IsInside s.loop f.place = subst (λ l. IsInside l f.place) same led.0.inside in
@@ -105,7 +110,15 @@ module _ (c : Code) (v : Environment) where
       let none_yet : k ≤ (member_count v + 1) * s.place = subst (λ o. AtMost o s.place k) none h in
       let x = subst (IsSmall (member_count v) (byte_count v) (text_limit c v)) held (small.registers r) in
       let on' = step_past (member_count v + 1) s.place f.place k (omega arith) (omega (arith, place)) none_yet in
-      let starts : InTurn l f.place (k + 1) = record { low = omega (arith, first); high = inside; turns = 0; few = omega (arith, x.0); whole = λ z. absurd (omega (arith, z)); bound = rw first (omega (arith, on')) } in
+      let starts : InTurn l f.place (k + 1) =
+      record {
+        low = omega (arith, first);
+        high = inside;
+        turns = 0;
+        few = omega (arith, x.0);
+        whole = λ z. absurd (omega (arith, z));
+        bound = rw first (omega (arith, on'));
+      } in
       subst (λ y. StateAtMost y (k + 1)) (sym led.1) (subst (λ o. AtMost o f.place (k + 1)) (sym into) starts)
   by_shape s i _ new k small lt (again f l l' u was into last left s1 s2 place holds) led h =
       let t : InTurn l s.place k = subst (λ o. AtMost o s.place k) was h in
@@ -129,7 +142,8 @@ module _ (c : Code) (v : Environment) where
       let out : AtMost None f.place (k + 1) = subst (λ n. k + 1 ≤ (member_count v + 1) * n) (sym place) past in
       subst (λ y. StateAtMost y (k + 1)) (sym led.1) (subst (λ o. AtMost o f.place (k + 1)) (sym into) out)
 
-  stepped : (old new : State) (k : ℕ) → After c v k old → StateAtMost old k → Step c v old new → StateAtMost new (k + 1) × (k + 1 ≤ (member_count v + 1) * length c.instrs)
+  stepped : (old new : State) (k : ℕ) → After c v k old → StateAtMost old k → Step c v old new → StateAtMost new (k + 1)
+      × (k + 1 ≤ (member_count v + 1) * length c.instrs)
   stepped (Ended e) new k a h st = absurd st
   stepped (Running s) new k a h st =
       let lt = reads_within c s.place st.0 st.1 in

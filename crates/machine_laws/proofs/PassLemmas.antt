@@ -13,7 +13,8 @@ use Rattle.machine_model.specs.Operands.{register_count}
 use Rattle.machine_model.specs.Form.{body_at, HasGoodForm}
 use Rattle.machine_model.specs.Kinds.{kind_le, kind_join, Kinds, any_kinds, IsBelow, Edge, edge, edges, for_instruction, edges_at}
 use Rattle.machine_model.specs.Typable.{Table, Holds, IsClosed, TableBelow, IsLeast}
-use Rattle.machine_model.specs.Passes.{Row, kinds_in, listed, joined, is_within, Rows, row_at, table_in, arrived, carried, carried_all, edges_from, followed, pass, none_reached, first_rows, passes, is_covered, is_reached, is_closed}
+use Rattle.machine_model.specs.Passes.{Row, kinds_in, listed, joined, is_within, Rows, row_at, table_in, arrived, carried, carried_all, edges_from, followed}
+use Rattle.machine_model.specs.Passes.{pass, none_reached, first_rows, passes, is_covered, is_reached, is_closed}
 use Rattle.machine_model.proofs.Moves.{some_one}
 use Rattle.machine_model.proofs.Orders.{kind_join-least, below_trans, EdgesBelow, edges_below}
 use Rattle.machine_laws.proofs.Registers.{IsAnyFrom, EdgeAny, edges_at_any}
@@ -60,7 +61,8 @@ carried_keeps P n zero ks (o ∷ rows) all a (suc p) row e = all (suc p) row e
 carried_keeps P n (suc to) ks (o ∷ rows) all a zero row e = all 0 row e
 carried_keeps P n (suc to) ks (o ∷ rows) all a (suc p) row e = carried_keeps (λ q. P (suc q)) n to ks rows (λ q x h. all (suc q) x h) a p row e
 
-all_carried : (P : ℕ → Row → Type 0) (n : ℕ) (es : List Edge) (rows : Rows) → AllRows P rows → AllByRecursion (λ (e : Edge). Arrives P n e.to e.kinds) es → AllRows P (carried_all n es rows)
+all_carried : (P : ℕ → Row → Type 0) (n : ℕ) (es : List Edge) (rows : Rows) → AllRows P rows → AllByRecursion (λ (e : Edge). Arrives P n e.to e.kinds) es
+    → AllRows P (carried_all n es rows)
 all_carried P n [] rows all a = all
 all_carried P n (e ∷ es) rows all a = all_carried P n es (carried n e.to e.kinds rows) (carried_keeps P n e.to e.kinds rows all a.0) a.1
 
@@ -79,7 +81,8 @@ module _ (c : Code) (form : HasGoodForm c) (u : Table) (closed : IsClosed c u) w
   edges_hold : (p : ℕ) (ks ms : Kinds) → u p ≡ Some ms → IsBelow ks ms → AllByRecursion (Holds u) (edges_at c p ks)
   edges_hold p ks ms known b = by_reading (reading_at c p) (closed.along p ms known)
     where
-      by_reading : (o : Option Instruction) → AllByRecursion (Holds u) (for_instruction o (edges p ms (body_at c p))) → AllByRecursion (Holds u) (for_instruction o (edges p ks (body_at c p)))
+      by_reading : (o : Option Instruction) → AllByRecursion (Holds u) (for_instruction o (edges p ms (body_at c p)))
+          → AllByRecursion (Holds u) (for_instruction o (edges p ks (body_at c p)))
       by_reading None k = tt
       by_reading (Some i) k = holds_below (edges p ks (body_at c p) i) (edges p ms (body_at c p) i) (edges_below p ks ms (body_at c p) i b) k
 
@@ -97,14 +100,16 @@ module _ (c : Code) (form : HasGoodForm c) (u : Table) (closed : IsClosed c u) w
         (h.0, h.1, record { at = λ r. rw (joined_kinds row e.kinds r) (kind_join-least (kinds_in row r) (e.kinds r) (h.0 r) (below.at r) (h.2.at r)) }),
       )
 
-  all_arrive : (es : List Edge) → AllByRecursion (Holds u) es → AllByRecursion (EdgeAny (register_count c)) es → AllByRecursion (λ (e : Edge). Arrives Lies (register_count c) e.to e.kinds) es
+  all_arrive : (es : List Edge) → AllByRecursion (Holds u) es → AllByRecursion (EdgeAny (register_count c)) es
+      → AllByRecursion (λ (e : Edge). Arrives Lies (register_count c) e.to e.kinds) es
   all_arrive [] h a = tt
   all_arrive (e ∷ es) h a = (arrives e h.0 a.0, all_arrive es h.1 a.1)
 
   follows : (p : ℕ) (rows : Rows) → AllRows Lies rows → AllRows Lies (followed c p rows)
   follows p rows all = all_carried Lies (register_count c) (edges_from c p (row_at rows p)) rows all (by_row (row_at rows p) (all p))
     where
-      by_row : (o : Option Row) → ((row : Row) → o ≡ Some row → Lies p row) → AllByRecursion (λ (e : Edge). Arrives Lies (register_count c) e.to e.kinds) (edges_from c p o)
+      by_row : (o : Option Row) → ((row : Row) → o ≡ Some row → Lies p row) → AllByRecursion (λ (e : Edge). Arrives Lies (register_count c) e.to e.kinds)
+          (edges_from c p o)
       by_row None l = tt
       by_row (Some row) l =
           let here = l row refl in
@@ -164,7 +169,8 @@ module _ (c : Code) (rows : Rows) where
   closed_at zero p h lt = absurd (omega arith)
   closed_at (suc n) p h lt =
       let both = and_parts (is_closed c n rows) _ h in
-      ⊎_elim (closed_at n p both.0) (λ le. let e : n ≡ p = omega arith in subst (λ q. list_all (is_reached rows) (edges_from c q (row_at rows q)) ≡ true) e both.1) (cases_lt p n)
+      ⊎_elim (closed_at n p both.0) (λ le. let e : n ≡ p = omega arith in subst (λ q. list_all (is_reached rows) (edges_from c q (row_at rows q)) ≡ true) e
+      both.1) (cases_lt p n)
 
   above_any : (k : Kind) → kind_le Any k ≡ true → k ≡ Any
   above_any Any h = refl
@@ -181,7 +187,8 @@ module _ (c : Code) (rows : Rows) where
       along : (p : ℕ) (ks : Kinds) → table_in rows p ≡ Some ks → AllByRecursion (Holds (table_in rows)) (edges_at c p ks)
       along p ks known = ⊎_elim within past (cases_lt p (length c.instrs))
         where
-          by_row : (o : Option Row) → option_map kinds_in o ≡ Some ks → list_all (is_reached rows) (edges_from c p o) ≡ true → AllByRecursion (Holds (table_in rows)) (edges_at c p ks)
+          by_row : (o : Option Row) → option_map kinds_in o ≡ Some ks → list_all (is_reached rows) (edges_from c p o) ≡ true
+              → AllByRecursion (Holds (table_in rows)) (edges_at c p ks)
           by_row None e k = absurd (cc)
           by_row (Some row) e k = subst (λ x. AllByRecursion (Holds (table_in rows)) (edges_at c p x)) (some_one e) (all_hold (edges_at c p (kinds_in row)) k)
 

@@ -21,7 +21,8 @@ further : (x member e e' w d d' t g g' : ℕ) → e + w ≤ e' → d + t ≤ d' 
 further x member e e' w d d' t g g' le ld h k = let m = mul-le-mul_left member ld in omega arith
 
 -- a turn that is over
-one_more : (x member turns past B D e w d t g g' : ℕ) → e + w ≤ B → d + t ≤ D → g ≤ x + turns * B + past * D + e + member * d → g' ≤ g + w + t * member → g' ≤ x + (turns + 1) * B + (past + member) * D
+one_more : (x member turns past B D e w d t g g' : ℕ) → e + w ≤ B → d + t ≤ D → g ≤ x + turns * B + past * D + e + member * d → g' ≤ g + w + t * member
+    → g' ≤ x + (turns + 1) * B + (past + member) * D
 one_more x member turns past B D e w d t g g' le ld h k = let m = mul-le-mul_left member ld in omega arith
 
 -- a loop that is over, where turns and members are bounded
@@ -63,7 +64,8 @@ module _ (c : Code) (w t : ℕ → ℕ) (M E : ℕ) where
       omega arith
 
   -- on in the same loop, or in none
-  pub spent_onward : (p q g g' member : ℕ) (l : Option Loop) → option_map body_of l ≡ body_at c p → p < q → SpentIn l member p g → Within l member p g g' → SpentIn l member q g'
+  pub spent_onward : (p q g g' member : ℕ) (l : Option Loop) → option_map body_of l ≡ body_at c p → p < q → SpentIn l member p g → Within l member p g g'
+      → SpentIn l member q g'
   spent_onward p q g g' member None e lt h le =
       let here = total_outside c w p (sym e) in
       let m1 = total_le (where_outside c w) (suc p) q (omega arith) in
@@ -79,7 +81,8 @@ module _ (c : Code) (w t : ℕ → ℕ) (M E : ℕ) where
   }
 
   -- into a loop
-  pub spent_entering : (p g g' member : ℕ) (l : Loop) → body_at c p ≡ None → l.start ≡ p + 1 → 1 + length l.left ≤ M → member + sum_by length l.left ≤ E → SpentIn None 0 p g → Within None 0 p g g' → SpentIn (Some l) member l.start g'
+  pub spent_entering : (p g g' member : ℕ) (l : Loop) → body_at c p ≡ None → l.start ≡ p + 1 → 1 + length l.left ≤ M → member + sum_by length l.left ≤ E
+      → SpentIn None 0 p g → Within None 0 p g g' → SpentIn (Some l) member l.start g'
   spent_entering p g g' member l e first few small h le =
       let here = total_outside c w p e in
       let m1 = total_le (where_outside c w) (suc p) l.start (omega arith) in
@@ -88,7 +91,8 @@ module _ (c : Code) (w t : ℕ → ℕ) (M E : ℕ) where
       record { turns = 0; past = 0; few = omega arith; small = omega arith; bound = omega arith }
 
   -- the whole of a loop, at its last place
-  whole : (p g g' member : ℕ) (l : Loop) → Some (body_of l) ≡ body_at c p → SpentIn (Some l) member p g → Within (Some l) member p g g' → g' ≤ outer c w l.start + M * inner c w l.end + E * inner c t l.end
+  whole : (p g g' member : ℕ) (l : Loop) → Some (body_of l) ≡ body_at c p → SpentIn (Some l) member p g → Within (Some l) member p g g'
+      → g' ≤ outer c w l.start + M * inner c w l.end + E * inner c t l.end
   whole p g g' member l e h le =
       let i = is_in c p (body_of l) (sym e) in
       let low : l.start ≤ p = i.low in
@@ -98,11 +102,13 @@ module _ (c : Code) (w t : ℕ → ℕ) (M E : ℕ) where
       let ew : inner c w l.start + (inner c w l.end - inner c w l.start) ≡ inner c w l.end = omega arith in
       let et : inner c t l.start + (inner c t l.end - inner c t l.start) ≡ inner c t l.end = omega arith in
       let turn = one_more _ member h.turns h.past _ _ _ (w p) _ (t p) g g' (part w p l.end l e high) (part t p l.end l e high) h.bound le in
-      let all = all_turns (outer c w l.start) (inner c w l.start) (inner c t l.start) M E (h.turns + 1) (h.past + member) _ _ g' (omega (arith, h.few)) (omega (arith, h.small)) turn in
+      let all = all_turns (outer c w l.start) (inner c w l.start) (inner c t l.start) M E (h.turns + 1) (h.past + member) _ _ g' (omega (arith, h.few))
+      (omega (arith, h.small)) turn in
       rw (ew, et) at all
 
   -- out of a loop
-  pub spent_leaving : (p g g' member : ℕ) (l : Loop) → Some (body_of l) ≡ body_at c p → SpentIn (Some l) member p g → Within (Some l) member p g g' → SpentIn None 0 l.end g'
+  pub spent_leaving : (p g g' member : ℕ) (l : Loop) → Some (body_of l) ≡ body_at c p → SpentIn (Some l) member p g → Within (Some l) member p g g'
+      → SpentIn None 0 l.end g'
   spent_leaving p g g' member l e h le =
       let i = is_in c p (body_of l) (sym e) in
       let low : l.start ≤ p = i.low in
@@ -111,7 +117,8 @@ module _ (c : Code) (w t : ℕ → ℕ) (M E : ℕ) where
       omega (arith, whole p g g' member l e h le)
 
   -- on to a loop's next member
-  pub spent_again : (p g g' member next : ℕ) (l l' : Loop) (u : Text) → Some (body_of l) ≡ body_at c p → l.left ≡ u ∷ l'.left → next ≤ length u → l'.start ≡ l.start → l'.end ≡ l.end → SpentIn (Some l) member p g → Within (Some l) member p g g' → SpentIn (Some l') next l.start g'
+  pub spent_again : (p g g' member next : ℕ) (l l' : Loop) (u : Text) → Some (body_of l) ≡ body_at c p → l.left ≡ u ∷ l'.left → next ≤ length u
+      → l'.start ≡ l.start → l'.end ≡ l.end → SpentIn (Some l) member p g → Within (Some l) member p g g' → SpentIn (Some l') next l.start g'
   spent_again p g g' member next l l' u e left short starts ends' h le =
       let i = is_in c p (body_of l) (sym e) in
       let high : p < l.end = i.high in
@@ -129,7 +136,8 @@ module _ (c : Code) (w t : ℕ → ℕ) (M E : ℕ) where
       }
 
   -- all that a run may spend, with the step at a place in the code
-  pub spent_at_end : (p g g' member : ℕ) (l : Option Loop) → option_map body_of l ≡ body_at c p → p < length c.instrs → SpentIn l member p g → Within l member p g g' → g' ≤ outside c w + M * inside c w + E * inside c t
+  pub spent_at_end : (p g g' member : ℕ) (l : Option Loop) → option_map body_of l ≡ body_at c p → p < length c.instrs → SpentIn l member p g
+      → Within l member p g g' → g' ≤ outside c w + M * inside c w + E * inside c t
   spent_at_end p g g' member None e lt h le =
       let here = total_outside c w p (sym e) in
       let m1 = total_le (where_outside c w) (suc p) (length c.instrs) (omega arith) in

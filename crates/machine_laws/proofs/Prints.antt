@@ -1,5 +1,6 @@
 -- Each output of a typable code of good form is URI text of at most O(M, E) bytes.
-use Rattle.std.proofs.Common.{◌≡◌, ℕ, zero, suc, ◌+◌, ◌*◌, ◌<◌, ◌≤◌, [], ◌++◌, length, Option, Some, None, Bool, true, false, refl, sym, ap, ◌∙◌, subst, arith, length-append}
+use Rattle.std.proofs.Common.{◌≡◌, ℕ, zero, suc, ◌+◌, ◌*◌, ◌<◌, ◌≤◌, [], ◌++◌, length, Option, Some, None, Bool, true, false, refl, sym, ap, ◌∙◌, subst, arith}
+use Rattle.std.proofs.Common.{length-append}
 use Rattle.std.specs.Prelude.{slice_get, nat_lt, if◌then◌else◌, ◌&&◌, ◌==◌, option_map}
 use Rattle.std.proofs.lemmas.Bool.{and_parts, eqb-true}
 use Rattle.text_model.specs.Texts.{Text}
@@ -21,12 +22,13 @@ use Rattle.machine_model.specs.Runs.{After}
 use Rattle.machine_model.specs.Form.{body_at, is_in_body, HasGoodForm}
 use Rattle.machine_model.specs.Typable.{Table, IsClosed, MeetsNeeds, IsTypable}
 use Rattle.machine_model.specs.Values.{Text as TextValue}
-use Rattle.machine_model.specs.Budget.{longest_compared, fixed_bytes, separator_bytes, written_bytes, fixed_at, separator_at, written_at, keeps_element, prints, prints_element, is_of_element, of_element, of_others, where_outside, where_inside, outside, inside, sums_of, bytes_bound}
+use Rattle.machine_model.specs.Budget.{longest_compared, fixed_bytes, separator_bytes, written_bytes, fixed_at, separator_at, written_at, keeps_element, prints}
+use Rattle.machine_model.specs.Budget.{prints_element, is_of_element, of_element, of_others, where_outside, where_inside, outside, inside, sums_of, bytes_bound}
 use Rattle.machine_model.specs.Safe.{IsFileCode, output_of, IsSafe}
 use Rattle.machine_model.proofs.Readings.{Reads-reading_at}
 use Rattle.machine_laws.proofs.Sums.{total_linear}
 use Rattle.machine_model.specs.Fitting.{body_of}
-use Rattle.machine_laws.proofs.Sound.{never_stuck, reached}
+use Rattle.machine_laws.proofs.Safety.{never_stuck, reached}
 use Rattle.machine_laws.proofs.Small.{FrameSmall, IsSmall, text_limit, small_after}
 use Rattle.machine_laws.proofs.AtHand.{hand_in, at_hand}
 use Rattle.machine_laws.proofs.Potential.{Within, spent_at_end}
@@ -67,12 +69,14 @@ separated (Some b) n = n
 
 module _ (c : Code) (v : Environment) where
   -- a move prints URI text alone
-  uri_move : (s : Frame) (i : Instruction) (m : Move) → IsFileCode c → has_right_operands c i ≡ true → IsUriText s.output → Does c v s i m → IsUriText (move_output m)
+  uri_move : (s : Frame) (i : Instruction) (m : Move) → IsFileCode c → has_right_operands c i ≡ true → IsUriText s.output → Does c v s i m
+      → IsUriText (move_output m)
   uri_move s _ _ k ok h fail = nothing
   uri_move s _ _ k ok h (emit b) = IsUriText-append s.output (literal_at c b) h (k.links b (emit_link c b ok))
   uri_move s _ _ k ok h (later_turn b l e f) = IsUriText-append s.output (literal_at c b) h (k.links b (sep_link c b ok))
   uri_move s _ _ k ok h (put_text a m t e) = IsUriText-append s.output (written (writing_of m) t) h (written-uri (writing_of m) t)
-  uri_move s _ _ k ok h (cut_text a n m t e) = IsUriText-append s.output (written (writing_of m) (cut (writing_of m) t n)) h (written-uri (writing_of m) (cut (writing_of m) t n))
+  uri_move s _ _ k ok h (cut_text a n m t e) =
+      IsUriText-append s.output (written (writing_of m) (cut (writing_of m) t n)) h (written-uri (writing_of m) (cut (writing_of m) t n))
   uri_move s _ _ k ok h _ = h
 
   uri_step : (s new : State) → IsFileCode c → IsUriText (output_of s) → Step c v s new → IsUriText (output_of new)
@@ -89,7 +93,8 @@ module _ (c : Code) (v : Environment) where
 
   -- the most that an instruction of a body prints, but for a PUT or CUT of the element
   abbrev pub weight_of : Option Body → Option Instruction → ℕ
-  weight_of o i = ((if prints_element c o i then 0 else fixed_bytes c i) + separated o (separator_bytes c i)) + (if prints_element c o i then 0 else written_bytes i) * byte_count v
+  weight_of o i = ((if prints_element c o i then 0 else fixed_bytes c i) + separated o (separator_bytes c i))
+      + (if prints_element c o i then 0 else written_bytes i) * byte_count v
 
   -- and what such a PUT or CUT prints for each byte of the member at hand
   abbrev pub tight_of : Option Body → Option Instruction → ℕ
@@ -107,18 +112,23 @@ module _ (c : Code) (v : Environment) where
   module _ (s : Frame) (i : Instruction) (b : option_map body_of s.loop ≡ body_at c s.place) (r : reading_at c s.place ≡ Some i) where
     -- whatever the member
     loosely : (n : ℕ) → n ≤ length s.output + weight_of (body_at c s.place) (Some i) → PrintsWithin s n
-    loosely n le = within_weight c weight tight (member_count v) (byte_count v) s.loop (at_hand c s) s.place (length s.output) n (subst (λ j. n ≤ length s.output + weight_of (body_at c s.place) j) (sym r) le)
+    loosely n le = within_weight c weight tight (member_count v) (byte_count v) s.loop (at_hand c s) s.place (length s.output) n
+        (subst (λ j. n ≤ length s.output + weight_of (body_at c s.place) j) (sym r) le)
 
     -- an instruction that is neither PUT nor CUT
-    fixed : (n : ℕ) → ((e : ℕ) → prints e (Some i) ≡ false) → n ≤ length s.output + (fixed_bytes c (Some i) + separated (body_at c s.place) (separator_bytes c (Some i))) → PrintsWithin s n
+    fixed : (n : ℕ) → ((e : ℕ) → prints e (Some i) ≡ false)
+        → n ≤ length s.output + (fixed_bytes c (Some i) + separated (body_at c s.place) (separator_bytes c (Some i))) → PrintsWithin s n
     fixed n other le = loosely n (by_body (body_at c s.place) le)
       where
-        by_body : (o : Option Body) → n ≤ length s.output + (fixed_bytes c (Some i) + separated o (separator_bytes c (Some i))) → n ≤ length s.output + weight_of o (Some i)
+        by_body : (o : Option Body) → n ≤ length s.output + (fixed_bytes c (Some i) + separated o (separator_bytes c (Some i)))
+            → n ≤ length s.output + weight_of o (Some i)
         by_body None h = omega arith
         by_body (Some x) h = rw (other x.element) (omega arith)
 
     -- PUT or CUT of a text in a register
-    of_text : (n a : ℕ) (t : Text) → s.registers a ≡ TextValue t → length t ≤ text_limit c v → written_bytes (Some i) ≡ 3 → fixed_bytes c (Some i) ≡ 3 * longest_compared c.literals → separator_bytes c (Some i) ≡ 0 → ((e : ℕ) → prints e (Some i) ≡ (e == a)) → n ≤ length s.output + 3 * length t → PrintsWithin s n
+    of_text : (n a : ℕ) (t : Text) → s.registers a ≡ TextValue t → length t ≤ text_limit c v → written_bytes (Some i) ≡ 3
+        → fixed_bytes c (Some i) ≡ 3 * longest_compared c.literals → separator_bytes c (Some i) ≡ 0 → ((e : ℕ) → prints e (Some i) ≡ (e == a))
+        → n ≤ length s.output + 3 * length t → PrintsWithin s n
     of_text n a t held short w f z p le = by_loop s.loop refl
       where
         by_loop : (l : Option Loop) → s.loop ≡ l → PrintsWithin s n
@@ -137,9 +147,11 @@ module _ (c : Code) (v : Environment) where
                 let same : l.element ≡ a = eqb-true l.element a (sym (p l.element) ∙ both.0) in
                 let hand : hand_in c s.registers (Some l) ≡ length t = rw (both.1, same, held) refl in
                 let three : tight s.place ≡ 3 = rw (o, r, q) w in
-                subst (λ y. Within c weight tight (member_count v) (byte_count v) y (hand_in c s.registers y) s.place (length s.output) n) (sym e) (rw (three, hand) (omega (arith, le)))
+                subst (λ y. Within c weight tight (member_count v) (byte_count v) y (hand_in c s.registers y) s.place (length s.output) n) (sym e)
+                (rw (three, hand) (omega (arith, le)))
 
-  long_move : (s : Frame) (i : Instruction) (m : Move) → FrameSmall (member_count v) (byte_count v) (text_limit c v) s → option_map body_of s.loop ≡ body_at c s.place → reading_at c s.place ≡ Some i → Does c v s i m → PrintsWithin s (length (move_output m))
+  long_move : (s : Frame) (i : Instruction) (m : Move) → FrameSmall (member_count v) (byte_count v) (text_limit c v) s
+      → option_map body_of s.loop ≡ body_at c s.place → reading_at c s.place ≡ Some i → Does c v s i m → PrintsWithin s (length (move_output m))
   long_move s _ _ h b r fail = within_weight c weight tight (member_count v) (byte_count v) s.loop (at_hand c s) s.place (length s.output) 0 (omega arith)
   long_move s _ _ h b r (emit n) = fixed s _ b r (length (s.output ++ literal_at c n)) (λ e. refl) (omega (arith, length-append s.output (literal_at c n)))
   long_move s _ _ h b r (later_turn n l e f) =
@@ -147,19 +159,30 @@ module _ (c : Code) (v : Environment) where
       fixed s _ b r (length (s.output ++ literal_at c n)) (λ e. refl) (rw o (omega (arith, length-append s.output (literal_at c n))))
   long_move s _ _ h b r (put_text a m t e) =
       let x = subst (IsSmall (member_count v) (byte_count v) (text_limit c v)) e (h.registers a) in
-      of_text s _ b r (length (s.output ++ written (writing_of m) t)) a t e x refl refl refl (λ e. refl) (omega (arith, length-written (writing_of m) t, length-append s.output (written (writing_of m) t)))
+      of_text s _ b r (length (s.output ++ written (writing_of m) t)) a t e x refl refl refl (λ e. refl)
+      (omega (arith, length-written (writing_of m) t, length-append s.output (written (writing_of m) t)))
   long_move s _ _ h b r (cut_text a n m t e) =
       let x = subst (IsSmall (member_count v) (byte_count v) (text_limit c v)) e (h.registers a) in
-      of_text s _ b r (length (s.output ++ written (writing_of m) (cut (writing_of m) t n))) a t e x refl refl refl (λ e. refl) (omega (arith, length-written (writing_of m) (cut (writing_of m) t n), length-cut (writing_of m) t n, length-append s.output (written (writing_of m) (cut (writing_of m) t n))))
-  long_move s i _ h b r _ = within_weight c weight tight (member_count v) (byte_count v) s.loop (at_hand c s) s.place (length s.output) (length s.output) (omega arith)
+      of_text s _ b r (length (s.output ++ written (writing_of m) (cut (writing_of m) t n))) a t e x refl refl refl (λ e. refl)
+      (omega (
+        arith,
+        length-written (writing_of m) (cut (writing_of m) t n),
+        length-cut (writing_of m) t n,
+        length-append s.output (written (writing_of m) (cut (writing_of m) t n)),
+      ))
+  long_move s i _ h b r _ = within_weight c weight tight (member_count v) (byte_count v) s.loop (at_hand c s) s.place (length s.output) (length s.output)
+      (omega arith)
 
 -- ---- the sums of the weights
 
-out_split : (o : Option Body) (x : Bool) (f s h e : ℕ) → (o ≡ None → x ≡ false) → (if is_in_body o then 0 else (((if x then 0 else f) + separated o s) + (if x then 0 else h) * e)) ≡ (if is_in_body o then 0 else f) + (if is_in_body o then 0 else h) * e
+out_split : (o : Option Body) (x : Bool) (f s h e : ℕ) → (o ≡ None → x ≡ false)
+    → (if is_in_body o then 0 else (((if x then 0 else f) + separated o s) + (if x then 0 else h) * e)) ≡ (if is_in_body o then 0 else f)
+    + (if is_in_body o then 0 else h) * e
 out_split None x f s h e out = rw (out refl) (omega arith)
 out_split (Some b) x f s h e out = omega arith
 
-in_split : (o : Option Body) (f s h e : ℕ) → (if is_in_body o then ((f + separated o s) + h * e) else 0) ≡ (if is_in_body o then (f + s) else 0) + (if is_in_body o then h else 0) * e
+in_split : (o : Option Body) (f s h e : ℕ) → (if is_in_body o then ((f + separated o s) + h * e) else 0) ≡ (if is_in_body o then (f + s) else 0)
+    + (if is_in_body o then h else 0) * e
 in_split None f s h e = omega arith
 in_split (Some b) f s h e = omega arith
 
@@ -173,11 +196,16 @@ module _ (c : Code) (form : HasGoodForm c) (some : 0 < length c.instrs) (t : Tab
   none_outside : (p : ℕ) → body_at c p ≡ None → is_of_element c p ≡ false
   none_outside p o = rw o refl
 
-  all_weights : outside c (weight c v) + member_count v * inside c (weight c v) + byte_count v * inside c (tight c v) ≡ bytes_bound (sums_of c) (member_count v) (byte_count v)
+  all_weights : outside c (weight c v) + member_count v * inside c (weight c v) + byte_count v * inside c (tight c v)
+      ≡ bytes_bound (sums_of c) (member_count v) (byte_count v)
   all_weights =
-      let o = total_linear (where_outside c (weight c v)) (where_outside c (fixed_at c)) (where_outside c (written_at c)) (byte_count v) (length c.instrs) (λ p. out_split (body_at c p) (is_of_element c p) (fixed_at c p) (separator_at c p) (written_at c p) (byte_count v) (none_outside p)) in
-      let i = total_linear (where_inside c (weight c v)) (where_inside c (λ p. of_others c (fixed_at c) p + separator_at c p)) (where_inside c (of_others c (written_at c))) (byte_count v) (length c.instrs) (λ p. in_split (body_at c p) (of_others c (fixed_at c) p) (separator_at c p) (of_others c (written_at c) p) (byte_count v)) in
-      all_sums (outside c (weight c v)) (inside c (weight c v)) (outside c (fixed_at c)) (inside c (λ p. of_others c (fixed_at c) p + separator_at c p)) (outside c (written_at c)) (inside c (of_others c (written_at c))) (inside c (of_element c (written_at c))) (member_count v) (byte_count v) o i
+      let o = total_linear (where_outside c (weight c v)) (where_outside c (fixed_at c)) (where_outside c (written_at c)) (byte_count v) (length c.instrs)
+      (λ p. out_split (body_at c p) (is_of_element c p) (fixed_at c p) (separator_at c p) (written_at c p) (byte_count v) (none_outside p)) in
+      let i = total_linear (where_inside c (weight c v)) (where_inside c (λ p. of_others c (fixed_at c) p + separator_at c p))
+      (where_inside c (of_others c (written_at c))) (byte_count v) (length c.instrs)
+      (λ p. in_split (body_at c p) (of_others c (fixed_at c) p) (separator_at c p) (of_others c (written_at c) p) (byte_count v)) in
+      all_sums (outside c (weight c v)) (inside c (weight c v)) (outside c (fixed_at c)) (inside c (λ p. of_others c (fixed_at c) p + separator_at c p))
+      (outside c (written_at c)) (inside c (of_others c (written_at c))) (inside c (of_element c (written_at c))) (member_count v) (byte_count v) o i
 
   long_after : (k : ℕ) (s : State) → After c v k s → All s (length (output_of s))
   unfolding After
@@ -198,7 +226,13 @@ module _ (c : Code) (form : HasGoodForm c) (some : 0 < length c.instrs) (t : Tab
       by_state : (x : State) → After c v k x → All x (length (output_of x)) → length (output_of x) ≤ bytes_bound (sums_of c) (member_count v) (byte_count v)
       by_state (Running o) a sp =
           let r = reached c form some t closed meets v k (Running o) a in
-          omega (arith, all_weights, spent_at_end c (weight c v) (tight c v) (member_count v) (byte_count v) o.place (length o.output) (length o.output) (at_hand c o) o.loop r.body r.within sp (within_weight c (weight c v) (tight c v) (member_count v) (byte_count v) o.loop (at_hand c o) o.place (length o.output) (length o.output) (omega arith)))
+          omega (
+            arith,
+            all_weights,
+            spent_at_end c (weight c v) (tight c v) (member_count v) (byte_count v) o.place (length o.output) (length o.output)
+                (at_hand c o) o.loop r.body r.within sp (within_weight c (weight c v) (tight c v) (member_count v) (byte_count v) o.loop (at_hand c o) o.place
+                (length o.output) (length o.output) (omega arith)),
+          )
       by_state (Ended (Link printed)) a sp = omega (arith, all_weights, sp)
       by_state (Ended NoLink) a sp = omega arith
 

@@ -7,7 +7,8 @@ use Rattle.std.proofs.lemmas.Option.{slice_get_past}
 use Rattle.code_model.specs.Code.{Code, reading, reading_at}
 use Rattle.code_model.specs.Operands.{Operand, Register, operands, is_in_range}
 use Rattle.code_model.specs.declared.code.Instruction.{Instruction}
-use Rattle.code_model.specs.declared.code.Instruction.TheVariants.{Halt, Fail, Text as LoadText, List as LoadList, Const, Number, Undef, Empty, NoList, Differ, Less, Each, Next, Count}
+use Rattle.code_model.specs.declared.code.Instruction.TheVariants.{Halt, Fail, Text as LoadText, List as LoadList, Const, Number, Undef, Empty, NoList, Differ}
+use Rattle.code_model.specs.declared.code.Instruction.TheVariants.{Less, Each, Next, Count}
 use Rattle.machine_model.specs.declared.form.Body.{Body}
 use Rattle.machine_model.specs.declared.kind.Kind.{Kind}
 use Rattle.machine_model.specs.declared.kind.Kind.TheVariants.{Any, OptText, Text as TextKind, List as ListKind, Number as NumberKind}
@@ -27,10 +28,12 @@ abbrev pub EdgeAny : ℕ → Edge → Type 0
 EdgeAny n e = IsAnyFrom n e.kinds
 
 put_any : (n : ℕ) (ks : Kinds) (a : ℕ) (k : Kind) → a < n → IsAnyFrom n ks → IsAnyFrom n (put ks a k)
-put_any n ks a k lt h = record { at = λ r le. subst (λ t. (if t then k else ks r) ≡ Any) (sym (ne_eqb r a (λ e. absurd (omega (arith, lt, le, e))))) (h.at r le) }
+put_any n ks a k lt h =
+    record { at = λ r le. subst (λ t. (if t then k else ks r) ≡ Any) (sym (ne_eqb r a (λ e. absurd (omega (arith, lt, le, e))))) (h.at r le) }
 
 -- the first operand of an instruction is a register that a code may name
-first_register : (c : Code) (i : Instruction) (a : ℕ) (rest : List Operand) → operands i ≡ Register a ∷ rest → has_right_operands c i ≡ true → a < register_count c
+first_register : (c : Code) (i : Instruction) (a : ℕ) (rest : List Operand) → operands i ≡ Register a ∷ rest → has_right_operands c i ≡ true
+    → a < register_count c
 unfolding has_right_operands
 first_register c i a rest e h =
     let all : list_all (is_right c) (Register a ∷ rest) ≡ true = rw e at h in
@@ -43,7 +46,8 @@ module _ (c : Code) where
   ElementFits None = Unit {0}
   ElementFits (Some b) = b.element < register_count c
 
-  edges_any : (p : ℕ) (ks : Kinds) (o : Option Body) (i : Instruction) → has_right_operands c i ≡ true → ElementFits o → IsAnyFrom (register_count c) ks → AllByRecursion (EdgeAny (register_count c)) (edges p ks o i)
+  edges_any : (p : ℕ) (ks : Kinds) (o : Option Body) (i : Instruction) → has_right_operands c i ≡ true → ElementFits o → IsAnyFrom (register_count c) ks
+      → AllByRecursion (EdgeAny (register_count c)) (edges p ks o i)
   unfolding ElementFits
   edges_any p ks o Halt w b h = tt
   edges_any p ks o Fail w b h = tt
@@ -56,7 +60,10 @@ module _ (c : Code) where
   edges_any p ks o (NoList a d) w b h = (h, (h, tt))
   edges_any p ks o (Differ a x d) w b h = (h, (h, tt))
   edges_any p ks o (Less a x d) w b h = (h, (h, tt))
-  edges_any p ks o (Each a x d) w b h = (put_any (register_count c) ks a TextKind (first_register c (Each a x d) a _ refl w) h, (put_any (register_count c) ks a Any (first_register c (Each a x d) a _ refl w) h, tt))
+  edges_any p ks o (Each a x d) w b h = (
+    put_any (register_count c) ks a TextKind (first_register c (Each a x d) a _ refl w) h,
+    (put_any (register_count c) ks a Any (first_register c (Each a x d) a _ refl w) h, tt),
+  )
   edges_any p ks None Next w b h = (h, tt)
   edges_any p ks (Some l) Next w b h = (put_any (register_count c) ks l.element TextKind b h, (put_any (register_count c) ks l.element Any b h, tt))
   edges_any p ks o (Count a x) w b h = (put_any (register_count c) ks a NumberKind (first_register c (Count a x) a _ refl w) h, tt)
@@ -81,7 +88,8 @@ module _ (c : Code) where
         within : p < length c.instrs → AllByRecursion (EdgeAny (register_count c)) (edges_at c p ks)
         within lt =
             let g = good_at c form p lt in
-            subst (λ o. AllByRecursion (EdgeAny (register_count c)) (for_instruction o (edges p ks (body_at c p)))) (sym g.1.read) (edges_any p ks (body_at c p) g.0 g.1.reads.right (element_fits p (body_at c p) refl) h)
+            subst (λ o. AllByRecursion (EdgeAny (register_count c)) (for_instruction o (edges p ks (body_at c p)))) (sym g.1.read)
+            (edges_any p ks (body_at c p) g.0 g.1.reads.right (element_fits p (body_at c p) refl) h)
 
         past : length c.instrs ≤ p → AllByRecursion (EdgeAny (register_count c)) (edges_at c p ks)
         past le =

@@ -68,4 +68,6 @@ list_prints_uri_text v = list_is_safe.uri v
 -- a PUT of a register that holds nothing
 put_is_not_safe : IsSafe (sample (instruction.Put 0 0 ∷ instruction.Halt ∷ [])) → ⊥
 unfolding After reading has_right_operands
-put_is_not_safe h = h.never_stuck [] 0 (Running start) refl (λ new st. let none : None ≡ Some new = Step-next_state (sample (instruction.Put 0 0 ∷ instruction.Halt ∷ [])) [] (Running start) new st in absurd (cc (none)))
+put_is_not_safe h =
+    h.never_stuck [] 0 (Running start) refl (λ new st. let none : None ≡ Some new = Step-next_state (sample (instruction.Put 0 0 ∷ instruction.Halt ∷ [])) []
+    (Running start) new st in absurd (cc (none)))

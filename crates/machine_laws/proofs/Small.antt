@@ -4,14 +4,16 @@ use Rattle.std.specs.Prelude.{slice_get, nat_lt, ◌==◌, if◌then◌else◌, 
 use Rattle.std.proofs.lemmas.Bool.{and_parts}
 use Rattle.std.proofs.lemmas.List.Sums.{sum_by-cons}
 use Rattle.text_model.specs.Texts.{Text}
-use Rattle.environment_model.specs.Environment.{Environment, Meaning, Single, Several, look_up, text_in, members_in, members_of, member_count, byte_count, meaning_bytes, meaning_members}
+use Rattle.environment_model.specs.Environment.{Environment, Meaning, Single, Several, look_up, text_in, members_in, members_of, member_count, byte_count}
+use Rattle.environment_model.specs.Environment.{meaning_bytes, meaning_members}
 use Rattle.code_model.specs.Code.{Code, Literal}
 use Rattle.code_model.specs.declared.code.Instruction.{Instruction}
 use Rattle.code_model.specs.declared.code.Instruction.TheVariants.{Const}
 use Rattle.machine_model.specs.Operands.{is_compared, has_right_operands, name_at, literal_at, text_of_literal}
 use Rattle.machine_model.specs.Values.{Value, Nothing, Undefined, Text as TextValue, List as ListValue, Number as NumberValue, text_or_undefined}
 use Rattle.machine_model.specs.States.{Loop, Frame, State, Running, Ended, put}
-use Rattle.machine_model.specs.Step.{Move, Ends, Goes, Returns, Does, halt, fail, text, list, const, number, no_turn, enter, next_member, leave, count, Leads, Step}
+use Rattle.machine_model.specs.Step.{Move, Ends, Goes, Returns, Does, halt, fail, text, list, const, number, no_turn, enter, next_member, leave, count, Leads}
+use Rattle.machine_model.specs.Step.{Step}
 use Rattle.machine_model.specs.Runs.{After}
 use Rattle.machine_model.specs.Budget.{compared_length, longest_compared}
 
@@ -62,7 +64,8 @@ meaning_small (x ∷ v) name =
     rw (sum_by-cons (λ e. meaning_members e.meaning) x v, sum_by-cons (λ e. meaning_bytes e.meaning) x v)
     (by_test (meaning_small v name) (bytes_eq x.name name))
   where
-    by_test : MeaningSmall (member_count v) (byte_count v) (look_up v name) → (t : Bool) → MeaningSmall (meaning_members x.meaning + member_count v) (meaning_bytes x.meaning + byte_count v) (if t then Some x.meaning else look_up v name)
+    by_test : MeaningSmall (member_count v) (byte_count v) (look_up v name) → (t : Bool)
+        → MeaningSmall (meaning_members x.meaning + member_count v) (meaning_bytes x.meaning + byte_count v) (if t then Some x.meaning else look_up v name)
     by_test rest true = one_meaning x.meaning _ _ (omega arith) (omega arith)
     by_test rest false = meaning_more (look_up v name) (member_count v) (byte_count v) _ _ (omega arith) (omega arith) rest
 
@@ -91,23 +94,32 @@ module _ (c : Code) (v : Environment) where
   abbrev pub Small : State → Type 0
   Small s = StateSmall (member_count v) (byte_count v) (text_limit c v) s
 
-  small_put : (s : Frame) (a : ℕ) (x : Value) → ((r : ℕ) → IsSmall (member_count v) (byte_count v) (text_limit c v) (s.registers r)) → IsSmall (member_count v) (byte_count v) (text_limit c v) x → (r : ℕ) → IsSmall (member_count v) (byte_count v) (text_limit c v) (put s.registers a x r)
+  small_put : (s : Frame) (a : ℕ) (x : Value) → ((r : ℕ) → IsSmall (member_count v) (byte_count v) (text_limit c v) (s.registers r))
+      → IsSmall (member_count v) (byte_count v) (text_limit c v) x → (r : ℕ) → IsSmall (member_count v) (byte_count v) (text_limit c v) (put s.registers a x r)
   small_put s a x h k r = by_test (r == a)
     where
       by_test : (t : Bool) → IsSmall (member_count v) (byte_count v) (text_limit c v) (if t then x else s.registers r)
       by_test true = k
       by_test false = h r
 
-  text_more : (o : Option Text) → IsSmall (member_count v) (byte_count v) (byte_count v) (text_or_undefined o) → IsSmall (member_count v) (byte_count v) (text_limit c v) (text_or_undefined o)
+  text_more : (o : Option Text) → IsSmall (member_count v) (byte_count v) (byte_count v) (text_or_undefined o)
+      → IsSmall (member_count v) (byte_count v) (text_limit c v) (text_or_undefined o)
   text_more None h = tt
   text_more (Some t) h = omega arith
 
-  small_move : (s : Frame) (i : Instruction) (m : Move) → FrameSmall (member_count v) (byte_count v) (text_limit c v) s → has_right_operands c i ≡ true → Does c v s i m → MoveSmall (member_count v) (byte_count v) (text_limit c v) m
+  small_move : (s : Frame) (i : Instruction) (m : Move) → FrameSmall (member_count v) (byte_count v) (text_limit c v) s → has_right_operands c i ≡ true
+      → Does c v s i m → MoveSmall (member_count v) (byte_count v) (text_limit c v) m
   small_move s _ _ h ok halt = tt
   small_move s _ _ h ok fail = tt
-  small_move s _ _ h ok (text a b) = let x = meaning_small v (name_at c b) in record { registers = small_put s a _ h.registers (text_more (text_in (look_up v (name_at c b))) x.2); left = h.left }
-  small_move s _ _ h ok (list a b) = let x = meaning_small v (name_at c b) in record { registers = small_put s a (ListValue (members_of v (name_at c b))) h.registers (x.0, x.1); left = h.left }
-  small_move s _ _ h ok (const a b) = record { registers = small_put s a (TextValue (literal_at c b)) h.registers (omega (arith, literal_small c.literals b (const_compared c a b ok))); left = h.left }
+  small_move s _ _ h ok (text a b) = let x = meaning_small v (name_at c b) in
+      record { registers = small_put s a _ h.registers (text_more (text_in (look_up v (name_at c b))) x.2); left = h.left }
+  small_move s _ _ h ok (list a b) = let x = meaning_small v (name_at c b) in
+      record { registers = small_put s a (ListValue (members_of v (name_at c b))) h.registers (x.0, x.1); left = h.left }
+  small_move s _ _ h ok (const a b) =
+      record {
+        registers = small_put s a (TextValue (literal_at c b)) h.registers (omega (arith, literal_small c.literals b (const_compared c a b ok)));
+        left = h.left;
+      }
   small_move s _ _ h ok (number a b d n t e f) = record { registers = small_put s a (NumberValue n) h.registers tt; left = h.left }
   small_move s _ _ h ok (count a b ts e) = record { registers = small_put s a (NumberValue (length ts)) h.registers tt; left = h.left }
   small_move s _ _ h ok (enter a b d t ts e lt f) =

@@ -1,5 +1,7 @@
 -- A typable code of good form is never stuck.
-use Rattle.std.proofs.Common.{◌≡◌, ℕ, zero, suc, ◌+◌, ◌-◌, ◌<◌, ◌≤◌, List, [], ◌∷◌, length, Option, Some, None, Bool, true, false, refl, sym, ap, ◌∙◌, subst, arith, add-one, ⊎_elim}
+
+use Rattle.std.proofs.Common.{◌≡◌, ℕ, ◌+◌, ◌-◌, ◌<◌, ◌≤◌, List, [], ◌∷◌, length, Option, Some, None, Bool, true, false, refl, sym, ap, ◌∙◌, subst, arith}
+use Rattle.std.proofs.Common.{add-one, ⊎_elim}
 use Rattle.std.specs.Prelude.{nat_lt, ◌||◌, not, option_map, bytes_eq}
 use Rattle.std.specs.List.{AllByRecursion}
 use Rattle.std.proofs.lemmas.Bool.{eqb-true, ltb-true, or_cases, false≢true, cases_lt}
@@ -9,21 +11,22 @@ use Rattle.text_model.specs.Number.{leading_number}
 use Rattle.environment_model.specs.Environment.{Environment, text_of, members_of}
 use Rattle.code_model.specs.Code.{Code, reading_at}
 use Rattle.code_model.specs.declared.code.Instruction.{Instruction}
-use Rattle.code_model.specs.declared.code.Instruction.TheVariants.{Halt, Fail, Jump, Text as LoadText, List as LoadList, Const, Number, Undef, Empty, NoList, Differ, Less, Emit, Put, Cut, Each, Sep, Next, Count}
+use Rattle.code_model.specs.declared.code.Instruction.TheVariants.{Halt, Fail, Jump, Text as LoadText, List as LoadList, Const, Number, Undef, Empty, NoList}
+use Rattle.code_model.specs.declared.code.Instruction.TheVariants.{Differ, Less, Emit, Put, Cut, Each, Sep, Next, Count}
 use Rattle.machine_model.specs.declared.form.Body.{Body}
 use Rattle.machine_model.specs.declared.kind.Kind.TheVariants.{Any, OptText, Text as TextKind, List as ListKind, Number as NumberKind}
 use Rattle.machine_model.specs.Operands.{name_at, literal_at}
 use Rattle.machine_model.specs.Values.{Value, Text as TextValue, List as ListValue, Number as NumberValue}
 use Rattle.machine_model.specs.States.{Loop, Frame, Link, NoLink, State, Running, Ended, start, put, at}
-use Rattle.machine_model.specs.Step.{Move, Ends, Goes, Does, halt, fail, jump, text, list, const, number, no_number, undefined, defined, empty, not_empty, no_member, a_member, equal, different, less, not_less, emit, put_text, cut_text, no_turn, enter, first_turn, later_turn, next_member, leave, count, IsInside, Leads, Step}
-use Rattle.machine_model.specs.Runs.{After, IsStuck}
-use Rattle.machine_model.specs.Form.{is_next, body_at, is_in_body, is_same_body, ends_body, target, goes_to, is_each, ends_run, HasGoodForm}
-use Rattle.machine_model.specs.Kinds.{kind_le, Kinds, any_kinds, needs, Edge, edge, edges, for_instruction}
-use Rattle.machine_model.specs.Typable.{Table, Holds, IsClosed, IsMet, MeetsNeeds, IsTypable}
+use Rattle.machine_model.specs.Step.{Move, Ends, Goes, Does, halt, fail, jump, text, list, const, number, no_number, undefined, defined, empty, not_empty}
+use Rattle.machine_model.specs.Step.{no_member, a_member, equal, different, less, not_less, emit, put_text, cut_text, no_turn, enter, first_turn, later_turn}
+use Rattle.machine_model.specs.Step.{next_member, leave, count, IsInside, Leads}
+use Rattle.machine_model.specs.Form.{is_next, body_at, is_in_body, is_same_body, ends_body, target, goes_to, is_each, ends_run}
+use Rattle.machine_model.specs.Kinds.{kind_le, Kinds, needs, Edge, edge, edges}
+use Rattle.machine_model.specs.Typable.{Table, Holds, IsMet}
 use Rattle.machine_model.proofs.Moves.{some_one}
-use Rattle.machine_model.proofs.Decides.{step_one}
 use Rattle.machine_model.proofs.Bodies.{is_in, body_off, end_out, body_suc, same_bodies}
-use Rattle.machine_model.proofs.GoodPlaces.{IsGood, good_at, body_same}
+use Rattle.machine_model.proofs.GoodPlaces.{IsGood, body_same}
 use Rattle.machine_model.specs.Fitting.{kind_of, Fits, body_of, Conforms}
 use Rattle.machine_model.proofs.Fitting.{is_text, is_opt_text, is_list, is_number, text_or_undefined-kind, fits_put, fits_any, fits_told, fits_below, fits_need}
 
@@ -41,47 +44,69 @@ module _ (c : Code) (t : Table) where
   inside_of p (Some l) e = let i = is_in c p (body_of l) (sym e) in (i.low, i.high)
 
   -- along an edge to a later place
-  along : (v : Environment) (s : Frame) (op : Instruction) (e : Edge) (regs : ℕ → Value) (turn : Option Loop) (out : Text) → Does c v s op (Goes (record { place = e.to; registers = regs; loop = turn; output = out })) → Holds t e → Fits e.kinds regs → s.place < e.to → e.to < length c.instrs → option_map body_of turn ≡ body_at c e.to → GoesOn v s op
+  pub along : (v : Environment) (s : Frame) (op : Instruction) (e : Edge) (regs : ℕ → Value) (turn : Option Loop) (out : Text)
+      → Does c v s op (Goes (record { place = e.to; registers = regs; loop = turn; output = out })) → Holds t e → Fits e.kinds regs → s.place < e.to
+      → e.to < length c.instrs → option_map body_of turn ≡ body_at c e.to → GoesOn v s op
   along v s op e regs turn out d h f lt within b =
-      let new : Frame = record { place = e.to; registers = regs; loop = turn; output = out } in
-      (Goes new, Running new, d, (record { forward = lt; within = within; inside = inside_of e.to turn b }, refl), record { kinds = h.0; known = h.1; fits = fits_below e.kinds h.0 regs h.2 f; within = within; body = b })
+      let new : Frame = record { place = e.to; registers = regs; loop = turn; output = out } in (
+        Goes new,
+        Running new,
+        d,
+        (record { forward = lt; within = within; inside = inside_of e.to turn b }, refl),
+        record { kinds = h.0; known = h.1; fits = fits_below e.kinds h.0 regs h.2 f; within = within; body = b },
+      )
 
   module _ (v : Environment) (s : Frame) (k : Conforms c t s) where
     -- to the next place
-    fall : (op : Instruction) (ks : Kinds) (regs : ℕ → Value) (out : Text) → IsGood c s.place op → ends_run op ≡ false → is_each op ≡ false → is_next (Some op) ≡ false → Does c v s op (Goes (record { place = s.place + 1; registers = regs; loop = s.loop; output = out })) → Holds t (edge (s.place + 1) ks) → Fits ks regs → GoesOn v s op
+    fall : (op : Instruction) (ks : Kinds) (regs : ℕ → Value) (out : Text) → IsGood c s.place op → ends_run op ≡ false → is_each op ≡ false
+        → is_next (Some op) ≡ false → Does c v s op (Goes (record { place = s.place + 1; registers = regs; loop = s.loop; output = out }))
+        → Holds t (edge (s.place + 1) ks) → Fits ks regs → GoesOn v s op
     fall op ks regs out g nl ne nn d h f =
-        let more : s.place + 1 < length c.instrs = ltb-true (s.place + 1) (length c.instrs) (⊎_elim (λ e. e) (λ e. absurd (cc)) (or_cases (nat_lt (s.place + 1) (length c.instrs)) (ends_run op) g.goes_on)) in
+        let more : s.place + 1 < length c.instrs =
+        ltb-true (s.place + 1) (length c.instrs)
+        (⊎_elim (λ e. e) (λ e. absurd (cc)) (or_cases (nat_lt (s.place + 1) (length c.instrs)) (ends_run op) g.goes_on)) in
         along v s op (edge (s.place + 1) ks) regs s.loop out d h f (omega arith) more (k.body ∙ sym (body_same c s.place op g ne nn))
 
     -- to the target of a jump
-    jumps : (op : Instruction) (to : ℕ) (ks : Kinds) → IsGood c s.place op → target op ≡ Some to → is_each op ≡ false → Does c v s op (Goes (at to s)) → Holds t (edge to ks) → Fits ks s.registers → GoesOn v s op
+    jumps : (op : Instruction) (to : ℕ) (ks : Kinds) → IsGood c s.place op → target op ≡ Some to → is_each op ≡ false → Does c v s op (Goes (at to s))
+        → Holds t (edge to ks) → Fits ks s.registers → GoesOn v s op
     jumps op to ks g e ne d h f =
         let lt : goes_to (λ d. nat_lt s.place d) (Some to) ≡ true = rw e at g.forward in
         let within : goes_to (λ d. nat_lt d (length c.instrs)) (Some to) ≡ true = rw e at g.within in
-        let cross : (is_each op || goes_to (λ d. is_same_body (body_at c s.place) (body_at c d)) (Some to)) ≡ true = subst (λ o. (is_each op || goes_to (λ d. is_same_body (body_at c s.place) (body_at c d)) o) ≡ true) e g.crosses in
-        let cross' : (false || is_same_body (body_at c s.place) (body_at c to)) ≡ true = subst (λ b. (b || is_same_body (body_at c s.place) (body_at c to)) ≡ true) ne cross in
-        along v s op (edge to ks) s.registers s.loop s.output d h f (ltb-true s.place to lt) (ltb-true to (length c.instrs) within) (k.body ∙ same_bodies c s.place to (body_at c s.place) (body_at c to) refl refl cross')
+        let cross : (is_each op || goes_to (λ d. is_same_body (body_at c s.place) (body_at c d)) (Some to)) ≡ true =
+        subst (λ o. (is_each op || goes_to (λ d. is_same_body (body_at c s.place) (body_at c d)) o) ≡ true) e g.crosses in
+        let cross' : (false || is_same_body (body_at c s.place) (body_at c to)) ≡ true =
+        subst (λ b. (b || is_same_body (body_at c s.place) (body_at c to)) ≡ true) ne cross in
+        along v s op (edge to ks) s.registers s.loop s.output d h f (ltb-true s.place to lt) (ltb-true to (length c.instrs) within)
+        (k.body ∙ same_bodies c s.place to (body_at c s.place) (body_at c to) refl refl cross')
 
     -- an operation at a place with kinds does what it needs to, on each of its edges
-    goes : (op : Instruction) → IsGood c s.place op → AllByRecursion (IsMet k.kinds) (needs op) → AllByRecursion (Holds t) (edges s.place k.kinds (body_at c s.place) op) → GoesOn v s op
+    pub goes : (op : Instruction) → IsGood c s.place op → AllByRecursion (IsMet k.kinds) (needs op)
+        → AllByRecursion (Holds t) (edges s.place k.kinds (body_at c s.place) op) → GoesOn v s op
     goes Halt g n h = (Ends (Link s.output), Ended (Link s.output), halt, refl, tt)
     goes Fail g n h = (Ends NoLink, Ended NoLink, fail, refl, tt)
     goes (Jump d) g n h = jumps (Jump d) d k.kinds g refl refl (jump d) h.0 k.fits
-    goes (LoadText a b) g n h = fall (LoadText a b) _ _ _ g refl refl refl (text a b) h.0 (fits_put k.kinds s.registers a OptText _ k.fits (text_or_undefined-kind (text_of v (name_at c b))))
-    goes (LoadList a b) g n h = fall (LoadList a b) _ _ _ g refl refl refl (list a b) h.0 (fits_put k.kinds s.registers a ListKind (ListValue (members_of v (name_at c b))) k.fits refl)
-    goes (Const a b) g n h = fall (Const a b) _ _ _ g refl refl refl (const a b) h.0 (fits_put k.kinds s.registers a TextKind (TextValue (literal_at c b)) k.fits refl)
+    goes (LoadText a b) g n h =
+        fall (LoadText a b) _ _ _ g refl refl refl (text a b) h.0
+        (fits_put k.kinds s.registers a OptText _ k.fits (text_or_undefined-kind (text_of v (name_at c b))))
+    goes (LoadList a b) g n h =
+        fall (LoadList a b) _ _ _ g refl refl refl (list a b) h.0 (fits_put k.kinds s.registers a ListKind (ListValue (members_of v (name_at c b))) k.fits refl)
+    goes (Const a b) g n h =
+        fall (Const a b) _ _ _ g refl refl refl (const a b) h.0 (fits_put k.kinds s.registers a TextKind (TextValue (literal_at c b)) k.fits refl)
     goes (Number a b d) g n h =
         let x = is_text (s.registers b) (fits_need k.kinds s.registers b TextKind k.fits n.0) in
         by_number x.0 x.1 (leading_number x.0) refl
       where
         by_number : (u : Text) → s.registers b ≡ TextValue u → (o : Option ℕ) → leading_number u ≡ o → GoesOn v s (Number a b d)
         by_number u e None e' = jumps (Number a b d) d k.kinds g refl refl (no_number a b d u e e') h.1.0 k.fits
-        by_number u e (Some m) e' = fall (Number a b d) _ _ _ g refl refl refl (number a b d m u e e') h.0 (fits_put k.kinds s.registers a NumberKind (NumberValue m) k.fits refl)
+        by_number u e (Some m) e' =
+            fall (Number a b d) _ _ _ g refl refl refl (number a b d m u e e') h.0 (fits_put k.kinds s.registers a NumberKind (NumberValue m) k.fits refl)
     goes (Undef a d) g n h =
         let m = fits_need k.kinds s.registers a OptText k.fits n.0 in
         ⊎_elim
         (λ e. jumps (Undef a d) d k.kinds g refl refl (undefined a d e) h.1.0 k.fits)
-        (λ x. fall (Undef a d) _ _ _ g refl refl refl (defined a d x.0 x.1) h.0 (fits_told k.kinds s.registers a TextKind k.fits (ap (λ y. kind_le (kind_of y) TextKind) x.1)))
+        (λ x. fall (Undef a d) _ _ _ g refl refl refl (defined a d x.0 x.1) h.0
+        (fits_told k.kinds s.registers a TextKind k.fits (ap (λ y. kind_le (kind_of y) TextKind) x.1)))
         (is_opt_text (s.registers a) m)
     goes (Empty a d) g n h =
         let x = is_text (s.registers a) (fits_need k.kinds s.registers a TextKind k.fits n.0) in by_text x.0 x.1
@@ -101,15 +126,20 @@ module _ (c : Code) (t : Table) where
         by_test (bytes_eq x.0 y.0) refl x.1 y.1
       where
         by_test : {x y : Text} (e : Bool) → bytes_eq x y ≡ e → s.registers a ≡ TextValue x → s.registers b ≡ TextValue y → GoesOn v s (Differ a b d)
-        by_test {x} {y} true e hx hy = fall (Differ a b d) _ _ _ g refl refl refl (equal a b d x hx (hy ∙ ap TextValue (sym ((bytes_eq-Decides x y).0 e)))) h.0 k.fits
-        by_test {x} {y} false e hx hy = jumps (Differ a b d) d k.kinds g refl refl (different a b d x y hx hy (λ same. false≢true (sym e ∙ (bytes_eq-Decides x y).1 same))) h.1.0 k.fits
+        by_test {x} {y} true e hx hy = fall (Differ a b d) _ _ _ g refl refl refl (equal a b d x hx (hy ∙ ap TextValue (sym ((bytes_eq-Decides x y).0 e)))) h.0
+            k.fits
+        by_test {x} {y} false e hx hy =
+            jumps (Differ a b d) d k.kinds g refl refl (different a b d x y hx hy (λ same. false≢true (sym e ∙ (bytes_eq-Decides x y).1 same))) h.1.0 k.fits
     goes (Less a b d) g n h =
         let x = is_number (s.registers a) (fits_need k.kinds s.registers a NumberKind k.fits n.0) in
         let y = is_number (s.registers b) (fits_need k.kinds s.registers b NumberKind k.fits n.1.0) in
-        ⊎_elim (λ lt. jumps (Less a b d) d k.kinds g refl refl (less a b d x.0 y.0 x.1 y.1 lt) h.1.0 k.fits) (λ le. fall (Less a b d) _ _ _ g refl refl refl (not_less a b d x.0 y.0 x.1 y.1 le) h.0 k.fits) (cases_lt x.0 y.0)
+        ⊎_elim (λ lt. jumps (Less a b d) d k.kinds g refl refl (less a b d x.0 y.0 x.1 y.1 lt) h.1.0 k.fits)
+        (λ le. fall (Less a b d) _ _ _ g refl refl refl (not_less a b d x.0 y.0 x.1 y.1 le) h.0 k.fits) (cases_lt x.0 y.0)
     goes (Emit b) g n h = fall (Emit b) _ _ _ g refl refl refl (emit b) h.0 k.fits
-    goes (Put a m) g n h = let x = is_text (s.registers a) (fits_need k.kinds s.registers a TextKind k.fits n.0) in fall (Put a m) _ _ _ g refl refl refl (put_text a m x.0 x.1) h.0 k.fits
-    goes (Cut a i m) g n h = let x = is_text (s.registers a) (fits_need k.kinds s.registers a TextKind k.fits n.0) in fall (Cut a i m) _ _ _ g refl refl refl (cut_text a i m x.0 x.1) h.0 k.fits
+    goes (Put a m) g n h = let x = is_text (s.registers a) (fits_need k.kinds s.registers a TextKind k.fits n.0) in
+        fall (Put a m) _ _ _ g refl refl refl (put_text a m x.0 x.1) h.0 k.fits
+    goes (Cut a i m) g n h = let x = is_text (s.registers a) (fits_need k.kinds s.registers a TextKind k.fits n.0) in
+        fall (Cut a i m) _ _ _ g refl refl refl (cut_text a i m x.0 x.1) h.0 k.fits
     goes (Each a b d) g n h =
         let x = is_list (s.registers b) (fits_need k.kinds s.registers b ListKind k.fits n.0) in
         by_turn s.loop refl (body_at c s.place) refl k.body g.nested x.0 x.1
@@ -133,12 +163,15 @@ module _ (c : Code) (t : Table) where
         opened : body_at c s.place ≡ None → body_at c (s.place + 1) ≡ Some (record { start = s.place + 1; end = d; element = a })
         opened e = rw add-one (rw (body_suc c s.place, e, g.read, g.forward, g.within, g.looped) refl)
 
-        by_turn : (l : Option Loop) → s.loop ≡ l → (o : Option Body) → body_at c s.place ≡ o → option_map body_of l ≡ o → not (is_in_body o) ≡ true → (ts : List Text) → s.registers b ≡ ListValue ts → GoesOn v s (Each a b d)
+        by_turn : (l : Option Loop) → s.loop ≡ l → (o : Option Body) → body_at c s.place ≡ o → option_map body_of l ≡ o → not (is_in_body o) ≡ true
+            → (ts : List Text) → s.registers b ≡ ListValue ts → GoesOn v s (Each a b d)
         by_turn None e None eo same out [] hr =
             let f : body_at c d ≡ None = end_out c (s.place + 1) _ (opened eo) in
-            along v s (Each a b d) (edge d (put k.kinds a Any)) s.registers s.loop s.output (no_turn a b d e further hr) h.1.0 (fits_any k.kinds s.registers a k.fits) lt within (ap (option_map body_of) e ∙ sym f)
+            along v s (Each a b d) (edge d (put k.kinds a Any)) s.registers s.loop s.output (no_turn a b d e further hr) h.1.0
+            (fits_any k.kinds s.registers a k.fits) lt within (ap (option_map body_of) e ∙ sym f)
         by_turn None e None eo same out (y ∷ ts) hr =
-            along v s (Each a b d) (edge (s.place + 1) (put k.kinds a TextKind)) _ _ _ (enter a b d y ts e further hr) h.0 (fits_put k.kinds s.registers a TextKind (TextValue y) k.fits refl) (omega arith) (omega (arith, within, further)) (sym (opened eo))
+            along v s (Each a b d) (edge (s.place + 1) (put k.kinds a TextKind)) _ _ _ (enter a b d y ts e further hr) h.0
+            (fits_put k.kinds s.registers a TextKind (TextValue y) k.fits refl) (omega arith) (omega (arith, within, further)) (sym (opened eo))
         by_turn _ e _ eo same out ts hr = absurd (cc)
     goes (Sep b) g n h = by_turn s.loop refl (body_at c s.place) k.body g.sep_in
       where
@@ -159,7 +192,8 @@ module _ (c : Code) (t : Table) where
         by_left l e eo last [] hl =
             let h' = subst (λ o. AllByRecursion (Holds t) (edges s.place k.kinds o Next)) eo h in
             let f : body_at c (s.place + 1) ≡ None = rw add-one (body_off c s.place (body_of l) eo (omega arith)) in
-            along v s Next (edge (s.place + 1) (put k.kinds l.element Any)) s.registers None s.output (leave l e last hl) h'.1.0 (fits_any k.kinds s.registers l.element k.fits) (omega arith) more (sym f)
+            along v s Next (edge (s.place + 1) (put k.kinds l.element Any)) s.registers None s.output (leave l e last hl) h'.1.0
+            (fits_any k.kinds s.registers l.element k.fits) (omega arith) more (sym f)
         by_left l e eo last (y ∷ ts) hl =
             let h' = subst (λ o. AllByRecursion (Holds t) (edges s.place k.kinds o Next)) eo h in
             let i = is_in c s.place (body_of l) eo in
@@ -167,49 +201,21 @@ module _ (c : Code) (t : Table) where
             let ks = put k.kinds l.element TextKind in
             let regs = put s.registers l.element (TextValue y) in
             let f = fits_put k.kinds s.registers l.element TextKind (TextValue y) k.fits refl in
-            let w : s.place < length c.instrs = k.within in
-            (_, _, next_member l y ts e last hl, refl, record { kinds = h'.0.0; known = h'.0.1; fits = fits_below ks h'.0.0 regs h'.0.2 f; within = omega arith; body = sym i.first })
+            let w : s.place < length c.instrs = k.within in (
+              _,
+              _,
+              next_member l y ts e last hl,
+              refl,
+              record { kinds = h'.0.0; known = h'.0.1; fits = fits_below ks h'.0.0 regs h'.0.2 f; within = omega arith; body = sym i.first },
+            )
 
-        by_turn : (l : Option Loop) → s.loop ≡ l → (o : Option Body) → body_at c s.place ≡ o → option_map body_of l ≡ o → (not true || ends_body s.place o) ≡ true → GoesOn v s Next
+        by_turn : (l : Option Loop) → s.loop ≡ l → (o : Option Body) → body_at c s.place ≡ o → option_map body_of l ≡ o → (not true || ends_body s.place o)
+            ≡ true → GoesOn v s Next
         by_turn None e None eo same i = absurd (cc)
         by_turn None e (Some o) eo same i = absurd (cc)
         by_turn (Some l) e None eo same i = absurd (cc)
         by_turn (Some l) e (Some o) eo same i =
             let same' : body_of l ≡ o = some_one same in
             by_left l e (eo ∙ ap Some (sym same')) (eqb-true (s.place + 1) o.end i ∙ ap (λ (x : Body). x.end) (sym same')) l.left refl
-    goes (Count a b) g n h = let x = is_list (s.registers b) (fits_need k.kinds s.registers b ListKind k.fits n.0) in fall (Count a b) _ _ _ g refl refl refl (count a b x.0 x.1) h.0 (fits_put k.kinds s.registers a NumberKind (NumberValue (length x.0)) k.fits refl)
-
--- every reached state of a typable code of good form is described by the table, and goes on
-module _ (c : Code) (form : HasGoodForm c) (starts : 0 < length c.instrs) (t : Table) (closed : IsClosed c t) (meets : MeetsNeeds c t) (v : Environment) where
-  begins : Conforms c t start
-  unfolding body_at
-  begins = record { kinds = any_kinds; known = closed.first; fits = record { at = λ r. refl }; within = starts; body = refl }
-
-  pub moves_on : (s : Frame) (k : Conforms c t s) → (op : Instruction) × GoesOn c t v s op × IsGood c s.place op
-  moves_on s k =
-      let g = good_at c form s.place k.within in
-      let n = subst (λ o. AllByRecursion (IsMet k.kinds) (for_instruction o needs)) g.1.read (meets.at s.place k.kinds k.known) in
-      let h = subst (λ o. AllByRecursion (Holds t) (for_instruction o (edges s.place k.kinds (body_at c s.place)))) g.1.read (closed.along s.place k.kinds k.known) in
-      (g.0, goes c t v s k g.0 g.1 n h, g.1)
-
-  pub stepping : (s : Frame) → Conforms c t s → (new : State) × Step c v (Running s) new × StateConforms c t new
-  stepping s k = let m = moves_on s k in (m.1.1, (m.0, m.2.reads, m.1.0, m.1.2, m.1.3), m.1.4)
-
-  pub conforms_on : (s : State) (new : State) → StateConforms c t s → Step c v s new → StateConforms c t new
-  conforms_on (Ended e) new k st = absurd st
-  conforms_on (Running s) new k st =
-      let m = stepping s k in
-      subst (StateConforms c t) (step_one c v (Running s) m.0 new m.1 st) m.2
-
-  pub reached : (k : ℕ) (s : State) → After c v k s → StateConforms c t s
-  unfolding After
-  reached zero s h = subst (StateConforms c t) (sym h) begins
-  reached (suc k) s h = conforms_on h.0 s (reached k h.0 h.1) h.2
-
-  pub not_stuck : (s : State) → StateConforms c t s → IsStuck c v s → ⊥
-  not_stuck (Ended e) k h = h
-  not_stuck (Running s) k h = let m = stepping s k in h m.0 m.1
-
--- a typable code of good form is never stuck
-pub never_stuck : (c : Code) → HasGoodForm c → 0 < length c.instrs → IsTypable c → (v : Environment) (k : ℕ) (s : State) → After c v k s → IsStuck c v s → ⊥
-never_stuck c form starts y v k s h = not_stuck c form starts y.0 y.1 y.2 v s (reached c form starts y.0 y.1 y.2 v k s h)
+    goes (Count a b) g n h = let x = is_list (s.registers b) (fits_need k.kinds s.registers b ListKind k.fits n.0) in
+        fall (Count a b) _ _ _ g refl refl refl (count a b x.0 x.1) h.0 (fits_put k.kinds s.registers a NumberKind (NumberValue (length x.0)) k.fits refl)

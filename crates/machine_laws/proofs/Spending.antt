@@ -13,7 +13,7 @@ use Rattle.machine_model.specs.Form.{body_at, HasGoodForm}
 use Rattle.machine_model.specs.Typable.{Table, IsClosed, MeetsNeeds}
 use Rattle.machine_model.specs.Budget.{outside, inside}
 use Rattle.machine_model.specs.Fitting.{body_of}
-use Rattle.machine_laws.proofs.Sound.{reached}
+use Rattle.machine_laws.proofs.Safety.{reached}
 use Rattle.machine_laws.proofs.Shapes.{Shape, ends, onward, enters, again, leaves, shape}
 use Rattle.machine_laws.proofs.Small.{FrameSmall, IsSmall, text_limit, small_after}
 use Rattle.machine_laws.proofs.AtHand.{hand_in, at_hand, hand_stays, hand_of_turn}
@@ -35,14 +35,20 @@ module _ (c : Code) (w t : ℕ → ℕ) (M E : ℕ) where
   within_weight (Some l) member p g g' le = omega arith
 
   to : (f : Frame) (l : Option Loop) (p g : ℕ) → f.loop ≡ l → f.place ≡ p → SpentIn c w t M E l (hand_in c f.registers l) p g → StateSpent (Running f) g
-  to f l p g el ep h = subst (λ o. SpentIn c w t M E o (hand_in c f.registers o) f.place g) (sym el) (subst (λ q. SpentIn c w t M E l (hand_in c f.registers l) q g) (sym ep) h)
+  to f l p g el ep h =
+      subst (λ o. SpentIn c w t M E o (hand_in c f.registers o) f.place g) (sym el) (subst (λ q. SpentIn c w t M E l (hand_in c f.registers l) q g) (sym ep) h)
 
   -- spending with the loop known
-  in_loop : (s : Frame) (l : Option Loop) (g g' : ℕ) → s.loop ≡ l → StateSpent (Running s) g → StepWithin s g g' → SpentIn c w t M E l (hand_in c s.registers l) s.place g × Within c w t M E l (hand_in c s.registers l) s.place g g'
-  in_loop s l g g' e h le = subst (λ o. SpentIn c w t M E o (hand_in c s.registers o) s.place g × Within c w t M E o (hand_in c s.registers o) s.place g g') e (h, le)
+  in_loop : (s : Frame) (l : Option Loop) (g g' : ℕ) → s.loop ≡ l → StateSpent (Running s) g → StepWithin s g g'
+      → SpentIn c w t M E l (hand_in c s.registers l) s.place g × Within c w t M E l (hand_in c s.registers l) s.place g g'
+  in_loop s l g g' e h le = subst (λ o. SpentIn c w t M E o (hand_in c s.registers o) s.place g × Within c w t M E o (hand_in c s.registers o) s.place g g') e
+      (h, le)
 
-  spent_by : (n : ℕ) (s : Frame) (i : Instruction) (m : Move) (new : State) (g g' : ℕ) → option_map body_of s.loop ≡ body_at c s.place → s.place < length c.instrs → reading_at c s.place ≡ Some i → FrameSmall M E n s → Shape s i m → Leads c s.place m new → StateSpent (Running s) g → StepWithin s g g' → StateSpent new g'
-  spent_by n s i _ new g g' b lt read small (ends e) led h le = subst (λ x. StateSpent x g') (sym led) (spent_at_end c w t M E s.place g g' (at_hand c s) s.loop b lt h le)
+  spent_by : (n : ℕ) (s : Frame) (i : Instruction) (m : Move) (new : State) (g g' : ℕ) → option_map body_of s.loop ≡ body_at c s.place
+      → s.place < length c.instrs → reading_at c s.place ≡ Some i → FrameSmall M E n s → Shape s i m → Leads c s.place m new → StateSpent (Running s) g
+      → StepWithin s g g' → StateSpent new g'
+  spent_by n s i _ new g g' b lt read small (ends e) led h le =
+      subst (λ x. StateSpent x g') (sym led) (spent_at_end c w t M E s.place g g' (at_hand c s) s.loop b lt h le)
   spent_by n s i _ new g g' b lt read small (onward f same kept) led h le =
       let r = spent_onward c w t M E s.place f.place g g' (at_hand c s) s.loop b led.0.forward h le in
       let r' = subst (λ o. SpentIn c w t M E o (at_hand c s) f.place g') (sym same) r in
@@ -59,7 +65,8 @@ module _ (c : Code) (w t : ℕ → ℕ) (M E : ℕ) where
   spent_by n s i _ new g g' b lt read small (again f l l' u was into last left s1 s2 place holds) led h le =
       let e : Some (body_of l) ≡ body_at c s.place = sym (ap (option_map body_of) was) ∙ b in
       let k = in_loop s (Some l) g g' was h le in
-      let r' = spent_again c w t M E s.place g g' (hand_in c s.registers (Some l)) (hand_in c f.registers (Some l')) l l' u e left (hand_of_turn c f.registers l' u holds) s1 s2 k.0 k.1 in
+      let r' = spent_again c w t M E s.place g g' (hand_in c s.registers (Some l)) (hand_in c f.registers (Some l')) l l' u e left
+      (hand_of_turn c f.registers l' u holds) s1 s2 k.0 k.1 in
       subst (λ x. StateSpent x g') (sym led) (to f (Some l') l.start g' into place r')
   spent_by n s i _ new g g' b lt read small (leaves f l was into last left place) led h le =
       let e : Some (body_of l) ≡ body_at c s.place = sym (ap (option_map body_of) was) ∙ b in
@@ -70,7 +77,10 @@ module _ (c : Code) (w t : ℕ → ℕ) (M E : ℕ) where
 -- a typable code of good form, on an environment
 module _ (c : Code) (form : HasGoodForm c) (some : 0 < length c.instrs) (t : Table) (closed : IsClosed c t) (meets : MeetsNeeds c t) (v : Environment) where
   -- one step of any run
-  pub spent_step : (w u : ℕ → ℕ) (k : ℕ) (s : Frame) (new : State) (g g' : ℕ) → After c v k (Running s) → Step c v (Running s) new → StateSpent c w u (member_count v) (byte_count v) (Running s) g → StepWithin c w u (member_count v) (byte_count v) s g g' → StateSpent c w u (member_count v) (byte_count v) new g'
+  pub spent_step : (w u : ℕ → ℕ) (k : ℕ) (s : Frame) (new : State) (g g' : ℕ) → After c v k (Running s) → Step c v (Running s) new
+      → StateSpent c w u (member_count v) (byte_count v) (Running s) g → StepWithin c w u (member_count v) (byte_count v) s g g'
+      → StateSpent c w u (member_count v) (byte_count v) new g'
   spent_step w u k s new g g' a st h le =
       let r = reached c form some t closed meets v k (Running s) a in
-      spent_by c w u (member_count v) (byte_count v) (text_limit c v) s st.0 st.2 new g g' r.body r.within (Reads-reading_at c s.place st.0 st.1) (small_after c v k (Running s) a) (shape c v s st.0 st.2 st.3) st.4 h le
+      spent_by c w u (member_count v) (byte_count v) (text_limit c v) s st.0 st.2 new g g' r.body r.within (Reads-reading_at c s.place st.0 st.1)
+      (small_after c v k (Running s) a) (shape c v s st.0 st.2 st.3) st.4 h le

@@ -34,6 +34,8 @@ pub fn mismatch_is_exact()
 /// What passes along all edges find is at or below every closed table, and where it is closed it is the
 /// least table.
 pub fn passes_find_the_least_table()
-    ensures below { (c : Code) (u : Table) (n : ℕ) → HasGoodForm c → IsClosed c u → TableBelow (table_in (passes c n)) u }
-    ensures least { (c : Code) (n : ℕ) → HasGoodForm c → is_closed c (length c.instrs) (passes c n) ≡ true → IsLeast c (table_in (passes c n)) }
+    ensures below { (c : Code) (u : Table) (n : ℕ) → HasGoodForm c → IsClosed c u
+        → TableBelow (table_in (passes c n)) u }
+    ensures least { (c : Code) (n : ℕ) → HasGoodForm c → is_closed c (length c.instrs) (passes c n) ≡ true
+        → IsLeast c (table_in (passes c n)) }
 {}

@@ -1,12 +1,12 @@
 -- The budgets of small codes.
-use Rattle.std.proofs.Common.{◌≡◌, ℕ, List, [], ◌∷◌, refl, arith}
+use Rattle.std.proofs.Common.{◌≡◌, ℕ, List, [], ◌∷◌, Some, None, Bool, true, false, refl, arith}
 use Rattle.std.specs.Prelude.{map, length, ◌+◌, ◌++◌}
 use Rattle.code_model.specs.Code.{Code, row, reading, upgraded}
 use Rattle.code_model.specs.declared.code.Instruction.{Instruction}
 use Rattle.code_model.specs.declared.code.Instruction.TheVariants as instruction
 use Rattle.machine_model.specs.Form.{body_at}
-use Rattle.machine_model.specs.Budget.{longest_compared, is_kept, total, Sums, sums_of, steps_bound, bytes_bound}
-use Rattle.machine_model.proofs.Listings.{list_code, issn_code, x_code, sample, with_fields, with_instruction}
+use Rattle.machine_model.specs.Budget.{longest_compared, writes, prints, is_kept, total, Sums, sums_of, steps_bound, bytes_bound}
+use Rattle.machine_model.proofs.Listings.{list_code, issn_code, x_code, element_written, sample, with_fields, with_instruction}
 
 abbrev sums : ℕ → ℕ → ℕ → ℕ → ℕ → ℕ → Sums
 sums s0 s1 o0 o1 o2 o3 = record { s0 = s0; s1 = s1; o0 = o0; o1 = o1; o2 = o2; o3 = o3 }
@@ -31,8 +31,10 @@ cases =
     ∷ case (sample (instruction.Sep 1 ∷ instruction.Halt ∷ [])) (sums 2 0 0 0 0 0)
     ∷ case (sample (instruction.Put 0 0 ∷ instruction.Cut 0 1 1 ∷ instruction.Halt ∷ [])) (sums 3 0 60 0 6 0)
     -- in a body: EMIT, SEP, and PUT and CUT of the element, or of another register
-    ∷ case (sample (instruction.List 0 0 ∷ instruction.Each 1 0 7 ∷ instruction.Emit 0 ∷ instruction.Sep 1 ∷ instruction.Put 1 0 ∷ instruction.Cut 1 1 0 ∷ instruction.Next ∷ instruction.Halt ∷ [])) (sums 3 5 0 3 6 0)
-    ∷ case (sample (instruction.List 0 0 ∷ instruction.Each 1 0 5 ∷ instruction.Put 2 0 ∷ instruction.Cut 0 1 0 ∷ instruction.Next ∷ instruction.Halt ∷ [])) (sums 3 3 0 60 0 6)
+    ∷ case (sample (instruction.List 0 0 ∷ instruction.Each 1 0 7 ∷ instruction.Emit 0 ∷ instruction.Sep 1 ∷ instruction.Put 1 0 ∷ instruction.Cut 1 1
+    0 ∷ instruction.Next ∷ instruction.Halt ∷ [])) (sums 3 5 0 3 6 0)
+    ∷ case (sample (instruction.List 0 0 ∷ instruction.Each 1 0 5 ∷ instruction.Put 2 0 ∷ instruction.Cut 0 1 0 ∷ instruction.Next ∷ instruction.Halt ∷ []))
+    (sums 3 3 0 60 0 6)
     -- places that no step reaches count, and other faults change nothing
     ∷ case (sample (instruction.Halt ∷ instruction.Emit 0 ∷ instruction.Halt ∷ [])) (sums 3 0 1 0 0 0)
     ∷ case (with_fields 1 (row 16 1 0 7 5) list_code) (sums 3 3 0 1 3 0)
@@ -49,7 +51,64 @@ cases_hold : map (λ x. sums_of x.code) cases ≡ map (λ x. x.sums) cases
 unfolding total longest_compared is_kept body_at reading
 cases_hold = refl
 
--- ---- PUT of the element: the body writes it, before or behind the PUT, or it stays as it is
+-- ---- which instructions write a register, and which print one
+
+-- whether the instruction writes r1, and r2; and whether it is a PUT or CUT of r1, and of r2
+record Row : Type 0 where
+  instruction : Instruction
+  writes : List Bool
+  prints : List Bool
+
+abbrev row_of : Instruction → List Bool → List Bool → Row
+row_of i ws ps = record { instruction = i; writes = ws; prints = ps }
+
+abbrev neither : List Bool
+neither = false ∷ false ∷ []
+
+abbrev r1_alone : List Bool
+r1_alone = true ∷ false ∷ []
+
+abbrev neither_writes_nor_prints : Instruction → Row
+neither_writes_nor_prints i = row_of i neither neither
+
+abbrev writes_r1 : Instruction → Row
+writes_r1 i = row_of i r1_alone neither
+
+-- five write; EACH, which loads its element, is not one of them
+abbrev registers : List Row
+registers =
+    neither_writes_nor_prints instruction.Halt
+    ∷ neither_writes_nor_prints instruction.Fail
+    ∷ neither_writes_nor_prints (instruction.Jump 1)
+    ∷ writes_r1 (instruction.Text 1 2)
+    ∷ writes_r1 (instruction.List 1 2)
+    ∷ writes_r1 (instruction.Const 1 2)
+    ∷ writes_r1 (instruction.Number 1 2 9)
+    ∷ neither_writes_nor_prints (instruction.Undef 1 2)
+    ∷ neither_writes_nor_prints (instruction.Empty 1 2)
+    ∷ neither_writes_nor_prints (instruction.NoList 1 2)
+    ∷ neither_writes_nor_prints (instruction.Differ 1 2 9)
+    ∷ neither_writes_nor_prints (instruction.Less 1 2 9)
+    ∷ neither_writes_nor_prints (instruction.Emit 1)
+    ∷ row_of (instruction.Put 1 2) neither r1_alone
+    ∷ row_of (instruction.Cut 1 2 2) neither r1_alone
+    ∷ neither_writes_nor_prints (instruction.Each 1 2 9)
+    ∷ neither_writes_nor_prints (instruction.Sep 1)
+    ∷ neither_writes_nor_prints instruction.Next
+    ∷ writes_r1 (instruction.Count 1 2)
+    ∷ []
+
+written_registers : map (λ x. map (λ r. writes r (Some x.instruction)) (1 ∷ 2 ∷ [])) registers ≡ map (λ x. x.writes) registers
+written_registers = refl
+
+printed_registers : map (λ x. map (λ r. prints r (Some x.instruction)) (1 ∷ 2 ∷ [])) registers ≡ map (λ x. x.prints) registers
+printed_registers = refl
+
+-- a number that names no operation does neither
+no_operation : writes 1 None ∷ prints 1 None ∷ [] ≡ neither
+no_operation = refl
+
+-- ---- PUT of the element: the body writes it, before or after the PUT, or it stays as it is
 
 -- over `list`, with so many places in the body; r1 is the element
 abbrev loop : List Instruction → Code
@@ -75,10 +134,16 @@ element_cases =
     ∷ case (loop (instruction.Number 2 1 4 ∷ instruction.Put 1 0 ∷ instruction.Next ∷ [])) (of_the_element 3)
     ∷ case (loop (instruction.Undef 1 3 ∷ instruction.Put 1 0 ∷ instruction.Next ∷ [])) (of_the_element 3)
     ∷ case (loop (instruction.Empty 1 3 ∷ instruction.Put 1 0 ∷ instruction.Next ∷ [])) (of_the_element 3)
-    -- before the body and behind it the register may be written
-    ∷ case (sample (instruction.Const 1 1 ∷ instruction.List 0 0 ∷ instruction.Each 1 0 5 ∷ instruction.Put 1 0 ∷ instruction.Next ∷ instruction.Const 1 1 ∷ instruction.Halt ∷ [])) (sums 5 2 0 0 3 0)
+    ∷ case (loop (instruction.NoList 1 3 ∷ instruction.Put 1 0 ∷ instruction.Next ∷ [])) (of_the_element 3)
+    ∷ case (loop (instruction.Differ 1 2 3 ∷ instruction.Put 1 0 ∷ instruction.Next ∷ [])) (of_the_element 3)
+    ∷ case (loop (instruction.Less 1 2 3 ∷ instruction.Put 1 0 ∷ instruction.Next ∷ [])) (of_the_element 3)
+    ∷ case (loop (instruction.Cut 1 1 0 ∷ instruction.Sep 0 ∷ instruction.Next ∷ [])) (sums 3 3 0 1 3 0)
+    -- before the body and after it the register may be written
+    ∷ case (sample (instruction.Const 1 1 ∷ instruction.List 0 0 ∷ instruction.Each 1 0 5 ∷ instruction.Put 1 0 ∷ instruction.Next ∷ instruction.Const 1
+    1 ∷ instruction.Halt ∷ [])) (sums 5 2 0 0 3 0)
     -- the element of another body
-    ∷ case (sample (instruction.List 0 0 ∷ instruction.Each 1 0 3 ∷ instruction.Next ∷ instruction.Each 2 0 6 ∷ instruction.Put 1 0 ∷ instruction.Next ∷ instruction.Halt ∷ [])) (sums 4 3 0 30 0 3)
+    ∷ case (sample (instruction.List 0 0 ∷ instruction.Each 1 0 3 ∷ instruction.Next ∷ instruction.Each 2 0 6 ∷ instruction.Put 1
+    0 ∷ instruction.Next ∷ instruction.Halt ∷ [])) (sums 4 3 0 30 0 3)
     -- COUNT writes its register in version 2; in version 1 its number names nothing
     ∷ case (upgraded (loop (instruction.Put 1 0 ∷ instruction.Count 1 0 ∷ instruction.Next ∷ []))) (of_another 3)
     ∷ case (upgraded (loop (instruction.Put 1 0 ∷ instruction.Count 2 1 ∷ instruction.Next ∷ []))) (of_the_element 3)
@@ -90,6 +155,19 @@ unfolding total longest_compared is_kept body_at reading
 element_cases_hold = refl
 
 -- ---- the bounds
+
+element_written_sums : sums_of element_written ≡ sums 3 3 0 9 0 3
+unfolding total longest_compared is_kept body_at reading
+element_written_sums = refl
+
+-- twenty members of a thousand letters
+long_members : bytes_bound (sums_of list_code) 20 20000 ≡ 60020
+unfolding total longest_compared is_kept body_at reading
+long_members = refl
+
+long_text : bytes_bound (sums_of x_code) 0 400000 ≡ 1200000
+unfolding total longest_compared is_kept body_at reading
+long_text = refl
 
 list_steps : steps_bound (sums_of list_code) 3 ≡ 12
 unfolding total body_at reading

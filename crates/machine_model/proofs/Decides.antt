@@ -50,11 +50,13 @@ module _ (c : Code) (v : Environment) where
   Step-next_state (Ended e) new h = absurd h
   Step-next_state (Running s) new h = rw (Reads-instruction_at c s.place h.0 h.1, move_of-does c v s h.0 h.2 h.3) (Leads-judged c s.place h.2 new h.4)
 
-  by_move : (s : Frame) (new : State) (i : Instruction) → Reads c s.place i → (o : Option Move) → move_of c v s i ≡ o → option_and_then (judged c s.place) o ≡ Some new → Step c v (Running s) new
+  by_move : (s : Frame) (new : State) (i : Instruction) → Reads c s.place i → (o : Option Move) → move_of c v s i ≡ o → option_and_then (judged c s.place) o
+      ≡ Some new → Step c v (Running s) new
   by_move s new i r None e h = absurd (cc)
   by_move s new i r (Some m) e h = (i, r, m, does-move_of c v s i m e, judged-Leads c s.place m new h)
 
-  by_instruction : (s : Frame) (new : State) (o : Option Instruction) → instruction_at c s.place ≡ o → option_and_then (λ i. option_and_then (judged c s.place) (move_of c v s i)) o ≡ Some new → Step c v (Running s) new
+  by_instruction : (s : Frame) (new : State) (o : Option Instruction) → instruction_at c s.place ≡ o
+      → option_and_then (λ i. option_and_then (judged c s.place) (move_of c v s i)) o ≡ Some new → Step c v (Running s) new
   by_instruction s new None e h = absurd (cc)
   by_instruction s new (Some i) e h = by_move s new i (instruction_at-Reads c s.place i e) (move_of c v s i) refl h
 
@@ -80,7 +82,8 @@ module _ (c : Code) (v : Environment) where
   state_after-After zero s h = sym (some_one h)
   state_after-After (suc k) s h = by_state (state_after-After k) (state_after c v k) refl h
     where
-      by_state : ((old : State) → state_after c v k ≡ Some old → After c v k old) → (o : Option State) → state_after c v k ≡ o → option_and_then (next_state c v) o ≡ Some s → (old : State) × After c v k old × Step c v old s
+      by_state : ((old : State) → state_after c v k ≡ Some old → After c v k old) → (o : Option State) → state_after c v k ≡ o
+          → option_and_then (next_state c v) o ≡ Some s → (old : State) × After c v k old × Step c v old s
       by_state before None e h = absurd (cc)
       by_state before (Some old) e h = (old, before old e, next_state-Step old s h)
 

@@ -158,7 +158,8 @@ jumps =
     ∷ faulty (sample (instruction.List 0 0 ∷ instruction.NoList 0 3 ∷ instruction.Each 1 0 4 ∷ instruction.Next ∷ instruction.Halt ∷ [])) 1 fault.CrossesLoop
     ∷ faulty (with_instruction 2 (instruction.Jump 5) list_code) 2 fault.CrossesLoop
     -- from one body into another
-    ∷ faulty (sample (instruction.List 0 0 ∷ instruction.Each 1 0 4 ∷ instruction.Jump 6 ∷ instruction.Next ∷ instruction.Each 1 0 7 ∷ instruction.Sep 0 ∷ instruction.Next ∷ instruction.Halt ∷ [])) 2 fault.CrossesLoop
+    ∷ faulty (sample (instruction.List 0 0 ∷ instruction.Each 1 0 4 ∷ instruction.Jump 6 ∷ instruction.Next ∷ instruction.Each 1 0 7 ∷ instruction.Sep
+    0 ∷ instruction.Next ∷ instruction.Halt ∷ [])) 2 fault.CrossesLoop
     ∷ faulty (with_instruction 2 (instruction.Jump 9) list_code) 2 fault.JumpOut
     ∷ faulty (with_instruction 2 (instruction.Each 2 0 4) list_code) 2 fault.NestedLoop
     ∷ faulty (with_instruction 1 (instruction.Each 1 0 6) list_code) 1 fault.JumpOut
@@ -204,12 +205,14 @@ unread_next = refl
 
 -- an EACH in a body begins none, though a NEXT stands before its end: that NEXT ends no body
 abbrev nested : Code
-nested = sample (instruction.List 0 0 ∷ instruction.Each 1 0 6 ∷ instruction.Each 2 0 5 ∷ instruction.Put 1 0 ∷ instruction.Next ∷ instruction.Next ∷ instruction.Halt ∷ [])
+nested = sample (instruction.List 0 0 ∷ instruction.Each 1 0 6 ∷ instruction.Each 2 0 5 ∷ instruction.Put 1
+    0 ∷ instruction.Next ∷ instruction.Next ∷ instruction.Halt ∷ [])
 
 nested_faults : map (fault_at nested) (0 ∷ 1 ∷ 2 ∷ 3 ∷ 4 ∷ 5 ∷ 6 ∷ []) ≡ None ∷ None ∷ Some fault.NestedLoop ∷ None ∷ Some fault.StrayNext ∷ None ∷ None ∷ []
 unfolding fault_at body_at reading
 nested_faults = refl
 
-nested_bodies : map (body_at nested) (3 ∷ 5 ∷ 6 ∷ []) ≡ Some (record { start = 2; end = 6; element = 1 }) ∷ Some (record { start = 2; end = 6; element = 1 }) ∷ None ∷ []
+nested_bodies : map (body_at nested) (3 ∷ 5 ∷ 6 ∷ []) ≡ Some (record { start = 2; end = 6; element = 1 }) ∷ Some
+    (record { start = 2; end = 6; element = 1 }) ∷ None ∷ []
 unfolding body_at reading
 nested_bodies = refl

@@ -10,7 +10,10 @@ pub mod Listings
 mod SpellingExamples
 mod ValueExamples
 mod RunExamples
+mod EndExamples
+mod EqualityExamples
 mod FormExamples
 mod OrderExamples
 mod KindExamples
+mod MismatchExamples
 mod BudgetExamples

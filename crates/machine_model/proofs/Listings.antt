@@ -63,6 +63,18 @@ issn_code =
 abbrev pub x_code : Code
 x_code = code (text_name (codes "x") ∷ []) [] (instruction.Text 2 0 ∷ instruction.Undef 2 3 ∷ instruction.Put 2 0 ∷ instruction.Halt ∷ [])
 
+-- the comparison text `abc`, loaded over each member and printed
+abbrev pub element_written : Code
+element_written =
+    code (list_name (codes "list") ∷ []) (compared_text (codes "abc") ∷ [])
+    (instruction.List 0 0
+    ∷ instruction.Each 1 0 5
+    ∷ instruction.Const 1 0
+    ∷ instruction.Put 1 0
+    ∷ instruction.Next
+    ∷ instruction.Halt
+    ∷ [])
+
 -- names 0 `list`, a list, and 1 `x`, a text; literals 0 the link text `/`, and to compare with 1 `12`,
 -- 2 `7`, 3 the empty text, 4 ten digits, 5 nine digits and a letter, 6 `é%41b`
 abbrev pub sample : List Instruction → Code

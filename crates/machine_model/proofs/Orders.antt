@@ -3,7 +3,8 @@ use Rattle.std.proofs.Common.{◌≡◌, ℕ, List, [], ◌∷◌, Option, Some,
 use Rattle.std.specs.Prelude.{◌==◌, if◌then◌else◌}
 use Rattle.std.proofs.Math.Path.{fun_ext}
 use Rattle.code_model.specs.declared.code.Instruction.{Instruction}
-use Rattle.code_model.specs.declared.code.Instruction.TheVariants.{Halt, Fail, Text as LoadText, List as LoadList, Const, Number, Undef, Empty, NoList, Differ, Less, Each, Next, Count}
+use Rattle.code_model.specs.declared.code.Instruction.TheVariants.{Halt, Fail, Text as LoadText, List as LoadList, Const, Number, Undef, Empty, NoList, Differ}
+use Rattle.code_model.specs.declared.code.Instruction.TheVariants.{Less, Each, Next, Count}
 use Rattle.machine_model.specs.declared.form.Body.{Body}
 use Rattle.machine_model.specs.declared.kind.Kind.{Kind}
 use Rattle.machine_model.specs.declared.kind.Kind.TheVariants.{Any, OptText, Text as TextKind, List as ListKind, Number as NumberKind}

@@ -1,5 +1,6 @@
--- Runs of small codes: where each comes to, and after how many steps.
-use Rattle.std.proofs.Common.{◌≡◌, ℕ, List, [], ◌∷◌, refl, ap, arith}
+-- Runs of small codes: how each ends, and after how many steps.
+
+use Rattle.std.proofs.Common.{◌≡◌, ℕ, List, [], ◌∷◌, refl}
 use Rattle.std.specs.Prelude.{codes, map}
 use Rattle.text_model.specs.Texts.{Text, is_unreserved, is_reserved}
 use Rattle.text_model.specs.Writing.{written_u, written_ur}
@@ -10,33 +11,33 @@ use Rattle.environment_model.specs.Environment.{Environment, look_up}
 use Rattle.code_model.specs.declared.code.Instruction.{Instruction}
 use Rattle.code_model.specs.declared.code.Instruction.TheVariants as instruction
 use Rattle.machine_model.specs.Operands.{has_right_operands}
-use Rattle.machine_model.specs.States.{Link, NoLink, Running, Ended, start, printing}
+use Rattle.machine_model.specs.States.{Link, NoLink}
 use Rattle.machine_model.specs.Runs.{Outcome}
 use Rattle.machine_model.specs.Runs as outcome
 use Rattle.machine_model.specs.Next.{Course, course, course_from, course_of}
-use Rattle.machine_model.specs.Safe.{output_of}
-use Rattle.machine_model.proofs.Listings.{code, list_name, link_text, compared_text, list_code, issn_code, x_code, sample, second, with_fields, with_instruction, colours, a_text, a_list}
+use Rattle.machine_model.proofs.Listings.{code, list_name, link_text, compared_text, list_code, issn_code, x_code, sample, second, with_fields}
+use Rattle.machine_model.proofs.Listings.{with_instruction, colours, a_text, a_list}
 
 -- a code, an environment, and where the run comes to
-record Case : Type 0 where
+pub record Case : Type 0 where
   code : Code
   variables : Environment
   course : Course
 
-abbrev case : Code → Environment → ℕ → Outcome → Case
+abbrev pub case : Code → Environment → ℕ → Outcome → Case
 case c v k o = record { code = c; variables = v; course = course k o }
 
 -- an outcome of a sample code with the colours
-abbrev given : List Instruction → ℕ → Outcome → Case
+abbrev pub given : List Instruction → ℕ → Outcome → Case
 given is k o = case (sample is) colours k o
 
-abbrev linked : Text → Outcome
+abbrev pub linked : Text → Outcome
 linked t = outcome.Link t
 
-abbrev computed : List Case → List Course
+abbrev pub computed : List Case → List Course
 computed cases = map (λ x. course_of x.code x.variables) cases
 
-abbrev expected : List Case → List Course
+abbrev pub expected : List Case → List Course
 expected cases = map (λ x. x.course) cases
 
 -- ---- whole codes
@@ -68,9 +69,12 @@ effects =
     ∷ given (instruction.Emit 0 ∷ instruction.Fail ∷ []) 2 outcome.NoLink
     ∷ given (instruction.Jump 2 ∷ instruction.Emit 0 ∷ instruction.Halt ∷ []) 2 (linked [])
     -- a name of the other kind is Undefined, or a list without members
-    ∷ case (sample (instruction.Text 1 1 ∷ instruction.Undef 1 3 ∷ instruction.Emit 0 ∷ instruction.Halt ∷ [])) (a_list (codes "x") (codes "a" ∷ [])) 3 (linked [])
-    ∷ case (sample (instruction.List 1 0 ∷ instruction.NoList 1 3 ∷ instruction.Emit 0 ∷ instruction.Halt ∷ [])) (a_text (codes "list") (codes "a")) 3 (linked [])
-    ∷ case (sample (instruction.Text 1 1 ∷ instruction.Undef 1 3 ∷ instruction.Put 1 0 ∷ instruction.Halt ∷ [])) (a_text (codes "x") (codes "a b")) 4 (linked (codes "a%20b"))
+    ∷ case (sample (instruction.Text 1 1 ∷ instruction.Undef 1 3 ∷ instruction.Emit 0 ∷ instruction.Halt ∷ [])) (a_list (codes "x") (codes "a" ∷ [])) 3
+    (linked [])
+    ∷ case (sample (instruction.List 1 0 ∷ instruction.NoList 1 3 ∷ instruction.Emit 0 ∷ instruction.Halt ∷ [])) (a_text (codes "list") (codes "a")) 3
+    (linked [])
+    ∷ case (sample (instruction.Text 1 1 ∷ instruction.Undef 1 3 ∷ instruction.Put 1 0 ∷ instruction.Halt ∷ [])) (a_text (codes "x") (codes "a b")) 4
+    (linked (codes "a%20b"))
     ∷ given (instruction.Const 15 1 ∷ instruction.Put 15 0 ∷ instruction.Halt ∷ []) 3 (linked (codes "12"))
     -- NUMBER: at most nine digits; the register stays where there is no number
     ∷ given (instruction.Const 0 4 ∷ instruction.Number 1 0 3 ∷ instruction.Emit 0 ∷ instruction.Halt ∷ []) 3 (linked [])
@@ -84,8 +88,10 @@ effects =
     ∷ given (instruction.Const 0 1 ∷ instruction.Const 1 1 ∷ instruction.Differ 0 1 4 ∷ instruction.Emit 0 ∷ instruction.Halt ∷ []) 5 (linked (codes "/"))
     ∷ given (instruction.Const 0 1 ∷ instruction.Const 1 2 ∷ instruction.Differ 0 1 4 ∷ instruction.Emit 0 ∷ instruction.Halt ∷ []) 4 (linked [])
     -- LESS compares numbers: 7 is below 12, not 12 below 7, nor 7 below 7
-    ∷ given (instruction.Const 0 2 ∷ instruction.Number 0 0 6 ∷ instruction.Const 1 1 ∷ instruction.Number 1 1 6 ∷ instruction.Less 0 1 6 ∷ instruction.Emit 0 ∷ instruction.Halt ∷ []) 6 (linked [])
-    ∷ given (instruction.Const 0 2 ∷ instruction.Number 0 0 6 ∷ instruction.Const 1 1 ∷ instruction.Number 1 1 6 ∷ instruction.Less 1 0 6 ∷ instruction.Emit 0 ∷ instruction.Halt ∷ []) 7 (linked (codes "/"))
+    ∷ given (instruction.Const 0 2 ∷ instruction.Number 0 0 6 ∷ instruction.Const 1 1 ∷ instruction.Number 1 1 6 ∷ instruction.Less 0 1 6 ∷ instruction.Emit
+    0 ∷ instruction.Halt ∷ []) 6 (linked [])
+    ∷ given (instruction.Const 0 2 ∷ instruction.Number 0 0 6 ∷ instruction.Const 1 1 ∷ instruction.Number 1 1 6 ∷ instruction.Less 1 0 6 ∷ instruction.Emit
+    0 ∷ instruction.Halt ∷ []) 7 (linked (codes "/"))
     ∷ given (instruction.Const 0 2 ∷ instruction.Number 0 0 3 ∷ instruction.Less 0 0 4 ∷ instruction.Emit 0 ∷ instruction.Halt ∷ []) 5 (linked (codes "/"))
     -- PUT and CUT, written U and UR; `é` is one item, and under UR so is `%41`
     ∷ given (instruction.Const 0 6 ∷ instruction.Put 0 0 ∷ instruction.Halt ∷ []) 3 (linked (codes "%C3%A9%2541b"))
@@ -93,10 +99,13 @@ effects =
     ∷ given (instruction.Const 0 6 ∷ instruction.Cut 0 2 0 ∷ instruction.Halt ∷ []) 3 (linked (codes "%C3%A9%25"))
     ∷ given (instruction.Const 0 6 ∷ instruction.Cut 0 2 1 ∷ instruction.Halt ∷ []) 3 (linked (codes "%C3%A9%41"))
     -- the members of a loop live in the loop: its list may be lost
-    ∷ given (instruction.List 0 0 ∷ instruction.Each 0 0 4 ∷ instruction.Put 0 0 ∷ instruction.Next ∷ instruction.Put 0 0 ∷ instruction.Halt ∷ []) 10 (linked (codes "redgreenblueblue"))
-    ∷ given (instruction.List 0 0 ∷ instruction.Each 1 0 4 ∷ instruction.Const 0 1 ∷ instruction.Next ∷ instruction.Put 1 0 ∷ instruction.Put 0 0 ∷ instruction.Halt ∷ []) 11 (linked (codes "blue12"))
+    ∷ given (instruction.List 0 0 ∷ instruction.Each 0 0 4 ∷ instruction.Put 0 0 ∷ instruction.Next ∷ instruction.Put 0 0 ∷ instruction.Halt ∷ []) 10
+    (linked (codes "redgreenblueblue"))
+    ∷ given (instruction.List 0 0 ∷ instruction.Each 1 0 4 ∷ instruction.Const 0 1 ∷ instruction.Next ∷ instruction.Put 1 0 ∷ instruction.Put 0
+    0 ∷ instruction.Halt ∷ []) 11 (linked (codes "blue12"))
     -- EACH without members leaves the element as it was
-    ∷ case (sample (instruction.Const 1 2 ∷ instruction.List 0 0 ∷ instruction.Each 1 0 4 ∷ instruction.Next ∷ instruction.Put 1 0 ∷ instruction.Halt ∷ [])) [] 5 (linked (codes "7"))
+    ∷ case (sample (instruction.Const 1 2 ∷ instruction.List 0 0 ∷ instruction.Each 1 0 4 ∷ instruction.Next ∷ instruction.Put 1 0 ∷ instruction.Halt ∷ [])) []
+    5 (linked (codes "7"))
     ∷ []
 
 effects_hold : computed effects ≡ expected effects
@@ -166,111 +175,10 @@ second_version =
     ∷ case (with_fields 0 (row 19 1 0 1 0) (second (instruction.Halt ∷ instruction.Halt ∷ []))) colours 0 (outcome.Stuck 0)
     ∷ case (with_fields 0 (row 19 1 0 0 1) (second (instruction.Halt ∷ instruction.Halt ∷ []))) colours 0 (outcome.Stuck 0)
     ∷ case (second (instruction.List 0 0 ∷ instruction.Each 1 0 3 ∷ instruction.Count 2 0 ∷ instruction.Halt ∷ [])) colours 2 (outcome.Stuck 2)
-    ∷ case (second (instruction.List 0 0 ∷ instruction.Each 1 0 5 ∷ instruction.Count 2 0 ∷ instruction.Put 1 0 ∷ instruction.Next ∷ instruction.Halt ∷ [])) colours 12 (linked (codes "redgreenblue"))
+    ∷ case (second (instruction.List 0 0 ∷ instruction.Each 1 0 5 ∷ instruction.Count 2 0 ∷ instruction.Put 1 0 ∷ instruction.Next ∷ instruction.Halt ∷ []))
+    colours 12 (linked (codes "redgreenblue"))
     ∷ []
 
 second_version_holds : computed second_version ≡ expected second_version
 unfolding course_from reading has_right_operands look_up is_unreserved written_u leading_number value_from
 second_version_holds = refl
-
--- ---- where no step leads on
-
-abbrev missing_values : List Case
-missing_values =
-    given (instruction.Put 0 0 ∷ instruction.Halt ∷ []) 0 (outcome.Stuck 0)
-    ∷ given (instruction.Undef 0 1 ∷ instruction.Halt ∷ []) 0 (outcome.Stuck 0)
-    ∷ given (instruction.List 0 0 ∷ instruction.Undef 0 2 ∷ instruction.Halt ∷ []) 1 (outcome.Stuck 1)
-    ∷ given (instruction.Text 0 1 ∷ instruction.Empty 0 2 ∷ instruction.Halt ∷ []) 1 (outcome.Stuck 1)
-    ∷ given (instruction.Text 0 1 ∷ instruction.NoList 0 2 ∷ instruction.Halt ∷ []) 1 (outcome.Stuck 1)
-    ∷ given (instruction.Text 0 1 ∷ instruction.Number 1 0 2 ∷ instruction.Halt ∷ []) 1 (outcome.Stuck 1)
-    ∷ given (instruction.Const 0 1 ∷ instruction.Differ 0 1 2 ∷ instruction.Halt ∷ []) 1 (outcome.Stuck 1)
-    ∷ given (instruction.Const 1 1 ∷ instruction.Differ 0 1 2 ∷ instruction.Halt ∷ []) 1 (outcome.Stuck 1)
-    ∷ given (instruction.Const 0 1 ∷ instruction.Less 0 0 2 ∷ instruction.Halt ∷ []) 1 (outcome.Stuck 1)
-    ∷ given (instruction.Text 0 1 ∷ instruction.Cut 0 1 0 ∷ instruction.Halt ∷ []) 1 (outcome.Stuck 1)
-    ∷ given (instruction.Const 0 1 ∷ instruction.Each 1 0 3 ∷ instruction.Next ∷ instruction.Halt ∷ []) 1 (outcome.Stuck 1)
-    ∷ []
-
-missing_values_hold : computed missing_values ≡ expected missing_values
-unfolding course_from reading has_right_operands look_up is_unreserved written_u leading_number
-missing_values_hold = refl
-
-abbrev loops : List Case
-loops =
-    -- EACH, its place + 1 and the length of the code
-    given (instruction.List 0 0 ∷ instruction.Each 1 0 2 ∷ instruction.Halt ∷ []) 1 (outcome.Stuck 1)
-    ∷ case (sample (instruction.List 0 0 ∷ instruction.Each 1 0 2 ∷ instruction.Halt ∷ [])) [] 1 (outcome.Stuck 1)
-    ∷ given (instruction.List 0 0 ∷ instruction.Each 1 0 9 ∷ instruction.Put 1 0 ∷ instruction.Halt ∷ []) 4 (linked (codes "red"))
-    ∷ case (sample (instruction.List 0 0 ∷ instruction.Each 1 0 9 ∷ instruction.Put 1 0 ∷ instruction.Halt ∷ [])) [] 1 (outcome.Stuck 1)
-    ∷ case (sample (instruction.List 0 0 ∷ instruction.Each 1 0 3 ∷ instruction.Next ∷ instruction.Put 1 0 ∷ instruction.Halt ∷ [])) [] 2 (outcome.Stuck 3)
-    -- a loop in a running loop, a SEP without one, a NEXT without one or before its last place
-    ∷ given (instruction.List 0 0 ∷ instruction.Each 1 0 4 ∷ instruction.Each 2 0 4 ∷ instruction.Next ∷ instruction.Halt ∷ []) 2 (outcome.Stuck 2)
-    ∷ given (instruction.Sep 0 ∷ instruction.Halt ∷ []) 0 (outcome.Stuck 0)
-    ∷ given (instruction.Next ∷ instruction.Halt ∷ []) 0 (outcome.Stuck 0)
-    ∷ given (instruction.List 0 0 ∷ instruction.Each 1 0 4 ∷ instruction.Next ∷ instruction.Next ∷ instruction.Halt ∷ []) 2 (outcome.Stuck 2)
-    -- the body ends before the place of the step
-    ∷ given (instruction.List 0 0 ∷ instruction.Each 1 0 4 ∷ instruction.Jump 4 ∷ instruction.Next ∷ instruction.Halt ∷ []) 2 (outcome.Stuck 2)
-    ∷ given (instruction.List 0 0 ∷ instruction.Each 1 0 3 ∷ instruction.Emit 0 ∷ instruction.Halt ∷ []) 2 (outcome.Stuck 2)
-    -- a jump inside the body; one into a body finds no loop there; a loop after a loop
-    ∷ case (with_instruction 2 (instruction.Jump 4) list_code) colours 9 (linked [])
-    ∷ case (with_instruction 0 (instruction.Jump 4) list_code) colours 1 (outcome.Stuck 4)
-    ∷ given (instruction.List 0 0 ∷ instruction.Each 1 0 3 ∷ instruction.Next ∷ instruction.Each 2 0 6 ∷ instruction.Sep 0 ∷ instruction.Next ∷ instruction.Halt ∷ []) 13 (linked (codes "//"))
-    -- a jump that is not taken is not judged
-    ∷ given (instruction.Const 0 1 ∷ instruction.Empty 0 0 ∷ instruction.Halt ∷ []) 3 (linked [])
-    ∷ given (instruction.Const 0 1 ∷ instruction.Empty 0 99 ∷ instruction.Halt ∷ []) 3 (linked [])
-    -- HALT may stand in a body, and NEXT at the last place of the code
-    ∷ given (instruction.List 0 0 ∷ instruction.Each 1 0 4 ∷ instruction.Halt ∷ instruction.Next ∷ []) 3 (linked [])
-    ∷ given (instruction.List 0 0 ∷ instruction.Each 1 0 3 ∷ instruction.Next ∷ []) 4 (outcome.Stuck 2)
-    ∷ []
-
-loops_hold : computed loops ≡ expected loops
-unfolding course_from reading has_right_operands look_up is_unreserved written_u leading_number
-loops_hold = refl
-
-abbrev operands : List Case
-operands =
-    -- no such register, no such entry, an entry of the other kind
-    given (instruction.Const 16 1 ∷ instruction.Halt ∷ []) 0 (outcome.Stuck 0)
-    ∷ given (instruction.Const 0 7 ∷ instruction.Halt ∷ []) 0 (outcome.Stuck 0)
-    ∷ given (instruction.Text 0 2 ∷ instruction.Halt ∷ []) 0 (outcome.Stuck 0)
-    ∷ given (instruction.Text 0 0 ∷ instruction.Halt ∷ []) 0 (outcome.Stuck 0)
-    ∷ given (instruction.List 0 1 ∷ instruction.Halt ∷ []) 0 (outcome.Stuck 0)
-    ∷ given (instruction.Const 0 0 ∷ instruction.Halt ∷ []) 0 (outcome.Stuck 0)
-    ∷ given (instruction.Emit 1 ∷ instruction.Halt ∷ []) 0 (outcome.Stuck 0)
-    ∷ given (instruction.Emit 7 ∷ instruction.Halt ∷ []) 0 (outcome.Stuck 0)
-    ∷ given (instruction.List 0 0 ∷ instruction.Each 1 0 4 ∷ instruction.Sep 1 ∷ instruction.Next ∷ instruction.Halt ∷ []) 2 (outcome.Stuck 2)
-    ∷ []
-
-operands_hold : computed operands ≡ expected operands
-unfolding course_from reading has_right_operands look_up is_unreserved written_u leading_number
-operands_hold = refl
-
-abbrev fields : List Case
-fields =
-    -- a mode above 1, a count of 0 or 10,000, an unknown operation, an unused field that is not 0
-    given (instruction.Const 0 1 ∷ instruction.Put 0 2 ∷ instruction.Halt ∷ []) 1 (outcome.Stuck 1)
-    ∷ given (instruction.Const 0 1 ∷ instruction.Cut 0 0 0 ∷ instruction.Halt ∷ []) 1 (outcome.Stuck 1)
-    ∷ given (instruction.Const 0 1 ∷ instruction.Cut 0 10000 0 ∷ instruction.Halt ∷ []) 1 (outcome.Stuck 1)
-    ∷ given (instruction.Const 0 1 ∷ instruction.Cut 0 9999 0 ∷ instruction.Halt ∷ []) 3 (linked (codes "12"))
-    ∷ case (with_fields 0 (row 19 0 0 0 0) list_code) colours 0 (outcome.Stuck 0)
-    ∷ case (with_fields 0 (row 0 0 0 0 0) list_code) colours 0 (outcome.Stuck 0)
-    ∷ case (with_fields 0 (row 1 1 0 0 0) list_code) colours 0 (outcome.Stuck 0)
-    ∷ case (with_fields 0 (row 1 0 1 0 0) list_code) colours 0 (outcome.Stuck 0)
-    ∷ case (with_fields 0 (row 1 0 0 1 0) list_code) colours 0 (outcome.Stuck 0)
-    ∷ case (with_fields 0 (row 1 0 0 0 1) list_code) colours 0 (outcome.Stuck 0)
-    ∷ []
-
-fields_hold : computed fields ≡ expected fields
-unfolding course_from reading has_right_operands look_up is_unreserved written_u code_points
-fields_hold = refl
-
--- ---- outputs
-
-outputs : map output_of (Ended (Link (codes "a")) ∷ Ended NoLink ∷ Running (printing (codes "b") start) ∷ []) ≡ codes "a" ∷ [] ∷ codes "b" ∷ []
-outputs = refl
-
--- ---- what must not hold
-
--- no member is lost
-not_early : course_of list_code colours ≡ course 9 (linked (codes "red,green")) → ⊥
-unfolding course_from reading has_right_operands look_up is_unreserved written_u
-not_early e = let steps : 12 ≡ 9 = ap (λ (x : Course). x.steps) e in absurd (omega (arith, steps))

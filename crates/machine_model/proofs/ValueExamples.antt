@@ -13,6 +13,8 @@ use Rattle.machine_model.specs.Operands.{has_right_operands}
 use Rattle.machine_model.specs.Values.{Value, Nothing, Undefined, Text as TextValue, List as ListValue, Number as NumberValue}
 use Rattle.machine_model.specs.States.{Frame, Running, start, holding}
 use Rattle.machine_model.specs.Next.{next_state}
+use Rattle.machine_model.specs.Fitting.{kind_of}
+use Rattle.machine_model.specs.declared.kind.Kind.TheVariants.{Any, OptText, Text as TextKind, List as ListKind, Number as NumberKind}
 use Rattle.machine_model.proofs.Listings.{second, colours}
 
 -- ---- leading numbers
@@ -56,6 +58,11 @@ bytes : map byte_count (colours ∷ variables ∷ [] ∷ []) ≡ 12 ∷ 17 ∷ 0
 bytes = refl
 
 -- ---- which values an instruction takes
+
+-- the least kind of each value
+kinds : map kind_of (Nothing ∷ Undefined ∷ TextValue (codes "12") ∷ TextValue [] ∷ ListValue (codes "red" ∷ []) ∷ ListValue [] ∷ NumberValue 7 ∷ [])
+    ≡ Any ∷ OptText ∷ TextKind ∷ TextKind ∷ ListKind ∷ ListKind ∷ NumberKind ∷ []
+kinds = refl
 
 -- at place 0, with a value in r0, a text in r1 and a number in r2
 abbrev having : Value → Frame

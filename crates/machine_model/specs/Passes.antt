@@ -1,6 +1,7 @@
 -- A helper that computes: kinds joined along all edges, again and again. What it comes to is at or below every
 -- closed table, so where it is closed it is the least one.
-use Rattle.std.specs.Prelude.{ℕ, zero, suc, ◌-◌, List, [], ◌∷◌, Option, Some, None, option_map, option_and_then, Bool, true, false, ◌&&◌, length, slice_get, slice_index_or}
+use Rattle.std.specs.Prelude.{ℕ, zero, suc, ◌-◌, List, [], ◌∷◌, Option, Some, None, option_map, option_and_then, Bool, true, false, ◌&&◌, length, slice_get}
+use Rattle.std.specs.Prelude.{slice_index_or}
 use Rattle.std.specs.List.{list_all}
 use Rattle.code_model.specs.Code.{Code}
 use Rattle.machine_model.specs.declared.kind.Kind.{Kind}

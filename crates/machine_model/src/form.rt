@@ -1,3 +1,5 @@
+//! The bodies of loops, and what is wrong with an instruction's form.
+
 /// The places of a loop's body: from `start` to before `end`, with NEXT at `end - 1`. `element` is the
 /// register that holds the member of the turn.
 #[derive(Clone, Copy, Debug, PartialEq, Eq)]

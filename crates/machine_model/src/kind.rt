@@ -1,3 +1,5 @@
+//! What is known of a register's value.
+
 /// What is known of a register's value before a step. `Text` is below `OptText`; `OptText`, `List` and
 /// `Number` are below `Any`.
 #[derive(Clone, Copy, PartialEq, Eq)]

@@ -1,5 +1,6 @@
 -- A name that comes with a text, and a member that comes last in the list of its name.
-use Rattle.std.proofs.Common.{◌≡◌, ℕ, ◌+◌, ◌<◌, ◌≤◌, List, [], ◌∷◌, ◌++◌, Bool, true, false, map, length, insert, slice_get, Some, is_some, IsTrue, All, IsUtf8, refl, sym, ap, ◌∙◌, subst, arith, length-append, zero-add, ⊎_elim}
+use Rattle.std.proofs.Common.{◌≡◌, ℕ, ◌+◌, ◌<◌, ◌≤◌, List, [], ◌∷◌, ◌++◌, Bool, true, false, map, length, insert, slice_get, Some, is_some, IsTrue, All, IsUtf8}
+use Rattle.std.proofs.Common.{refl, sym, ap, ◌∙◌, subst, arith, length-append, zero-add, ⊎_elim}
 use Rattle.std.specs.Prelude.{◌==◌}
 use Rattle.std.proofs.lemmas.List.{map-append}
 use Rattle.std.proofs.lemmas.List.Edits.{length-insert}
@@ -8,7 +9,8 @@ use Rattle.std.proofs.lemmas.List.Sorted.{IsPermutation-insert, All-permutation}
 use Rattle.std.proofs.lemmas.Option.{slice_get_within}
 use Rattle.text_model.specs.Texts.{Text}
 use Rattle.environment_model.specs.Environment.{Entry, Single, Several, is_there, is_among, text_in, text_of, byte_count, member_count, with_text, with_member}
-use Rattle.environment_model.proofs.Environments.{byte_count-with_text, byte_count-with_member, member_count-with_member, member_count-push, with_text-new, with_member-new, with_member-append, with_member-same}
+use Rattle.environment_model.proofs.Environments.{byte_count-with_text, byte_count-with_member, member_count-with_member, member_count-push, with_text-new}
+use Rattle.environment_model.proofs.Environments.{with_member-new, with_member-append, with_member-same}
 use Rattle.target_vars.specs.EnvValue.{EachNameOnce}
 use Rattle.target_vars.specs.Layout.{piece, spans_of, members_in, laid_entries, IsPiece, IsPlace, IsPutLast, HasList, IsLaid}
 use Rattle.target_vars.specs.declared.place.Part.{Part}
@@ -32,15 +34,18 @@ members_stay b t spans j pieces = same_pieces b t (spans_of spans j) (All-filter
 
 -- ---- a text
 
-pub put_is : (b t : Text) (spans : List Span) (names : List Text) (places : List Place) (name : Text) (p : Part) → IsLaid b spans names places → is_among name names ≡ false → p.start ≡ length b → p.len ≡ length t
+pub put_is : (b t : Text) (spans : List Span) (names : List Text) (places : List Place) (name : Text) (p : Part) → IsLaid b spans names places
+    → is_among name names ≡ false → p.start ≡ length b → p.len ≡ length t
     → laid_entries (b ++ t) spans (names ++ name ∷ []) (places ++ One p ∷ []) ≡ with_text (laid_entries b spans names places) name t
 put_is b t spans names places name p laid lacks start len =
     entries_from-push (b ++ t) (members_in (b ++ t) spans) 0 names places name (One p) laid.one_each
-    ∙ ap (λ es. es ++ entry (b ++ t) [] name (One p) ∷ []) (entries_stay b t (members_in b spans) (members_in (b ++ t) spans) 0 names places laid.placed (λ j from. members_stay b t spans j laid.pieces))
+    ∙ ap (λ es. es ++ entry (b ++ t) [] name (One p) ∷ []) (entries_stay b t (members_in b spans) (members_in (b ++ t) spans) 0 names places laid.placed
+    (λ j from. members_stay b t spans j laid.pieces))
     ∙ ap (λ x. laid_entries b spans names places ++ record { name = name; meaning = Single x } ∷ []) (last_part b t p start len)
     ∙ sym (with_text-new (laid_entries b spans names places) name t (is_there-laid b spans names places name laid ∙ lacks))
 
-pub laid_put : (b t : Text) (spans : List Span) (names : List Text) (places : List Place) (name : Text) (p : Part) → IsUtf8 b → IsUtf8 t → IsLaid b spans names places → is_among name names ≡ false → p.start ≡ length b → p.len ≡ length t
+pub laid_put : (b t : Text) (spans : List Span) (names : List Text) (places : List Place) (name : Text) (p : Part) → IsUtf8 b → IsUtf8 t
+    → IsLaid b spans names places → is_among name names ≡ false → p.start ≡ length b → p.len ≡ length t
     → length b + length t ≤ MAX_BYTES → IsLaid (b ++ t) spans (names ++ name ∷ []) (places ++ One p ∷ [])
 laid_put b t spans names places name p ub ut laid lacks start len few =
     let env = laid_entries b spans names places in
@@ -52,8 +57,10 @@ laid_put b t spans names places name p ub ut laid lacks start len few =
     let more_names = length-append names (name ∷ []) in
     let more_places = length-append places (One p ∷ []) in
     let whole = length-append b t in
-    let bytes : byte_count (laid_entries (b ++ t) spans (names ++ name ∷ []) (places ++ One p ∷ [])) ≡ byte_count env + length t = ap byte_count entries ∙ byte_count-with_text env name t absent in
-    let members : member_count (laid_entries (b ++ t) spans (names ++ name ∷ []) (places ++ One p ∷ [])) ≡ member_count env + 0 = ap member_count (entries ∙ pushed) ∙ member_count-push env e in
+    let bytes : byte_count (laid_entries (b ++ t) spans (names ++ name ∷ []) (places ++ One p ∷ [])) ≡ byte_count env + length t =
+    ap byte_count entries ∙ byte_count-with_text env name t absent in
+    let members : member_count (laid_entries (b ++ t) spans (names ++ name ∷ []) (places ++ One p ∷ [])) ≡ member_count env + 0 =
+    ap member_count (entries ∙ pushed) ∙ member_count-push env e in
     let filled = laid.filled in
     let counted = laid.counted in
     record {
@@ -72,7 +79,8 @@ laid_put b t spans names places name p ub ut laid lacks start len few =
 -- ---- the list of a name
 
 -- the name has an empty list, or the one that it had
-record IsReady (b t : Text) (spans : List Span) (names : List Text) (places : List Place) (name : Text) (names' : List Text) (places' : List Place) : Type 0 where
+record IsReady (b t : Text) (spans : List Span) (names : List Text) (places : List Place) (name : Text) (names' : List Text) (places' : List Place) : Type
+    0 where
   once : EachNameOnce (laid_entries b spans names' places')
   same : with_member (laid_entries b spans names' places') name t ≡ with_member (laid_entries b spans names places) name t
   placed : All (IsPlace b) places'
@@ -80,7 +88,8 @@ record IsReady (b t : Text) (spans : List Span) (names : List Text) (places : Li
   known : All (λ s. s.list < length names') spans
   no_text : is_some (text_of (laid_entries b spans names places) name) ≡ false
 
-ready : (b t : Text) (spans : List Span) (names : List Text) (places : List Place) (name : Text) (names' : List Text) (places' : List Place) (k : ℕ) → IsLaid b spans names places → HasList names places name names' places' k → IsReady b t spans names places name names' places'
+ready : (b t : Text) (spans : List Span) (names : List Text) (places : List Place) (name : Text) (names' : List Text) (places' : List Place) (k : ℕ)
+    → IsLaid b spans names places → HasList names places name names' places' k → IsReady b t spans names places name names' places'
 ready b t spans names places name names' places' k laid has = ⊎_elim known_list new_list has.cases
   where
     known_list : (names' ≡ names) × (places' ≡ places) → IsReady b t spans names places name names' places'
@@ -96,20 +105,23 @@ ready b t spans names places name names' places' k laid has = ⊎_elim known_lis
           no_text = ap is_some (no_text-at b spans names places name k laid named listed);
         })
 
-    new_list : (is_among name names ≡ false) × (names' ≡ names ++ name ∷ []) × (places' ≡ places ++ Many ∷ []) → IsReady b t spans names places name names' places'
+    new_list : (is_among name names ≡ false) × (names' ≡ names ++ name ∷ []) × (places' ≡ places ++ Many ∷ [])
+        → IsReady b t spans names places name names' places'
     new_list h =
         let env = laid_entries b spans names places in
         let e : Entry = record { name = name; meaning = Several [] } in
         let absent : is_there env name ≡ false = is_there-laid b spans names places name laid ∙ h.0 in
         let none : members_in b spans (length names) ≡ [] = ap (map (piece b)) (none_of spans (length names) laid.known) in
         let entries : laid_entries b spans (names ++ name ∷ []) (places ++ Many ∷ []) ≡ env ++ e ∷ [] =
-        entries_from-push b (members_in b spans) 0 names places name Many laid.one_each ∙ ap (λ ms. env ++ record { name = name; meaning = Several ms } ∷ []) (ap (members_in b spans) (zero-add (length names)) ∙ none) in
+        entries_from-push b (members_in b spans) 0 names places name Many laid.one_each ∙ ap (λ ms. env ++ record { name = name; meaning = Several ms } ∷ [])
+        (ap (members_in b spans) (zero-add (length names)) ∙ none) in
         let one_each = laid.one_each in
         let more_names = length-append names (name ∷ []) in
         let more_places = length-append places (Many ∷ []) in
         rw (h.1, h.2) (record {
           once = subst EachNameOnce (sym entries) (once-push env e laid.once absent);
-          same = ap (λ es. with_member es name t) entries ∙ with_member-append env (e ∷ []) name t absent ∙ ap (λ es. env ++ es) (with_member-same e [] name t (itself name)) ∙ sym (with_member-new env name t absent);
+          same = ap (λ es. with_member es name t) entries ∙ with_member-append env (e ∷ []) name t absent
+              ∙ ap (λ es. env ++ es) (with_member-same e [] name t (itself name)) ∙ sym (with_member-new env name t absent);
           placed = All-push (IsPlace b) places Many laid.placed tt;
           one_each = omega arith;
           known = All-weaker (λ s. s.list < length names) (λ s. s.list < length (names ++ name ∷ [])) (λ s below. omega arith) spans laid.known;
@@ -118,14 +130,16 @@ ready b t spans names places name names' places' k laid has = ⊎_elim known_lis
 
 -- ---- a member
 
-own_members : (b t : Text) (spans : List Span) (s : Span) (new : List Span) → All (IsPiece b) spans → IsPutLast spans s new → s.part.start ≡ length b → s.part.len ≡ length t → members_in (b ++ t) new s.list ≡ members_in b spans s.list ++ t ∷ []
+own_members : (b t : Text) (spans : List Span) (s : Span) (new : List Span) → All (IsPiece b) spans → IsPutLast spans s new → s.part.start ≡ length b
+    → s.part.len ≡ length t → members_in (b ++ t) new s.list ≡ members_in b spans s.list ++ t ∷ []
 own_members b t spans s new pieces put start len =
     ap (map (piece (b ++ t))) put.own
     ∙ map-append (piece (b ++ t)) (spans_of spans s.list) (s ∷ [])
     ∙ ap (λ ms. ms ++ piece (b ++ t) s ∷ []) (members_stay b t spans s.list pieces)
     ∙ ap (λ x. members_in b spans s.list ++ x ∷ []) (last_part b t s.part start len)
 
-pub add_is : (b t : Text) (spans : List Span) (names : List Text) (places : List Place) (name : Text) (names' : List Text) (places' : List Place) (s : Span) (new : List Span) → IsLaid b spans names places → HasList names places name names' places' s.list → IsPutLast spans s new
+pub add_is : (b t : Text) (spans : List Span) (names : List Text) (places : List Place) (name : Text) (names' : List Text) (places' : List Place) (s : Span)
+    (new : List Span) → IsLaid b spans names places → HasList names places name names' places' s.list → IsPutLast spans s new
     → s.part.start ≡ length b → s.part.len ≡ length t → laid_entries (b ++ t) new names' places' ≡ with_member (laid_entries b spans names places) name t
 add_is b t spans names places name names' places' s new laid has put start len =
     let is = ready b t spans names places name names' places' s.list laid has in
@@ -138,7 +152,8 @@ add_is b t spans names places name names' places' s new laid has put start len =
     (λ j differs. ap (map (piece (b ++ t))) (put.others j (ap (λ x. x == j) (sym zero) ∙ differs)) ∙ members_stay b t spans j laid.pieces)
     ∙ is.same
 
-pub laid_add : (b t : Text) (spans : List Span) (names : List Text) (places : List Place) (name : Text) (names' : List Text) (places' : List Place) (s : Span) (new : List Span) → IsUtf8 b → IsUtf8 t → IsLaid b spans names places → HasList names places name names' places' s.list → IsPutLast spans s new
+pub laid_add : (b t : Text) (spans : List Span) (names : List Text) (places : List Place) (name : Text) (names' : List Text) (places' : List Place) (s : Span)
+    (new : List Span) → IsUtf8 b → IsUtf8 t → IsLaid b spans names places → HasList names places name names' places' s.list → IsPutLast spans s new
     → s.part.start ≡ length b → s.part.len ≡ length t → length b + length t ≤ MAX_BYTES → length spans + 1 ≤ MAX_MEMBERS → IsLaid (b ++ t) new names' places'
 laid_add b t spans names places name names' places' s new ub ut laid has put start len few few_spans =
     let env = laid_entries b spans names places in
@@ -146,11 +161,15 @@ laid_add b t spans names places name names' places' s new ub ut laid has put sta
     let entries = add_is b t spans names places name names' places' s new laid has put start len in
     let whole = length-append b t in
     let longer : length new ≡ length spans + 1 = ap length put.is ∙ length-insert spans put.place s put.within in
-    let bytes : byte_count (laid_entries (b ++ t) new names' places') ≡ byte_count env + length t = ap byte_count entries ∙ byte_count-with_member env name t is.no_text in
-    let members : member_count (laid_entries (b ++ t) new names' places') ≡ member_count env + 1 = ap member_count entries ∙ member_count-with_member env name t is.no_text in
+    let bytes : byte_count (laid_entries (b ++ t) new names' places') ≡ byte_count env + length t =
+    ap byte_count entries ∙ byte_count-with_member env name t is.no_text in
+    let members : member_count (laid_entries (b ++ t) new names' places') ≡ member_count env + 1 =
+    ap member_count entries ∙ member_count-with_member env name t is.no_text in
     let filled = laid.filled in
     let counted = laid.counted in
-    let moved : (P : Span → Type 0) → P s → All P spans → All P new = λ P own all. subst (All P) (sym put.is) (All-permutation P (s ∷ spans) (insert spans put.place s) (IsPermutation-insert spans put.place s) (All-cons P s spans own all)) in
+    let moved : (P : Span → Type 0) → P s → All P spans
+    → All P new = λ P own all. subst (All P) (sym put.is)
+    (All-permutation P (s ∷ spans) (insert spans put.place s) (IsPermutation-insert spans put.place s) (All-cons P s spans own all)) in
     record {
       pieces = moved (IsPiece (b ++ t)) (last_is_part b t s.part ut start len) (pieces_stay b t spans ub ut laid.pieces);
       placed = places_stay b t places' ub ut is.placed;

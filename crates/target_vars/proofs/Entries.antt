@@ -1,5 +1,6 @@
 -- The entries of names and places.
-use Rattle.std.proofs.Common.{◌≡◌, ℕ, zero, suc, ◌+◌, ◌≤◌, List, [], ◌∷◌, ◌++◌, Bool, true, false, length, slice_get, Some, is_some, bytes_eq, All, unwrap_or, refl, sym, ap, ◌∙◌, subst, arith, add-zero}
+use Rattle.std.proofs.Common.{◌≡◌, ℕ, zero, suc, ◌+◌, ◌≤◌, List, [], ◌∷◌, ◌++◌, Bool, true, false, length, slice_get, Some, is_some, bytes_eq, All, unwrap_or}
+use Rattle.std.proofs.Common.{refl, sym, ap, ◌∙◌, subst, arith, add-zero}
 use Rattle.std.specs.Prelude.{◌==◌}
 use Rattle.std.proofs.lemmas.List.Elements.{All-head, All-tail}
 use Rattle.std.proofs.lemmas.Slice.Eq.{bytes_eq-Decides}
@@ -24,7 +25,8 @@ pub entries_from-empty : (b : Text) (m : Lists) (i : ℕ) (ps : List Place) → 
 unfolding entries_from
 entries_from-empty b m i ps = refl
 
-pub entries_from-cons : (b : Text) (m : Lists) (i : ℕ) (n : Text) (ns : List Text) (p : Place) (ps : List Place) → entries_from b m i (n ∷ ns) (p ∷ ps) ≡ entry b (m i) n p ∷ entries_from b m (suc i) ns ps
+pub entries_from-cons : (b : Text) (m : Lists) (i : ℕ) (n : Text) (ns : List Text) (p : Place) (ps : List Place) → entries_from b m i (n ∷ ns) (p ∷ ps)
+    ≡ entry b (m i) n p ∷ entries_from b m (suc i) ns ps
 unfolding entries_from
 entries_from-cons b m i n ns p ps = refl
 
@@ -35,7 +37,8 @@ entries_from-short b m i n ns = refl
 some_injective : {A : Type 0} {x y : A} → Some x ≡ Some y → x ≡ y
 some_injective {x = x} same = ap (λ o. unwrap_or o x) same
 
-pub entries_from-push : (b : Text) (m : Lists) (i : ℕ) (ns : List Text) (ps : List Place) (n : Text) (p : Place) → length ps ≡ length ns → entries_from b m i (ns ++ n ∷ []) (ps ++ p ∷ []) ≡ entries_from b m i ns ps ++ entry b (m (i + length ns)) n p ∷ []
+pub entries_from-push : (b : Text) (m : Lists) (i : ℕ) (ns : List Text) (ps : List Place) (n : Text) (p : Place) → length ps ≡ length ns
+    → entries_from b m i (ns ++ n ∷ []) (ps ++ p ∷ []) ≡ entries_from b m i ns ps ++ entry b (m (i + length ns)) n p ∷ []
 entries_from-push b m i [] [] n p long =
     entries_from-cons b m i n [] p []
     ∙ ap (λ es. entry b (m i) n p ∷ es) (entries_from-empty b m (suc i) [])
@@ -55,7 +58,8 @@ same_meaning b t ms (One part) is = ap Single (same_part b t part is)
 same_meaning b t ms Many is = refl
 
 -- the same entries, where a text goes to the end of the buffer and the lists from a number on stay
-pub entries_stay : (b t : Text) (m m' : Lists) (i : ℕ) (ns : List Text) (ps : List Place) → All (IsPlace b) ps → ((j : ℕ) → i ≤ j → m' j ≡ m j) → entries_from (b ++ t) m' i ns ps ≡ entries_from b m i ns ps
+pub entries_stay : (b t : Text) (m m' : Lists) (i : ℕ) (ns : List Text) (ps : List Place) → All (IsPlace b) ps → ((j : ℕ) → i ≤ j → m' j ≡ m j)
+    → entries_from (b ++ t) m' i ns ps ≡ entries_from b m i ns ps
 entries_stay b t m m' i [] ps are same = entries_from-empty (b ++ t) m' i ps ∙ sym (entries_from-empty b m i ps)
 entries_stay b t m m' i (n ∷ ns) [] are same = entries_from-short (b ++ t) m' i n ns ∙ sym (entries_from-short b m i n ns)
 entries_stay b t m m' i (n ∷ ns) (p ∷ ps) are same =
@@ -66,7 +70,8 @@ entries_stay b t m m' i (n ∷ ns) (p ∷ ps) are same =
     ∙ sym (entries_from-cons b m i n ns p ps)
 
 -- the same entries, where the lists from a number on stay
-pub entries_same : (b : Text) (m m' : Lists) (i : ℕ) (ns : List Text) (ps : List Place) → ((j : ℕ) → i ≤ j → m' j ≡ m j) → entries_from b m' i ns ps ≡ entries_from b m i ns ps
+pub entries_same : (b : Text) (m m' : Lists) (i : ℕ) (ns : List Text) (ps : List Place) → ((j : ℕ) → i ≤ j → m' j ≡ m j)
+    → entries_from b m' i ns ps ≡ entries_from b m i ns ps
 entries_same b m m' i [] ps same = entries_from-empty b m' i ps ∙ sym (entries_from-empty b m i ps)
 entries_same b m m' i (n ∷ ns) [] same = entries_from-short b m' i n ns ∙ sym (entries_from-short b m i n ns)
 entries_same b m m' i (n ∷ ns) (p ∷ ps) same =
@@ -77,13 +82,15 @@ entries_same b m m' i (n ∷ ns) (p ∷ ps) same =
 
 -- ---- look-ups
 
-pub is_there-entries : (b : Text) (m : Lists) (i : ℕ) (ns : List Text) (ps : List Place) (name : Text) → length ps ≡ length ns → is_there (entries_from b m i ns ps) name ≡ is_among name ns
+pub is_there-entries : (b : Text) (m : Lists) (i : ℕ) (ns : List Text) (ps : List Place) (name : Text) → length ps ≡ length ns
+    → is_there (entries_from b m i ns ps) name ≡ is_among name ns
 is_there-entries b m i [] ps name long = ap (λ es. is_there es name) (entries_from-empty b m i ps) ∙ ap is_some (look_up-empty name)
 is_there-entries b m i (n ∷ ns) [] name long = absurd (omega arith)
 is_there-entries b m i (n ∷ ns) (p ∷ ps) name long =
     ap (λ es. is_there es name) (entries_from-cons b m i n ns p ps) ∙ by_cases (bytes_eq n name) refl (is_there-entries b m (suc i) ns ps name (omega arith))
   where
-    by_cases : (r : Bool) → bytes_eq n name ≡ r → is_there (entries_from b m (suc i) ns ps) name ≡ is_among name ns → is_there (entry b (m i) n p ∷ entries_from b m (suc i) ns ps) name ≡ is_among name (n ∷ ns)
+    by_cases : (r : Bool) → bytes_eq n name ≡ r → is_there (entries_from b m (suc i) ns ps) name ≡ is_among name ns
+        → is_there (entry b (m i) n p ∷ entries_from b m (suc i) ns ps) name ≡ is_among name (n ∷ ns)
     by_cases true same behind = ap is_some (look_up-same (entry b (m i) n p) (entries_from b m (suc i) ns ps) name same) ∙ rw same refl
     by_cases false other behind = ap is_some (look_up-other (entry b (m i) n p) (entries_from b m (suc i) ns ps) name other) ∙ behind ∙ rw other refl
 
@@ -98,7 +105,8 @@ not_in_front e env name once there = by_cases (bytes_eq e.name name) refl
 pub itself : (name : Text) → bytes_eq name name ≡ true
 itself name = (bytes_eq-Decides name name).1 refl
 
-pub look_up-at : (b : Text) (m : Lists) (i : ℕ) (ns : List Text) (ps : List Place) (name : Text) (k : ℕ) (p : Place) → EachNameOnce (entries_from b m i ns ps) → slice_get ns k ≡ Some name → slice_get ps k ≡ Some p
+pub look_up-at : (b : Text) (m : Lists) (i : ℕ) (ns : List Text) (ps : List Place) (name : Text) (k : ℕ) (p : Place) → EachNameOnce (entries_from b m i ns ps)
+    → slice_get ns k ≡ Some name → slice_get ps k ≡ Some p
     → look_up (entries_from b m i ns ps) name ≡ Some (meaning_in b (m (i + k)) p)
 look_up-at b m i [] ps name k p once named placed = absurd (cc)
 look_up-at b m i (n ∷ ns) [] name k p once named placed = absurd (cc)
@@ -122,8 +130,10 @@ look_up-at b m i (n ∷ ns) (q ∷ ps) name (suc k) p once named placed =
 
 -- ---- one more member
 
-pub with_member-at : (b t : Text) (m m' : Lists) (i : ℕ) (ns : List Text) (ps : List Place) (name : Text) (k : ℕ) → EachNameOnce (entries_from b m i ns ps) → slice_get ns k ≡ Some name → slice_get ps k ≡ Some Many
-    → m' (i + k) ≡ m (i + k) ++ t ∷ [] → ((j : ℕ) → (i + k == j) ≡ false → m' j ≡ m j) → entries_from b m' i ns ps ≡ with_member (entries_from b m i ns ps) name t
+pub with_member-at : (b t : Text) (m m' : Lists) (i : ℕ) (ns : List Text) (ps : List Place) (name : Text) (k : ℕ) → EachNameOnce (entries_from b m i ns ps)
+    → slice_get ns k ≡ Some name → slice_get ps k ≡ Some Many
+    → m' (i + k) ≡ m (i + k) ++ t ∷ [] → ((j : ℕ) → (i + k == j) ≡ false → m' j ≡ m j) → entries_from b m' i ns ps ≡ with_member (entries_from b m i ns ps)
+    name t
 with_member-at b t m m' i [] ps name k once named placed own others = absurd (cc)
 with_member-at b t m m' i (n ∷ ns) [] name k once named placed own others = absurd (cc)
 with_member-at b t m m' i (n ∷ ns) (q ∷ ps) name zero once named placed own others =
@@ -146,6 +156,7 @@ with_member-at b t m m' i (n ∷ ns) (q ∷ ps) name (suc k) once named placed o
     let next : i + suc k ≡ suc i + k = omega arith in
     entries_from-cons b m' i n ns q ps
     ∙ ap (λ ms. entry b ms n q ∷ entries_from b m' (suc i) ns ps) (others i (is_not (i + suc k) i (λ at. omega arith)))
-    ∙ ap (λ es. e ∷ es) (with_member-at b t m m' (suc i) ns ps name k once'.1 named placed (subst (λ j. m' j ≡ m j ++ t ∷ []) next own) (λ j differs. others j (ap (λ x. x == j) next ∙ differs)))
+    ∙ ap (λ es. e ∷ es) (with_member-at b t m m' (suc i) ns ps name k once'.1 named placed (subst (λ j. m' j ≡ m j ++ t ∷ []) next own)
+    (λ j differs. others j (ap (λ x. x == j) next ∙ differs)))
     ∙ sym (with_member-other e env name t (not_in_front e env name once' there))
     ∙ ap (λ es. with_member es name t) (sym (entries_from-cons b m i n ns q ps))

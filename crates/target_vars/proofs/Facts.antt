@@ -1,5 +1,6 @@
 -- What the fields of an `Env` say of what callers see of it.
-use Rattle.std.proofs.Common.{◌≡◌, ℕ, ◌+◌, ◌<◌, ◌≤◌, List, ◌∷◌, ◌++◌, take, drop, insert, IsTrue, Bool, true, false, length, slice_get, get_or, Some, is_some, Result, Ok, Err, string_bytes, refl, sym, ap, ◌∙◌, subst, arith}
+use Rattle.std.proofs.Common.{◌≡◌, ℕ, ◌+◌, ◌<◌, ◌≤◌, List, ◌∷◌, ◌++◌, take, drop, insert, IsTrue, Bool, true, false, length, slice_get, get_or, Some, is_some}
+use Rattle.std.proofs.Common.{Result, Ok, Err, string_bytes, refl, sym, ap, ◌∙◌, subst, arith}
 use Rattle.std.specs.Prelude.{MatchResult}
 use Rattle.std.proofs.lemmas.Option.{slice_get-get_or, slice_get_within}
 use Rattle.text_model.specs.Texts.{Text}
@@ -25,16 +26,22 @@ IsHeld r = IsLaid (string_bytes r.buffer) r.spans.items r.names.listed r.places.
 -- ---- a name
 
 pub lacking : (r : Inside) (v : EnvValue) (name : Text) → IsHeld r → held r ≡ v → is_among name r.names.listed ≡ false → is_there v.entries name ≡ false
-lacking r v name laid is lacks = ap (λ (x : EnvValue). is_there x.entries name) (sym is) ∙ is_there-laid (string_bytes r.buffer) r.spans.items r.names.listed r.places.items name laid ∙ lacks
+lacking r v name laid is lacks = ap (λ (x : EnvValue). is_there x.entries name) (sym is) ∙ is_there-laid (string_bytes r.buffer) r.spans.items r.names.listed
+    r.places.items name laid ∙ lacks
 
 -- the place of a number that was found
 pub found_place : (r : Inside) (name : Text) (k : ℕ) → IsHeld r → slice_get r.names.listed k ≡ Some name → (p : Place) × (slice_get r.places.items k ≡ Some p)
-found_place r name k laid named = (get_or r.places.items k Many, (let one_each = laid.one_each in let below = slice_get_within r.names.listed k name named in slice_get-get_or r.places.items k Many (omega arith)))
+found_place r name k laid named = (
+  get_or r.places.items k Many,
+  (let one_each = laid.one_each in let below = slice_get_within r.names.listed k name named in
+      slice_get-get_or r.places.items k Many (omega arith)),
+)
 
 pub known : (r : Inside) (v : EnvValue) (name : Text) (k : ℕ) → IsHeld r → held r ≡ v → slice_get r.names.listed k ≡ Some name → is_there v.entries name ≡ true
 known r v name k laid is named =
     let p = found_place r name k laid named in
-    ap (λ (x : EnvValue). is_there x.entries name) (sym is) ∙ ap is_some (look_up-laid (string_bytes r.buffer) r.spans.items r.names.listed r.places.items name k p.0 laid named p.1)
+    ap (λ (x : EnvValue). is_there x.entries name) (sym is)
+    ∙ ap is_some (look_up-laid (string_bytes r.buffer) r.spans.items r.names.listed r.places.items name k p.0 laid named p.1)
 
 -- ---- what it stands for
 
@@ -77,20 +84,23 @@ found_list r name (Ok k) text laid named says none =
 found_list r name (Err gap) text laid named says none = named
 
 -- the number that was found is that of a place
-pub in_places : (r : Inside) (name : Text) (found : Result ℕ ℕ) → IsHeld r → IsFound r name found → MatchResult found (λ k. k < length r.places.items) (λ _. Unit {0})
+pub in_places : (r : Inside) (name : Text) (found : Result ℕ ℕ) → IsHeld r → IsFound r name found
+    → MatchResult found (λ k. k < length r.places.items) (λ _. Unit {0})
 in_places r name (Ok k) laid named = slice_get_within r.places.items k (found_place r name k laid named).0 (found_place r name k laid named).1
 in_places r name (Err gap) laid named = tt
 
 -- ---- the limits
 
-pub fits : (r : Inside) (v : EnvValue) (t : Text) (long : Bool) → IsHeld r → held r ≡ v → (MAX_BYTES < byte_count v.entries + length t → IsTrue long) → long ≡ false → length (string_bytes r.buffer) + length t ≤ MAX_BYTES
+pub fits : (r : Inside) (v : EnvValue) (t : Text) (long : Bool) → IsHeld r → held r ≡ v → (MAX_BYTES < byte_count v.entries + length t → IsTrue long)
+    → long ≡ false → length (string_bytes r.buffer) + length t ≤ MAX_BYTES
 fits r v t long laid is says none =
     let bytes = ap (λ (x : EnvValue). byte_count x.entries) is in
     let filled = laid.filled in
     let short = within long MAX_BYTES (byte_count v.entries + length t) says none in
     omega arith
 
-pub few : (r : Inside) (v : EnvValue) (full : Bool) → IsHeld r → held r ≡ v → (MAX_MEMBERS < member_count v.entries + 1 → IsTrue full) → full ≡ false → length r.spans.items + 1 ≤ MAX_MEMBERS
+pub few : (r : Inside) (v : EnvValue) (full : Bool) → IsHeld r → held r ≡ v → (MAX_MEMBERS < member_count v.entries + 1 → IsTrue full) → full ≡ false
+    → length r.spans.items + 1 ≤ MAX_MEMBERS
 few r v full laid is says none =
     let members = ap (λ (x : EnvValue). member_count x.entries) is in
     let counted = laid.counted in
@@ -105,11 +115,17 @@ laid_insert spans place s =
     ∙ ap (λ xs. xs ++ at s.part ∷ laid_spans (drop place spans)) (sym (take-map (λ (x : Span). at x.part) place spans))
     ∙ ap (λ xs. take place (laid_spans spans) ++ at s.part ∷ xs) (sym (drop-map (λ (x : Span). at x.part) place spans))
 
-pub span_put : (r : Inside) (v : EnvValue) (s : Span) (new : List Span) (n : ℕ) → held r ≡ v → IsPutLast r.spans.items s new → s.part.start ≡ length (string_bytes r.buffer) → s.part.len ≡ n
+pub span_put : (r : Inside) (v : EnvValue) (s : Span) (new : List Span) (n : ℕ) → held r ≡ v → IsPutLast r.spans.items s new
+    → s.part.start ≡ length (string_bytes r.buffer) → s.part.len ≡ n
     → (place : ℕ) × (place ≤ length v.spans) × (laid_spans new ≡ insert v.spans place (length v.buffer, n))
 span_put r v s new n is put start len =
     let long = length-map r.spans.items (λ (x : Span). at x.part) in
     let below : put.place ≤ length (laid_spans r.spans.items) = omega (arith, put.within) in
     let whole : at s.part ≡ (length (string_bytes r.buffer), n) = ap (λ o. (o, s.part.len)) start ∙ ap (λ l. (length (string_bytes r.buffer), l)) len in
-    let inserted : laid_spans new ≡ insert (laid_spans r.spans.items) put.place (length (string_bytes r.buffer), n) = ap laid_spans put.is ∙ laid_insert r.spans.items put.place s ∙ ap (insert (laid_spans r.spans.items) put.place) whole in
-    subst (λ (x : EnvValue). (place : ℕ) × (place ≤ length x.spans) × (laid_spans new ≡ insert x.spans place (length x.buffer, n))) is (put.place, below, inserted)
+    let inserted : laid_spans new ≡ insert (laid_spans r.spans.items) put.place (length (string_bytes r.buffer), n) =
+    ap laid_spans put.is ∙ laid_insert r.spans.items put.place s ∙ ap (insert (laid_spans r.spans.items) put.place) whole in
+    subst (λ (x : EnvValue). (place : ℕ) × (place ≤ length x.spans) × (laid_spans new ≡ insert x.spans place (length x.buffer, n))) is (
+      put.place,
+      below,
+      inserted,
+    )

@@ -1,5 +1,6 @@
 -- What is there keeps its place when a text goes to the end of the buffer.
-use Rattle.std.proofs.Common.{◌≡◌, ℕ, ◌+◌, List, [], ◌∷◌, ◌++◌, map, length, take, drop, All, IsUtf8, IsCharBoundary, refl, sym, ap, ◌∙◌, subst, arith, length-append, length-drop, take_all, drop_at}
+use Rattle.std.proofs.Common.{◌≡◌, ℕ, ◌+◌, List, [], ◌∷◌, ◌++◌, map, length, take, drop, All, IsUtf8, IsCharBoundary, refl, sym, ap, ◌∙◌, subst, arith}
+use Rattle.std.proofs.Common.{length-append, length-drop, take_all, drop_at}
 use Rattle.std.proofs.lemmas.List.{take-append-le, drop-append-le}
 use Rattle.std.proofs.lemmas.List.Elements.{All-head, All-tail, All-weaker}
 use Rattle.std.proofs.lemmas.Str.{IsUtf8-append, IsUtf8-take, IsCharBoundary-from_take, IsCharBoundary-at_seam, IsCharBoundary-end}
@@ -38,7 +39,8 @@ same_part b t p is =
 pub same_pieces : (b t : Text) (spans : List Span) → All (IsPiece b) spans → map (piece (b ++ t)) spans ≡ map (piece b) spans
 same_pieces b t [] are = refl
 same_pieces b t (s ∷ ss) are =
-    ap (λ x. x ∷ map (piece (b ++ t)) ss) (same_part b t s.part (All-head (IsPiece b) s ss are)) ∙ ap (λ xs. piece b s ∷ xs) (same_pieces b t ss (All-tail (IsPiece b) s ss are))
+    ap (λ x. x ∷ map (piece (b ++ t)) ss) (same_part b t s.part (All-head (IsPiece b) s ss are))
+    ∙ ap (λ xs. piece b s ∷ xs) (same_pieces b t ss (All-tail (IsPiece b) s ss are))
 
 -- ---- the text at the end
 

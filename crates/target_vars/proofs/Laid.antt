@@ -1,12 +1,14 @@
 -- What a name stands for, by its number.
-use Rattle.std.proofs.Common.{◌≡◌, ℕ, ◌+◌, ◌-◌, ◌<◌, List, [], ◌∷◌, false, map, length, take, drop, slice_get, get_or, Bor, option_copied, Option, Some, None, is_some, All, refl, sym, ap, ◌∙◌, subst, arith, zero-add, inr}
+use Rattle.std.proofs.Common.{◌≡◌, ℕ, ◌+◌, ◌-◌, ◌<◌, List, [], ◌∷◌, false, map, length, take, drop, slice_get, get_or, Bor, option_copied, Option, Some, None}
+use Rattle.std.proofs.Common.{is_some, All, refl, sym, ap, ◌∙◌, subst, arith, zero-add, inr}
 use Rattle.std.specs.Prelude.{slice_range}
 use Rattle.std.proofs.lemmas.List.{length-map, take-map, drop-map}
 use Rattle.std.proofs.lemmas.List.Elements.{All-tail, All-nil, All-map, All-get_or, All-weaker}
 use Rattle.std.proofs.lemmas.List.Sorted.{IsNonDecreasingBy-short}
 use Rattle.std.proofs.lemmas.Option.{slice_get-get_or, slice_get_within}
 use Rattle.text_model.specs.Texts.{Text}
-use Rattle.environment_model.specs.Environment.{Meaning, look_up, is_there, is_among, text_in, text_of, members_in as members_meant, members_of, byte_count, member_count}
+use Rattle.environment_model.specs.Environment.{Meaning, look_up, is_there, is_among, text_in, text_of, members_in as members_meant, members_of, byte_count}
+use Rattle.environment_model.specs.Environment.{member_count}
 use Rattle.target_vars.specs.EnvValue.{EnvValue, EachNameOnce, piece_at, IsWithin, AreMembersAt, IsInOrder}
 use Rattle.target_vars.specs.Layout.{at, piece, members_in, meaning_in, laid_entries, laid_spans, IsPart, IsPiece, IsPieces, IsPlace, IsRun, IsTextPart, IsLaid}
 use Rattle.target_vars.specs.declared.place.Part.{Part}
@@ -42,19 +44,24 @@ absent : (o : Option Meaning) → is_some o ≡ false → o ≡ None
 absent None h = refl
 absent (Some m) h = absurd (cc)
 
-pub is_there-laid : (b : Text) (spans : List Span) (names : List Text) (places : List Place) (name : Text) → IsLaid b spans names places → is_there (laid_entries b spans names places) name ≡ is_among name names
+pub is_there-laid : (b : Text) (spans : List Span) (names : List Text) (places : List Place) (name : Text) → IsLaid b spans names places
+    → is_there (laid_entries b spans names places) name ≡ is_among name names
 is_there-laid b spans names places name laid = is_there-entries b (members_in b spans) 0 names places name laid.one_each
 
-pub look_up-lacking : (b : Text) (spans : List Span) (names : List Text) (places : List Place) (name : Text) → IsLaid b spans names places → is_among name names ≡ false → look_up (laid_entries b spans names places) name ≡ None
-look_up-lacking b spans names places name laid lacks = absent (look_up (laid_entries b spans names places) name) (is_there-laid b spans names places name laid ∙ lacks)
+pub look_up-lacking : (b : Text) (spans : List Span) (names : List Text) (places : List Place) (name : Text) → IsLaid b spans names places
+    → is_among name names ≡ false → look_up (laid_entries b spans names places) name ≡ None
+look_up-lacking b spans names places name laid lacks =
+    absent (look_up (laid_entries b spans names places) name) (is_there-laid b spans names places name laid ∙ lacks)
 
-pub look_up-laid : (b : Text) (spans : List Span) (names : List Text) (places : List Place) (name : Text) (k : ℕ) (p : Place) → IsLaid b spans names places → slice_get names k ≡ Some name → slice_get places k ≡ Some p
+pub look_up-laid : (b : Text) (spans : List Span) (names : List Text) (places : List Place) (name : Text) (k : ℕ) (p : Place) → IsLaid b spans names places
+    → slice_get names k ≡ Some name → slice_get places k ≡ Some p
     → look_up (laid_entries b spans names places) name ≡ Some (meaning_in b (members_in b spans k) p)
 look_up-laid b spans names places name k p laid named placed =
     look_up-at b (members_in b spans) 0 names places name k p laid.once named placed ∙ ap (λ j. Some (meaning_in b (members_in b spans j) p)) (zero-add k)
 
 -- the place of a name's number
-pub place_read : (names : List Text) (places : List Place) (name : Text) (k : ℕ) (p : Place) → length places ≡ length names → slice_get names k ≡ Some name → p ≡ get_or places k p → slice_get places k ≡ Some p
+pub place_read : (names : List Text) (places : List Place) (name : Text) (k : ℕ) (p : Place) → length places ≡ length names → slice_get names k ≡ Some name
+    → p ≡ get_or places k p → slice_get places k ≡ Some p
 place_read names places name k p long named read =
     let below = slice_get_within names k name named in
     slice_get-get_or places k p (omega arith) ∙ ap Some (sym read)
@@ -62,10 +69,12 @@ place_read names places name k p long named read =
 -- ---- a text
 
 -- no part of an `Env` crosses the seam, which is at the buffer's beginning
-part_within : (b : Text) (spans : List Span) (names : List Text) (places : List Place) (part : Part) → IsPart b part → IsWithin (seen b spans names places) (at part)
+part_within : (b : Text) (spans : List Span) (names : List Text) (places : List Place) (part : Part) → IsPart b part
+    → IsWithin (seen b spans names places) (at part)
 part_within b spans names places part is = record { inside = is.ends.0; one_side = inr (omega arith) }
 
-pub text_part : (b : Text) (spans : List Span) (names : List Text) (places : List Place) (name : Text) (k : ℕ) (part : Part) → IsLaid b spans names places → slice_get names k ≡ Some name → slice_get places k ≡ Some (One part)
+pub text_part : (b : Text) (spans : List Span) (names : List Text) (places : List Place) (name : Text) (k : ℕ) (part : Part) → IsLaid b spans names places
+    → slice_get names k ≡ Some name → slice_get places k ≡ Some (One part)
     → IsTextPart (seen b spans names places) name part
 text_part b spans names places name k part laid named placed =
     let below = slice_get_within places k (One part) placed in
@@ -80,7 +89,8 @@ text_part b spans names places name k part laid named placed =
     some_is : {x y : Place} → Some x ≡ Some y → x ≡ y
     some_is same = cc
 
-pub no_text-at : (b : Text) (spans : List Span) (names : List Text) (places : List Place) (name : Text) (k : ℕ) → IsLaid b spans names places → slice_get names k ≡ Some name → slice_get places k ≡ Some Many
+pub no_text-at : (b : Text) (spans : List Span) (names : List Text) (places : List Place) (name : Text) (k : ℕ) → IsLaid b spans names places
+    → slice_get names k ≡ Some name → slice_get places k ≡ Some Many
     → text_of (laid_entries b spans names places) name ≡ None
 no_text-at b spans names places name k laid named placed = ap text_in (look_up-laid b spans names places name k Many laid named placed)
 
@@ -90,37 +100,44 @@ no_text-at b spans names places name k laid named placed = ap text_in (look_up-l
 pub no_members : (env : EnvValue) (name : Text) → members_of env.entries name ≡ [] → AreMembersAt env name 0 0
 no_members env name none = record { within = omega arith; are = none }
 
-pub no_members-at : (b : Text) (spans : List Span) (names : List Text) (places : List Place) (name : Text) (k : ℕ) (part : Part) → IsLaid b spans names places → slice_get names k ≡ Some name → slice_get places k ≡ Some (One part)
+pub no_members-at : (b : Text) (spans : List Span) (names : List Text) (places : List Place) (name : Text) (k : ℕ) (part : Part) → IsLaid b spans names places
+    → slice_get names k ≡ Some name → slice_get places k ≡ Some (One part)
     → AreMembersAt (seen b spans names places) name 0 0
 no_members-at b spans names places name k part laid named placed =
     no_members (seen b spans names places) name (ap members_meant (look_up-laid b spans names places name k (One part) laid named placed))
 
-pub no_members-lacking : (b : Text) (spans : List Span) (names : List Text) (places : List Place) (name : Text) → IsLaid b spans names places → is_among name names ≡ false → AreMembersAt (seen b spans names places) name 0 0
-no_members-lacking b spans names places name laid lacks = no_members (seen b spans names places) name (ap members_meant (look_up-lacking b spans names places name laid lacks))
+pub no_members-lacking : (b : Text) (spans : List Span) (names : List Text) (places : List Place) (name : Text) → IsLaid b spans names places
+    → is_among name names ≡ false → AreMembersAt (seen b spans names places) name 0 0
+no_members-lacking b spans names places name laid lacks =
+    no_members (seen b spans names places) name (ap members_meant (look_up-lacking b spans names places name laid lacks))
 
 -- the pieces of spans, by their offsets and lengths
 same_texts : (b : Text) (spans : List Span) → map (piece_at b) (laid_spans spans) ≡ map (piece b) spans
 same_texts b [] = refl
 same_texts b (s ∷ ss) = ap (λ xs. piece b s ∷ xs) (same_texts b ss)
 
-laid_run : (b : Text) (spans : List Span) (first count : ℕ) → map (piece_at b) (take count (drop first (laid_spans spans))) ≡ map (piece b) (take count (drop first spans))
+laid_run : (b : Text) (spans : List Span) (first count : ℕ) → map (piece_at b) (take count (drop first (laid_spans spans)))
+    ≡ map (piece b) (take count (drop first spans))
 laid_run b spans first count =
     ap (λ xs. map (piece_at b) (take count xs)) (drop-map (λ (s : Span). at s.part) first spans)
     ∙ ap (map (piece_at b)) (take-map (λ (s : Span). at s.part) count (drop first spans))
     ∙ same_texts b (take count (drop first spans))
 
-pub members_at : (b : Text) (spans : List Span) (names : List Text) (places : List Place) (name : Text) (k first count : ℕ) → IsLaid b spans names places → slice_get names k ≡ Some name → slice_get places k ≡ Some Many → IsRun spans k first count
+pub members_at : (b : Text) (spans : List Span) (names : List Text) (places : List Place) (name : Text) (k first count : ℕ) → IsLaid b spans names places
+    → slice_get names k ≡ Some name → slice_get places k ≡ Some Many → IsRun spans k first count
     → AreMembersAt (seen b spans names places) name first count
 members_at b spans names places name k first count laid named placed run =
     let long = length-map spans (λ (s : Span). at s.part) in
     let within = run.within in
     record {
       within = omega arith;
-      are = ap members_meant (look_up-laid b spans names places name k Many laid named placed) ∙ ap (map (piece b)) (sym run.is) ∙ sym (laid_run b spans first count);
+      are = ap members_meant (look_up-laid b spans names places name k Many laid named placed) ∙ ap (map (piece b)) (sym run.is)
+          ∙ sym (laid_run b spans first count);
     }
 
 -- the members that are lent
-pub members_lent : (b : Text) (spans : List Span) (env : EnvValue) (name : Text) (first count : ℕ) → env.buffer ≡ b → env.spans ≡ laid_spans spans → AreMembersAt env name first count → map (piece b) (slice_range spans first (first + count)) ≡ members_of env.entries name
+pub members_lent : (b : Text) (spans : List Span) (env : EnvValue) (name : Text) (first count : ℕ) → env.buffer ≡ b → env.spans ≡ laid_spans spans
+    → AreMembersAt env name first count → map (piece b) (slice_range spans first (first + count)) ≡ members_of env.entries name
 members_lent b spans env name first count buffer laid are =
     let many : first + count - first ≡ count = omega arith in
     ap (λ n. map (piece b) (take n (drop first spans))) many
@@ -138,13 +155,15 @@ after_first b s spans h = record {
 
 -- ---- all spans
 
-pub all_within : (b : Text) (spans : List Span) (names : List Text) (places : List Place) → All (IsPiece b) spans → All (IsWithin (seen b spans names places)) (laid_spans spans)
+pub all_within : (b : Text) (spans : List Span) (names : List Text) (places : List Place) → All (IsPiece b) spans
+    → All (IsWithin (seen b spans names places)) (laid_spans spans)
 all_within b spans names places pieces =
     let env = seen b spans names places in
     All-map (IsWithin env) (λ (s : Span). at s.part) spans
     (All-weaker (IsPiece b) (λ (s : Span). IsWithin env (at s.part)) (λ s is. part_within b spans names places s.part is) spans pieces)
 
-pub laid_in_order : (b : Text) (spans : List Span) (names : List Text) (places : List Place) → IsLaid b spans names places → IsInOrder (seen b spans names places)
+pub laid_in_order : (b : Text) (spans : List Span) (names : List Text) (places : List Place) → IsLaid b spans names places
+    → IsInOrder (seen b spans names places)
 laid_in_order b spans names places laid = record {
   buffer = laid.few_bytes;
   seam = omega arith;

@@ -1,4 +1,6 @@
 pub mod NameForks
+pub mod MoreForks
+pub mod NewForks
 pub mod Spans
 pub mod Once
 pub mod Growth

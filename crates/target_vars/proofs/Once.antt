@@ -3,7 +3,8 @@ use Rattle.std.proofs.Common.{◌≡◌, [], ◌∷◌, ◌++◌, Bool, true, fa
 use Rattle.std.proofs.lemmas.Slice.Eq.{bytes_eq-Decides}
 use Rattle.text_model.specs.Texts.{Text}
 use Rattle.environment_model.specs.Environment.{Environment, Entry, Several, is_there, with_member}
-use Rattle.environment_model.proofs.Environments.{look_up-empty, look_up-other, other_in_front, absent_behind, is_there-append, with_member-new, with_member-same, with_member-other, is_there-with_member}
+use Rattle.environment_model.proofs.Environments.{look_up-empty, look_up-other, other_in_front, absent_behind, is_there-append, with_member-new}
+use Rattle.environment_model.proofs.Environments.{with_member-same, with_member-other, is_there-with_member}
 use Rattle.target_vars.specs.EnvValue.{EachNameOnce}
 
 differs_back : (a b : Text) → bytes_eq a b ≡ false → bytes_eq b a ≡ false
@@ -16,14 +17,16 @@ differs_back a b differs = by_cases (bytes_eq b a) refl
 pub once-push : (env : Environment) (e : Entry) → EachNameOnce env → is_there env e.name ≡ false → EachNameOnce (env ++ e ∷ [])
 once-push [] e once absent = (ap is_some (look_up-empty e.name), tt)
 once-push (x ∷ env) e once absent =
-    let alone : is_there (e ∷ []) x.name ≡ false = ap is_some (look_up-other e [] x.name (differs_back x.name e.name (other_in_front x env e.name absent)) ∙ look_up-empty x.name) in
+    let alone : is_there (e ∷ []) x.name ≡ false =
+    ap is_some (look_up-other e [] x.name (differs_back x.name e.name (other_in_front x env e.name absent)) ∙ look_up-empty x.name) in
     (is_there-append env (e ∷ []) x.name once.0 alone, once-push env e once.1 (absent_behind x env e.name absent))
 
 once_longer : (env : Environment) (name t : Text) → is_there env name ≡ true → EachNameOnce env → EachNameOnce (with_member env name t)
 once_longer [] name t there once = let none : is_there [] name ≡ false = ap is_some (look_up-empty name) in absurd (cc)
 once_longer (e ∷ env) name t there once = by_cases (bytes_eq e.name name) refl (once_longer env name t)
   where
-    by_cases : (b : Bool) → bytes_eq e.name name ≡ b → (is_there env name ≡ true → EachNameOnce env → EachNameOnce (with_member env name t)) → EachNameOnce (with_member (e ∷ env) name t)
+    by_cases : (b : Bool) → bytes_eq e.name name ≡ b → (is_there env name ≡ true → EachNameOnce env → EachNameOnce (with_member env name t))
+        → EachNameOnce (with_member (e ∷ env) name t)
     by_cases true same behind = subst EachNameOnce (sym (with_member-same e env name t same)) (once.0, once.1)
     by_cases false other behind =
         let there' : is_there env name ≡ true = ap is_some (sym (look_up-other e env name other)) ∙ there in
@@ -34,4 +37,5 @@ once-with_member env name t once = by_cases (is_there env name) refl
   where
     by_cases : (b : Bool) → is_there env name ≡ b → EachNameOnce (with_member env name t)
     by_cases true there = once_longer env name t there once
-    by_cases false absent = subst EachNameOnce (sym (with_member-new env name t absent)) (once-push env (record { name = name; meaning = Several (t ∷ []) }) once absent)
+    by_cases false absent =
+        subst EachNameOnce (sym (with_member-new env name t absent)) (once-push env (record { name = name; meaning = Several (t ∷ []) }) once absent)

@@ -1,5 +1,6 @@
 -- The spans of a list among those of all lists.
-use Rattle.std.proofs.Common.{◌≡◌, ℕ, ◌+◌, ◌<◌, ◌≤◌, List, [], ◌∷◌, ◌++◌, Bool, true, false, cond, length, take, drop, get_or, insert, All, leb, ltb, refl, sym, ap, ◌∙◌, subst, arith, length-drop, length-take-le, take-append-drop, append-nil, leb-true, ltb-true, ltb-false}
+use Rattle.std.proofs.Common.{◌≡◌, ℕ, ◌+◌, ◌<◌, ◌≤◌, List, [], ◌∷◌, ◌++◌, Bool, true, false, cond, length, take, drop, get_or, insert, All, leb, ltb, refl, sym}
+use Rattle.std.proofs.Common.{ap, ◌∙◌, subst, arith, length-drop, length-take-le, take-append-drop, append-nil, leb-true, ltb-true, ltb-false}
 use Rattle.std.specs.Prelude.{◌==◌}
 use Rattle.std.specs.List.{AllWithin, filter}
 use Rattle.std.specs.List.Sorted.{IsNonDecreasingBy, IsPartitionPoint}
@@ -55,42 +56,55 @@ both s n from upto = let ge = ltb-false s.list n from in let le = leb-true s.lis
 
 -- ---- a list's spans
 
-pub run_is : (xs : List Span) (n first count : ℕ) → first ≤ length xs → IsNonDecreasingBy (λ s. s.list) xs → IsPartitionPoint (λ s. ltb s.list n ≡ true) (λ s. ltb s.list n ≡ false) xs first
+pub run_is : (xs : List Span) (n first count : ℕ) → first ≤ length xs → IsNonDecreasingBy (λ s. s.list) xs
+    → IsPartitionPoint (λ s. ltb s.list n ≡ true) (λ s. ltb s.list n ≡ false) xs first
     → count ≤ length (drop first xs) → IsPartitionPoint (λ s. leb s.list n ≡ true) (λ s. leb s.list n ≡ false) (drop first xs) count → IsRun xs n first count
 run_is xs n first count in_first order firsts in_count counts =
     let size = length-drop first xs in
     let p : Span → Bool = λ s. s.list == n in
     let ys = drop first xs in
-    let below : All (λ s. p s ≡ false) (take first xs) = All-weaker (λ s. ltb s.list n ≡ true) (λ s. p s ≡ false) (λ s h. lower s n (ltb-true s.list n h)) (take first xs) (before (λ s. ltb s.list n ≡ true) xs first in_first firsts.0) in
+    let below : All (λ s. p s ≡ false) (take first xs) = All-weaker (λ s. ltb s.list n ≡ true) (λ s. p s ≡ false) (λ s h. lower s n (ltb-true s.list n h))
+    (take first xs) (before (λ s. ltb s.list n ≡ true) xs first in_first firsts.0) in
     let from = behind (λ s. ltb s.list n ≡ false) xs first firsts.1 in
     let sized = length-take-le count ys in_count in
-    let at_least : (k : ℕ) (d : Span) → k < length (take count ys) → ltb (get_or (take count ys) k d).list n ≡ false = λ k d lt. subst (λ (x : Span). ltb x.list n ≡ false) (sym (get_or-take count ys k d (omega arith))) (from k d (omega arith)) in
+    let at_least : (k : ℕ) (d : Span) → k < length (take count ys) → ltb (get_or (take count ys) k d).list n
+    ≡ false = λ k d lt. subst (λ (x : Span). ltb x.list n ≡ false) (sym (get_or-take count ys k d (omega arith))) (from k d (omega arith)) in
     let upto = before (λ s. leb s.list n ≡ true) ys count in_count counts.0 in
     let own : All (λ s. p s ≡ true) (take count ys) = λ k d lt. both (get_or (take count ys) k d) n (at_least k d lt) (upto k d lt) in
-    let above : All (λ s. p s ≡ false) (drop count ys) = All-weaker (λ s. leb s.list n ≡ false) (λ s. p s ≡ false) (λ s h. higher s n (leb-false s.list n h)) (drop count ys) (behind (λ s. leb s.list n ≡ false) ys count counts.1) in
+    let above : All (λ s. p s ≡ false) (drop count ys) = All-weaker (λ s. leb s.list n ≡ false) (λ s. p s ≡ false) (λ s h. higher s n (leb-false s.list n h))
+    (drop count ys) (behind (λ s. leb s.list n ≡ false) ys count counts.1) in
     record {
       within = omega arith;
-      is = sym (ap (filter p) (sym (take-append-drop first xs)) ∙ filter-append p (take first xs) ys ∙ ap (λ zs. zs ++ filter p ys) (keeps_none p (take first xs) below)
-          ∙ ap (filter p) (sym (take-append-drop count ys)) ∙ filter-append p (take count ys) (drop count ys) ∙ ap (λ zs. zs ++ filter p (drop count ys)) (keeps_all p (take count ys) own)
+      is = sym (ap (filter p) (sym (take-append-drop first xs)) ∙ filter-append p (take first xs) ys
+          ∙ ap (λ zs. zs ++ filter p ys) (keeps_none p (take first xs) below)
+          ∙ ap (filter p) (sym (take-append-drop count ys)) ∙ filter-append p (take count ys) (drop count ys)
+          ∙ ap (λ zs. zs ++ filter p (drop count ys)) (keeps_all p (take count ys) own)
           ∙ ap (λ zs. take count ys ++ zs) (keeps_none p (drop count ys) above) ∙ append-nil (take count ys));
     }
 
-pub put_last_is : (xs : List Span) (s : Span) (place : ℕ) → place ≤ length xs → IsNonDecreasingBy (λ x. x.list) xs → IsPartitionPoint (λ x. leb x.list s.list ≡ true) (λ x. leb x.list s.list ≡ false) xs place
+pub put_last_is : (xs : List Span) (s : Span) (place : ℕ) → place ≤ length xs → IsNonDecreasingBy (λ x. x.list) xs
+    → IsPartitionPoint (λ x. leb x.list s.list ≡ true) (λ x. leb x.list s.list ≡ false) xs place
     → IsPutLast xs s (insert xs place s)
 put_last_is xs s place within order parted =
     let n = s.list in
     let front = take place xs in
     let back = drop place xs in
-    let above : All (λ x. (x.list == n) ≡ false) back = All-weaker (λ x. leb x.list n ≡ false) (λ x. (x.list == n) ≡ false) (λ x h. higher x n (leb-false x.list n h)) back (behind (λ x. leb x.list n ≡ false) xs place parted.1) in
+    let above : All (λ x. (x.list == n) ≡ false) back =
+    All-weaker (λ x. leb x.list n ≡ false) (λ x. (x.list == n) ≡ false) (λ x h. higher x n (leb-false x.list n h)) back
+    (behind (λ x. leb x.list n ≡ false) xs place parted.1) in
     let whole = λ (m : ℕ). sym (filter-append (λ (x : Span). x.list == m) front back) ∙ ap (λ ys. spans_of ys m) (take-append-drop place xs) in
     record {
       place = place;
       within = within;
       is = refl;
-      in_order = IsNonDecreasingBy-insert (λ x. x.list) xs place s order within (λ k d below. leb-true (get_or xs k d).list n (parted.0 k d (omega arith) below)) (λ k d from below. let gt = leb-false (get_or xs k d).list n (parted.1 k d from below) in omega arith);
+      in_order = IsNonDecreasingBy-insert (λ x. x.list) xs place s order within
+          (λ k d below. leb-true (get_or xs k d).list n (parted.0 k d (omega arith) below))
+          (λ k d from below. let gt = leb-false (get_or xs k d).list n (parted.1 k d from below) in omega arith);
       own = filter-append (λ (x : Span). x.list == n) front (s ∷ back)
-          ∙ ap (λ ys. spans_of front n ++ ys) (ap (λ v. cond v (s ∷ spans_of back n) (spans_of back n)) (is s n refl) ∙ ap (λ ys. s ∷ ys) (keeps_none (λ x. x.list == n) back above))
-          ∙ ap (λ ys. ys ++ s ∷ []) (sym (append-nil (spans_of front n)) ∙ ap (λ ys. spans_of front n ++ ys) (sym (keeps_none (λ x. x.list == n) back above)) ∙ whole n);
+          ∙ ap (λ ys. spans_of front n ++ ys) (ap (λ v. cond v (s ∷ spans_of back n) (spans_of back n)) (is s n refl)
+          ∙ ap (λ ys. s ∷ ys) (keeps_none (λ x. x.list == n) back above))
+          ∙ ap (λ ys. ys ++ s ∷ []) (sym (append-nil (spans_of front n)) ∙ ap (λ ys. spans_of front n ++ ys) (sym (keeps_none (λ x. x.list == n) back above))
+          ∙ whole n);
       others = λ m differs. filter-append (λ (x : Span). x.list == m) front (s ∷ back)
           ∙ ap (λ v. spans_of front m ++ cond v (s ∷ spans_of back m) (spans_of back m)) differs
           ∙ whole m;

@@ -1,7 +1,12 @@
-ghost use Rattle.std.specs.Prelude.{◌≡◌, ℕ, ◌++◌, ◌+◌, ◌<◌, ◌≤◌, ◌↔◌, ◌⊎◌, true, false, not, [], length, slice_get, IfOk, IfSome, IsTrue, MatchOption, insert, if◌then◌else◌, All, OnOk, OnErr, IsUtf8};
+//! The environment.
+
+ghost use Rattle.std.specs.Prelude.{◌≡◌, ℕ, ◌++◌, ◌+◌, ◌<◌, ◌≤◌, ◌↔◌, ◌⊎◌, true, false, not, [], length, slice_get};
+ghost use Rattle.std.specs.Prelude.{IfOk, IfSome, IsTrue, MatchOption, insert, if◌then◌else◌, All, OnOk, OnErr, IsUtf8};
 ghost use Rattle.std.specs.Option.{option_copied};
-ghost use Rattle.environment_model.specs.Environment.{is_there, text_of, members_of, byte_count, member_count, with_text, with_member};
-ghost use Rattle.target_vars.specs.EnvValue.{EachNameOnce, stands_for_text, IsWithin, IsTextAt, AreMembersAt, IsInOrder};
+ghost use Rattle.environment_model.specs.Environment.{is_there, text_of, members_of, byte_count, member_count};
+ghost use Rattle.environment_model.specs.Environment.{with_text, with_member};
+ghost use Rattle.target_vars.specs.EnvValue.{EachNameOnce, stands_for_text, IsWithin, IsTextAt, AreMembersAt};
+ghost use Rattle.target_vars.specs.EnvValue.{IsInOrder};
 ghost use Rattle.target_vars.specs.Layout.{IsTextPart};
 ghost use Rattle.target_vars.specs.Members.{members_left};
 
@@ -37,7 +42,13 @@ impl Model for Env {
     ghost use Rattle.std.specs.Prelude.{string_bytes};
     ghost use Rattle.target_vars.specs.Layout.{laid_entries, laid_spans, IsLaid};
 
-    ghost view = { λ env. record { entries = laid_entries (string_bytes env.buffer) env.spans.items env.names.listed env.places.items; buffer = string_bytes env.buffer; seam = 0; spans = laid_spans env.spans.items } };
+    ghost view = { λ env. record {
+      entries = laid_entries (string_bytes env.buffer) env.spans.items env.names.listed
+          env.places.items;
+      buffer = string_bytes env.buffer;
+      seam = 0;
+      spans = laid_spans env.spans.items;
+    } };
 
     ghost invariant = { λ env. IsLaid (string_bytes env.buffer) env.spans.items env.names.listed env.places.items };
 }
@@ -66,9 +77,11 @@ impl Env {
         ensures ok { OnOk result (self.new.entries ≡ with_text self.old.entries name.now text.now) }
         ensures known { is_there self.old.entries name.now ≡ true → result ≡ Ok false }
         ensures too_large { (result ≡ Err VarsError.TooLarge)
-            ↔ ((is_there self.old.entries name.now ≡ false) × (MAX_BYTES < byte_count self.old.entries + length text.now)) }
+            ↔ ((is_there self.old.entries name.now ≡ false)
+            × (MAX_BYTES < byte_count self.old.entries + length text.now)) }
         ensures err { OnErr result (self.new.entries ≡ self.old.entries) }
-        ensures buffer { IfOk result (λ is_new. self.new.buffer ≡ (if is_new then self.old.buffer ++ text.now else self.old.buffer)) }
+        ensures buffer { IfOk result
+            (λ is_new. self.new.buffer ≡ (if is_new then self.old.buffer ++ text.now else self.old.buffer)) }
         ensures spans { self.new.spans ≡ self.old.spans }
         ensures unmoved { OnErr result (self.new.buffer ≡ self.old.buffer) }
     {
@@ -101,13 +114,17 @@ impl Env {
     pub fn add_member(&mut self, name: &str, text: &str) -> Result<bool, VarsError>
         ensures answer { IfOk result (λ is_added. is_added ≡ not (stands_for_text self.old.entries name.now)) }
         ensures ok { OnOk result (self.new.entries ≡ with_member self.old.entries name.now text.now) }
-        ensures known { stands_for_text self.old.entries name.now ≡ true → (result ≡ Ok false) × (self.new.entries ≡ self.old.entries) }
+        ensures known { stands_for_text self.old.entries name.now ≡ true → (result ≡ Ok false)
+            × (self.new.entries ≡ self.old.entries) }
         ensures too_large { (result ≡ Err VarsError.TooLarge)
             ↔ ((stands_for_text self.old.entries name.now ≡ false)
-            × ((MAX_BYTES < byte_count self.old.entries + length text.now) ⊎ (MAX_MEMBERS < member_count self.old.entries + 1))) }
+            × ((MAX_BYTES < byte_count self.old.entries + length text.now)
+            ⊎ (MAX_MEMBERS < member_count self.old.entries + 1))) }
         ensures err { OnErr result (self.new.entries ≡ self.old.entries) }
-        ensures buffer { IfOk result (λ is_added. self.new.buffer ≡ (if is_added then self.old.buffer ++ text.now else self.old.buffer)) }
-        ensures span { result ≡ Ok true → (place : ℕ) × (place ≤ length self.old.spans) × (self.new.spans ≡ insert self.old.spans place (length self.old.buffer, length text.now)) }
+        ensures buffer { IfOk result
+            (λ is_added. self.new.buffer ≡ (if is_added then self.old.buffer ++ text.now else self.old.buffer)) }
+        ensures span { result ≡ Ok true → (place : ℕ) × (place ≤ length self.old.spans)
+            × (self.new.spans ≡ insert self.old.spans place (length self.old.buffer, length text.now)) }
         ensures unmoved { OnErr result ((self.new.buffer ≡ self.old.buffer) × (self.new.spans ≡ self.old.spans)) }
         ensures kept { result ≡ Ok false → self.new.spans ≡ self.old.spans }
     {
@@ -178,7 +195,8 @@ impl Env {
 
     /// Where the text of the name lies in the buffer: its offset and its length, in bytes. `None` for a list.
     pub fn text_at(&self, name: &str) -> Option<(u32, u32)>
-        ensures { MatchOption result (text_of self.now.entries name.now ≡ None) (λ at. IsTextAt self.now name.now (at.0, at.1)) }
+        ensures { MatchOption result (text_of self.now.entries name.now ≡ None)
+            (λ at. IsTextAt self.now name.now (at.0, at.1)) }
     {
         let part = self.part_of(name)?;
         Some((part.start, part.len))

@@ -1,3 +1,5 @@
+//! Why a text or a member was not added.
+
 use std::alloc::{AllocError, AllocFailed};
 use thiserror::Error;
 

@@ -1,3 +1,5 @@
+//! The members of a list.
+
 ghost use Rattle.std.specs.Prelude.{◌≡◌, ◌≤◌, length, slice_get, IfSome};
 ghost use Rattle.std.specs.Option.{option_copied};
 ghost use Rattle.target_vars.specs.Layout.{IsPieces};
@@ -64,7 +66,8 @@ impl<'a> Members<'a> {
 
     /// The first member and those after it; `None` where there is no member.
     pub fn split_first(&self) -> Option<(&'a str, Members<'a>)>
-        ensures value { MatchOption result (members_left self.now ≡ []) (λ split. members_left self.now ≡ split.0.now ∷ members_left split.1) }
+        ensures value { MatchOption result (members_left self.now ≡ [])
+            (λ split. members_left self.now ≡ split.0.now ∷ members_left split.1) }
         ensures small { IfSome result (λ split. length split.0.now ≤ MAX_BYTES) }
     {
         let (span, after) = self.spans.split_first()?;

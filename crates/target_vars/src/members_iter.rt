@@ -1,3 +1,5 @@
+//! An iterator over the members of a list.
+
 ghost use Rattle.std.specs.Prelude.{◌≡◌, ◌++◌, [], length, option_to_list, option_map, IfNone};
 ghost use Rattle.std.specs.Iterator.{at_most};
 ghost use Rattle.target_vars.specs.Members.{members_left, iter_members};
@@ -17,7 +19,9 @@ impl<'a> Iterator for MembersIter<'a> {
 
     ghost remaining = { λ it. at_most (length (iter_members it)) };
 
-    ghost next_gives = { λ old text new. (iter_members old ≡ option_to_list (option_map (λ t. t.now) text) ++ iter_members new) × IfNone text (iter_members new ≡ []) };
+    ghost next_gives = { λ old text new.
+        (iter_members old ≡ option_to_list (option_map (λ t. t.now) text) ++ iter_members new)
+        × IfNone text (iter_members new ≡ []) };
 
     fn next(&mut self) -> Option<&'a str> {
         let (first, others) = self.left.split_first()?;

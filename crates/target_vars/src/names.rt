@@ -1,3 +1,5 @@
+//! The names of an environment, and the search for a name.
+
 ghost use Rattle.std.specs.Prelude.{◌≡◌, [], ◌∷◌, ◌++◌, length, slice_get, slice_index_or, OnOk, OnErr, MatchResult};
 ghost use Rattle.target_vars.specs.Private.NamesValue.{IsGap, Separates};
 
@@ -70,7 +72,8 @@ impl Names {
 
     /// The number of the name, or else its gap: the fork at which the search for it ends.
     pub(crate) fn find(&self, name: &str) -> Result<usize, usize>
-        ensures { MatchResult result (λ number. slice_get self.now.listed number ≡ Some name.now) (IsGap self.now name.now) }
+        ensures { MatchResult result (λ number. slice_get self.now.listed number ≡ Some name.now)
+            (IsGap self.now name.now) }
     {
         let name = name.as_bytes();
         if self.forks.is_empty() {

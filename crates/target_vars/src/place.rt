@@ -1,4 +1,7 @@
-ghost use Rattle.std.specs.Prelude.{◌≡◌, false, ◌<◌, ◌≤◌, ◌+◌, [], ◌∷◌, ◌++◌, length, vec_len, vec_capacity, slice_get, MatchResult, IfOk, OnOk, OnErr};
+//! Where texts and members are in the environment's buffer.
+
+ghost use Rattle.std.specs.Prelude.{◌≡◌, false, ◌<◌, ◌≤◌, ◌+◌, [], ◌∷◌, ◌++◌, length, vec_len, vec_capacity, slice_get};
+ghost use Rattle.std.specs.Prelude.{MatchResult, IfOk, OnOk, OnErr};
 ghost use Rattle.std.specs.List.Sorted.{IsNonDecreasingBy};
 ghost use Rattle.target_vars.specs.Layout.{part_text, is_one, HasList, IsPart, IsPutLast, IsRun};
 ghost use Rattle.target_vars.specs.Private.NamesValue.{IsGap};
@@ -75,7 +78,8 @@ pub(crate) fn enter(
 /// The name that was found stands for a text.
 pub(crate) fn is_text(places: &[Place], found: Result<usize, usize>) -> bool
     requires { IfOk found (λ number. number < length places.now) }
-    ensures { MatchResult found (λ number. (place : PlaceValue) → slice_get places.now number ≡ Some place → result ≡ is_one place) (λ _. result ≡ false) }
+    ensures { MatchResult found (λ number. (place : PlaceValue) → slice_get places.now number ≡ Some place
+        → result ≡ is_one place) (λ _. result ≡ false) }
 {
     match found {
         Ok(number) => matches!(places[number], Place::One(_)),
@@ -90,7 +94,8 @@ pub(crate) fn list_of(
     name: &str,
     found: Result<usize, usize>,
 ) -> Result<usize, AllocError>
-    requires found { MatchResult found (λ number. (slice_get names.old.listed number ≡ Some name.now) × (slice_get places.old.items number ≡ Some Many)) (IsGap names.old name.now) }
+    requires found { MatchResult found (λ number. (slice_get names.old.listed number ≡ Some name.now)
+        × (slice_get places.old.items number ≡ Some Many)) (IsGap names.old name.now) }
     requires one_each { length places.old.items ≡ length names.old.listed }
     ensures ok { IfOk result (HasList names.old.listed places.old.items name.now names.new.listed places.new.items) }
     ensures err { OnErr result ((names.new.listed ≡ names.old.listed) × (places.new.items ≡ places.old.items)) }

@@ -1,7 +1,8 @@
 //! Room for what comes. A first growth has room for what a row and a request have as a rule, so that an ordinary
 //! environment takes few allocations.
 
-ghost use Rattle.std.specs.Prelude.{◌≡◌, ◌+◌, ◌≤◌, OnOk, vec_len, vec_capacity, string_bytes, string_len, string_capacity};
+ghost use Rattle.std.specs.Prelude.{◌≡◌, ◌+◌, ◌≤◌, OnOk, vec_len, vec_capacity, string_bytes, string_len};
+ghost use Rattle.std.specs.Prelude.{string_capacity};
 
 use std::alloc::AllocError;
 

@@ -10,8 +10,8 @@ use crate::env::{Env, MAX_BYTES, MAX_MEMBERS};
 /// An environment as a run sees it. No call allocates.
 ///
 /// The texts and members are pieces of one buffer, which an implementer may keep in two parts that meet at the seam; no
-/// piece crosses it. A look-up has the number of the name beside the name itself, so that an implementer may have looked
-/// all names up before.
+/// piece crosses it. A look-up has the number of the name beside the name itself, so that an implementer may have
+/// looked all names up before.
 pub trait Scope {
     /// The entries, and where their texts and members lie.
     ghost environment: { Self → EnvValue };
@@ -22,7 +22,8 @@ pub trait Scope {
     /// Where the text of the name lies: its offset and its length, in bytes. `None` for a list.
     fn text_at(&self, number: usize, name: &str) -> Option<(u32, u32)>
         requires { is_number self.now number name.now }
-        ensures { MatchOption result (text_of (environment self.now).entries name.now ≡ None) (λ at. IsTextAt (environment self.now) name.now (at.0, at.1)) };
+        ensures { MatchOption result (text_of (environment self.now).entries name.now ≡ None)
+            (λ at. IsTextAt (environment self.now) name.now (at.0, at.1)) };
 
     /// Which spans are those of the name's list: the first, and how many.
     fn members_at(&self, number: usize, name: &str) -> (u32, u32)

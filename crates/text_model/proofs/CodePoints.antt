@@ -33,14 +33,18 @@ following_two : (x y : ℕ) → prefix_len is_continuation ((128 + x % 64) ∷ (
 following_two x y = ap (λ b. cond b (1 + prefix_len is_continuation ((128 + y % 64) ∷ [])) 0) (following x) ∙ ap (λ n. 1 + n) (following_one y)
 
 following_three : (x y z : ℕ) → prefix_len is_continuation ((128 + x % 64) ∷ (128 + y % 64) ∷ (128 + z % 64) ∷ []) ≡ 3
-following_three x y z = ap (λ b. cond b (1 + prefix_len is_continuation ((128 + y % 64) ∷ (128 + z % 64) ∷ [])) 0) (following x) ∙ ap (λ n. 1 + n) (following_two y z)
+following_three x y z = ap (λ b. cond b (1 + prefix_len is_continuation ((128 + y % 64) ∷ (128 + z % 64) ∷ [])) 0) (following x)
+    ∙ ap (λ n. 1 + n) (following_two y z)
 
 encode_utf8-character : (c : ℕ) → IsCharacter (encode_utf8 c)
 unfolding encode_utf8
 encode_utf8-character c = by_tests (nat_lt c 128) (nat_lt c 2048) (nat_lt c 65536) refl
   where
     by_tests : (x y z : Bool) → nat_lt c 128 ≡ x
-        → IsCharacter (cond x (c ∷ []) (cond y ((192 + c / 64) ∷ (128 + c % 64) ∷ []) (cond z ((224 + c / 4096) ∷ (128 + c / 64 % 64) ∷ (128 + c % 64) ∷ []) ((240 + c / 262144) ∷ (128 + c / 4096 % 64) ∷ (128 + c / 64 % 64) ∷ (128 + c % 64) ∷ []))))
+        → IsCharacter (cond x (c ∷ [])
+        (cond y ((192 + c / 64) ∷ (128 + c % 64) ∷ [])
+        (cond z ((224 + c / 4096) ∷ (128 + c / 64 % 64) ∷ (128 + c % 64) ∷ [])
+        ((240 + c / 262144) ∷ (128 + c / 4096 % 64) ∷ (128 + c / 64 % 64) ∷ (128 + c % 64) ∷ []))))
     by_tests true y z e = character c [] (ascii c e) refl
     by_tests false true z e = character (192 + c / 64) _ (leading (192 + c / 64) (omega arith)) (following_one c)
     by_tests false false true e = character (224 + c / 4096) _ (leading (224 + c / 4096) (omega arith)) (following_two (c / 64) c)
@@ -63,7 +67,8 @@ run_through : (rest t : Text) → prefix_len is_continuation rest ≡ length res
 unfolding begins_anew
 run_through rest t r a =
     prefix_len-append is_continuation rest t
-    ∙ (ap (λ k. cond (eqb k (length rest)) (length rest + prefix_len is_continuation t) k) r ∙ either (eqb (length rest) (length rest)) (length rest) (prefix_len is_continuation t) a)
+    ∙ (ap (λ k. cond (eqb k (length rest)) (length rest + prefix_len is_continuation t) k) r ∙ either (eqb (length rest) (length rest)) (length rest)
+    (prefix_len is_continuation t) a)
   where
     either : (x : Bool) (m n : ℕ) → n ≡ 0 → cond x (m + n) m ≡ m
     either true m n e = omega arith
@@ -80,7 +85,8 @@ pub code_points-encode_utf8_all : (cs : List ℕ) → code_points (encode_utf8_a
 unfolding code_points
 code_points-encode_utf8_all [] = refl
 code_points-encode_utf8_all (c ∷ cs) =
-    next_character (encode_utf8 c) (encode_utf8_all cs) (encode_utf8-character c) (encode_utf8_all-anew cs) ∙ ap (λ x. encode_utf8 c ∷ x) (code_points-encode_utf8_all cs)
+    next_character (encode_utf8 c) (encode_utf8_all cs) (encode_utf8-character c) (encode_utf8_all-anew cs)
+    ∙ ap (λ x. encode_utf8 c ∷ x) (code_points-encode_utf8_all cs)
 
 joined-encode_utf8 : (cs : List ℕ) → joined (map encode_utf8 cs) ≡ encode_utf8_all cs
 joined-encode_utf8 [] = refl

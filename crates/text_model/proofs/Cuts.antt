@@ -1,5 +1,6 @@
 -- The items of a text: where the first one ends, and what the first n of them join to.
-use Rattle.std.proofs.Common.{◌≡◌, ℕ, zero, suc, ◌+◌, ◌≤◌, List, [], ◌∷◌, ◌++◌, length, take, drop, Bool, cond, sym, true, false, refl, ap, ◌∙◌, subst, arith, add-one, append_assoc, length-append}
+use Rattle.std.proofs.Common.{◌≡◌, ℕ, zero, suc, ◌+◌, ◌≤◌, List, [], ◌∷◌, ◌++◌, length, take, drop, Bool, cond, sym, true, false, refl, ap, ◌∙◌, subst, arith}
+use Rattle.std.proofs.Common.{add-one, append_assoc, length-append}
 use Rattle.std.specs.Prelude.{if◌then◌else◌}
 use Rattle.std.specs.List.{prefix_len}
 use Rattle.std.proofs.lemmas.Bool.{cond-true, cond-false}
@@ -32,7 +33,8 @@ joined-with_triplets (p ∷ []) = refl
 joined-with_triplets (p ∷ q ∷ []) = refl
 joined-with_triplets (p ∷ q ∷ r ∷ points) = by_test (are_triplet p q r) (joined-with_triplets points) (joined-with_triplets (q ∷ r ∷ points))
   where
-    by_test : (x : Bool) → joined (with_triplets points) ≡ joined points → joined (with_triplets (q ∷ r ∷ points)) ≡ joined (q ∷ r ∷ points) → joined (if x then ((p ++ q ++ r) ∷ with_triplets points) else (p ∷ with_triplets (q ∷ r ∷ points))) ≡ p ++ (q ++ (r ++ joined points))
+    by_test : (x : Bool) → joined (with_triplets points) ≡ joined points → joined (with_triplets (q ∷ r ∷ points)) ≡ joined (q ∷ r ∷ points)
+        → joined (if x then ((p ++ q ++ r) ∷ with_triplets points) else (p ∷ with_triplets (q ∷ r ∷ points))) ≡ p ++ (q ++ (r ++ joined points))
     by_test true i j = ap (λ x. (p ++ q ++ r) ++ x) i ∙ (append_assoc (p ++ q) r (joined points) ∙ append_assoc p q (r ++ joined points))
     by_test false i j = ap (λ x. p ++ x) j
 
@@ -80,7 +82,8 @@ begins_with_triplet_points p (q ∷ []) = false
 begins_with_triplet_points p (q ∷ r ∷ points) = are_triplet p q r
 
 -- a byte and the bytes of its code point behind it come first
-pub code_points-next : (b : ℕ) (t : Text) → code_points (b ∷ t) ≡ (b ∷ take (prefix_len is_continuation t) t) ∷ code_points (drop (prefix_len is_continuation t) t)
+pub code_points-next : (b : ℕ) (t : Text) → code_points (b ∷ t) ≡ (b ∷ take (prefix_len is_continuation t) t) ∷ code_points
+    (drop (prefix_len is_continuation t) t)
 unfolding code_points
 code_points-next b [] = refl
 code_points-next b (c ∷ t) = ap (with_byte b) (code_points-next c t) ∙ by_test (code_points-next c t) (is_continuation c)
@@ -88,7 +91,9 @@ code_points-next b (c ∷ t) = ap (with_byte b) (code_points-next c t) ∙ by_te
     k : ℕ
     k = prefix_len is_continuation t
 
-    by_test : code_points (c ∷ t) ≡ (c ∷ take k t) ∷ code_points (drop k t) → (x : Bool) → (if x then ((b ∷ c ∷ take k t) ∷ code_points (drop k t)) else ((b ∷ []) ∷ (c ∷ take k t) ∷ code_points (drop k t))) ≡ (b ∷ take (cond x (1 + k) 0) (c ∷ t)) ∷ code_points (drop (cond x (1 + k) 0) (c ∷ t))
+    by_test : code_points (c ∷ t) ≡ (c ∷ take k t) ∷ code_points (drop k t) → (x : Bool)
+        → (if x then ((b ∷ c ∷ take k t) ∷ code_points (drop k t)) else ((b ∷ []) ∷ (c ∷ take k t) ∷ code_points (drop k t)))
+        ≡ (b ∷ take (cond x (1 + k) 0) (c ∷ t)) ∷ code_points (drop (cond x (1 + k) 0) (c ∷ t))
     by_test next true = let e : 1 + k ≡ suc k = omega arith in rw e refl
     by_test next false = ap (λ x. (b ∷ []) ∷ x) (sym next)
 
@@ -100,6 +105,7 @@ with_triplets-first p (q ∷ []) e = refl
 with_triplets-first p (q ∷ r ∷ points) e = cond-false (are_triplet p q r) _ _ e
 
 -- three code points that are a triplet are an item
-pub with_triplets-triplet : (p q r : Text) (points : List Text) → are_triplet p q r ≡ true → with_triplets (p ∷ q ∷ r ∷ points) ≡ (p ++ q ++ r) ∷ with_triplets points
+pub with_triplets-triplet : (p q r : Text) (points : List Text) → are_triplet p q r ≡ true → with_triplets (p ∷ q ∷ r ∷ points)
+    ≡ (p ++ q ++ r) ∷ with_triplets points
 unfolding with_triplets
 with_triplets-triplet p q r points e = cond-true (are_triplet p q r) _ _ e

@@ -11,7 +11,8 @@ use Rattle.text_model.specs.declared.writing.Writing.TheVariants.{U, UR}
 pub IsUriText-append : (a b : Text) → IsUriText a → IsUriText b → IsUriText (a ++ b)
 IsUriText-append a _ h nothing = subst IsUriText (sym (append-nil a)) h
 IsUriText-append a _ h (and_character t c i p) = subst IsUriText (append_assoc a t (c ∷ [])) (and_character (a ++ t) c (IsUriText-append a t h i) p)
-IsUriText-append a _ h (and_triplet t c d i p q) = subst IsUriText (append_assoc a t (37 ∷ c ∷ d ∷ [])) (and_triplet (a ++ t) c d (IsUriText-append a t h i) p q)
+IsUriText-append a _ h (and_triplet t c d i p q) =
+    subst IsUriText (append_assoc a t (37 ∷ c ∷ d ∷ [])) (and_triplet (a ++ t) c d (IsUriText-append a t h i) p q)
 
 -- one character that may stand in a URI
 pub IsUriText-character : (b : ℕ) → is_unreserved_or_reserved b ≡ true → IsUriText (b ∷ [])
@@ -43,7 +44,8 @@ unreserved_first b e = rw e refl
 pub written_u-uri : (t : Text) → IsUriText (written_u t)
 unfolding written_u
 written_u-uri [] = nothing
-written_u-uri (b ∷ t) = IsUriText-append (written_byte (is_unreserved b) b) (written_u t) (written_byte-uri (is_unreserved b) b (unreserved_first b)) (written_u-uri t)
+written_u-uri (b ∷ t) = IsUriText-append (written_byte (is_unreserved b) b) (written_u t) (written_byte-uri (is_unreserved b) b (unreserved_first b))
+    (written_u-uri t)
 
 written_ur_byte-uri : (b : ℕ) → IsUriText (written_byte (is_unreserved_or_reserved b) b)
 written_ur_byte-uri b = written_byte-uri (is_unreserved_or_reserved b) b (λ e. e)
@@ -52,10 +54,12 @@ pub written_ur-uri : (t : Text) → IsUriText (written_ur t)
 unfolding written_ur
 written_ur-uri [] = nothing
 written_ur-uri (b ∷ []) = written_ur_byte-uri b
-written_ur-uri (b ∷ c ∷ []) = IsUriText-append (written_byte (is_unreserved_or_reserved b) b) (written_byte (is_unreserved_or_reserved c) c) (written_ur_byte-uri b) (written_ur_byte-uri c)
+written_ur-uri (b ∷ c ∷ []) = IsUriText-append (written_byte (is_unreserved_or_reserved b) b) (written_byte (is_unreserved_or_reserved c) c)
+    (written_ur_byte-uri b) (written_ur_byte-uri c)
 written_ur-uri (b ∷ high ∷ low ∷ t) = by_test (is_triplet b high low) refl (written_ur-uri t) (written_ur-uri (high ∷ low ∷ t))
   where
-    by_test : (x : Bool) → is_triplet b high low ≡ x → IsUriText (written_ur t) → IsUriText (written_ur (high ∷ low ∷ t)) → IsUriText (if x then (b ∷ high ∷ low ∷ written_ur t) else (written_byte (is_unreserved_or_reserved b) b ++ written_ur (high ∷ low ∷ t)))
+    by_test : (x : Bool) → is_triplet b high low ≡ x → IsUriText (written_ur t) → IsUriText (written_ur (high ∷ low ∷ t))
+        → IsUriText (if x then (b ∷ high ∷ low ∷ written_ur t) else (written_byte (is_unreserved_or_reserved b) b ++ written_ur (high ∷ low ∷ t)))
     by_test true e i j = IsUriText-append (b ∷ high ∷ low ∷ []) (written_ur t) (IsUriText-triplet b high low e) i
     by_test false e i j = IsUriText-append (written_byte (is_unreserved_or_reserved b) b) (written_ur (high ∷ low ∷ t)) (written_ur_byte-uri b) j
 

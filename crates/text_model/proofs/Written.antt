@@ -1,5 +1,6 @@
 -- What is written, piece by piece, and how long it is.
-use Rattle.std.proofs.Common.{◌≡◌, ℕ, ◌+◌, ◌*◌, ◌<◌, ◌≤◌, [], ◌∷◌, ◌++◌, length, get_or, take, drop, Bool, true, false, refl, sym, ap, ◌∙◌, arith, append_assoc, append-nil, length-append}
+use Rattle.std.proofs.Common.{◌≡◌, ℕ, ◌+◌, ◌*◌, ◌<◌, ◌≤◌, [], ◌∷◌, ◌++◌, length, get_or, take, drop, Bool, true, false, refl, sym, ap, ◌∙◌, arith, append_assoc}
+use Rattle.std.proofs.Common.{append-nil, length-append}
 use Rattle.std.specs.Prelude.{if◌then◌else◌}
 use Rattle.std.proofs.Math.ListN.{drop_of_length-le}
 use Rattle.std.proofs.lemmas.List.{drop_more}
@@ -23,7 +24,8 @@ unfolding written_u
 written_u-ended t i past = ap written_u (drop_of_length-le t past)
 
 -- from a place on, the byte there is written first
-pub written_u-drop : (t : Text) (i : ℕ) → i < length t → written_u (drop i t) ≡ written_byte (is_unreserved (get_or t i 0)) (get_or t i 0) ++ written_u (drop (i + 1) t)
+pub written_u-drop : (t : Text) (i : ℕ) → i < length t → written_u (drop i t) ≡ written_byte (is_unreserved (get_or t i 0)) (get_or t i 0)
+    ++ written_u (drop (i + 1) t)
 unfolding written_u
 written_u-drop t i inside = ap written_u (drop_more t i 0 inside)
 
@@ -41,7 +43,8 @@ written_ur-triplet (b ∷ c ∷ []) e = cc
 written_ur-triplet (b ∷ c ∷ d ∷ t) e = cond-true (is_triplet b c d) _ _ e
 
 -- and where none stands, the first byte is written by itself
-pub written_ur-byte : (t : Text) → begins_with_triplet t ≡ false → 0 < length t → written_ur t ≡ written_byte (is_unreserved_or_reserved (get_or t 0 0)) (get_or t 0 0) ++ written_ur (drop 1 t)
+pub written_ur-byte : (t : Text) → begins_with_triplet t ≡ false → 0 < length t → written_ur t ≡ written_byte (is_unreserved_or_reserved (get_or t 0 0))
+    (get_or t 0 0) ++ written_ur (drop 1 t)
 unfolding written_ur
 written_ur-byte [] e l = absurd (omega arith)
 written_ur-byte (b ∷ []) e l = sym (append-nil _)
@@ -57,19 +60,32 @@ length-written_byte false b = omega arith
 pub length-written_u : (t : Text) → length (written_u t) ≤ 3 * length t
 unfolding written_u
 length-written_u [] = omega arith
-length-written_u (b ∷ t) = omega (arith, length-written_u t, length-append (written_byte (is_unreserved b) b) (written_u t), length-written_byte (is_unreserved b) b)
+length-written_u (b ∷ t) =
+    omega (arith, length-written_u t, length-append (written_byte (is_unreserved b) b) (written_u t), length-written_byte (is_unreserved b) b)
 
 pub length-written_ur : (t : Text) → length (written_ur t) ≤ 3 * length t
 unfolding written_ur
 length-written_ur [] = omega arith
 length-written_ur (b ∷ []) = length-written_byte (is_unreserved_or_reserved b) b
 length-written_ur (b ∷ c ∷ []) =
-    omega (arith, length-append (written_byte (is_unreserved_or_reserved b) b) (written_byte (is_unreserved_or_reserved c) c), length-written_byte (is_unreserved_or_reserved b) b, length-written_byte (is_unreserved_or_reserved c) c)
+    omega (
+      arith,
+      length-append (written_byte (is_unreserved_or_reserved b) b) (written_byte (is_unreserved_or_reserved c) c),
+      length-written_byte (is_unreserved_or_reserved b) b,
+      length-written_byte (is_unreserved_or_reserved c) c,
+    )
 length-written_ur (b ∷ high ∷ low ∷ t) = by_test (is_triplet b high low) (length-written_ur t) (length-written_ur (high ∷ low ∷ t))
   where
-    by_test : (x : Bool) → length (written_ur t) ≤ 3 * length t → length (written_ur (high ∷ low ∷ t)) ≤ 3 * length (high ∷ low ∷ t) → length (if x then (b ∷ high ∷ low ∷ written_ur t) else (written_byte (is_unreserved_or_reserved b) b ++ written_ur (high ∷ low ∷ t))) ≤ 3 * length (b ∷ high ∷ low ∷ t)
+    by_test : (x : Bool) → length (written_ur t) ≤ 3 * length t → length (written_ur (high ∷ low ∷ t)) ≤ 3 * length (high ∷ low ∷ t)
+        → length (if x then (b ∷ high ∷ low ∷ written_ur t) else (written_byte (is_unreserved_or_reserved b) b ++ written_ur (high ∷ low ∷ t)))
+        ≤ 3 * length (b ∷ high ∷ low ∷ t)
     by_test true i j = omega (arith, i)
-    by_test false i j = omega (arith, j, length-append (written_byte (is_unreserved_or_reserved b) b) (written_ur (high ∷ low ∷ t)), length-written_byte (is_unreserved_or_reserved b) b)
+    by_test false i j = omega (
+      arith,
+      j,
+      length-append (written_byte (is_unreserved_or_reserved b) b) (written_ur (high ∷ low ∷ t)),
+      length-written_byte (is_unreserved_or_reserved b) b,
+    )
 
 pub length-written : (w : Writing) (t : Text) → length (written w t) ≤ 3 * length t
 length-written U t = length-written_u t

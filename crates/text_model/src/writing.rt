@@ -1,3 +1,5 @@
+//! Which characters a link keeps as they are.
+
 /// Which characters of a value stay as they are in a link, the column `allow` of RFC 6570,
 /// appendix A. Every other byte becomes a triplet.
 #[derive(Clone, Copy, PartialEq, Eq)]

@@ -1,3 +1,5 @@
+//! The steps of the search for a name.
+
 ghost use Rattle.std.specs.Prelude.{◌≡◌, ◌≢◌, ◌⊎◌, ◌<◌, length, vec_len, vec_capacity};
 ghost use Rattle.text_model.specs.Texts.{Text};
 ghost use Rattle.target_vars.specs.Private.NamesValue.{code_at, is_set, branch_of, turned, AreForward, Leads, IsForked};
@@ -37,7 +39,8 @@ impl Fork {
         requires { name.now ≢ other.now }
         ensures own { branch_of result name.now ≡ Ends number }
         ensures other { branch_of result other.now ≡ Ends other_number }
-        ensures ends { (text : Text) → (branch_of result text ≡ Ends number) ⊎ (branch_of result text ≡ Ends other_number) }
+        ensures ends { (text : Text) → (branch_of result text ≡ Ends number)
+            ⊎ (branch_of result text ≡ Ends other_number) }
     {
         let at = first_difference(name, other);
         let code = code_at(name, at);

@@ -1,5 +1,5 @@
 use Rattle.machine_model.specs.States.{Running}
-use Rattle.machine_laws.proofs.Sound.{reached, stepping}
+use Rattle.machine_laws.proofs.Safety.{reached, stepping}
 use Rattle.machine_laws.proofs.safe.reached_states_conform.Goals as goal
 
 pub returns-clause-conforms : goal.returns-clause-conforms

@@ -1,4 +1,5 @@
-use Rattle.machine_laws.proofs.Upgrades.{after_more, outcome_kept, form_kept, typable_kept, budget_kept, upgraded_once}
+use Rattle.machine_laws.proofs.Upgrades.{after_more, outcome_kept}
+use Rattle.machine_laws.proofs.UpgradedForm.{form_kept, typable_kept, budget_kept, upgraded_once}
 use Rattle.machine_laws.proofs.upgrade.upgrade_keeps_what_code_does.Goals as goal
 
 pub returns-clause-states : goal.returns-clause-states

@@ -12,6 +12,10 @@ returns c =
     let end = c.partition_point-end.result in
     let new : c.insert.new.self.items ≡ insert xs end s = search rules in
     let within : end ≤ length xs = omega (arith, c.partition_point-end.ensures.bound, ap length c.deref.ensures.value) in
-    let order = subst (IsPartitionedBy (λ (x : Span). leb x.list s.list)) (sym c.deref.ensures.value) (IsPartitionedBy-leb (λ (x : Span). x.list) xs s.list c.requires.in_order) in
-    let parted = IsPartitionPoint-from_clause (λ (x : Span). leb x.list s.list) c.deref.result.now end c.partition_point-end.ensures.partitioned order (λ a r q k. search rules) in
-    rw new (put_last_is xs s end within c.requires.in_order (subst (λ ys. IsPartitionPoint (λ (x : Span). leb x.list s.list ≡ true) (λ (x : Span). leb x.list s.list ≡ false) ys end) c.deref.ensures.value parted))
+    let order = subst (IsPartitionedBy (λ (x : Span). leb x.list s.list)) (sym c.deref.ensures.value)
+    (IsPartitionedBy-leb (λ (x : Span). x.list) xs s.list c.requires.in_order) in
+    let parted = IsPartitionPoint-from_clause (λ (x : Span). leb x.list s.list) c.deref.result.now end c.partition_point-end.ensures.partitioned order
+    (λ a r q k. search rules) in
+    rw new (put_last_is xs s end within c.requires.in_order
+    (subst (λ ys. IsPartitionPoint (λ (x : Span). leb x.list s.list ≡ true) (λ (x : Span). leb x.list s.list ≡ false) ys end) c.deref.ensures.value
+    parted))

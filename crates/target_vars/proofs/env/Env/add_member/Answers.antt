@@ -12,32 +12,47 @@ use Rattle.target_vars.proofs.env.Env.add_member.Goals.{then-is_too_long-via-the
 
 pub returns-then-is_text-clause-answer : goal.returns-then-is_text-clause-answer
 returns-then-is_text-clause-answer c =
-    let says : Says c.self.inside.places.items c.find-found.result c.is_text.result = subst (λ ps. Says ps c.find-found.result c.is_text.result) c.deref.ensures.value c.is_text.ensures in
-    let text : stands_for_text c.args.self.now.entries c.args.name.now ≡ true = decided c.self.inside c.args.self.now c.args.name.now c.find-found.result c.is_text.result c.self.invariant c.self.view_is c.find-found.ensures says ∙ c.if-is_text.true in
+    let says : Says c.self.inside.places.items c.find-found.result c.is_text.result =
+    subst (λ ps. Says ps c.find-found.result c.is_text.result) c.deref.ensures.value c.is_text.ensures in
+    let text : stands_for_text c.args.self.now.entries c.args.name.now ≡ true =
+    decided c.self.inside c.args.self.now c.args.name.now c.find-found.result c.is_text.result c.self.invariant c.self.view_is c.find-found.ensures says
+    ∙ c.if-is_text.true in
     ap not (sym text)
 
 pub returns-then-is_text-clause-ok : goal.returns-then-is_text-clause-ok
 returns-then-is_text-clause-ok c =
-    let says : Says c.self.inside.places.items c.find-found.result c.is_text.result = subst (λ ps. Says ps c.find-found.result c.is_text.result) c.deref.ensures.value c.is_text.ensures in
-    let text : stands_for_text c.args.self.now.entries c.args.name.now ≡ true = decided c.self.inside c.args.self.now c.args.name.now c.find-found.result c.is_text.result c.self.invariant c.self.view_is c.find-found.ensures says ∙ c.if-is_text.true in
+    let says : Says c.self.inside.places.items c.find-found.result c.is_text.result =
+    subst (λ ps. Says ps c.find-found.result c.is_text.result) c.deref.ensures.value c.is_text.ensures in
+    let text : stands_for_text c.args.self.now.entries c.args.name.now ≡ true =
+    decided c.self.inside c.args.self.now c.args.name.now c.find-found.result c.is_text.result c.self.invariant c.self.view_is c.find-found.ensures says
+    ∙ c.if-is_text.true in
     sym (with_member-text c.args.self.now.entries c.args.name.now c.args.text.now text)
 
 pub returns-then-is_text-clause-too_large : goal.returns-then-is_text-clause-too_large
 returns-then-is_text-clause-too_large c =
-    let says : Says c.self.inside.places.items c.find-found.result c.is_text.result = subst (λ ps. Says ps c.find-found.result c.is_text.result) c.deref.ensures.value c.is_text.ensures in
-    let text : stands_for_text c.args.self.now.entries c.args.name.now ≡ true = decided c.self.inside c.args.self.now c.args.name.now c.find-found.result c.is_text.result c.self.invariant c.self.view_is c.find-found.ensures says ∙ c.if-is_text.true in
+    let says : Says c.self.inside.places.items c.find-found.result c.is_text.result =
+    subst (λ ps. Says ps c.find-found.result c.is_text.result) c.deref.ensures.value c.is_text.ensures in
+    let text : stands_for_text c.args.self.now.entries c.args.name.now ≡ true =
+    decided c.self.inside c.args.self.now c.args.name.now c.find-found.result c.is_text.result c.self.invariant c.self.view_is c.find-found.ensures says
+    ∙ c.if-is_text.true in
     (λ is. absurd (cc), λ h. (let none = h.0 in absurd (cc)))
 
 pub returns-then-is_too_long-clause-known : goal.returns-then-is_too_long-clause-known
 returns-then-is_too_long-clause-known c =
-    let says : Says c.self.inside.places.items c.find-found.result c.is_text.result = subst (λ ps. Says ps c.find-found.result c.is_text.result) c.deref.ensures.value c.is_text.ensures in
-    let text : stands_for_text c.args.self.now.entries c.args.name.now ≡ false = decided c.self.inside c.args.self.now c.args.name.now c.find-found.result c.is_text.result c.self.invariant c.self.view_is c.find-found.ensures says ∙ c.if-is_text.false in
+    let says : Says c.self.inside.places.items c.find-found.result c.is_text.result =
+    subst (λ ps. Says ps c.find-found.result c.is_text.result) c.deref.ensures.value c.is_text.ensures in
+    let text : stands_for_text c.args.self.now.entries c.args.name.now ≡ false =
+    decided c.self.inside c.args.self.now c.args.name.now c.find-found.result c.is_text.result c.self.invariant c.self.view_is c.find-found.ensures says
+    ∙ c.if-is_text.false in
     λ there. absurd (cc)
 
 pub returns-then-is_too_long-clause-too_large : goal.returns-then-is_too_long-clause-too_large
 returns-then-is_too_long-clause-too_large c =
-    let says : Says c.self.inside.places.items c.find-found.result c.is_text.result = subst (λ ps. Says ps c.find-found.result c.is_text.result) c.deref.ensures.value c.is_text.ensures in
-    let text : stands_for_text c.args.self.now.entries c.args.name.now ≡ false = decided c.self.inside c.args.self.now c.args.name.now c.find-found.result c.is_text.result c.self.invariant c.self.view_is c.find-found.ensures says ∙ c.if-is_text.false in (
+    let says : Says c.self.inside.places.items c.find-found.result c.is_text.result =
+    subst (λ ps. Says ps c.find-found.result c.is_text.result) c.deref.ensures.value c.is_text.ensures in
+    let text : stands_for_text c.args.self.now.entries c.args.name.now ≡ false =
+    decided c.self.inside c.args.self.now c.args.name.now c.find-found.result c.is_text.result c.self.invariant c.self.view_is c.find-found.ensures says
+    ∙ c.if-is_text.false in (
       λ is. (
         text,
         elim c.then-is_too_long.branch [
@@ -50,26 +65,38 @@ returns-then-is_too_long-clause-too_large c =
 
 pub returns-in_err-reserve-clause-known : goal.returns-in_err-reserve-clause-known
 returns-in_err-reserve-clause-known c =
-    let says : Says c.self.inside.places.items c.find-found.result c.is_text.result = subst (λ ps. Says ps c.find-found.result c.is_text.result) c.deref.ensures.value c.is_text.ensures in
-    let text : stands_for_text c.args.self.now.entries c.args.name.now ≡ false = decided c.self.inside c.args.self.now c.args.name.now c.find-found.result c.is_text.result c.self.invariant c.self.view_is c.find-found.ensures says ∙ c.if-is_text.false in
+    let says : Says c.self.inside.places.items c.find-found.result c.is_text.result =
+    subst (λ ps. Says ps c.find-found.result c.is_text.result) c.deref.ensures.value c.is_text.ensures in
+    let text : stands_for_text c.args.self.now.entries c.args.name.now ≡ false =
+    decided c.self.inside c.args.self.now c.args.name.now c.find-found.result c.is_text.result c.self.invariant c.self.view_is c.find-found.ensures says
+    ∙ c.if-is_text.false in
     λ there. absurd (cc)
 
 pub returns-in_err-reserve-2-clause-known : goal.returns-in_err-reserve-2-clause-known
 returns-in_err-reserve-2-clause-known c =
-    let says : Says c.self.inside.places.items c.find-found.result c.is_text.result = subst (λ ps. Says ps c.find-found.result c.is_text.result) c.deref.ensures.value c.is_text.ensures in
-    let text : stands_for_text c.args.self.now.entries c.args.name.now ≡ false = decided c.self.inside c.args.self.now c.args.name.now c.find-found.result c.is_text.result c.self.invariant c.self.view_is c.find-found.ensures says ∙ c.if-is_text.false in
+    let says : Says c.self.inside.places.items c.find-found.result c.is_text.result =
+    subst (λ ps. Says ps c.find-found.result c.is_text.result) c.deref.ensures.value c.is_text.ensures in
+    let text : stands_for_text c.args.self.now.entries c.args.name.now ≡ false =
+    decided c.self.inside c.args.self.now c.args.name.now c.find-found.result c.is_text.result c.self.invariant c.self.view_is c.find-found.ensures says
+    ∙ c.if-is_text.false in
     λ there. absurd (cc)
 
 pub list_of-requires-clause-found : goal.list_of-requires-clause-found
 list_of-requires-clause-found c =
-    let says : Says c.self.inside.places.items c.find-found.result c.is_text.result = subst (λ ps. Says ps c.find-found.result c.is_text.result) c.deref.ensures.value c.is_text.ensures in
-    let text : stands_for_text c.args.self.now.entries c.args.name.now ≡ false = decided c.self.inside c.args.self.now c.args.name.now c.find-found.result c.is_text.result c.self.invariant c.self.view_is c.find-found.ensures says ∙ c.if-is_text.false in
+    let says : Says c.self.inside.places.items c.find-found.result c.is_text.result =
+    subst (λ ps. Says ps c.find-found.result c.is_text.result) c.deref.ensures.value c.is_text.ensures in
+    let text : stands_for_text c.args.self.now.entries c.args.name.now ≡ false =
+    decided c.self.inside c.args.self.now c.args.name.now c.find-found.result c.is_text.result c.self.invariant c.self.view_is c.find-found.ensures says
+    ∙ c.if-is_text.false in
     found_list c.self.inside c.args.name.now c.find-found.result c.is_text.result c.self.invariant c.find-found.ensures says c.if-is_text.false
 
 pub returns-in_err-list-clause-known : goal.returns-in_err-list-clause-known
 returns-in_err-list-clause-known c =
-    let says : Says c.self.inside.places.items c.find-found.result c.is_text.result = subst (λ ps. Says ps c.find-found.result c.is_text.result) c.deref.ensures.value c.is_text.ensures in
-    let text : stands_for_text c.args.self.now.entries c.args.name.now ≡ false = decided c.self.inside c.args.self.now c.args.name.now c.find-found.result c.is_text.result c.self.invariant c.self.view_is c.find-found.ensures says ∙ c.if-is_text.false in
+    let says : Says c.self.inside.places.items c.find-found.result c.is_text.result =
+    subst (λ ps. Says ps c.find-found.result c.is_text.result) c.deref.ensures.value c.is_text.ensures in
+    let text : stands_for_text c.args.self.now.entries c.args.name.now ≡ false =
+    decided c.self.inside c.args.self.now c.args.name.now c.find-found.result c.is_text.result c.self.invariant c.self.view_is c.find-found.ensures says
+    ∙ c.if-is_text.false in
     λ there. absurd (cc)
 
 pub invariant_of-self-2 : goal.invariant_of-self-2
@@ -79,15 +106,21 @@ invariant_of-self-2 c =
     let s : Span = record { list = c.in_ok-list.list; part = c.at_end-part.result } in
     let buffer : string_bytes c.push_str.new.self ≡ b ++ c.args.text.now = search rules in
     let start : s.part.start ≡ length b = search rules in
-    let put : IsPutLast r.spans.items s c.put_last.new.spans.items = subst (λ xs. IsPutLast xs s c.put_last.new.spans.items) c.reserve-2.ensures.items c.put_last.ensures in
+    let put : IsPutLast r.spans.items s c.put_last.new.spans.items =
+    subst (λ xs. IsPutLast xs s c.put_last.new.spans.items) c.reserve-2.ensures.items c.put_last.ensures in
     let short = fits r c.args.self.now c.args.text.now c.is_too_long.result c.self.invariant c.self.view_is c.is_too_long.ensures.1 c.if-is_too_long.false in
     let room = few r c.args.self.now c.is_full.result c.self.invariant c.self.view_is c.is_full.ensures.1 c.if-is_full.false in
-    rw buffer (laid_add b c.args.text.now r.spans.items r.names.listed r.places.items c.args.name.now c.list_of.new.names.listed c.list_of.new.places.items s c.put_last.new.spans.items (IsUtf8-string_bytes r.buffer) c.utf8.text c.self.invariant c.in_ok-list.ensures.ok put start c.at_end-part.ensures.len short room)
+    rw buffer (laid_add b c.args.text.now r.spans.items r.names.listed r.places.items c.args.name.now c.list_of.new.names.listed c.list_of.new.places.items s
+    c.put_last.new.spans.items (IsUtf8-string_bytes r.buffer) c.utf8.text c.self.invariant c.in_ok-list.ensures.ok put start c.at_end-part.ensures.len
+    short room)
 
 pub returns-clause-answer : goal.returns-clause-answer
 returns-clause-answer c =
-    let says : Says c.self.inside.places.items c.find-found.result c.is_text.result = subst (λ ps. Says ps c.find-found.result c.is_text.result) c.deref.ensures.value c.is_text.ensures in
-    let text : stands_for_text c.args.self.now.entries c.args.name.now ≡ false = decided c.self.inside c.args.self.now c.args.name.now c.find-found.result c.is_text.result c.self.invariant c.self.view_is c.find-found.ensures says ∙ c.if-is_text.false in
+    let says : Says c.self.inside.places.items c.find-found.result c.is_text.result =
+    subst (λ ps. Says ps c.find-found.result c.is_text.result) c.deref.ensures.value c.is_text.ensures in
+    let text : stands_for_text c.args.self.now.entries c.args.name.now ≡ false =
+    decided c.self.inside c.args.self.now c.args.name.now c.find-found.result c.is_text.result c.self.invariant c.self.view_is c.find-found.ensures says
+    ∙ c.if-is_text.false in
     ap not (sym text)
 
 pub returns-clause-ok : goal.returns-clause-ok
@@ -97,14 +130,19 @@ returns-clause-ok c =
     let s : Span = record { list = c.in_ok-list.list; part = c.at_end-part.result } in
     let buffer : string_bytes c.push_str.new.self ≡ b ++ c.args.text.now = search rules in
     let start : s.part.start ≡ length b = search rules in
-    let put : IsPutLast r.spans.items s c.put_last.new.spans.items = subst (λ xs. IsPutLast xs s c.put_last.new.spans.items) c.reserve-2.ensures.items c.put_last.ensures in
-    let is = add_is b c.args.text.now r.spans.items r.names.listed r.places.items c.args.name.now c.list_of.new.names.listed c.list_of.new.places.items s c.put_last.new.spans.items c.self.invariant c.in_ok-list.ensures.ok put start c.at_end-part.ensures.len in
+    let put : IsPutLast r.spans.items s c.put_last.new.spans.items =
+    subst (λ xs. IsPutLast xs s c.put_last.new.spans.items) c.reserve-2.ensures.items c.put_last.ensures in
+    let is = add_is b c.args.text.now r.spans.items r.names.listed r.places.items c.args.name.now c.list_of.new.names.listed c.list_of.new.places.items s
+    c.put_last.new.spans.items c.self.invariant c.in_ok-list.ensures.ok put start c.at_end-part.ensures.len in
     rw buffer (is ∙ ap (λ (v : EnvValue). with_member v.entries c.args.name.now c.args.text.now) c.self.view_is)
 
 pub returns-clause-known : goal.returns-clause-known
 returns-clause-known c =
-    let says : Says c.self.inside.places.items c.find-found.result c.is_text.result = subst (λ ps. Says ps c.find-found.result c.is_text.result) c.deref.ensures.value c.is_text.ensures in
-    let text : stands_for_text c.args.self.now.entries c.args.name.now ≡ false = decided c.self.inside c.args.self.now c.args.name.now c.find-found.result c.is_text.result c.self.invariant c.self.view_is c.find-found.ensures says ∙ c.if-is_text.false in
+    let says : Says c.self.inside.places.items c.find-found.result c.is_text.result =
+    subst (λ ps. Says ps c.find-found.result c.is_text.result) c.deref.ensures.value c.is_text.ensures in
+    let text : stands_for_text c.args.self.now.entries c.args.name.now ≡ false =
+    decided c.self.inside c.args.self.now c.args.name.now c.find-found.result c.is_text.result c.self.invariant c.self.view_is c.find-found.ensures says
+    ∙ c.if-is_text.false in
     λ there. absurd (cc)
 
 pub returns-clause-span : goal.returns-clause-span
@@ -114,5 +152,6 @@ returns-clause-span c =
     let s : Span = record { list = c.in_ok-list.list; part = c.at_end-part.result } in
     let buffer : string_bytes c.push_str.new.self ≡ b ++ c.args.text.now = search rules in
     let start : s.part.start ≡ length b = search rules in
-    let put : IsPutLast r.spans.items s c.put_last.new.spans.items = subst (λ xs. IsPutLast xs s c.put_last.new.spans.items) c.reserve-2.ensures.items c.put_last.ensures in
+    let put : IsPutLast r.spans.items s c.put_last.new.spans.items =
+    subst (λ xs. IsPutLast xs s c.put_last.new.spans.items) c.reserve-2.ensures.items c.put_last.ensures in
     λ is. span_put r c.args.self.now s c.put_last.new.spans.items (length c.args.text.now) c.self.view_is put start c.at_end-part.ensures.len

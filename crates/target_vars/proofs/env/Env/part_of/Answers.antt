@@ -9,7 +9,9 @@ use Rattle.target_vars.proofs.env.Env.part_of.Goals as goal
 pub returns-in_default : goal.returns-in_default
 returns-in_default c =
     let r = c.self.inside in
-    ap (λ (v : EnvValue). text_of v.entries c.args.name.now) (sym c.self.view_is) ∙ ap text_in (look_up-lacking (string_bytes r.buffer) r.spans.items r.names.listed r.places.items c.args.name.now c.self.invariant c.in_default.ensures.lacks)
+    ap (λ (v : EnvValue). text_of v.entries c.args.name.now) (sym c.self.view_is)
+    ∙ ap text_in (look_up-lacking (string_bytes r.buffer) r.spans.items r.names.listed r.places.items c.args.name.now c.self.invariant
+    c.in_default.ensures.lacks)
 
 pub index-requires : goal.index-requires
 index-requires c = omega (arith, slice_get_within c.self.inside.names.listed c.in-Ok.number c.args.name.now c.in-Ok.ensures, c.self.invariant.one_each)
@@ -17,11 +19,16 @@ index-requires c = omega (arith, slice_get_within c.self.inside.names.listed c.i
 pub returns-in-One : goal.returns-in-One
 returns-in-One c =
     let r = c.self.inside in
-    let placed = place_read r.names.listed r.places.items c.args.name.now c.in-Ok.number c.index.result.now c.self.invariant.one_each c.in-Ok.ensures c.index.ensures ∙ ap Some c.in-One.is in
-    subst (λ (v : EnvValue). IsTextPart v c.args.name.now c.in-One.part) c.self.view_is (text_part (string_bytes r.buffer) r.spans.items r.names.listed r.places.items c.args.name.now c.in-Ok.number c.in-One.part c.self.invariant c.in-Ok.ensures placed)
+    let placed = place_read r.names.listed r.places.items c.args.name.now c.in-Ok.number c.index.result.now c.self.invariant.one_each c.in-Ok.ensures
+    c.index.ensures ∙ ap Some c.in-One.is in
+    subst (λ (v : EnvValue). IsTextPart v c.args.name.now c.in-One.part) c.self.view_is
+    (text_part (string_bytes r.buffer) r.spans.items r.names.listed r.places.items c.args.name.now c.in-Ok.number c.in-One.part c.self.invariant
+    c.in-Ok.ensures placed)
 
 pub returns-in-Many : goal.returns-in-Many
 returns-in-Many c =
     let r = c.self.inside in
-    let placed = place_read r.names.listed r.places.items c.args.name.now c.in-Ok.number c.index.result.now c.self.invariant.one_each c.in-Ok.ensures c.index.ensures ∙ ap Some c.in-Many.is in
-    ap (λ (v : EnvValue). text_of v.entries c.args.name.now) (sym c.self.view_is) ∙ no_text-at (string_bytes r.buffer) r.spans.items r.names.listed r.places.items c.args.name.now c.in-Ok.number c.self.invariant c.in-Ok.ensures placed
+    let placed = place_read r.names.listed r.places.items c.args.name.now c.in-Ok.number c.index.result.now c.self.invariant.one_each c.in-Ok.ensures
+    c.index.ensures ∙ ap Some c.in-Many.is in
+    ap (λ (v : EnvValue). text_of v.entries c.args.name.now) (sym c.self.view_is) ∙ no_text-at (string_bytes r.buffer) r.spans.items r.names.listed
+    r.places.items c.args.name.now c.in-Ok.number c.self.invariant c.in-Ok.ensures placed

@@ -9,17 +9,20 @@ use Rattle.target_vars.proofs.env.Env.put_text.Goals as goal
 
 pub returns-in_default-clause-answer : goal.returns-in_default-clause-answer
 returns-in_default-clause-answer c =
-    let there : is_there c.args.self.now.entries c.args.name.now ≡ true = known c.self.inside c.args.self.now c.args.name.now c.in_default.field-0 c.self.invariant c.self.view_is c.in_default.ensures in
+    let there : is_there c.args.self.now.entries c.args.name.now ≡ true =
+    known c.self.inside c.args.self.now c.args.name.now c.in_default.field-0 c.self.invariant c.self.view_is c.in_default.ensures in
     ap not (sym there)
 
 pub returns-in_default-clause-ok : goal.returns-in_default-clause-ok
 returns-in_default-clause-ok c =
-    let there : is_there c.args.self.now.entries c.args.name.now ≡ true = known c.self.inside c.args.self.now c.args.name.now c.in_default.field-0 c.self.invariant c.self.view_is c.in_default.ensures in
+    let there : is_there c.args.self.now.entries c.args.name.now ≡ true =
+    known c.self.inside c.args.self.now c.args.name.now c.in_default.field-0 c.self.invariant c.self.view_is c.in_default.ensures in
     sym (with_text-known c.args.self.now.entries c.args.name.now c.args.text.now there)
 
 pub returns-in_default-clause-too_large : goal.returns-in_default-clause-too_large
 returns-in_default-clause-too_large c =
-    let there : is_there c.args.self.now.entries c.args.name.now ≡ true = known c.self.inside c.args.self.now c.args.name.now c.in_default.field-0 c.self.invariant c.self.view_is c.in_default.ensures in
+    let there : is_there c.args.self.now.entries c.args.name.now ≡ true =
+    known c.self.inside c.args.self.now c.args.name.now c.in_default.field-0 c.self.invariant c.self.view_is c.in_default.ensures in
     (λ is. absurd (cc), λ h. (let none = h.0 in absurd (cc)))
 
 pub returns-then-is_too_long-clause-known : goal.returns-then-is_too_long-clause-known
@@ -50,7 +53,9 @@ invariant_of-self-2 c =
     let buffer : string_bytes c.push_str.new.self ≡ b ++ c.args.text.now = search rules in
     let start : part.start ≡ length b = search rules in
     let short = fits r c.args.self.now c.args.text.now c.is_too_long.result c.self.invariant c.self.view_is c.is_too_long.ensures.1 c.if-is_too_long.false in
-    rw (buffer, c.in_ok-enter.ensures.names, c.in_ok-enter.ensures.places) (laid_put b c.args.text.now r.spans.items r.names.listed r.places.items c.args.name.now part (IsUtf8-string_bytes r.buffer) c.utf8.text c.self.invariant c.in-Err.ensures.lacks start c.at_end-part.ensures.len short)
+    rw (buffer, c.in_ok-enter.ensures.names, c.in_ok-enter.ensures.places)
+    (laid_put b c.args.text.now r.spans.items r.names.listed r.places.items c.args.name.now part (IsUtf8-string_bytes r.buffer) c.utf8.text
+    c.self.invariant c.in-Err.ensures.lacks start c.at_end-part.ensures.len short)
 
 pub returns-clause-answer : goal.returns-clause-answer
 returns-clause-answer c =
@@ -64,8 +69,10 @@ returns-clause-ok c =
     let part = c.at_end-part.result in
     let buffer : string_bytes c.push_str.new.self ≡ b ++ c.args.text.now = search rules in
     let start : part.start ≡ length b = search rules in
-    let is = put_is b c.args.text.now r.spans.items r.names.listed r.places.items c.args.name.now part c.self.invariant c.in-Err.ensures.lacks start c.at_end-part.ensures.len in
-    rw (buffer, c.in_ok-enter.ensures.names, c.in_ok-enter.ensures.places) (is ∙ ap (λ (v : EnvValue). with_text v.entries c.args.name.now c.args.text.now) c.self.view_is)
+    let is = put_is b c.args.text.now r.spans.items r.names.listed r.places.items c.args.name.now part c.self.invariant c.in-Err.ensures.lacks start
+    c.at_end-part.ensures.len in
+    rw (buffer, c.in_ok-enter.ensures.names, c.in_ok-enter.ensures.places)
+    (is ∙ ap (λ (v : EnvValue). with_text v.entries c.args.name.now c.args.text.now) c.self.view_is)
 
 pub returns-clause-known : goal.returns-clause-known
 returns-clause-known c =

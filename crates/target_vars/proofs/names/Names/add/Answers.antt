@@ -1,7 +1,7 @@
 use Rattle.std.proofs.Common.{rules, ◌≡◌, ◌+◌, [], ◌∷◌, ◌++◌, length, sym, ap, ◌∙◌, subst}
 use Rattle.target_vars.specs.Private.NamesValue.{NamesValue, IsGap, Separates, IsForked}
 use Rattle.target_vars.specs.declared.names.NamePlace.{NamePlace}
-use Rattle.target_vars.proofs.NameForks.{names_in-push, are_names-push}
+use Rattle.target_vars.proofs.MoreForks.{names_in-push, are_names-push}
 use Rattle.target_vars.proofs.names.Names.add.Goals as goal
 
 pub invariant_of-self-2 : goal.invariant_of-self-2
@@ -15,8 +15,10 @@ invariant_of-self-2 c =
     let end : p.end ≡ length r.bytes.items + length name = search rules in
     let forked : IsForked r.forks.items name c.args.gap c.fork_of-fork.result c.put_fork.new.forks.items =
     subst (λ xs. IsForked xs name c.args.gap c.fork_of-fork.result c.put_fork.new.forks.items) c.reserve_items-3.ensures.items
-    (subst (λ n. IsForked c.reserve_items-3.new.items.items n c.args.gap c.fork_of-fork.result c.put_fork.new.forks.items) c.as_bytes-2.ensures.value c.put_fork.ensures) in
-    let separates : Separates c.args.self.now name c.args.gap c.fork_of-fork.result = subst (λ n. Separates c.args.self.now n c.args.gap c.fork_of-fork.result) c.as_bytes.ensures.value c.fork_of-fork.ensures in
+    (subst (λ n. IsForked c.reserve_items-3.new.items.items n c.args.gap c.fork_of-fork.result c.put_fork.new.forks.items) c.as_bytes-2.ensures.value
+    c.put_fork.ensures) in
+    let separates : Separates c.args.self.now name c.args.gap c.fork_of-fork.result =
+    subst (λ n. Separates c.args.self.now n c.args.gap c.fork_of-fork.result) c.as_bytes.ensures.value c.fork_of-fork.ensures in
     rw (bytes, places)
     (are_names-push r.bytes.items name r.places.items r.forks.items c.put_fork.new.forks.items p c.args.gap c.fork_of-fork.result c.self.invariant
     (subst (λ (v : NamesValue). IsGap v name c.args.gap) (sym c.self.view_is) c.requires)
@@ -30,4 +32,5 @@ returns-clause-ok c =
     let places : c.push_reserved.new.self.items ≡ r.places.items ++ p ∷ [] = search rules in
     let start : p.start ≡ length r.bytes.items = search rules in
     let end : p.end ≡ length r.bytes.items + length c.args.name.now = search rules in
-    rw (bytes, places) (names_in-push r.bytes.items c.args.name.now r.places.items p c.self.invariant.placed start end ∙ ap (λ (v : NamesValue). v.listed ++ c.args.name.now ∷ []) c.self.view_is)
+    rw (bytes, places) (names_in-push r.bytes.items c.args.name.now r.places.items p c.self.invariant.placed start end
+    ∙ ap (λ (v : NamesValue). v.listed ++ c.args.name.now ∷ []) c.self.view_is)

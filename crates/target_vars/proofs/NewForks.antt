@@ -1,0 +1,157 @@
+-- The fork of a new name.
+
+use Rattle.std.proofs.Common.{◌≡◌, ℕ, ◌+◌, ◌-◌, ◌<◌, ◌≤◌, ◌⊎◌, inl, inr, List, [], ◌∷◌, Bool, true, false, length, drop, get_or, slice_get, Some, bytes_eq}
+use Rattle.std.proofs.Common.{refl, sym, ap, ◌∙◌, subst, arith, ⊎_elim}
+use Rattle.std.specs.Prelude.{◌==◌, ◌/◌, ◌%◌, ◌^◌, slice_range}
+use Rattle.std.specs.Option.{option_map, option_map_or}
+use Rattle.std.proofs.Math.ListN.{drop_of_length-le}
+use Rattle.std.proofs.Math.Nat.{pow-suc, div-div-eq-div-mul, div-add-mod', div-eq_of_lt, mod-eq_of_lt}
+use Rattle.std.proofs.Math.Numerals.{add-one}
+use Rattle.std.proofs.lemmas.Bool.{cases_lt}
+use Rattle.std.proofs.lemmas.Bool.Decides.{Decides-eqb}
+use Rattle.std.proofs.lemmas.List.{length-map, drop_more}
+use Rattle.std.proofs.lemmas.List.Folds.{list_any_at}
+use Rattle.std.proofs.lemmas.Option.{slice_get-get_or, slice_get_past}
+use Rattle.std.proofs.lemmas.Slice.Eq.{bytes_eq-Decides}
+use Rattle.text_model.specs.Texts.{Text}
+use Rattle.environment_model.specs.Environment.{is_among}
+use Rattle.target_vars.specs.Private.NamesValue.{NamesValue, names_in, code_at, is_set, branch_of, branch_at, AreNames, IsGap, Separates}
+use Rattle.target_vars.specs.declared.names.NamePlace.{NamePlace}
+use Rattle.target_vars.specs.declared.names.forks.Fork.{Fork}
+use Rattle.target_vars.specs.declared.names.forks.Branch.{Branch}
+use Rattle.target_vars.specs.declared.names.forks.Branch.TheVariants.{Further, Ends}
+use Rattle.target_vars.proofs.NameForks.{ends_there, fork_there}
+
+-- no search ends at a fork past the last one
+none_listed : (v : NamesValue) (name : Text) (gap : ℕ) → IsGap v name gap → length v.forks ≤ gap → length v.listed ≡ 0
+none_listed v name gap is past =
+    ⊎_elim
+    (λ some. let ends = is.ends some in
+    absurd (let below = fork_there v.forks name gap (Ends ends.0) (ends_there ends.2.path v.forks name 0 gap ends.0 ends.2.passes) in omega arith))
+    (λ none. omega arith)
+    (cases_lt 0 (length v.listed))
+
+pub first_separates : (v : NamesValue) (name : Text) (gap : ℕ) (fork : Fork) → IsGap v name gap → length v.forks ≤ gap
+    → ((text : Text) → branch_of fork text ≡ Ends 0) → Separates v name gap fork
+first_separates v name gap fork is past first =
+    let none = none_listed v name gap is past in
+    record {
+      own = first name ∙ ap Ends (sym none);
+      other = λ number ends. absurd (let below = fork_there v.forks name gap (Ends number) ends in omega arith);
+      ends = λ text. (0, omega arith, first text);
+    }
+
+-- a fork that is read, and where the search for a name continues after it
+pub fork_read : (v : NamesValue) (forks : List Fork) (gap : ℕ) (last : Fork) → forks ≡ v.forks → gap < length forks → last ≡ get_or forks gap last
+    → slice_get v.forks gap ≡ Some last
+fork_read v forks gap last same below read = ap (λ fs. slice_get fs gap) (sym same) ∙ slice_get-get_or forks gap last below ∙ ap Some (sym read)
+
+pub each_fork : (bytes : Text) (places : List NamePlace) (forks : List Fork) → AreNames bytes places forks → length (names_in bytes places) ≡ length forks
+each_fork bytes places forks are = length-map places (λ (p : NamePlace). slice_range bytes p.start p.end) ∙ sym are.one_each
+
+pub gap_branch : (forks : List Fork) (name : Text) (gap : ℕ) (last : Fork) (branch : Branch) → slice_get forks gap ≡ Some last → branch ≡ branch_of last name
+    → branch_at forks name gap ≡ Some branch
+gap_branch forks name gap last branch there is = ap (option_map (λ (f : Fork). branch_of f name)) there ∙ ap Some (sym is)
+
+-- the number with which the search ends at the gap
+gap_number : (v : NamesValue) (name : Text) (gap : ℕ) (branch : Branch) → length v.listed ≡ length v.forks → IsGap v name gap
+    → branch_at v.forks name gap ≡ Some branch → (number : ℕ) × (number < length v.listed) × (branch ≡ Ends number)
+gap_number v name gap branch each is there =
+    let below = fork_there v.forks name gap branch there in
+    let ends = is.ends (omega arith) in
+    let at = ends_there ends.2.path v.forks name 0 gap ends.0 ends.2.passes in
+    (ends.0, ends.1, (let same : branch ≡ Ends ends.0 = cc in same))
+
+pub no_further : (v : NamesValue) (name : Text) (gap next : ℕ) → length v.listed ≡ length v.forks → IsGap v name gap
+    → branch_at v.forks name gap ≡ Some (Further next) → ⊥
+no_further v name gap next each is there = let number = gap_number v name gap (Further next) each is there in let same = number.2 in cc
+
+pub gap_known : (v : NamesValue) (name : Text) (gap number : ℕ) → length v.listed ≡ length v.forks → IsGap v name gap
+    → branch_at v.forks name gap ≡ Some (Ends number) → number < length v.listed
+gap_known v name gap number each is there =
+    let known = gap_number v name gap (Ends number) each is there in
+    let same = known.2 in
+    let here : number ≡ known.0 = cc in
+    subst (λ n. n < length v.listed) (sym here) known.1
+
+pub another : (v : NamesValue) (name : Text) (gap number : ℕ) → IsGap v name gap → number < length v.listed → name ≡ get_or v.listed number [] → ⊥
+another v name gap number is below same =
+    let there : is_among name v.listed ≡ true =
+    list_any_at (λ n. bytes_eq n name) v.listed number [] below ((bytes_eq-Decides (get_or v.listed number []) name).1 (sym same)) in
+    let lacks = is.lacks in
+    cc
+
+pub between_separates : (v : NamesValue) (name other : Text) (gap number count : ℕ) (fork : Fork) → length v.listed ≡ length v.forks → IsGap v name gap
+    → branch_at v.forks name gap ≡ Some (Ends number) → count ≡ length v.listed → other ≡ get_or v.listed number []
+    → branch_of fork name ≡ Ends count → branch_of fork other ≡ Ends number
+    → ((text : Text) → (branch_of fork text ≡ Ends count) ⊎ (branch_of fork text ≡ Ends number)) → Separates v name gap fork
+between_separates v name other gap number count fork each is there all nearest own others ends =
+    let below = gap_known v name gap number each is there in
+    record {
+      own = own ∙ ap Ends all;
+      other = λ k at. (let same : number ≡ k = cc in
+          subst (λ n. branch_of fork (get_or v.listed n []) ≡ Ends n) same (ap (branch_of fork) (sym nearest) ∙ others));
+      ends = λ text. ⊎_elim (λ to. (count, omega arith, to)) (λ to. (number, omega arith, to)) (ends text);
+    }
+
+-- ---- where two names differ
+
+code_within : (t : Text) (at : ℕ) → at < length t → code_at t at ≡ get_or t at 0 + 1
+code_within t at below = ap (λ o. option_map_or (λ byte. byte + 1) o 0) (slice_get-get_or t at 0 below)
+
+code_past : (t : Text) (at : ℕ) → length t ≤ at → code_at t at ≡ 0
+code_past t at past = ap (λ o. option_map_or (λ byte. byte + 1) o 0) (slice_get_past t at past)
+
+pub same_code : (a b : Text) (at : ℕ) → (drop at a ≡ drop at b → ⊥) → code_at a at ≡ code_at b at → (at < length a) × (drop (at + 1) a ≡ drop (at + 1) b → ⊥)
+same_code a b at differ same = by_cases (cases_lt at (length a)) (cases_lt at (length b))
+  where
+    by_cases : (at < length a) ⊎ (length a ≤ at) → (at < length b) ⊎ (length b ≤ at) → (at < length a) × (drop (at + 1) a ≡ drop (at + 1) b → ⊥)
+    by_cases (inl one) (inl two) =
+        let first = code_within a at one in
+        let second = code_within b at two in
+        let byte : get_or a at 0 ≡ get_or b at 0 = omega arith in
+        (one, λ rest. differ (drop_more a at 0 one ∙ ap (λ x. x ∷ drop (at + 1) a) byte ∙ ap (λ xs. get_or b at 0 ∷ xs) rest ∙ sym (drop_more b at 0 two)))
+    by_cases (inl one) (inr past) = let first = code_within a at one in let second = code_past b at past in absurd (omega arith)
+    by_cases (inr past) (inl two) = let first = code_past a at past in let second = code_within b at two in absurd (omega arith)
+    by_cases (inr one) (inr two) = absurd (differ (drop_of_length-le a one ∙ sym (drop_of_length-le b two)))
+
+halved : (x bit : ℕ) → x / 2 ^ (bit + 1) ≡ x / 2 ^ bit / 2
+halved x bit = ap (λ n. x / 2 ^ n) (add-one bit) ∙ ap (λ n. x / n) (pow-suc 2 bit) ∙ sym (div-div-eq-div-mul x (2 ^ bit) 2)
+
+same_parity : (m n : ℕ) → (m % 2 == 1) ≡ (n % 2 == 1) → m % 2 ≡ n % 2
+same_parity m n same = by_cases (m % 2 == 1) (n % 2 == 1) refl refl
+  where
+    by_cases : (a b : Bool) → (m % 2 == 1) ≡ a → (n % 2 == 1) ≡ b → m % 2 ≡ n % 2
+    by_cases true true one two = let x = (Decides-eqb (m % 2) 1).0 one in let y = (Decides-eqb (n % 2) 1).0 two in omega arith
+    by_cases false false one two =
+        let x : m % 2 ≡ 1 → ⊥ = λ is. (let yes = (Decides-eqb (m % 2) 1).1 is in cc) in
+        let y : n % 2 ≡ 1 → ⊥ = λ is. (let yes = (Decides-eqb (n % 2) 1).1 is in cc) in
+        omega arith
+    by_cases true false one two = absurd (cc)
+    by_cases false true one two = absurd (cc)
+
+pub same_bit : (x y bit : ℕ) → x < 2 ^ 16 → y < 2 ^ 16 → bit < 16 → (x / 2 ^ bit ≡ y / 2 ^ bit → ⊥) → is_set x bit ≡ is_set y bit
+    → (bit + 1 < 16) × (x / 2 ^ (bit + 1) ≡ y / 2 ^ (bit + 1) → ⊥)
+same_bit x y bit xs ys few differ same = (below, rest)
+  where
+    parity : (x / 2 ^ bit) % 2 ≡ (y / 2 ^ bit) % 2
+    parity =
+        let low : bit % 16 ≡ bit = mod-eq_of_lt few in
+        same_parity (x / 2 ^ bit) (y / 2 ^ bit) (subst (λ k. ((x / 2 ^ k) % 2 == 1) ≡ ((y / 2 ^ k) % 2 == 1)) low same)
+
+    rest : x / 2 ^ (bit + 1) ≡ y / 2 ^ (bit + 1) → ⊥
+    rest is =
+        let m = x / 2 ^ bit in
+        let n = y / 2 ^ bit in
+        let half : m / 2 ≡ n / 2 = sym (halved x bit) ∙ is ∙ halved y bit in
+        let one = div-add-mod' m 2 in
+        let two = div-add-mod' n 2 in
+        let odd = parity in
+        differ (omega arith)
+
+    below : bit + 1 < 16
+    below =
+        ⊎_elim (λ less. less)
+        (λ all. let last : bit + 1 ≡ 16 = omega arith in
+        absurd (rest (subst (λ k. x / 2 ^ k ≡ y / 2 ^ k) (sym last) (div-eq_of_lt xs ∙ sym (div-eq_of_lt ys)))))
+        (cases_lt (bit + 1) 16)
