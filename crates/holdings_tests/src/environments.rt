@@ -1,3 +1,5 @@
+//! What an environment takes, and its limits.
+
 use crate::{enter, has_counts, has_members, has_texts};
 use std::alloc::Global;
 use std::test::Fail;

@@ -1,5 +1,5 @@
-//! What no contract says of environments, requests and holdings tables, and the program does not show: answers, sizes and
-//! places in an environment, names that no rule has, where filling stops; and each public call once.
+//! What no contract says of environments, requests and holdings tables, and the program does not show: answers, sizes
+//! and places in an environment, names that no rule has, where filling stops; and each public call once.
 #![tactic(auto)]
 
 #[cfg(test)]

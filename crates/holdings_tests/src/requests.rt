@@ -1,5 +1,7 @@
+//! Requests: their pairs, limits, values and environments.
+
 use crate::{has_counts, has_members, has_texts, nearly_full};
-use kev_read::{KevError, Request, read_kev};
+use kev_read::{KevError, KeyValues, Request, read_kev};
 use std::alloc::Global;
 use std::test::Fail;
 use target_vars::{Env, VarsError};
@@ -66,13 +68,49 @@ const VALUES: &[(&str, usize, Option<&str>)] = &[
     ("b", 1, Some("7")),
     ("bb", 0, Some("5")),
     ("", 0, Some("8")),
+    ("a", 2, None),
+    ("z", 0, None),
 ];
+
+/// Each case is a key, and how many values it has.
+fn has_key_counts(values: &KeyValues, cases: &[(&str, usize)]) -> bool {
+    for &(key, count) in cases {
+        if values.members_at(key).1 as usize != count {
+            return false;
+        }
+    }
+    true
+}
+
+/// The value of a key at a place, if there is one.
+fn value_at<'a>(values: &'a KeyValues, key: &str, place: usize) -> Option<&'a [u8]> {
+    let (first, count) = values.members_at(key);
+    if place >= count as usize {
+        return None;
+    }
+    let (start, length) = values.span(first as usize + place);
+    values
+        .buffer()
+        .get(start as usize..start as usize + length as usize)
+}
+
+/// Each case is a key, a place, and the value there.
+fn has_key_values(values: &KeyValues, cases: &[(&str, usize, Option<&str>)]) -> bool {
+    for &(key, place, value) in cases {
+        if value_at(values, key, place) != value.map(|text| text.as_bytes()) {
+            return false;
+        }
+    }
+    true
+}
 
 #[test]
 fn has_the_values_of_each_key(rt: HostRuntime) -> Result<(), Fail> {
     let request = read(rt.alloc(), QUERY)?;
-    let env = request.values_by_key(rt.alloc())?;
-    assert!(rt; has_pairs(&request) && has_counts(&env, BY_KEY) && has_members(&env, VALUES));
+    let values = request.values_by_key(rt.alloc())?;
+    assert!(rt;
+        has_pairs(&request) && has_key_counts(&values, BY_KEY) && has_key_values(&values, VALUES)
+    );
     Ok(())
 }
 

@@ -1,3 +1,5 @@
+//! Holdings tables: the rows of a title, cells, and limits.
+
 use crate::requests::read as read_query;
 use crate::{enter, has_texts, nearly_full};
 use kbart_rows::{ColumnNames, Ids, Keys, RowCursor, Table, TableError};
@@ -83,7 +85,7 @@ fn reads_lines_and_cells(rt: HostRuntime) -> Result<(), Fail> {
     Ok(())
 }
 
-/// Why no table is a front and behind it a text so many times; `None` where they are one.
+/// Why bytes are no table: `front`, and then `text` repeated `count` times; `None` if they are one.
 fn fault(
     alloc: Global,
     front: &str,
@@ -95,7 +97,7 @@ fn fault(
     Ok(read(alloc, bytes.as_bytes()).err())
 }
 
-// A front, a text, how often it stands behind it, and why that is no table.
+// The first bytes, the text after them, how often it is repeated, and why that is no table.
 const LIMITS: &[(&str, &str, usize, Option<TableError>)] = &[
     ("", "a", 65_536, None),
     ("", "a", 65_537, Some(TableError::RowTooLong)),

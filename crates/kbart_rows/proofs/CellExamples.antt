@@ -36,7 +36,8 @@ missing_cell_is_empty : IsCellAt (codes "ab\t\tc\t") 3 6 0 × ¬ (IsCellAt (code
 unfolding kbart_rows_on_literals
 missing_cell_is_empty = (record { within = omega arith; is = refl }, λ at. omega (arith, ap length at.is), λ at. omega (arith, at.within))
 
-bytes_of_cells_and_tabs : map row_bytes ([] ∷ ([] ∷ []) ∷ ([] ∷ [] ∷ []) ∷ (codes "ab" ∷ codes "c" ∷ []) ∷ (codes "a" ∷ [] ∷ codes "c" ∷ []) ∷ []) ≡ 0 ∷ 0 ∷ 1 ∷ 4 ∷ 4 ∷ []
+bytes_of_cells_and_tabs : map row_bytes ([] ∷ ([] ∷ []) ∷ ([] ∷ [] ∷ []) ∷ (codes "ab" ∷ codes "c" ∷ []) ∷ (codes "a" ∷ [] ∷ codes "c" ∷ []) ∷ [])
+    ≡ 0 ∷ 0 ∷ 1 ∷ 4 ∷ 4 ∷ []
 bytes_of_cells_and_tabs = refl
 
 -- ---- the cell of a name
@@ -44,19 +45,22 @@ bytes_of_cells_and_tabs = refl
 abbrev header : Row
 header = codes "a" ∷ codes "b" ∷ codes "a" ∷ [] ∷ [] ∷ []
 
-columns_of_names : map (column_of header) (codes "a" ∷ codes "b" ∷ [] ∷ codes "A" ∷ codes " a" ∷ codes "aa" ∷ codes "c" ∷ []) ≡ Some 0 ∷ Some 1 ∷ Some 3 ∷ None ∷ None ∷ None ∷ None ∷ []
+columns_of_names : map (column_of header) (codes "a" ∷ codes "b" ∷ [] ∷ codes "A" ∷ codes " a" ∷ codes "aa" ∷ codes "c" ∷ [])
+    ≡ Some 0 ∷ Some 1 ∷ Some 3 ∷ None ∷ None ∷ None ∷ None ∷ []
 columns_of_names = refl
 
 empty_cells_are_undefined : map defined ([] ∷ codes " " ∷ codes "-" ∷ codes " x " ∷ []) ≡ None ∷ Some (codes " ") ∷ Some (codes "-") ∷ Some (codes " x ") ∷ []
 empty_cells_are_undefined = refl
 
-cells_of_columns : map (cell_in (codes "1" ∷ [] ∷ codes "3" ∷ [])) (Some 0 ∷ Some 1 ∷ Some 2 ∷ Some 3 ∷ None ∷ []) ≡ Some (codes "1") ∷ None ∷ Some (codes "3") ∷ None ∷ None ∷ []
+cells_of_columns : map (cell_in (codes "1" ∷ [] ∷ codes "3" ∷ [])) (Some 0 ∷ Some 1 ∷ Some 2 ∷ Some 3 ∷ None ∷ [])
+    ≡ Some (codes "1") ∷ None ∷ Some (codes "3") ∷ None ∷ None ∷ []
 cells_of_columns = refl
 
 -- the first column of a name counts, also where its cell is empty
 cells_of_names : map (λ cells. map (cell_of header cells) (codes "a" ∷ codes "b" ∷ [] ∷ codes "c" ∷ []))
     ((codes "1" ∷ codes "2" ∷ codes "3" ∷ codes "4" ∷ codes "5" ∷ codes "6" ∷ []) ∷ ([] ∷ codes "2" ∷ codes "3" ∷ []) ∷ [] ∷ [])
-    ≡ (Some (codes "1") ∷ Some (codes "2") ∷ Some (codes "4") ∷ None ∷ []) ∷ (None ∷ Some (codes "2") ∷ None ∷ None ∷ []) ∷ (None ∷ None ∷ None ∷ None ∷ []) ∷ []
+    ≡ (Some (codes "1") ∷ Some (codes "2") ∷ Some (codes "4") ∷ None ∷ []) ∷ (None ∷ Some
+    (codes "2") ∷ None ∷ None ∷ []) ∷ (None ∷ None ∷ None ∷ None ∷ []) ∷ []
 cells_of_names = refl
 
 -- ---- all cells that are defined
@@ -64,7 +68,7 @@ cells_of_names = refl
 abbrev cell : Text → Text → NamedCell
 cell name text = record { name = name; text = text }
 
--- of each name the first column, and none behind the header
+-- of each name the first column, and none past the header
 named_cells_of_rows : map (named_cells header)
     ((codes "1" ∷ codes "2" ∷ codes "3" ∷ codes "4" ∷ codes "5" ∷ codes "6" ∷ []) ∷ ([] ∷ codes "2" ∷ codes "3" ∷ []) ∷ [] ∷ [])
     ≡ (cell (codes "a") (codes "1") ∷ cell (codes "b") (codes "2") ∷ cell [] (codes "4") ∷ []) ∷ (cell (codes "b") (codes "2") ∷ []) ∷ [] ∷ []
@@ -76,7 +80,8 @@ spaces_stay = refl
 spaces_are_counted : cell_bytes (named_cells (codes "x" ∷ codes "y" ∷ []) (codes " x " ∷ codes "y " ∷ [])) ≡ 5
 spaces_are_counted = refl
 
-names_are_not_counted : map (λ cells. cell_bytes (named_cells header cells)) ((codes "1" ∷ codes "22" ∷ codes "333" ∷ codes "4444" ∷ codes "5" ∷ codes "6" ∷ []) ∷ ([] ∷ codes "22" ∷ codes "333" ∷ []) ∷ [] ∷ []) ≡ 7 ∷ 2 ∷ 0 ∷ []
+names_are_not_counted : map (λ cells. cell_bytes (named_cells header cells))
+    ((codes "1" ∷ codes "22" ∷ codes "333" ∷ codes "4444" ∷ codes "5" ∷ codes "6" ∷ []) ∷ ([] ∷ codes "22" ∷ codes "333" ∷ []) ∷ [] ∷ []) ≡ 7 ∷ 2 ∷ 0 ∷ []
 names_are_not_counted = refl
 
 -- ---- filling
@@ -113,7 +118,8 @@ long t = text (codes "t") t ∷ []
 
 -- the first cell fits, the second is there already, and the third is refused
 filling_stops_at_a_refused_cell : (t : Text) → length t ≡ 1048575
-    → StopsAtCell (long t) (cell (codes "x") (codes "1") ∷ cell (codes "t") (codes "2") ∷ cell (codes "y") (codes "3") ∷ cell (codes "z") (codes "4") ∷ []) (long t ++ text (codes "x") (codes "1") ∷ []) TooLarge
+    → StopsAtCell (long t) (cell (codes "x") (codes "1") ∷ cell (codes "t") (codes "2") ∷ cell (codes "y") (codes "3") ∷ cell (codes "z") (codes "4") ∷ [])
+    (long t ++ text (codes "x") (codes "1") ∷ []) TooLarge
 unfolding kbart_rows_on_literals
 filling_stops_at_a_refused_cell t is_long = record {
   before = cell (codes "x") (codes "1") ∷ cell (codes "t") (codes "2") ∷ [];

@@ -1,5 +1,6 @@
 -- What filling an environment adds to it, and where it stops.
-use Rattle.std.proofs.Common.{◌≡◌, ℕ, ◌+◌, ◌-◌, ◌≤◌, ◌<◌, zero, suc, cond, true, false, List, [], ◌∷◌, ◌++◌, length, get_or, take, drop, Option, Some, None, Result, Ok, Err, OnOk, IfErr, IsErrAnd, subst, refl, sym, ap, ◌∙◌, arith, append-nil}
+use Rattle.std.proofs.Common.{◌≡◌, ℕ, ◌+◌, ◌-◌, ◌≤◌, ◌<◌, zero, suc, cond, true, false, List, [], ◌∷◌, ◌++◌, length, get_or, take, drop, Option, Some, None}
+use Rattle.std.proofs.Common.{Result, Ok, Err, OnOk, IfErr, IsErrAnd, subst, refl, sym, ap, ◌∙◌, arith, append-nil}
 use Rattle.std.proofs.lemmas.List.Sums.{sum_by-cons, sum_by-append, fold-append}
 use Rattle.std.proofs.lemmas.List.{get_or-drop, take-append-drop}
 use Rattle.std.proofs.lemmas.List.Elements.{filter_map-append}
@@ -13,7 +14,7 @@ use Rattle.target_vars.specs.declared.error.VarsError.{VarsError}
 use Rattle.target_vars.specs.declared.error.VarsError.TheVariants.{TooLarge, NoMemory}
 use Rattle.kbart_rows.specs.Cells.{Row, NamedCell, cell_bytes, column_of, is_first, name_cell, named_cell, named_cells, row_bytes}
 use Rattle.kbart_rows.specs.Private.Kept.{cell_at_first, IsRefusedCell}
-use Rattle.kbart_rows.proofs.FirstColumns.{stands_at}
+use Rattle.kbart_rows.proofs.FirstColumns.{item_at}
 use Rattle.kbart_rows.proofs.Rows.{range_more, range_parts}
 use Rattle.kbart_rows.specs.Filling.{fill_one, filled, with_defined, StopsAtCell}
 
@@ -48,7 +49,8 @@ reaches old cells new (Err e) ok err = record { before = err.before; after = err
 cell_bytes-parts : (cells before after : List NamedCell) → cells ≡ before ++ after → cell_bytes cells ≡ cell_bytes before + cell_bytes after
 cell_bytes-parts cells before after parts = ap cell_bytes parts ∙ sum_by-append (λ (c : NamedCell). length c.text) before after
 
-pub reached_bytes : (old : Environment) (cells : List NamedCell) (new : Environment) → Reaches old cells new → byte_count new ≤ byte_count old + cell_bytes cells
+pub reached_bytes : (old : Environment) (cells : List NamedCell) (new : Environment) → Reaches old cells new
+    → byte_count new ≤ byte_count old + cell_bytes cells
 reached_bytes old cells new h =
     omega (arith, ap byte_count h.reached, filled_bytes old h.before, cell_bytes-parts cells h.before h.after h.in_order)
 
@@ -93,34 +95,37 @@ filled_more old header cells column =
     ∙ ap (λ columns. filled old (filter_map (named_cell header cells) columns)) (sym (range_more 0 column))
 
 -- the cell that the columns give is that of the definition
-cell_is : (header cells : Row) (column : ℕ) (name cell : Text) (found : Option ℕ) → get_or header column [] ≡ name → get_or cells column [] ≡ cell → found ≡ column_of header name
+cell_is : (header cells : Row) (column : ℕ) (name cell : Text) (found : Option ℕ) → get_or header column [] ≡ name → get_or cells column [] ≡ cell
+    → found ≡ column_of header name
     → cell_at_first found column name cell ≡ named_cell header cells column
 cell_is header cells column name cell found is_name is_cell is_found =
     ap (λ first. cell_at_first first column name cell) is_found
     ∙ ap (λ n. cell_at_first (column_of header n) column n cell) (sym is_name)
     ∙ ap (λ text. cell_at_first (column_of header (get_or header column [])) column (get_or header column []) text) (sym is_cell)
 
--- the column whose name stands in front of the names that are left, and its cell in front of the cells that are left
+-- the first of the names that are left is that of the column, and the first of the cells that are left is its cell
 pub record ColumnAt (header row : Row) (column : ℕ) (name cell : Text) (other_names : Row) (found : Option ℕ) : Type 0 where
   pub inside : column < length header
-  pub behind : other_names ≡ drop (column + 1) header
+  pub after : other_names ≡ drop (column + 1) header
   pub is : cell_at_first found column name cell ≡ named_cell header row column
 
 pub column_at : (header row : Row) (column : ℕ) (name cell : Text) (other_names cells : Row) (found : Option ℕ) → name ∷ other_names ≡ drop column header
     → cells ≡ drop column row → cell ≡ get_or cells 0 [] → found ≡ column_of header name → ColumnAt header row column name cell other_names found
 column_at header row column name cell other_names cells found names_left cells_left is_cell is_found =
-    let at = stands_at header column name other_names names_left in
+    let at = item_at header column name other_names names_left in
     let here : column + 0 ≡ column = omega arith in
-    let cell_there : get_or row column [] ≡ cell = sym (is_cell ∙ ap (λ (left : _). get_or left 0 []) cells_left ∙ get_or-drop column row 0 [] ∙ ap (λ (place : _). get_or row place []) here) in
+    let cell_there : get_or row column [] ≡ cell =
+    sym (is_cell ∙ ap (λ (left : _). get_or left 0 []) cells_left ∙ get_or-drop column row 0 [] ∙ ap (λ (place : _). get_or row place []) here) in
     record {
       inside = at.inside;
-      behind = at.behind;
+      after = at.after;
       is = cell_is header row column name cell found (at.is []) cell_there is_found;
     }
 
 -- a cell is refused after those before it were added
 pub stops_at : (old now new : Environment) (header cells : Row) (column : ℕ) (cell : Option NamedCell) (e : VarsError) → column < length header
-    → cell ≡ named_cell header cells column → now ≡ filled old (filter_map (named_cell header cells) (range_with_len 0 column)) → new ≡ now → IsRefusedCell now cell e
+    → cell ≡ named_cell header cells column → now ≡ filled old (filter_map (named_cell header cells) (range_with_len 0 column)) → new ≡ now
+    → IsRefusedCell now cell e
     → StopsAtCell old (named_cells header cells) new e
 stops_at old now new header cells column None e inside is so_far unchanged refused = absurd refused
 stops_at old now new header cells column (Some cell) e inside is so_far unchanged refused =
@@ -149,7 +154,8 @@ name_bytes name (b ∷ text) = omega (arith, cell_bytes-cons (record { name = na
 
 column_bytes : (header cells : Row) (column : ℕ) → cell_bytes (cons_option (named_cell header cells column) []) ≤ length (get_or cells column [])
 column_bytes header cells column =
-    elim (is_first header column) as (λ b. cell_bytes (cons_option (cond b (name_cell (get_or header column []) (get_or cells column [])) None) []) ≤ length (get_or cells column [])) [
+    elim (is_first header column) as (λ b. cell_bytes (cons_option (cond b (name_cell (get_or header column []) (get_or cells column [])) None) [])
+    ≤ length (get_or cells column [])) [
       | true ↦ name_bytes (get_or header column []) (get_or cells column [])
       | false ↦ omega arith
     ]

@@ -1,5 +1,6 @@
 -- Going over the names of a header: the first column of each.
-use Rattle.std.proofs.Common.{◌≡◌, ℕ, ◌+◌, ◌≤◌, ◌<◌, ◌||◌, Bool, true, false, zero, suc, List, [], ◌∷◌, ◌++◌, length, take, drop, get_or, Option, Some, None, is_some, refl, sym, ap, ◌∙◌, arith, if◌then◌else◌}
+use Rattle.std.proofs.Common.{◌≡◌, ℕ, ◌+◌, ◌≤◌, ◌<◌, ◌||◌, Bool, true, false, zero, suc, List, [], ◌∷◌, ◌++◌, length, take, drop, get_or, Option, Some, None}
+use Rattle.std.proofs.Common.{is_some, refl, sym, ap, ◌∙◌, arith, if◌then◌else◌}
 use Rattle.std.proofs.lemmas.Iterator.Adapters.{position_from-zero}
 use Rattle.std.proofs.lemmas.List.{drop_more, length-drop, take_all, take_more, length-take-le}
 use Rattle.std.proofs.lemmas.Option.{get_or_from_slice_get, none-some, slice_get_within}
@@ -9,29 +10,30 @@ use Rattle.std.specs.Str.{bytes_eq}
 use Rattle.text_model.specs.Texts.{Text}
 use Rattle.kbart_rows.specs.Cells.{Row, column_of}
 
--- ---- the front of what is left
+-- ---- the first of what is left
 
--- what is at a place, where x stands in front from there on
-pub record StandsAt {X : Type 0} (xs : List X) (place : ℕ) (x : X) (rest : List X) : Type 0 where
+-- x is at the place, and the rest is after it
+pub record IsAt {X : Type 0} (xs : List X) (place : ℕ) (x : X) (rest : List X) : Type 0 where
   pub inside : place < length xs
   pub is : (d : X) → get_or xs place d ≡ x
-  pub behind : rest ≡ drop (place + 1) xs
-  pub front : take (place + 1) xs ≡ take place xs ++ x ∷ []
+  pub after : rest ≡ drop (place + 1) xs
+  pub passed : take (place + 1) xs ≡ take place xs ++ x ∷ []
 
 same_front : {X : Type 0} (x y : X) (xs ys : List X) → x ∷ xs ≡ y ∷ ys → (x ≡ y) × (xs ≡ ys)
 same_front x y xs ys e = (cc e, cc e)
 
-pub stands_at : {X : Type 0} (xs : List X) (place : ℕ) (x : X) (rest : List X) → x ∷ rest ≡ drop place xs → StandsAt xs place x rest
-stands_at xs place x rest e =
+pub item_at : {X : Type 0} (xs : List X) (place : ℕ) (x : X) (rest : List X) → x ∷ rest ≡ drop place xs → IsAt xs place x rest
+item_at xs place x rest e =
     let long : suc (length rest) ≡ length (drop place xs) = ap length e in
     let size = length-drop place xs in
     let within : place < length xs = omega (arith, long, size) in
-    let here : (d : _) → (x ≡ get_or xs place d) × (rest ≡ drop (place + 1) xs) = λ d. same_front x (get_or xs place d) rest (drop (place + 1) xs) (e ∙ drop_more xs place d within) in
+    let here : (d : _) → (x ≡ get_or xs place d) × (rest ≡ drop (place + 1) xs) = λ d. same_front x (get_or xs place d) rest (drop (place + 1) xs)
+    (e ∙ drop_more xs place d within) in
     record {
       inside = within;
       is = λ d. sym (here d).0;
-      behind = (here x).1;
-      front = take_more xs place x within ∙ ap (λ y. take place xs ++ y ∷ []) (sym (here x).0);
+      after = (here x).1;
+      passed = take_more xs place x within ∙ ap (λ y. take place xs ++ y ∷ []) (sym (here x).0);
     }
 
 -- nothing is left
@@ -58,10 +60,12 @@ position_more test first (other ∷ names) name =
     elim (test other) as (λ b. (if b then Some first else position_from test (first + 1) (names ++ name ∷ []))
     ≡ or_else (if b then Some first else position_from test (first + 1) names) (if test name then Some (first + suc (length names)) else None)) [
       | true ↦ refl
-      | false ↦ position_more test (first + 1) names name ∙ ap (λ column. or_else (position_from test (first + 1) names) (if test name then Some column else None)) (omega arith)
+      | false ↦ position_more test (first + 1) names name
+          ∙ ap (λ column. or_else (position_from test (first + 1) names) (if test name then Some column else None)) (omega arith)
     ]
 
-column_more : (names : Row) (name other : Text) → column_of (names ++ name ∷ []) other ≡ or_else (column_of names other) (if bytes_eq other name then Some (length names) else None)
+column_more : (names : Row) (name other : Text) → column_of (names ++ name ∷ []) other
+    ≡ or_else (column_of names other) (if bytes_eq other name then Some (length names) else None)
 column_more names name other =
     let size : 0 + length names ≡ length names = omega arith in
     position_from-zero (bytes_eq other) (names ++ name ∷ []) ∙ position_more (bytes_eq other) 0 names name
@@ -90,7 +94,8 @@ entered (Some first) true column = refl
 entered (Some first) false column = refl
 
 -- the look-up of a name after one more column was entered
-pub column_entered : (header : Row) (column : ℕ) (name other : Text) (rest : Row) (found : Option ℕ) → StandsAt header column name rest → found ≡ column_of (take column header) other
+pub column_entered : (header : Row) (column : ℕ) (name other : Text) (rest : Row) (found : Option ℕ) → IsAt header column name rest
+    → found ≡ column_of (take column header) other
     → (if bytes_eq other name then Some (unwrap_or found column) else found) ≡ column_of (take (column + 1) header) other
 column_entered header column name other rest found at so_far =
     let inside = at.inside in
@@ -99,4 +104,4 @@ column_entered header column name other rest found at so_far =
     ∙ ap (λ before. or_else before (if bytes_eq other name then Some column else None)) so_far
     ∙ ap (λ place. or_else (column_of (take column header) other) (if bytes_eq other name then Some place else None)) (sym size)
     ∙ sym (column_more (take column header) name other)
-    ∙ ap (λ names. column_of names other) (sym at.front)
+    ∙ ap (λ names. column_of names other) (sym at.passed)

@@ -42,7 +42,8 @@ other_characters_stay = refl
 
 -- ---- columns and keys
 
-columns_of_identifiers : identifier_columns (codes "title_id" ∷ codes "online_identifier" ∷ codes "print_identifier" ∷ codes "online_identifier" ∷ []) ≡ Some 2 ∷ Some 1 ∷ []
+columns_of_identifiers : identifier_columns (codes "title_id" ∷ codes "online_identifier" ∷ codes "print_identifier" ∷ codes "online_identifier" ∷ [])
+    ≡ Some 2 ∷ Some 1 ∷ []
 columns_of_identifiers = refl
 
 no_columns_of_identifiers : identifier_columns (codes "title_id" ∷ codes "Print_identifier" ∷ []) ≡ None ∷ None ∷ []
@@ -51,8 +52,9 @@ no_columns_of_identifiers = refl
 keys_of_identifiers : identifier_keys ≡ codes "rft.issn" ∷ codes "rft.eissn" ∷ codes "rft.isbn" ∷ []
 keys_of_identifiers = refl
 
--- an empty cell and a missing one have none; a cell of hyphens has an empty one, which no request asks for
-identifiers_of_rows : map (identifiers_in (Some 0 ∷ Some 2 ∷ None ∷ [])) ((codes "0028-0836" ∷ codes "x" ∷ codes "1234-567x" ∷ []) ∷ ([] ∷ codes "x" ∷ []) ∷ (codes "-" ∷ []) ∷ [])
+-- an empty cell and a missing one have none; a cell of hyphens has an empty one, which no request has
+identifiers_of_rows : map (identifiers_in (Some 0 ∷ Some 2 ∷ None ∷ []))
+    ((codes "0028-0836" ∷ codes "x" ∷ codes "1234-567x" ∷ []) ∷ ([] ∷ codes "x" ∷ []) ∷ (codes "-" ∷ []) ∷ [])
     ≡ (codes "00280836" ∷ codes "1234567X" ∷ []) ∷ [] ∷ ([] ∷ []) ∷ []
 unfolding kbart_rows_on_literals
 identifiers_of_rows = refl
@@ -74,7 +76,8 @@ first_value_counts = refl
 abbrev with_value : Text → Text
 with_value key = key ++ codes "=0028-0836"
 
-other_keys_ask_for_nothing : map (λ key. ids_in (with_value key)) (codes "rft.eisbn" ∷ codes "RFT.ISSN" ∷ codes "issn" ∷ codes "eissn" ∷ codes "isbn" ∷ codes "rft_id" ∷ codes "rft.title_id" ∷ codes "rft.issn+" ∷ codes "print_identifier" ∷ [])
+other_keys_ask_for_nothing : map (λ key. ids_in (with_value key)) (codes "rft.eisbn" ∷ codes "RFT.ISSN" ∷ codes "issn" ∷ codes "eissn" ∷ codes "isbn" ∷ codes
+    "rft_id" ∷ codes "rft.title_id" ∷ codes "rft.issn+" ∷ codes "print_identifier" ∷ [])
     ≡ [] ∷ [] ∷ [] ∷ [] ∷ [] ∷ [] ∷ [] ∷ [] ∷ [] ∷ []
 unfolding kbart_rows_on_literals
 other_keys_ask_for_nothing = refl
@@ -88,7 +91,8 @@ table header rows = record { header = header; rows = rows; keys = record { begun
 abbrev found_in : Text → Text → Text → List ℕ
 found_in column cell query = matching_rows (table (column ∷ []) ((cell ∷ []) ∷ [])) (ids_in query)
 
-each_key_matches_either_column : map (λ key. map (λ column. found_in column (codes "0028-0836") (with_value key)) (codes "print_identifier" ∷ codes "online_identifier" ∷ []))
+each_key_matches_either_column : map
+    (λ key. map (λ column. found_in column (codes "0028-0836") (with_value key)) (codes "print_identifier" ∷ codes "online_identifier" ∷ []))
     (codes "rft.issn" ∷ codes "rft.eissn" ∷ codes "rft.isbn" ∷ [])
     ≡ ((0 ∷ []) ∷ (0 ∷ []) ∷ []) ∷ ((0 ∷ []) ∷ (0 ∷ []) ∷ []) ∷ ((0 ∷ []) ∷ (0 ∷ []) ∷ []) ∷ []
 unfolding kbart_rows_on_literals
@@ -102,7 +106,8 @@ other_columns_do_not_identify = refl
 
 -- a full stop and EN DASH count
 values_that_find_the_row : map (λ value. found_in (codes "print_identifier") (codes "0028-0836") (codes "rft.issn=" ++ value))
-    (codes "00280836" ∷ codes "+0028+0836+" ∷ codes "0028-0836" ∷ codes "0028.0836" ∷ codes "0028%E2%80%930836" ∷ codes "0028-083" ∷ codes "00028-0836" ∷ [] ∷ [])
+    (codes "00280836" ∷ codes "+0028+0836+" ∷ codes "0028-0836" ∷ codes "0028.0836" ∷ codes "0028%E2%80%930836" ∷ codes "0028-083" ∷ codes
+    "00028-0836" ∷ [] ∷ [])
     ≡ (0 ∷ []) ∷ (0 ∷ []) ∷ (0 ∷ []) ∷ [] ∷ [] ∷ [] ∷ [] ∷ [] ∷ []
 unfolding kbart_rows_on_literals
 values_that_find_the_row = refl
@@ -114,10 +119,12 @@ empty_identifiers_find_nothing = refl
 -- the first columns of the two names are the second and the third
 abbrev titles : Holdings
 titles = table (codes "title_id" ∷ codes "online_identifier" ∷ codes "print_identifier" ∷ codes "print_identifier" ∷ [])
-    ((codes "7" ∷ codes "1234-567x" ∷ codes "0028-0836" ∷ []) ∷ (codes "8" ∷ [] ∷ [] ∷ codes "0028-0836" ∷ []) ∷ (codes "00280836" ∷ codes "0028-0836" ∷ []) ∷ (codes "9" ∷ []) ∷ [])
+    ((codes "7" ∷ codes "1234-567x" ∷ codes "0028-0836" ∷ []) ∷ (codes "8" ∷ [] ∷ [] ∷ codes "0028-0836" ∷ []) ∷ (codes "00280836" ∷ codes
+    "0028-0836" ∷ []) ∷ (codes "9" ∷ []) ∷ [])
 
 -- a row that has two of the identifiers is found once
-rows_in_rising_order : map (λ query. matching_rows titles (ids_in query)) (codes "rft.issn=00280836" ∷ codes "rft.issn=00280836&rft.eissn=1234567X" ∷ codes "rft.isbn=1234567X" ∷ codes "rft.issn=9" ∷ codes "a=00280836" ∷ [])
+rows_in_rising_order : map (λ query. matching_rows titles (ids_in query))
+    (codes "rft.issn=00280836" ∷ codes "rft.issn=00280836&rft.eissn=1234567X" ∷ codes "rft.isbn=1234567X" ∷ codes "rft.issn=9" ∷ codes "a=00280836" ∷ [])
     ≡ (0 ∷ 2 ∷ []) ∷ (0 ∷ 2 ∷ []) ∷ (0 ∷ []) ∷ [] ∷ [] ∷ []
 unfolding kbart_rows_on_literals
 rows_in_rising_order = refl

@@ -1,4 +1,4 @@
--- What is left of a line behind some of its columns.
+-- What is left of a line after some of its columns.
 use Rattle.std.proofs.Common.{◌≡◌, ℕ, ◌+◌, ◌≤◌, ◌<◌, zero, suc, [], ◌∷◌, ◌++◌, length, drop, Some, None, refl, sym, ap, ◌∙◌, arith, append_assoc}
 use Rattle.std.proofs.lemmas.List.{length-drop}
 use Rattle.std.proofs.lemmas.Option.{slice_get-get_or, slice_get_past}
@@ -7,23 +7,23 @@ use Rattle.text_model.specs.Texts.{Text}
 use Rattle.kbart_rows.specs.Cells.{Row, tab}
 use Rattle.kbart_rows.specs.Lines.{cells_in}
 use Rattle.kbart_rows.specs.Private.Line.{IsRest}
-use Rattle.kbart_rows.proofs.FirstColumns.{StandsAt, stands_at}
+use Rattle.kbart_rows.proofs.FirstColumns.{IsAt, item_at}
 use Rattle.kbart_rows.proofs.LineCells.{few_cells}
 
--- the cell in front stands in its column
-pub front_cell : (line rest cell others : Text) (column : ℕ) → IsRest line column rest → cells_in rest ≡ cell ∷ cells_in others
-    → StandsAt (cells_in line) column cell (cells_in others)
-front_cell line rest cell others column left cells = stands_at (cells_in line) column cell (cells_in others) (sym cells ∙ left.left)
+-- the first cell of what is left is that of its column
+pub next_cell_at : (line rest cell others : Text) (column : ℕ) → IsRest line column rest → cells_in rest ≡ cell ∷ cells_in others
+    → IsAt (cells_in line) column cell (cells_in others)
+next_cell_at line rest cell others column left cells = item_at (cells_in line) column cell (cells_in others) (sym cells ∙ left.left)
 
-pub front_is : (line rest cell others : Text) (column : ℕ) → IsRest line column rest → cells_in rest ≡ cell ∷ cells_in others
+pub next_cell_is : (line rest cell others : Text) (column : ℕ) → IsRest line column rest → cells_in rest ≡ cell ∷ cells_in others
     → Some cell ≡ slice_get (cells_in line) column
-front_is line rest cell others column left cells =
-    let at = front_cell line rest cell others column left cells in
+next_cell_is line rest cell others column left cells =
+    let at = next_cell_at line rest cell others column left cells in
     sym (slice_get-get_or (cells_in line) column [] at.inside ∙ ap Some (at.is []))
 
 -- so it is one of the line's bytes
-pub front_within : (line rest cell others : Text) (column : ℕ) → IsRest line column rest → cells_in rest ≡ cell ∷ cells_in others → column < length line
-front_within line rest cell others column left cells = omega (arith, (front_cell line rest cell others column left cells).inside, few_cells line)
+pub next_cell_within : (line rest cell others : Text) (column : ℕ) → IsRest line column rest → cells_in rest ≡ cell ∷ cells_in others → column < length line
+next_cell_within line rest cell others column left cells = omega (arith, (next_cell_at line rest cell others column left cells).inside, few_cells line)
 
 -- one column more
 pub cell_passed : (line rest cell others : Text) (column next : ℕ) → IsRest line column rest → cells_in rest ≡ cell ∷ cells_in others
@@ -32,12 +32,12 @@ cell_passed line rest cell others column next left cells parts more = record {
   front = left.front ++ (cell ++ tab ∷ []);
   parts = left.parts ∙ ap (λ text. left.front ++ text) (parts ∙ sym (append_assoc cell (tab ∷ []) others))
       ∙ sym (append_assoc left.front (cell ++ tab ∷ []) others);
-  left = (front_cell line rest cell others column left cells).behind ∙ ap (λ place. drop place (cells_in line)) (sym more);
+  left = (next_cell_at line rest cell others column left cells).after ∙ ap (λ place. drop place (cells_in line)) (sym more);
 }
 
--- nothing stands behind the last cell
-none_behind : (cells : Row) (column next : ℕ) → [] ≡ drop column cells → column ≤ next → (length cells ≤ column) × ([] ≡ drop next cells)
-none_behind cells column next none more =
+-- nothing comes after the last cell
+none_after : (cells : Row) (column next : ℕ) → [] ≡ drop column cells → column ≤ next → (length cells ≤ column) × ([] ≡ drop next cells)
+none_after cells column next none more =
     let size : 0 ≡ length (drop column cells) = ap length none in
     let short : length cells ≤ column = omega (arith, size, length-drop column cells) in
     (short, all cells next (omega (arith, short, more)))
@@ -50,11 +50,11 @@ none_behind cells column next none more =
 
 pub none_is : (line rest : Text) (column : ℕ) → IsRest line column rest → cells_in rest ≡ [] → None ≡ slice_get (cells_in line) column
 none_is line rest column left none =
-    sym (slice_get_past (cells_in line) column (none_behind (cells_in line) column column (sym none ∙ left.left) (omega arith)).0)
+    sym (slice_get_past (cells_in line) column (none_after (cells_in line) column column (sym none ∙ left.left) (omega arith)).0)
 
 pub none_passed : (line rest : Text) (column next : ℕ) → IsRest line column rest → cells_in rest ≡ [] → column ≤ next → IsRest line next rest
 none_passed line rest column next left none more = record {
   front = left.front;
   parts = left.parts;
-  left = none ∙ (none_behind (cells_in line) column next (sym none ∙ left.left) more).1;
+  left = none ∙ (none_after (cells_in line) column next (sym none ∙ left.left) more).1;
 }

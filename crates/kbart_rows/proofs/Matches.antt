@@ -17,16 +17,20 @@ no_match columns rows from = none_pass (λ row. is_match columns [] (get_or rows
 
 -- one identifier more
 pub match_more : (columns : List (Option ℕ)) (rows : List Row) (from : ℕ) (ids : List Text) (id : Text)
-    → lesser_of (first_from from (matches columns rows ids)) (first_from from (rows_with columns rows id)) ≡ first_from from (matches columns rows (ids ++ id ∷ []))
+    → lesser_of (first_from from (matches columns rows ids)) (first_from from (rows_with columns rows id))
+    ≡ first_from from (matches columns rows (ids ++ id ∷ []))
 match_more columns rows from ids id =
-    sym (first_of_either (λ row. is_match columns ids (get_or rows row [])) (λ row. has_identifier columns id (get_or rows row [])) (λ row. is_match columns (ids ++ id ∷ []) (get_or rows row []))
+    sym (first_of_either (λ row. is_match columns ids (get_or rows row [])) (λ row. has_identifier columns id (get_or rows row []))
+    (λ row. is_match columns (ids ++ id ∷ []) (get_or rows row []))
     (λ row. list_any-append (λ other. has_identifier columns other (get_or rows row [])) ids (id ∷ [])
     ∙ ap (λ later. is_match columns ids (get_or rows row []) || later) (or_false (has_identifier columns id (get_or rows row []))))
     from (length rows))
 
 -- a row that matches is one of the rows
-pub match_within : (columns : List (Option ℕ)) (rows : List Row) (from : ℕ) (ids : List Text) (found : Option ℕ) → found ≡ first_from from (matches columns rows ids)
+pub match_within : (columns : List (Option ℕ)) (rows : List Row) (from : ℕ) (ids : List Text) (found : Option ℕ)
+    → found ≡ first_from from (matches columns rows ids)
     → IfSome found (λ row. row < length rows)
 match_within columns rows from ids found is =
-    let below = All-weaker (λ row. row < 0 + length rows) (λ row. row < length rows) (λ row small. omega (arith, small)) (matches columns rows ids) (below_end (λ row. is_match columns ids (get_or rows row [])) 0 (length rows)) in
+    let below = All-weaker (λ row. row < 0 + length rows) (λ row. row < length rows) (λ row small. omega (arith, small)) (matches columns rows ids)
+    (below_end (λ row. is_match columns ids (get_or rows row [])) 0 (length rows)) in
     subst (λ o. IfSome o (λ row. row < length rows)) (sym is) (first_is (λ row. row < length rows) from (matches columns rows ids) below)

@@ -44,7 +44,8 @@ plain_in_field : (c : ℕ) → PlainStep c (in_field tab_separated c)
 plain_in_field c = by (c == tab) refl
   where
     by : (b : Bool) → (c == tab) ≡ b
-        → PlainStep c (if b then (state.StartField, action.EndField) else if ends_with terminator.CRLF c then (after_end terminator.CRLF c, action.EndRecord) else (state.InField, action.Copy))
+        → PlainStep c (if b then (state.StartField, action.EndField) else if ends_with terminator.CRLF c then (after_end terminator.CRLF c, action.EndRecord)
+        else (state.InField, action.Copy))
     by true e = (tt, λ copy. cc copy)
     by false e =
         elim (ends_with terminator.CRLF c) as (λ b. PlainStep c (if b then (after_end terminator.CRLF c, action.EndRecord) else (state.InField, action.Copy))) [
@@ -87,7 +88,8 @@ plain_field action.EndRecord c field joins cell = All-nil (λ b. b ≢ tab)
 plain_field action.Skip c field joins cell = cell
 plain_field action.Copy c field joins cell = All-push (λ b. b ≢ tab) field c cell (joins refl)
 
-by_end : (ends : Bool) (rest : Option Read) (last read : Read) (P : Type 0) → (if ends then Some last else rest) ≡ Some read → (last ≡ read → P) → (rest ≡ Some read → P) → P
+by_end : (ends : Bool) (rest : Option Read) (last read : Read) (P : Type 0) → (if ends then Some last else rest) ≡ Some read → (last ≡ read → P)
+    → (rest ≡ Some read → P) → P
 by_end true rest last read P e ended more = ended (same_Some last read e)
 by_end false rest last read P e ended more = more e
 
@@ -104,7 +106,8 @@ plain_record (c ∷ xs) s fields field read plain cells cell e =
     by_end (is_end after.1) (next_record tab_separated after.0 (fields_after after.1 fields field) (field_after after.1 c field) xs)
     (fields_after after.1 fields field, after.0, xs) read (IsPlain read.1 × All HasNoTab read.0) e
     (λ last. rw (← last) (next.0, more))
-    (λ rest. plain_record xs after.0 (fields_after after.1 fields field) (field_after after.1 c field) read next.0 more (plain_field after.1 c field next.1 cell) rest)
+    (λ rest. plain_record xs after.0 (fields_after after.1 fields field) (field_after after.1 c field) read next.0 more
+    (plain_field after.1 c field next.1 cell) rest)
 
 -- ---- all records
 
@@ -118,7 +121,8 @@ plain_records (cells ∷ records) s s2 xs ys plain reached =
     All-cons (All HasNoTab) cells records here (plain_records records read.1 s2 read.2 ys next.0 reached.3)
 
 -- of the record that came last
-pub last_is_plain : (records : List Row) (cells : Row) (s : State) (xs ys : Text) → Reached tab_separated state.StartRecord xs (records ++ cells ∷ []) s ys → All HasNoTab cells
+pub last_is_plain : (records : List Row) (cells : Row) (s : State) (xs ys : Text) → Reached tab_separated state.StartRecord xs (records ++ cells ∷ []) s ys
+    → All HasNoTab cells
 last_is_plain records cells s xs ys reached =
     let all = plain_records (records ++ cells ∷ []) state.StartRecord s xs ys tt reached in
     let inside = length_push records cells in

@@ -17,15 +17,15 @@ use Rattle.kbart_rows.proofs.OnLiterals.{kbart_rows_on_literals}
 
 -- ---- lines and cells
 
-tabs_part_cells_and_line_feeds_lines : AreLines (codes "a\tb\n1\t2\n") ((codes "a" ∷ codes "b" ∷ []) ∷ (codes "1" ∷ codes "2" ∷ []) ∷ [])
+tabs_separate_cells_and_line_feeds_lines : AreLines (codes "a\tb\n1\t2\n") ((codes "a" ∷ codes "b" ∷ []) ∷ (codes "1" ∷ codes "2" ∷ []) ∷ [])
 unfolding kbart_rows_on_literals Reached
-tabs_part_cells_and_line_feeds_lines = (_, _, (_, refl, refl, (_, refl, refl, (refl, refl))), refl)
+tabs_separate_cells_and_line_feeds_lines = (_, _, (_, refl, refl, (_, refl, refl, (refl, refl))), refl)
 
 last_line_needs_no_end : AreLines (codes "a\n1") ((codes "a" ∷ []) ∷ (codes "1" ∷ []) ∷ [])
 unfolding kbart_rows_on_literals Reached
 last_line_needs_no_end = (_, _, (_, refl, refl, (_, refl, refl, (refl, refl))), refl)
 
--- also behind the last tab of a text
+-- also after the last tab of a text
 cells_may_be_empty : AreLines (codes "\ta\t\n\t") (([] ∷ codes "a" ∷ [] ∷ []) ∷ ([] ∷ [] ∷ []) ∷ [])
 unfolding kbart_rows_on_literals Reached
 cells_may_be_empty = (_, _, (_, refl, refl, (_, refl, refl, (refl, refl))), refl)
@@ -59,7 +59,7 @@ rows_may_have_any_number_of_cells : AreLines (codes "a\tb\n1\n1\t2\t3\n")
 unfolding kbart_rows_on_literals Reached
 rows_may_have_any_number_of_cells = (_, _, (_, refl, refl, (_, refl, refl, (_, refl, refl, (refl, refl)))), refl)
 
--- one byte order mark in front is dropped, and a second is text
+-- one byte order mark at the beginning is dropped, and a second is text
 abbrev mark : Text
 mark = 0xEF ∷ 0xBB ∷ 0xBF ∷ []
 
@@ -80,7 +80,8 @@ reached_once s s1 s2 xs ys1 ys2 (cells ∷ lines) [] one end1 two end2 =
     let state = two.0 in let rest = two.1 in let more = one.1 in absurd (none-some one.0 cc)
 reached_once s s1 s2 xs ys1 ys2 (cells ∷ lines) (others ∷ rest) one end1 two end2 =
     let same = same_Some one.0 two.0 (sym one.1 ∙ two.1) in
-    let behind = reached_once one.0.1 s1 s2 one.0.2 ys1 ys2 lines rest one.3 end1 (subst (λ p. Reached tab_separated p.1 p.2 rest s2 ys2) (sym same) two.3) end2 in
+    let same_others =
+    reached_once one.0.1 s1 s2 one.0.2 ys1 ys2 lines rest one.3 end1 (subst (λ p. Reached tab_separated p.1 p.2 rest s2 ys2) (sym same) two.3) end2 in
     let first : cells ≡ others = one.2 ∙ ap (λ p. p.0) same ∙ sym two.2 in
     cc
 
@@ -105,13 +106,15 @@ first_line_is_the_header = record {
   text = (omega arith, IsUtf8-from_is_utf8 _ refl);
   lines = (_, _, (_, refl, refl, (_, refl, refl, (_, refl, refl, (refl, refl)))), refl);
   few = omega arith;
-  fit = fits names rows (omega arith) (fits (codes "1" ∷ codes "2" ∷ []) ((codes "3" ∷ []) ∷ []) (omega arith) (fits (codes "3" ∷ []) [] (omega arith) (All-nil _)));
+  fit = fits names rows (omega arith)
+      (fits (codes "1" ∷ codes "2" ∷ []) ((codes "3" ∷ []) ∷ []) (omega arith) (fits (codes "3" ∷ []) [] (omega arith) (All-nil _)));
 }
 
 -- ---- faults
 
 -- a byte order mark counts
-too_long : (letters : Text) → length letters ≡ 16777214 → IsFault (mark ++ letters) TooLong × ¬ (IsFault (mark ++ letters) NotUtf8) × ¬ (IsFault (mark ++ letters) NoHeader)
+too_long : (letters : Text) → length letters ≡ 16777214 → IsFault (mark ++ letters) TooLong × ¬ (IsFault (mark ++ letters) NotUtf8)
+    × ¬ (IsFault (mark ++ letters) NoHeader)
 too_long letters many = (omega (arith, many), λ fault. omega (arith, many, fault.0), λ fault. omega (arith, many, fault.0.0))
 
 largest_table : (letters : Text) → length letters ≡ 16777213 → ¬ (IsFault (mark ++ letters) TooLong)

@@ -41,7 +41,8 @@ reading_starts bytes reader fresh = record {
 pub reading_goes_on : (bytes : Text) (lines : List Row) (old new : Reader (Bor (List ℕ))) (cells : Row) → IsReading bytes lines old
     → ReadRecord rest_of old new true cells → new.first ≡ true → IsReading bytes (lines ++ cells ∷ []) new
 reading_goes_on bytes lines old new cells reading read first =
-    let more = rows-more rest_of old new cells tab_separated state.StartRecord (strip_bom bytes) reading.rest lines reading.config reading.source reading.reached read in
+    let more = rows-more rest_of old new cells tab_separated state.StartRecord (strip_bom bytes) reading.rest lines reading.config reading.source
+    reading.reached read in
     record {
       trim = read.3 ∙ reading.trim;
       ready = inl first;
@@ -54,15 +55,18 @@ reading_goes_on bytes lines old new cells reading read first =
 pub first_lines : (bytes : Text) (lines : List Row) (reader : Reader (Bor (List ℕ))) → IsReading bytes lines reader → AreFirstLines bytes lines
 first_lines bytes lines reader reading = record { after = reader.state; rest = reading.rest; reached = reading.reached }
 
-pub reading_ends : (bytes : Text) (lines : List Row) (old new : Reader (Bor (List ℕ))) → IsReading bytes lines old → ReadRecord rest_of old new false [] → AreLines bytes lines
+pub reading_ends : (bytes : Text) (lines : List Row) (old new : Reader (Bor (List ℕ))) → IsReading bytes lines old → ReadRecord rest_of old new false []
+    → AreLines bytes lines
 reading_ends bytes lines old new reading read =
     (old.state, reading.rest, reading.reached, rows-end rest_of old new [] tab_separated reading.rest reading.config reading.source read)
 
-pub no_tab_in_last : (bytes : Text) (lines : List Row) (cells : Row) (reader : Reader (Bor (List ℕ))) → IsReading bytes (lines ++ cells ∷ []) reader → All HasNoTab cells
+pub no_tab_in_last : (bytes : Text) (lines : List Row) (cells : Row) (reader : Reader (Bor (List ℕ))) → IsReading bytes (lines ++ cells ∷ []) reader
+    → All HasNoTab cells
 no_tab_in_last bytes lines cells reader reading = last_is_plain lines cells reader.state (strip_bom bytes) reading.rest reading.reached
 
 -- why a line was refused, as a fault of the bytes
-pub line_refused : (bytes : Text) (lines : List Row) (cells : Row) (reader : Reader (Bor (List ℕ))) (e : TableError) → IsReading bytes (lines ++ cells ∷ []) reader
+pub line_refused : (bytes : Text) (lines : List Row) (cells : Row) (reader : Reader (Bor (List ℕ))) (e : TableError)
+    → IsReading bytes (lines ++ cells ∷ []) reader
     → AllFit lines → length lines ≤ MAX_ROWS + 1 → IsRefusedLine (length lines) cells e → IsLineFault bytes e
 line_refused bytes lines cells reader TooManyRows reading fit few why =
     (lines, cells, record { lines = first_lines bytes (lines ++ cells ∷ []) reader reading; few = few; fit = fit }, omega (arith, few, why))

@@ -1,5 +1,6 @@
 -- The rows that pass a test, in rising order, and the first of them at or after one.
-use Rattle.std.proofs.Common.{◌≡◌, ℕ, ◌+◌, ◌≤◌, ◌<◌, ◌||◌, ◌&&◌, Bool, true, false, cond, zero, suc, List, [], ◌∷◌, ◌++◌, All, Option, Some, None, IfSome, length, filter, refl, sym, ap, ◌∙◌, arith, if◌then◌else◌, nat_le, nat_lt}
+use Rattle.std.proofs.Common.{◌≡◌, ℕ, ◌+◌, ◌≤◌, ◌<◌, ◌||◌, ◌&&◌, Bool, true, false, cond, zero, suc, List, [], ◌∷◌, ◌++◌, All, Option, Some, None, IfSome}
+use Rattle.std.proofs.Common.{length, filter, refl, sym, ap, ◌∙◌, arith, if◌then◌else◌, nat_le, nat_lt}
 use Rattle.std.proofs.lemmas.Bool.Decides.{nat_tests}
 use Rattle.std.proofs.lemmas.List.Elements.{All-nil, All-cons, All-head, All-tail, All-weaker, filter-append}
 use Rattle.std.specs.List.{AllWithin, list_any, range_with_len, slice_get, cons_option}
@@ -86,8 +87,9 @@ first_is P from (row ∷ rows) all =
       | false ↦ first_is P from rows (All-tail P row rows all)
     ]
 
--- it stands where the rows below end
-pub first_at : (rows : List ℕ) (from at : ℕ) → AllWithin (λ row. nat_lt row from ≡ true) rows 0 at → AllWithin (λ row. nat_lt row from ≡ false) rows at (length rows)
+-- it is where the rows below it end
+pub first_at : (rows : List ℕ) (from at : ℕ) → AllWithin (λ row. nat_lt row from ≡ true) rows 0 at
+    → AllWithin (λ row. nat_lt row from ≡ false) rows at (length rows)
     → first_from from rows ≡ slice_get rows at
 first_at [] from at below above = refl
 first_at (row ∷ rows) from zero below above =
@@ -97,11 +99,13 @@ first_at (row ∷ rows) from zero below above =
 first_at (row ∷ rows) from (suc at) below above =
     let here : nat_lt row from ≡ true = below 0 row (omega arith) (omega arith) in
     let no : nat_le from row ≡ false = grind (arith, nat_tests) in
-    rw no (first_at rows from at (λ k d low high. below (suc k) d (omega arith) (omega (arith, high))) (λ k d low high. above (suc k) d (omega (arith, low)) (omega (arith, high))))
+    rw no (first_at rows from at (λ k d low high. below (suc k) d (omega arith) (omega (arith, high)))
+    (λ k d low high. above (suc k) d (omega (arith, low)) (omega (arith, high))))
 
 -- ---- rows that pass one of two tests
 
-from_front : (from row : ℕ) (passes : Bool) (rows : List ℕ) → first_from from (cond passes (row ∷ rows) rows) ≡ cond (passes && nat_le from row) (Some row) (first_from from rows)
+from_front : (from row : ℕ) (passes : Bool) (rows : List ℕ) → first_from from (cond passes (row ∷ rows) rows) ≡ cond (passes && nat_le from row) (Some row)
+    (first_from from rows)
 from_front from row true rows = refl
 from_front from row false rows = refl
 
@@ -119,21 +123,26 @@ merged false true false row a b low_a low_b = refl
 merged false false false row a b low_a low_b = refl
 
 first_of_both : (p q r : ℕ → Bool) → ((row : ℕ) → r row ≡ (p row || q row)) → (from first n : ℕ)
-    → first_from from (filter r (range_with_len first n)) ≡ lesser_of (first_from from (filter p (range_with_len first n))) (first_from from (filter q (range_with_len first n)))
+    → first_from from (filter r (range_with_len first n)) ≡ lesser_of (first_from from (filter p (range_with_len first n)))
+    (first_from from (filter q (range_with_len first n)))
 first_of_both p q r is from first zero = refl
 first_of_both p q r is from first (suc n) =
     let rest = range_with_len (first + 1) n in
-    let low : (test : ℕ → Bool) → IfSome (first_from from (filter test rest)) (λ other. first ≤ other) = λ test. first_is (λ other. first ≤ other) from (filter test rest)
+    let low : (test : ℕ → Bool) → IfSome (first_from from (filter test rest)) (λ other. first ≤ other) = λ test. first_is (λ other. first ≤ other) from
+    (filter test rest)
     (All-weaker (λ row. first + 1 ≤ row) (λ row. first ≤ row) (λ row above. omega (arith, above)) (filter test rest) (not_below test (first + 1) n)) in
     from_front from first (r first) (filter r rest)
     ∙ ap (λ later. cond (r first && nat_le from first) (Some first) later) (first_of_both p q r is from (first + 1) n)
     ∙ ap (λ passes. cond (passes && nat_le from first) (Some first) (lesser_of (first_from from (filter p rest)) (first_from from (filter q rest)))) (is first)
     ∙ merged (p first) (q first) (nat_le from first) first (first_from from (filter p rest)) (first_from from (filter q rest)) (low p) (low q)
-    ∙ ap (λ found. lesser_of found (cond (q first && nat_le from first) (Some first) (first_from from (filter q rest)))) (sym (from_front from first (p first) (filter p rest)))
-    ∙ ap (λ found. lesser_of (first_from from (cond (p first) (first ∷ filter p rest) (filter p rest))) found) (sym (from_front from first (q first) (filter q rest)))
+    ∙ ap (λ found. lesser_of found (cond (q first && nat_le from first) (Some first) (first_from from (filter q rest))))
+    (sym (from_front from first (p first) (filter p rest)))
+    ∙ ap (λ found. lesser_of (first_from from (cond (p first) (first ∷ filter p rest) (filter p rest))) found)
+    (sym (from_front from first (q first) (filter q rest)))
 
 pub first_of_either : (p q r : ℕ → Bool) → ((row : ℕ) → r row ≡ (p row || q row)) → (from n : ℕ)
-    → first_from from (filter r (range_with_len 0 n)) ≡ lesser_of (first_from from (filter p (range_with_len 0 n))) (first_from from (filter q (range_with_len 0 n)))
+    → first_from from (filter r (range_with_len 0 n)) ≡ lesser_of (first_from from (filter p (range_with_len 0 n)))
+    (first_from from (filter q (range_with_len 0 n)))
 first_of_either p q r is from n = first_of_both p q r is from 0 n
 
 pub none_pass : (test : ℕ → Bool) → ((row : ℕ) → test row ≡ false) → (from first n : ℕ) → first_from from (filter test (range_with_len first n)) ≡ None

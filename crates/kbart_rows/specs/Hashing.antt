@@ -9,6 +9,6 @@ use Rattle.kbart_rows.specs.declared.keys.Keys.{Keys}
 abbrev pub keyed : ℕ → ℕ → DefaultHasher
 keyed first second = fold write (fold write initial (u64 first)) (u64 second)
 
--- what each hasher goes on from
+-- the state in which each hasher begins
 abbrev pub begun_by : Keys → DefaultHasher
 begun_by keys = keys.begun

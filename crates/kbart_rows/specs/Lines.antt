@@ -4,22 +4,22 @@ use Rattle.text_model.specs.Texts.{Text}
 use Rattle.target_vars.specs.EnvValue.{piece_at}
 use Rattle.kbart_rows.specs.Cells.{Row, tab}
 
--- a byte in front of the first cell; without a cell it is in none
-abbrev pub in_front : ℕ → Row → Row
-in_front b [] = []
-in_front b (cell ∷ cells) = (b ∷ cell) ∷ cells
+-- a byte prepended to the first cell; without a cell it is in none
+abbrev pub prepended : ℕ → Row → Row
+prepended b [] = []
+prepended b (cell ∷ cells) = (b ∷ cell) ∷ cells
 
 -- the cells of a line: what a tab follows
 unfoldable pub cells_in : Text → Row
 cells_in [] = []
-cells_in (b ∷ line) = if b == tab then [] ∷ cells_in line else in_front b (cells_in line)
+cells_in (b ∷ line) = if b == tab then [] ∷ cells_in line else prepended b (cells_in line)
 
--- the cell of a column has so many bytes from this offset on; a cell that is missing is empty
+-- the cell of a column begins at this offset and has this length; a cell that is missing is empty
 pub record IsCellAt (line : Text) (column : ℕ) (start len : ℕ) : Type 0 where
   pub within : start + len ≤ length line
   pub is : piece_at line (start, len) ≡ get_or (cells_in line) column []
 
--- a line, and how many of its columns were passed over
+-- a line, and the number of its columns that the cursor is past
 pub record CursorValue : Type 0 where
   pub line : Text
   pub column : ℕ

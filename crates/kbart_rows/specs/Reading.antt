@@ -14,11 +14,11 @@ use Rattle.kbart_rows.specs.declared.error.TableError.{TableError}
 use Rattle.kbart_rows.specs.declared.error.TableError.TheVariants.{TooLong, NotUtf8, NoHeader, TooManyRows, RowTooLong, NoMemory}
 use Rattle.kbart_rows.specs.declared.read.TheConstants.{MAX_TABLE_BYTES, MAX_ROWS, MAX_ROW_BYTES}
 
--- cells are parted by tabs, and lines end with LF, CR LF or CR; nothing quotes, escapes or comments
+-- tabs separate cells, and lines end with LF, CR LF or CR; nothing quotes, escapes or comments
 abbrev pub tab_separated : Config
 tab_separated = record { delimiter = tab; quote = 34; escape = None; double_quote = true; quoting = false; comment = None; terminator = terminator.CRLF }
 
--- these are the lines, but for blank ones, of the bytes behind one byte order mark
+-- these are the lines, but for blank ones, of the bytes after one byte order mark
 abbrev pub AreLines : Text → List Row → Type 0
 AreLines bytes lines = AreRecords tab_separated state.StartRecord (strip_bom bytes) lines
 
@@ -58,7 +58,7 @@ pub record StopsAtLine (bytes : Text) (before : List Row) (refused : Row) : Type
   pub few : length before ≤ MAX_ROWS + 1
   pub fit : AllFit before
 
--- why lines are no table; want of memory says nothing of them
+-- why lines are no table; running out of memory says nothing of them
 abbrev pub IsLineFault : Text → TableError → Type 0
 IsLineFault bytes NoHeader = AreLines bytes []
 IsLineFault bytes TooManyRows = (before : List Row) × (refused : Row) × StopsAtLine bytes before refused × (length before ≡ MAX_ROWS + 1)

@@ -22,7 +22,7 @@ pub(crate) fn write_line(cells: &StringRecord, line: &mut String) -> Result<(), 
     Ok(())
 }
 
-/// The first cell of a line, and the line of those behind it.
+/// The first cell of a line, and the line of those after it.
 pub(crate) fn next_cell(line: &str) -> Option<(&str, &str)>
     ensures cell { IfSome result (λ parts. cells_in line.now ≡ parts.0.now ∷ cells_in parts.1.now) }
     ensures parts { IfSome result (λ parts. line.now ≡ parts.0.now ++ spec.tab ∷ parts.1.now) }
@@ -32,7 +32,7 @@ pub(crate) fn next_cell(line: &str) -> Option<(&str, &str)>
     line.split_once('\t')
 }
 
-/// The first cell of a line, the empty text where it has none, and the line of those behind it.
+/// The first cell of a line, the empty text where it has none, and the line of those after it.
 pub(crate) fn split_cell(line: &str) -> (&str, &str)
     ensures cell { result.0.now ≡ get_or (cells_in line.now) 0 [] }
     ensures rest { cells_in result.1.now ≡ drop 1 (cells_in line.now) }

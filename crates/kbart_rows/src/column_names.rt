@@ -28,7 +28,7 @@ impl ColumnNames {
         }
     }
 
-    /// Adds the names of a table's columns. Where a growth was refused, some of them are missing.
+    /// Adds the names of a table's columns. If an allocation failed, some of them are missing.
     pub fn add(&mut self, alloc: Global, table: &Table) -> Result<(), AllocError>
         ensures added { OnOk result ((name : Text)
             → has self.new name ≡ (has self.old name || is_some (column_of table.now.header name))) }

@@ -1,3 +1,5 @@
+//! The columns of a header, by name.
+
 ghost use Rattle.std.specs.Prelude.{◌≡◌, ◌==◌, IfOk, OnOk, Some, false, string_bytes, if◌then◌else◌};
 ghost use Rattle.std.specs.HashMap.{get_by_text, hasher_of};
 ghost use Rattle.std.specs.Option.{option_map_or, unwrap_or};
@@ -19,16 +21,17 @@ pub(crate) fn columns_of(
     header: &str,
     keys: Keys,
 ) -> Result<HashMap<String, usize, Keys>, AllocError>
-    ensures columns { IfOk result (λ columns. (name : Text) → get_by_text columns name ≡ column_of (cells_in header.now) name) }
+    ensures columns { IfOk result (λ columns. (name : Text)
+        → get_by_text columns name ≡ column_of (cells_in header.now) name) }
     ensures keyed { IfOk result (λ columns. hasher_of columns ≡ keys) }
 {
     let mut columns = HashMap::with_hasher(alloc, keys);
     let mut column: usize = 0;
     let mut rest = header;
-    while let Some((name, behind)) = next_cell(rest) {
+    while let Some((name, others)) = next_cell(rest) {
         add_name(&mut columns, String::from_str(alloc, name)?, column)?;
         column += 1;
-        rest = behind;
+        rest = others;
     }
     Ok(columns)
 }
@@ -40,7 +43,8 @@ fn add_name(
     column: usize,
 ) -> Result<(), AllocError>
     ensures added { OnOk result ((other : Text) → get_by_text columns.new other
-        ≡ (if bytes_eq other (string_bytes name) then Some (unwrap_or (get_by_text columns.old other) column) else get_by_text columns.old other)) }
+        ≡ (if bytes_eq other (string_bytes name) then Some (unwrap_or (get_by_text columns.old other) column)
+        else get_by_text columns.old other)) }
     ensures keyed { OnOk result (hasher_of columns.new ≡ hasher_of columns.old) }
 {
     columns.entry(name)?.or_insert(column);

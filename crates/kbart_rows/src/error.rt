@@ -1,3 +1,5 @@
+//! Why bytes are no holdings table.
+
 use std::alloc::AllocError;
 use thiserror::Error;
 

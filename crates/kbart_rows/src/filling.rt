@@ -1,3 +1,5 @@
+//! The cells of a row, added to an environment.
+
 ghost use Rattle.std.specs.Prelude.{◌≡◌, IfErr, OnOk, OnErr};
 ghost use Rattle.std.specs.HashMap.{get_by_text};
 ghost use Rattle.text_model.specs.Texts.{Text};
@@ -20,8 +22,10 @@ pub(crate) fn fill(
     env: &mut Env,
 ) -> Result<(), VarsError>
     requires { (name : Text) → get_by_text columns.now name ≡ column_of (cells_in header.now) name }
-    ensures ok { OnOk result (env.new.entries ≡ spec.filled env.old.entries (named_cells (cells_in header.now) (cells_in line.now))) }
-    ensures err { IfErr result (spec.StopsAtCell env.old.entries (named_cells (cells_in header.now) (cells_in line.now)) env.new.entries) }
+    ensures ok { OnOk result
+        (env.new.entries ≡ spec.filled env.old.entries (named_cells (cells_in header.now) (cells_in line.now))) }
+    ensures err { IfErr result
+        (spec.StopsAtCell env.old.entries (named_cells (cells_in header.now) (cells_in line.now)) env.new.entries) }
 {
     let mut column: usize = 0;
     let mut names = header;
@@ -44,8 +48,11 @@ fn add(
     cell: &str,
     env: &mut Env,
 ) -> Result<(), VarsError>
-    ensures ok { OnOk result (env.new.entries ≡ spec.with_defined env.old.entries (cell_at_first (get_by_text columns.now name.now) column name.now cell.now)) }
-    ensures err { IfErr result (IsRefusedCell env.old.entries (cell_at_first (get_by_text columns.now name.now) column name.now cell.now)) }
+    ensures ok { OnOk result
+        (env.new.entries ≡ spec.with_defined env.old.entries
+        (cell_at_first (get_by_text columns.now name.now) column name.now cell.now)) }
+    ensures err { IfErr result
+        (IsRefusedCell env.old.entries (cell_at_first (get_by_text columns.now name.now) column name.now cell.now)) }
     ensures kept { OnErr result (env.new.entries ≡ env.old.entries) }
 {
     if is_first(columns, name, column) {

@@ -1,3 +1,5 @@
+//! The normal form of an identifier.
+
 ghost use Rattle.std.specs.Prelude.{◌≡◌, IfOk, string_bytes};
 ghost use Rattle.kbart_rows.specs.Identifiers as spec;
 

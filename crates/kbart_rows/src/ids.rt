@@ -1,3 +1,5 @@
+//! The identifiers of a request.
+
 ghost use Rattle.std.specs.Prelude.{◌≡◌, ◌++◌, IfOk, OnOk, map, string_bytes};
 ghost use Rattle.std.specs.Option.{option_to_list};
 ghost use Rattle.kbart_rows.specs.Identifiers as spec;
@@ -7,7 +9,7 @@ use kev_read::Request;
 use std::alloc::{AllocError, Global};
 use std::marker::Model;
 
-/// The identifiers that a request asks for, at most three; contracts see their texts.
+/// The identifiers of the title that a request cites, at most three; contracts see their texts.
 #[derive(Drop)]
 pub struct Ids {
     ids: Vec<String>,
@@ -26,7 +28,7 @@ impl Ids {
     /// The first values of `rft.issn`, `rft.eissn` and `rft.isbn`, in this order, without hyphens and spaces
     /// and with ASCII letters raised; those that are empty then are left out.
     ///
-    /// Fails where a growth was refused.
+    /// Fails if an allocation failed.
     pub fn of(alloc: Global, request: &Request) -> Result<Ids, AllocError>
         ensures { IfOk result (λ ids. ids ≡ spec.ids_of request.now.pairs) }
     {

@@ -1,6 +1,7 @@
 //! From each normalised identifier to the rows that have it, in rising order.
 
-ghost use Rattle.std.specs.Prelude.{◌≡◌, ◌+◌, ◌≤◌, ◌<◌, ◌||◌, ◌++◌, ◌∷◌, [], IfOk, OnOk, drop, length, string_bytes, if◌then◌else◌};
+ghost use Rattle.std.specs.Prelude.{◌≡◌, ◌+◌, ◌≤◌, ◌<◌, ◌||◌, ◌++◌, ◌∷◌, [], IfOk, OnOk, drop, length, string_bytes};
+ghost use Rattle.std.specs.Prelude.{if◌then◌else◌};
 ghost use Rattle.std.specs.HashMap.{get_by_text, hasher_of};
 ghost use Rattle.std.specs.List.Sorted.{IsNonDecreasing};
 ghost use Rattle.std.specs.Option.{option_map, option_map_or};
@@ -65,7 +66,8 @@ fn add_row(
 ) -> Result<(), AllocError>
     ensures rows { OnOk result ((id : Text) → option_map_or (λ g. g.items) (get_by_text index.new id) []
         ≡ option_map_or (λ g. g.items) (get_by_text index.old id) []
-        ++ (if (is_id id (option_map string_bytes first) || is_id id (option_map string_bytes second)) then row ∷ [] else [])) }
+        ++ (if (is_id id (option_map string_bytes first) || is_id id (option_map string_bytes second)) then row ∷ []
+        else [])) }
     ensures keyed { OnOk result (hasher_of index.new ≡ hasher_of index.old) }
 {
     let is_same = first == second;
@@ -83,7 +85,8 @@ fn add_to(
     row: u32,
 ) -> Result<(), AllocError>
     ensures rows { OnOk result ((other : Text) → option_map_or (λ g. g.items) (get_by_text index.new other) []
-        ≡ option_map_or (λ g. g.items) (get_by_text index.old other) [] ++ (if is_id other (option_map string_bytes id) then row ∷ [] else [])) }
+        ≡ option_map_or (λ g. g.items) (get_by_text index.old other) []
+        ++ (if is_id other (option_map string_bytes id) then row ∷ [] else [])) }
     ensures keyed { OnOk result (hasher_of index.new ≡ hasher_of index.old) }
 {
     if let Some(id) = id {
@@ -94,7 +97,8 @@ fn add_to(
 
 fn add(index: &mut HashMap<String, Vec<u32>, Keys>, id: String, row: u32) -> Result<(), AllocError>
     ensures rows { OnOk result ((other : Text) → option_map_or (λ g. g.items) (get_by_text index.new other) []
-        ≡ (if bytes_eq other (string_bytes id) then option_map_or (λ g. g.items) (get_by_text index.old other) [] ++ row ∷ []
+        ≡ (if bytes_eq other (string_bytes id) then option_map_or (λ g. g.items) (get_by_text index.old other) []
+        ++ row ∷ []
         else option_map_or (λ g. g.items) (get_by_text index.old other) [])) }
     ensures keyed { OnOk result (hasher_of index.new ≡ hasher_of index.old) }
 {

@@ -1,3 +1,5 @@
+//! The secret keys of hashed look-ups.
+
 ghost use Rattle.std.specs.Prelude.{◌≡◌};
 ghost use Rattle.kbart_rows.specs.Hashing.{begun_by, keyed};
 

@@ -1,3 +1,5 @@
+//! The limits of a table, and its lines.
+
 ghost use Rattle.std.specs.Prelude.{◌≡◌, ◌≤◌, ◌<◌, ◌+◌, ◌++◌, ◌∷◌, [], All, IfOk, IfErr, OnOk, length};
 ghost use Rattle.csv.specs.Records.{fields_of};
 ghost use Rattle.kbart_rows.specs.Cells.{row_bytes};
@@ -58,7 +60,7 @@ pub(crate) fn read_lines(alloc: Global, bytes: &[u8]) -> Result<Records, TableEr
 }
 
 /// A reader of the records of a tab separated text, as a table is read: a line ends with LF, CR LF or CR, blank lines
-/// are none, nothing quotes, and one byte order mark in front is dropped.
+/// are none, nothing quotes, and one byte order mark at the beginning is dropped.
 pub fn tab_separated_reader(alloc: Global, bytes: &[u8]) -> Reader<&[u8]>
     ensures { IsFreshReader bytes.now result }
 {
@@ -70,7 +72,7 @@ pub fn tab_separated_reader(alloc: Global, bytes: &[u8]) -> Reader<&[u8]>
         .from_reader(alloc, bytes)
 }
 
-/// Adds a line behind the others; `line` is room to write it.
+/// Adds a line after the others; `line` is room to write it.
 fn add_line(lines: &mut Records, cells: &StringRecord, line: &mut String) -> Result<(), TableError>
     requires { All HasNoTab (fields_of cells.now) }
     ensures added { OnOk result (lines.new ≡ lines.old ++ fields_of cells.now ∷ []) }
@@ -83,7 +85,7 @@ fn add_line(lines: &mut Records, cells: &StringRecord, line: &mut String) -> Res
     }
     write_line(cells, line)?;
     let line = line.as_str();
-    // The line has a tab more than stand between its cells.
+    // The line has a tab after its last cell too, which does not count.
     if line.len() > MAX_ROW_BYTES + 1 {
         return Err(TableError::RowTooLong);
     }

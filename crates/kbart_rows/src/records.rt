@@ -1,3 +1,5 @@
+//! Records of cells, kept as lines.
+
 ghost use Rattle.std.specs.Prelude.{◌≡◌, ◌++◌, ◌∷◌, [], ◌≤◌, ◌+◌, OnOk, get_or, length};
 ghost use Rattle.kbart_rows.specs.Lines.{cells_in};
 ghost use Rattle.kbart_rows.specs.declared.read.TheConstants.{MAX_ROW_BYTES};
@@ -37,7 +39,7 @@ impl Records {
         }
     }
 
-    /// Adds the record whose line this is; where a growth was refused, no record is kept.
+    /// Adds the record whose line this is; if an allocation failed, no record is kept.
     pub(crate) fn push(&mut self, line: &str) -> Result<(), AllocError>
         requires { length line.now ≤ MAX_ROW_BYTES + 1 }
         ensures { OnOk result (self.new ≡ self.old ++ cells_in line.now ∷ []) }

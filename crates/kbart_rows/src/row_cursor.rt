@@ -8,8 +8,8 @@ ghost use Rattle.kbart_rows.specs.Lines.{cells_in, IsCellAt};
 use crate::cells::{next_cell, split_cell};
 use std::marker::Model;
 
-/// A row's line, of which some columns were passed over; contracts see the line and the number of these
-/// columns.
+/// A row's line and a position in it: the cursor is past some of its columns. Contracts see the line and the
+/// number of these columns.
 #[derive(Drop)]
 pub struct RowCursor<'a> {
     line: &'a str,
@@ -54,7 +54,7 @@ impl<'a> RowCursor<'a> {
         self.place()
     }
 
-    /// The cell of the next column, `None` behind the last; either way the column is passed over.
+    /// The cell of the next column, `None` past the last; either way the cursor moves past the column.
     pub fn next_cell(&mut self) -> Option<&'a str>
         ensures cell { option_copied result ≡ slice_get (cells_in self.old.line) self.old.column }
         ensures line { self.new.line ≡ self.old.line }

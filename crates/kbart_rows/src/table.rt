@@ -1,4 +1,7 @@
-ghost use Rattle.std.specs.Prelude.{◌≡◌, ◌≤◌, ◌<◌, ◌+◌, ◌*◌, ◌↔◌, [], ◌∷◌, IfErr, IfOk, IfSome, OnOk, IsUtf8, Err, get_or, length};
+//! A holdings table.
+
+ghost use Rattle.std.specs.Prelude.{◌≡◌, ◌≤◌, ◌<◌, ◌+◌, ◌*◌, ◌↔◌, [], ◌∷◌, IfErr, IfOk, IfSome, OnOk, IsUtf8, Err};
+ghost use Rattle.std.specs.Prelude.{get_or, length};
 ghost use Rattle.std.specs.Option.{option_copied};
 ghost use Rattle.environment_model.specs.Environment.{byte_count, member_count};
 ghost use Rattle.target_vars.specs.declared.env.TheConstants.{MAX_BYTES, MAX_MEMBERS};
@@ -65,7 +68,8 @@ impl Table {
 
         // However little memory there is.
         ensures too_long { (result ≡ Err TableError.TooLong) ↔ (MAX_TABLE_BYTES < length bytes.now) }
-        ensures not_utf8 { (result ≡ Err TableError.NotUtf8) ↔ ((length bytes.now ≤ MAX_TABLE_BYTES) × ¬ (IsUtf8 bytes.now)) }
+        ensures not_utf8 { (result ≡ Err TableError.NotUtf8)
+            ↔ ((length bytes.now ≤ MAX_TABLE_BYTES) × ¬ (IsUtf8 bytes.now)) }
         ensures limits { (MAX_TABLE_BYTES ≡ 16777216) × (MAX_ROWS ≡ 200000) × (MAX_ROW_BYTES ≡ 65536) }
     {
         Table::read_keyed(alloc, bytes, Keys::new(0, 0))
@@ -79,7 +83,8 @@ impl Table {
 
         // However little memory there is.
         ensures too_long { (result ≡ Err TableError.TooLong) ↔ (MAX_TABLE_BYTES < length bytes.now) }
-        ensures not_utf8 { (result ≡ Err TableError.NotUtf8) ↔ ((length bytes.now ≤ MAX_TABLE_BYTES) × ¬ (IsUtf8 bytes.now)) }
+        ensures not_utf8 { (result ≡ Err TableError.NotUtf8)
+            ↔ ((length bytes.now ≤ MAX_TABLE_BYTES) × ¬ (IsUtf8 bytes.now)) }
         ensures limits { (MAX_TABLE_BYTES ≡ 16777216) × (MAX_ROWS ≡ 200000) × (MAX_ROW_BYTES ≡ 65536) }
     {
         check_bytes(bytes)?;
@@ -176,7 +181,8 @@ impl Table {
 
     /// The first row at or after `from` that has the identifier.
     fn next_with(&self, id: &str, from: usize) -> Option<usize>
-        ensures { result ≡ spec.first_from from (rows_with (spec.identifier_columns self.now.header) self.now.rows id.now) }
+        ensures { result
+            ≡ spec.first_from from (rows_with (spec.identifier_columns self.now.header) self.now.rows id.now) }
     {
         match self.index.get(id) {
             Some(rows) => first_from(rows.as_slice(), from),
@@ -188,23 +194,29 @@ impl Table {
     /// the order of the columns; of columns with one name only the first counts. A name that the environment
     /// has stays as it is.
     ///
-    /// `TooLarge` where a cell would pass a limit of the environment, `NoMemory` where a growth of the
-    /// environment was refused; the cells before the refused one stay added.
+    /// `TooLarge` if a cell would exceed a limit of the environment, `NoMemory` if an allocation failed. The
+    /// cells before the refused one stay added.
     pub fn fill(&self, row: usize, env: &mut Env) -> Result<(), VarsError>
         requires { row < length self.now.rows }
-        ensures ok { OnOk result (env.new.entries ≡ filled env.old.entries (named_cells self.now.header (get_or self.now.rows row []))) }
-        ensures err { IfErr result (StopsAtCell env.old.entries (named_cells self.now.header (get_or self.now.rows row [])) env.new.entries) }
+        ensures ok { OnOk result
+            (env.new.entries ≡ filled env.old.entries (named_cells self.now.header (get_or self.now.rows row []))) }
+        ensures err { IfErr result
+            (StopsAtCell env.old.entries (named_cells self.now.header (get_or self.now.rows row []))
+            env.new.entries) }
 
         // What the environment grows by at most, whatever the answer.
-        ensures bytes { byte_count env.new.entries ≤ byte_count env.old.entries + cell_bytes (named_cells self.now.header (get_or self.now.rows row [])) }
+        ensures bytes { byte_count env.new.entries ≤ byte_count env.old.entries
+            + cell_bytes (named_cells self.now.header (get_or self.now.rows row [])) }
         ensures small { cell_bytes (named_cells self.now.header (get_or self.now.rows row [])) ≤ MAX_ROW_BYTES }
         ensures members { member_count env.new.entries ≡ member_count env.old.entries }
 
         // Where that fits, only memory can be missing; an empty environment has room for a row and a request.
-        ensures room { byte_count env.old.entries + MAX_ROW_BYTES ≤ MAX_BYTES → IfErr result (λ e. e ≡ vars_error.NoMemory) }
+        ensures room { byte_count env.old.entries + MAX_ROW_BYTES ≤ MAX_BYTES
+            → IfErr result (λ e. e ≡ vars_error.NoMemory) }
         ensures empty { env.old.entries ≡ [] → IfErr result (λ e. e ≡ vars_error.NoMemory) }
         ensures request_fits { env.old.entries ≡ []
-            → (byte_count env.new.entries + 3 * MAX_QUERY_BYTES ≤ MAX_BYTES) × (member_count env.new.entries + MAX_PAIRS ≤ MAX_MEMBERS) }
+            → (byte_count env.new.entries + 3 * MAX_QUERY_BYTES ≤ MAX_BYTES)
+            × (member_count env.new.entries + MAX_PAIRS ≤ MAX_MEMBERS) }
     {
         fill(self.header(), &self.columns, self.lines.line(row + 1), env)
     }

@@ -1,5 +1,6 @@
 -- How long a decoded text is.
-use Rattle.std.proofs.Common.{◌≡◌, ℕ, zero, suc, ◌+◌, ◌*◌, ◌≤◌, ◌<◌, ◌==◌, true, false, cond, List, ◌++◌, length, map, take, drop, refl, arith, length-append, slice_index, length-drop}
+use Rattle.std.proofs.Common.{◌≡◌, ℕ, zero, suc, ◌+◌, ◌*◌, ◌≤◌, ◌<◌, ◌==◌, true, false, cond, List, ◌++◌, length, map, take, drop, refl, arith, length-append}
+use Rattle.std.proofs.Common.{slice_index, length-drop}
 use Rattle.std.proofs.Math.Logic.{⊎_elim}
 use Rattle.std.proofs.lemmas.Bool.Decides.{eqb_tells}
 use Rattle.std.proofs.lemmas.List.{length-take-le, length-map}
@@ -16,7 +17,7 @@ positive_choice : (b : Bool) (x y : Option ℕ) (otherwise : ℕ) → 0 < unwrap
 positive_choice true x y otherwise first second = first
 positive_choice false x y otherwise first second = second
 
--- one U+FFFD stands for at least one byte
+-- one U+FFFD replaces at least one byte
 invalid_len_positive : (bs : List ℕ) → 0 < length bs → 0 < utf8_invalid_len bs
 unfolding utf8_error_len
 invalid_len_positive bs some =
@@ -49,7 +50,13 @@ length-utf8_lossy_within-le (suc k) bs =
     let within = utf8_valid_len_le bs in
     let other = cut.1 in
     let invalid = invalid_len_positive (drop n bs) (omega (arith, length-drop n bs)) in
-    rw cut.0 (omega (arith, length-append (take n bs) (replacement_bytes ++ rest), length-append replacement_bytes rest, length-take-le n bs within, length-drop (n + utf8_invalid_len (drop n bs)) bs)))
+    rw cut.0 (omega (
+      arith,
+      length-append (take n bs) (replacement_bytes ++ rest),
+      length-append replacement_bytes rest,
+      length-take-le n bs within,
+      length-drop (n + utf8_invalid_len (drop n bs)) bs,
+    )))
     (eqb_tells (utf8_valid_len bs) (length bs))
 
 pub length-decoded-le : (bs : List ℕ) → length (decoded bs) ≤ 3 * length bs

@@ -18,7 +18,8 @@ pairs_keep_their_order : pairs_of (codes "x=1&y=2&x=3") ≡ pair (codes "x") (co
 unfolding kev_read_on_literals
 pairs_keep_their_order = refl
 
-empty_pairs_are_none : map pairs_of ([] ∷ codes "&" ∷ codes "&&a=1&&&b=2&" ∷ []) ≡ [] ∷ [] ∷ (pair (codes "a") (codes "1") ∷ pair (codes "b") (codes "2") ∷ []) ∷ []
+empty_pairs_are_none : map pairs_of ([] ∷ codes "&" ∷ codes "&&a=1&&&b=2&" ∷ [])
+    ≡ [] ∷ [] ∷ (pair (codes "a") (codes "1") ∷ pair (codes "b") (codes "2") ∷ []) ∷ []
 unfolding kev_read_on_literals
 empty_pairs_are_none = refl
 
@@ -43,7 +44,7 @@ keys_and_values_are_decoded = refl
 abbrev decodes_otherwise : List ℕ → Text → Bool
 decodes_otherwise bytes text = not (bytes_eq (decoded bytes) text)
 
--- which stands for a space
+-- which is decoded to a space
 of_ascii_only_plus_is_no_text : filter (λ b. decodes_otherwise (b ∷ []) (b ∷ [])) (range_with_len 0 128) ≡ codes "+"
 unfolding kev_read_on_literals
 of_ascii_only_plus_is_no_text = refl
@@ -56,26 +57,30 @@ triplets_of_ascii_are_characters = refl
 abbrev replaced : Text
 replaced = 0xEF ∷ 0xBF ∷ 0xBD ∷ []
 
-lone_bytes_behind_ascii_are_replaced : filter (λ b. decodes_otherwise (b ∷ []) replaced) (range_with_len 128 128) ≡ []
+lone_bytes_above_ascii_are_replaced : filter (λ b. decodes_otherwise (b ∷ []) replaced) (range_with_len 128 128) ≡ []
 unfolding kev_read_on_literals
-lone_bytes_behind_ascii_are_replaced = refl
+lone_bytes_above_ascii_are_replaced = refl
 
-bad_triplets_stay : map decoded (codes "%" ∷ codes "%4" ∷ codes "%zz" ∷ codes "%4g" ∷ codes "a%41%" ∷ codes "%%41" ∷ []) ≡ codes "%" ∷ codes "%4" ∷ codes "%zz" ∷ codes "%4g" ∷ codes "aA%" ∷ codes "%A" ∷ []
+bad_triplets_stay : map decoded (codes "%" ∷ codes "%4" ∷ codes "%zz" ∷ codes "%4g" ∷ codes "a%41%" ∷ codes "%%41" ∷ [])
+    ≡ codes "%" ∷ codes "%4" ∷ codes "%zz" ∷ codes "%4g" ∷ codes "aA%" ∷ codes "%A" ∷ []
 unfolding kev_read_on_literals
 bad_triplets_stay = refl
 
 -- a `+` in a triplet is one
-decoded_once : map decoded (codes "a+b" ∷ codes "a%2Bb" ∷ codes "a%2bb" ∷ codes "%2541" ∷ codes "%20" ∷ []) ≡ codes "a b" ∷ codes "a+b" ∷ codes "a+b" ∷ codes "%41" ∷ codes " " ∷ []
+decoded_once : map decoded (codes "a+b" ∷ codes "a%2Bb" ∷ codes "a%2bb" ∷ codes "%2541" ∷ codes "%20" ∷ []) ≡ codes "a b" ∷ codes "a+b" ∷ codes "a+b" ∷ codes
+    "%41" ∷ codes " " ∷ []
 unfolding kev_read_on_literals
 decoded_once = refl
 
 -- é and €, from triplets, from bytes and from both
-decoded_as_utf8 : map decoded (codes "%C3%a9" ∷ (0xC3 ∷ 0xA9 ∷ []) ∷ (0xE2 ∷ codes "%82" ++ 0xAC ∷ []) ∷ []) ≡ (0xC3 ∷ 0xA9 ∷ []) ∷ (0xC3 ∷ 0xA9 ∷ []) ∷ (0xE2 ∷ 0x82 ∷ 0xAC ∷ []) ∷ []
+decoded_as_utf8 : map decoded (codes "%C3%a9" ∷ (0xC3 ∷ 0xA9 ∷ []) ∷ (0xE2 ∷ codes "%82" ++ 0xAC ∷ []) ∷ [])
+    ≡ (0xC3 ∷ 0xA9 ∷ []) ∷ (0xC3 ∷ 0xA9 ∷ []) ∷ (0xE2 ∷ 0x82 ∷ 0xAC ∷ []) ∷ []
 unfolding kev_read_on_literals
 decoded_as_utf8 = refl
 
--- a character that ends too early is replaced once, and each byte that begins none by itself
-not_utf8_is_replaced : map decoded (codes "%E2%82" ∷ codes "%FF%FE" ∷ codes "a%C3b" ∷ []) ≡ replaced ∷ (replaced ++ replaced) ∷ (codes "a" ++ replaced ++ codes "b") ∷ []
+-- a character that ends too early is replaced once, and each byte that begins no character is replaced separately
+not_utf8_is_replaced : map decoded (codes "%E2%82" ∷ codes "%FF%FE" ∷ codes "a%C3b" ∷ [])
+    ≡ replaced ∷ (replaced ++ replaced) ∷ (codes "a" ++ replaced ++ codes "b") ∷ []
 unfolding kev_read_on_literals
 not_utf8_is_replaced = refl
 
@@ -96,7 +101,8 @@ first_value_may_be_empty : map (first_of issns) (codes "rft.issn" ∷ codes "x" 
 unfolding kev_read_on_literals
 first_value_may_be_empty = refl
 
-other_keys_have_no_value : map (first_of issns) (codes "RFT.ISSN" ∷ codes "rft.iss" ∷ codes "rft.issn2" ∷ codes "issn" ∷ codes " x" ∷ codes "X" ∷ [] ∷ []) ≡ None ∷ None ∷ None ∷ None ∷ None ∷ None ∷ None ∷ []
+other_keys_have_no_value : map (first_of issns) (codes "RFT.ISSN" ∷ codes "rft.iss" ∷ codes "rft.issn2" ∷ codes "issn" ∷ codes " x" ∷ codes "X" ∷ [] ∷ [])
+    ≡ None ∷ None ∷ None ∷ None ∷ None ∷ None ∷ None ∷ []
 unfolding kev_read_on_literals
 other_keys_have_no_value = refl
 
@@ -105,12 +111,14 @@ keys_are_not_counted = refl
 
 -- ---- why a query is refused
 
-one_version_is_read : map is_other_version (None ∷ Some (codes "Z39.88-2004") ∷ Some (codes "z39.88-2004") ∷ Some (codes "Z39.88-2005") ∷ Some (codes "Z39.88-2004 ") ∷ Some (codes "Z39.88") ∷ Some [] ∷ [])
+one_version_is_read : map is_other_version (None ∷ Some (codes "Z39.88-2004") ∷ Some (codes "z39.88-2004") ∷ Some (codes "Z39.88-2005") ∷ Some
+    (codes "Z39.88-2004 ") ∷ Some (codes "Z39.88") ∷ Some [] ∷ [])
     ≡ false ∷ false ∷ true ∷ true ∷ true ∷ true ∷ true ∷ []
 one_version_is_read = refl
 
 -- a version may be missing, and versions of other things may be any
-accepted_versions : map refusal ([] ∷ codes "rft_ver=1" ∷ codes "ver=1&CTX_VER=1&ctx.ver=1&URL_VER=1&rfr_ver=1" ∷ codes "ctx_ver=Z39.88-2004" ∷ codes "url_ver=Z39.88-2004&ctx_ver=Z39%2E88%2d2004" ∷ [])
+accepted_versions : map refusal ([] ∷ codes "rft_ver=1" ∷ codes "ver=1&CTX_VER=1&ctx.ver=1&URL_VER=1&rfr_ver=1" ∷ codes "ctx_ver=Z39.88-2004" ∷ codes
+    "url_ver=Z39.88-2004&ctx_ver=Z39%2E88%2d2004" ∷ [])
     ≡ None ∷ None ∷ None ∷ None ∷ None ∷ []
 unfolding kev_read_on_literals
 accepted_versions = refl
@@ -124,18 +132,20 @@ other_versions : map refusal (codes "ctx_ver=1" ∷ codes "url_ver=1" ∷ codes 
 unfolding kev_read_on_literals
 other_versions = refl
 
-both_versions_count : map refusal (codes "ctx_ver=Z39.88-2004&url_ver=1" ∷ codes "ctx_ver=1&url_ver=Z39.88-2004" ∷ []) ≡ Some WrongVersion ∷ Some WrongVersion ∷ []
+both_versions_count : map refusal (codes "ctx_ver=Z39.88-2004&url_ver=1" ∷ codes "ctx_ver=1&url_ver=Z39.88-2004" ∷ [])
+    ≡ Some WrongVersion ∷ Some WrongVersion ∷ []
 unfolding kev_read_on_literals
 both_versions_count = refl
 
-first_version_counts : map refusal (codes "ctx_ver=Z39.88-2004&ctx_ver=1" ∷ codes "ctx_ver=1&ctx_ver=Z39.88-2004" ∷ codes "url_ver=Z39.88-2004&url_ver=1" ∷ codes "url_ver=1&url_ver=Z39.88-2004" ∷ [])
+first_version_counts : map refusal (codes "ctx_ver=Z39.88-2004&ctx_ver=1" ∷ codes "ctx_ver=1&ctx_ver=Z39.88-2004" ∷ codes
+    "url_ver=Z39.88-2004&url_ver=1" ∷ codes "url_ver=1&url_ver=Z39.88-2004" ∷ [])
     ≡ None ∷ Some WrongVersion ∷ None ∷ Some WrongVersion ∷ []
 unfolding kev_read_on_literals
 first_version_counts = refl
 
 -- ---- the limits of a query
 
--- the pair `ctx_ver=1`, and so many others
+-- the pair `ctx_ver=1`, and n others
 abbrev other_version_and : ℕ → List ℕ
 other_version_and n = codes "ctx_ver=1" ++ repeat n (codes "&a")
 

@@ -36,7 +36,8 @@ unfolding kev_read_on_literals
 declared_keys_are_lists = refl
 
 other_keys_are_texts : filled (codes "sid" ∷ []) [] (pairs_of (codes "RFT.AU=1&RFT.AU=2&rft.aulast=3&rft_ids=4&Sid=5&=6&ctx_ver=7"))
-    ≡ text (codes "RFT.AU") (codes "1") ∷ text (codes "rft.aulast") (codes "3") ∷ text (codes "rft_ids") (codes "4") ∷ text (codes "Sid") (codes "5") ∷ text [] (codes "6") ∷ text (codes "ctx_ver") (codes "7") ∷ []
+    ≡ text (codes "RFT.AU") (codes "1") ∷ text (codes "rft.aulast") (codes "3") ∷ text (codes "rft_ids") (codes "4") ∷ text (codes "Sid") (codes "5") ∷ text []
+    (codes "6") ∷ text (codes "ctx_ver") (codes "7") ∷ []
 unfolding kev_read_on_literals
 other_keys_are_texts = refl
 
@@ -49,7 +50,8 @@ what_was_there_stays : filled (codes "t" ∷ []) before (pairs_of (codes "t=1&l=
 unfolding kev_read_on_literals
 what_was_there_stays = refl
 
-list_that_was_there_grows : filled (codes "l" ∷ []) before (pairs_of (codes "l=1&t=2&l=3")) ≡ text (codes "t") (codes "0") ∷ list (codes "l") (codes "0" ∷ codes "1" ∷ codes "3" ∷ []) ∷ []
+list_that_was_there_grows : filled (codes "l" ∷ []) before (pairs_of (codes "l=1&t=2&l=3")) ≡ text (codes "t") (codes "0") ∷ list (codes "l")
+    (codes "0" ∷ codes "1" ∷ codes "3" ∷ []) ∷ []
 unfolding kev_read_on_literals
 list_that_was_there_grows = refl
 
@@ -67,26 +69,31 @@ added_texts = refl
 abbrev one_text : Text → Environment
 one_text t = text (codes "t") t ∷ []
 
-two_bytes_fit : (t : Text) → length t ≡ 1048574 → ¬ (TextIsTooLarge (one_text t) (pair (codes "n") (codes "22"))) × ¬ (MemberIsTooLarge (one_text t) (pair (codes "n") (codes "22")))
+two_bytes_fit : (t : Text) → length t ≡ 1048574 → ¬ (TextIsTooLarge (one_text t) (pair (codes "n") (codes "22")))
+    × ¬ (MemberIsTooLarge (one_text t) (pair (codes "n") (codes "22")))
 two_bytes_fit t long = (λ large. omega (arith, long, large.1), λ large. omega (arith, long, large.1))
 
 -- the bytes of the names are not counted
-third_byte_is_too_large : (t : Text) → length t ≡ 1048574 → TextIsTooLarge (one_text t) (pair (codes "n") (codes "333")) × MemberIsTooLarge (one_text t) (pair (codes "n") (codes "333"))
+third_byte_is_too_large : (t : Text) → length t ≡ 1048574 → TextIsTooLarge (one_text t) (pair (codes "n") (codes "333"))
+    × MemberIsTooLarge (one_text t) (pair (codes "n") (codes "333"))
 unfolding kev_read_on_literals
 third_byte_is_too_large t long = ((refl, omega (arith, long)), (refl, inl (omega (arith, long))))
 
-nothing_is_too_large_where_it_is_not_added : (t : Text) → ¬ (TextIsTooLarge (one_text t) (pair (codes "t") (codes "333"))) × ¬ (MemberIsTooLarge (one_text t) (pair (codes "t") (codes "333")))
+nothing_is_too_large_where_it_is_not_added : (t : Text) → ¬ (TextIsTooLarge (one_text t) (pair (codes "t") (codes "333")))
+    × ¬ (MemberIsTooLarge (one_text t) (pair (codes "t") (codes "333")))
 unfolding kev_read_on_literals
 nothing_is_too_large_where_it_is_not_added t = (λ large. true≢false large.0, λ large. true≢false large.0)
 
 abbrev one_list : List Text → Environment
 one_list members = list (codes "l") members ∷ []
 
-member_past_the_last_is_too_large : (members : List Text) → length members ≡ 65535 → sum_by length members ≡ 0 → MemberIsTooLarge (one_list members) (pair (codes "l") []) × MemberIsTooLarge (one_list members) (pair (codes "n") [])
+member_past_the_last_is_too_large : (members : List Text) → length members ≡ 65535 → sum_by length members ≡ 0
+    → MemberIsTooLarge (one_list members) (pair (codes "l") []) × MemberIsTooLarge (one_list members) (pair (codes "n") [])
 unfolding kev_read_on_literals
 member_past_the_last_is_too_large members many empty = ((refl, inr (omega (arith, many))), (refl, inr (omega (arith, many))))
 
-last_member_fits : (members : List Text) → length members ≡ 65534 → sum_by length members ≡ 0 → ¬ (MemberIsTooLarge (one_list members) (pair (codes "l") [])) × ¬ (MemberIsTooLarge (one_list members) (pair (codes "n") []))
+last_member_fits : (members : List Text) → length members ≡ 65534 → sum_by length members ≡ 0 → ¬ (MemberIsTooLarge (one_list members) (pair (codes "l") []))
+    × ¬ (MemberIsTooLarge (one_list members) (pair (codes "n") []))
 last_member_fits members many empty = (λ large. omega (arith, many, empty, large.1), λ large. omega (arith, many, empty, large.1))
 
 text_is_no_member : (members : List Text) → length members ≡ 65535 → sum_by length members ≡ 0 → ¬ (TextIsTooLarge (one_list members) (pair (codes "n") []))
@@ -118,5 +125,6 @@ largest_request = (
   record { query_bytes = omega arith; pairs = omega arith; values = omega arith },
 )
 
-larger_requests : ¬ (IsBounded (request_of 65537 [])) × ¬ (IsBounded (request_of 65536 (repeat 4097 (pair [] [] ∷ [])))) × ¬ (IsBounded (request_of 1 (pair [] (codes "4444") ∷ [])))
+larger_requests : ¬ (IsBounded (request_of 65537 [])) × ¬ (IsBounded (request_of 65536 (repeat 4097 (pair [] [] ∷ []))))
+    × ¬ (IsBounded (request_of 1 (pair [] (codes "4444") ∷ [])))
 larger_requests = (λ bounded. omega (arith, bounded.query_bytes), λ bounded. omega (arith, bounded.pairs), λ bounded. omega (arith, bounded.values))

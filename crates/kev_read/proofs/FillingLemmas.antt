@@ -1,5 +1,6 @@
 -- What filling an environment adds to it, and where it stops.
-use Rattle.std.proofs.Common.{◌≡◌, ◌↔◌, ◌⊎◌, ℕ, ◌+◌, ◌≤◌, ◌<◌, Bool, true, false, cond, MatchBool, List, [], ◌∷◌, ◌++◌, length, take, drop, slice_get, Some, Result, Ok, Err, OnOk, IfErr, IsErrAnd, subst, refl, sym, ap, ◌∙◌, arith, length-append, append-nil, inl}
+use Rattle.std.proofs.Common.{◌≡◌, ◌↔◌, ◌⊎◌, ℕ, ◌+◌, ◌≤◌, ◌<◌, Bool, true, false, cond, MatchBool, List, [], ◌∷◌, ◌++◌, length, take, drop, slice_get, Some}
+use Rattle.std.proofs.Common.{Result, Ok, Err, OnOk, IfErr, IsErrAnd, subst, refl, sym, ap, ◌∙◌, arith, length-append, append-nil, inl}
 use Rattle.std.proofs.Math.Logic.{⊎_elim}
 use Rattle.std.proofs.lemmas.List.{take-append-drop, drop_more}
 use Rattle.std.proofs.lemmas.Option.{slice_get-map, slice_get_within, get_or_from_slice_get}
@@ -18,7 +19,8 @@ use Rattle.kev_read.specs.Private.KeyOrder.{passes_at}
 use Rattle.kev_read.specs.Filling.{fill_one, filled, is_added, MemberIsTooLarge, TextIsTooLarge, IsTooLarge, StopsAtPair}
 
 -- the test of the key of the pair at an index
-pub passes_there : (test : Text → Bool) (pairs : List KeyValue) (index : ℕ) (pair : KeyValue) → slice_get pairs index ≡ Some pair → passes_at test pairs index ≡ test pair.key
+pub passes_there : (test : Text → Bool) (pairs : List KeyValue) (index : ℕ) (pair : KeyValue) → slice_get pairs index ≡ Some pair
+    → passes_at test pairs index ≡ test pair.key
 passes_there test pairs index pair is =
     ap (λ key. option_map_or test key false) (slice_get-map (λ (p : KeyValue). p.key) pairs index ∙ ap (option_map (λ (p : KeyValue). p.key)) is)
 
@@ -26,14 +28,16 @@ passes_there test pairs index pair is =
 
 fill_one_bytes : (lists : List Text) (env : Environment) (pair : KeyValue) → byte_count (fill_one lists env pair) ≤ byte_count env + length pair.value
 fill_one_bytes lists env pair =
-    elim (is_list lists pair.key) as (λ v. byte_count (cond v (with_member env pair.key pair.value) (with_text env pair.key pair.value)) ≤ byte_count env + length pair.value) [
+    elim (is_list lists pair.key) as (λ v. byte_count (cond v (with_member env pair.key pair.value) (with_text env pair.key pair.value))
+    ≤ byte_count env + length pair.value) [
       | true ↦ byte_count-with_member-le env pair.key pair.value
       | false ↦ byte_count-with_text-le env pair.key pair.value
     ]
 
 fill_one_members : (lists : List Text) (env : Environment) (pair : KeyValue) → member_count (fill_one lists env pair) ≤ member_count env + 1
 fill_one_members lists env pair =
-    elim (is_list lists pair.key) as (λ v. member_count (cond v (with_member env pair.key pair.value) (with_text env pair.key pair.value)) ≤ member_count env + 1) [
+    elim (is_list lists pair.key) as (λ v. member_count (cond v (with_member env pair.key pair.value) (with_text env pair.key pair.value)) ≤ member_count env
+    + 1) [
       | true ↦ member_count-with_member-le env pair.key pair.value
       | false ↦ omega (arith, member_count-with_text env pair.key pair.value)
     ]
@@ -41,12 +45,12 @@ fill_one_members lists env pair =
 value_bytes-cons : (pair : KeyValue) (pairs : List KeyValue) → value_bytes (pair ∷ pairs) ≡ length pair.value + value_bytes pairs
 value_bytes-cons pair pairs = sum_by-cons (λ (p : KeyValue). length p.value) pair pairs
 
-filled_bytes : (lists : List Text) (env : Environment) (pairs : List KeyValue) → byte_count (filled lists env pairs) ≤ byte_count env + value_bytes pairs
+pub filled_bytes : (lists : List Text) (env : Environment) (pairs : List KeyValue) → byte_count (filled lists env pairs) ≤ byte_count env + value_bytes pairs
 filled_bytes lists env [] = omega arith
 filled_bytes lists env (pair ∷ pairs) =
     omega (arith, filled_bytes lists (fill_one lists env pair) pairs, fill_one_bytes lists env pair, value_bytes-cons pair pairs)
 
-filled_members : (lists : List Text) (env : Environment) (pairs : List KeyValue) → member_count (filled lists env pairs) ≤ member_count env + length pairs
+pub filled_members : (lists : List Text) (env : Environment) (pairs : List KeyValue) → member_count (filled lists env pairs) ≤ member_count env + length pairs
 filled_members lists env [] = omega arith
 filled_members lists env (pair ∷ pairs) =
     omega (arith, filled_members lists (fill_one lists env pair) pairs, fill_one_members lists env pair)
@@ -69,7 +73,8 @@ stops_at lists old now new pairs index pair list e is marked so_far unchanged ad
   refused = pair;
   after = drop (index + 1) pairs;
   in_order = sym (take-append-drop index pairs)
-      ∙ ap (λ rest. take index pairs ++ rest) (drop_more pairs index pair (slice_get_within pairs index pair is) ∙ ap (λ p. p ∷ drop (index + 1) pairs) (get_or_from_slice_get pairs index pair pair is));
+      ∙ ap (λ rest. take index pairs ++ rest) (drop_more pairs index pair (slice_get_within pairs index pair is)
+      ∙ ap (λ p. p ∷ drop (index + 1) pairs) (get_or_from_slice_get pairs index pair pair is));
   reached = unchanged ∙ so_far;
   is_added = rw (unchanged, ← marked) added;
   too_large = rw (unchanged, ← marked) ((λ same. too_large.0 (ap Err same)), (λ over. let same = too_large.1 over in cc));
@@ -97,11 +102,13 @@ reaches lists old pairs new (Err e) ok err = record { before = err.before; after
 value_bytes-parts : (pairs before after : List KeyValue) → pairs ≡ before ++ after → value_bytes pairs ≡ value_bytes before + value_bytes after
 value_bytes-parts pairs before after parts = ap value_bytes parts ∙ sum_by-append (λ (p : KeyValue). length p.value) before after
 
-pub reached_bytes : (lists : List Text) (old : Environment) (pairs : List KeyValue) (new : Environment) → Reaches lists old pairs new → byte_count new ≤ byte_count old + value_bytes pairs
+pub reached_bytes : (lists : List Text) (old : Environment) (pairs : List KeyValue) (new : Environment) → Reaches lists old pairs new
+    → byte_count new ≤ byte_count old + value_bytes pairs
 reached_bytes lists old pairs new h =
     omega (arith, ap byte_count h.reached, filled_bytes lists old h.before, value_bytes-parts pairs h.before h.after h.in_order)
 
-pub reached_members : (lists : List Text) (old : Environment) (pairs : List KeyValue) (new : Environment) → Reaches lists old pairs new → member_count new ≤ member_count old + length pairs
+pub reached_members : (lists : List Text) (old : Environment) (pairs : List KeyValue) (new : Environment) → Reaches lists old pairs new
+    → member_count new ≤ member_count old + length pairs
 reached_members lists old pairs new h =
     omega (arith, ap member_count h.reached, filled_members lists old h.before, ap length h.in_order, length-append h.before h.after)
 

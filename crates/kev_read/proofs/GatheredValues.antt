@@ -1,17 +1,12 @@
 -- The values of pairs as members of lists, each of the name of its key.
-use Rattle.std.proofs.Common.{◌≡◌, ℕ, ◌+◌, ◌≤◌, Bool, true, false, List, [], ◌∷◌, ◌++◌, length, take, Option, Some, None, is_some, slice_get, bytes_eq, refl}
-use Rattle.std.proofs.Common.{sym, ap, ◌∙◌, append_assoc, append-nil, arith}
+use Rattle.std.proofs.Common.{◌≡◌, Bool, true, false, List, [], ◌∷◌, ◌++◌, Option, Some, None, is_some, bytes_eq, refl}
+use Rattle.std.proofs.Common.{sym, ap, ◌∙◌, append_assoc, append-nil}
 use Rattle.std.specs.Prelude.{fold}
-use Rattle.std.proofs.lemmas.List.{length-take-le}
-use Rattle.std.proofs.lemmas.List.Sums.{sum_by-cons, sum_by_more_le, fold_more}
-use Rattle.std.proofs.lemmas.Option.{slice_get_within, get_or_from_slice_get}
 use Rattle.std.proofs.lemmas.Slice.Eq.{bytes_eq-Decides}
 use Rattle.text_model.specs.Texts.{Text}
-use Rattle.environment_model.specs.Environment.{Environment, Meaning, Single, Several, look_up, text_in, text_of, members_in, members_of, byte_count}
-use Rattle.environment_model.specs.Environment.{member_count, with_member, more}
+use Rattle.environment_model.specs.Environment.{Environment, Meaning, Single, Several, look_up, text_in, text_of, members_in, members_of, with_member, more}
 use Rattle.environment_model.proofs.Environments.{look_up-empty, look_up-same, look_up-other, with_member-empty, with_member-same, with_member-other}
-use Rattle.environment_model.proofs.EnvironmentGrowth.{byte_count-with_member-le, member_count-with_member-le}
-use Rattle.kev_read.specs.Pairs.{KeyValue, all_of, value_bytes}
+use Rattle.kev_read.specs.Pairs.{KeyValue, all_of}
 use Rattle.kev_read.specs.Private.Gathered.{gather_one, gathered}
 
 -- ---- one member more
@@ -19,7 +14,7 @@ use Rattle.kev_read.specs.Private.Gathered.{gather_one, gathered}
 itself : (name : Text) → bytes_eq name name ≡ true
 itself name = (bytes_eq-Decides name name).1 refl
 
--- what a name stands for after a member more
+-- what a name is bound to after one more member
 abbrev grown : Option Meaning → Text → Meaning
 grown None t = Several (t ∷ [])
 grown (Some m) t = more m t
@@ -33,13 +28,13 @@ with_member-own (e ∷ env) key t = by_name (bytes_eq e.name key) refl (with_mem
   where
     by_name : (b : Bool) → bytes_eq e.name key ≡ b → look_up (with_member env key t) key ≡ Some (grown (look_up env key) t)
         → look_up (with_member (e ∷ env) key t) key ≡ Some (grown (look_up (e ∷ env) key) t)
-    by_name true same behind =
+    by_name true same in_others =
         ap (λ es. look_up es key) (with_member-same e env key t same)
         ∙ look_up-same (record { name = e.name; meaning = more e.meaning t }) env key same
         ∙ ap (λ found. Some (grown found t)) (sym (look_up-same e env key same))
-    by_name false other behind =
+    by_name false other in_others =
         ap (λ es. look_up es key) (with_member-other e env key t other) ∙ look_up-other e (with_member env key t) key other
-        ∙ behind ∙ ap (λ found. Some (grown found t)) (sym (look_up-other e env key other))
+        ∙ in_others ∙ ap (λ found. Some (grown found t)) (sym (look_up-other e env key other))
 
 pub with_member-differs : (env : Environment) (key t other : Text) → bytes_eq key other ≡ false → look_up (with_member env key t) other ≡ look_up env other
 with_member-differs [] key t other differs =
@@ -48,19 +43,19 @@ with_member-differs (e ∷ env) key t other differs = by_name (bytes_eq e.name k
   where
     by_name : (b : Bool) → bytes_eq e.name key ≡ b → look_up (with_member env key t) other ≡ look_up env other
         → look_up (with_member (e ∷ env) key t) other ≡ look_up (e ∷ env) other
-    by_name true same behind =
+    by_name true same in_others =
         let not_other : bytes_eq e.name other ≡ false = ap (λ n. bytes_eq n other) ((bytes_eq-Decides e.name key).0 same) ∙ differs in
         ap (λ es. look_up es other) (with_member-same e env key t same)
         ∙ look_up-other (record { name = e.name; meaning = more e.meaning t }) env other not_other ∙ sym (look_up-other e env other not_other)
-    by_name false not_key behind = ap (λ es. look_up es other) (with_member-other e env key t not_key) ∙ by_other (bytes_eq e.name other) refl
+    by_name false not_key in_others = ap (λ es. look_up es other) (with_member-other e env key t not_key) ∙ by_other (bytes_eq e.name other) refl
       where
         by_other : (b : Bool) → bytes_eq e.name other ≡ b → look_up (e ∷ with_member env key t) other ≡ look_up (e ∷ env) other
         by_other true is = look_up-same e (with_member env key t) other is ∙ sym (look_up-same e env other is)
-        by_other false is_not = look_up-other e (with_member env key t) other is_not ∙ behind ∙ sym (look_up-other e env other is_not)
+        by_other false is_not = look_up-other e (with_member env key t) other is_not ∙ in_others ∙ sym (look_up-other e env other is_not)
 
 -- ---- all pairs
 
-same_text : (env : Environment) (pair : KeyValue) (key : Text) → text_of (gather_one env pair) key ≡ text_of env key
+pub same_text : (env : Environment) (pair : KeyValue) (key : Text) → text_of (gather_one env pair) key ≡ text_of env key
 same_text env pair key = by_key (bytes_eq pair.key key) refl
   where
     by_found : (found : Option Meaning) → text_in (Some (grown found pair.value)) ≡ text_in found
@@ -105,10 +100,6 @@ all_of-cons pair pairs key = by_key (bytes_eq pair.key key) refl
     by_key true same = rw same refl
     by_key false differs = rw differs refl
 
-text_of-from : (env : Environment) (pairs : List KeyValue) (key : Text) → text_of (fold gather_one env pairs) key ≡ text_of env key
-text_of-from env [] key = refl
-text_of-from env (pair ∷ pairs) key = text_of-from (gather_one env pair) pairs key ∙ same_text env pair key
-
 members_of-from : (env : Environment) (pairs : List KeyValue) (key : Text) → is_some (text_of env key) ≡ false
     → members_of (fold gather_one env pairs) key ≡ members_of env key ++ all_of pairs key
 members_of-from env [] key no_text = sym (append-nil (members_of env key))
@@ -118,52 +109,9 @@ members_of-from env (pair ∷ pairs) key no_text =
     ∙ append_assoc (members_of env key) (all_of (pair ∷ []) key) (all_of pairs key)
     ∙ ap (λ vs. members_of env key ++ vs) (all_of-cons pair pairs key)
 
-bytes-from : (env : Environment) (pairs : List KeyValue) → byte_count (fold gather_one env pairs) ≤ byte_count env + value_bytes pairs
-bytes-from env [] = omega arith
-bytes-from env (pair ∷ pairs) =
-    let here = byte_count-with_member-le env pair.key pair.value in
-    let both = sum_by-cons (λ (p : KeyValue). length p.value) pair pairs in
-    omega (arith, bytes-from (gather_one env pair) pairs, here, both)
-
-members-from : (env : Environment) (pairs : List KeyValue) → member_count (fold gather_one env pairs) ≤ member_count env + length pairs
-members-from env [] = omega arith
-members-from env (pair ∷ pairs) =
-    omega (arith, members-from (gather_one env pair) pairs, member_count-with_member-le env pair.key pair.value)
-
 -- ---- from no entries
-
-pub no_text-gathered : (pairs : List KeyValue) (key : Text) → is_some (text_of (gathered pairs) key) ≡ false
-no_text-gathered pairs key = ap is_some (text_of-from [] pairs key ∙ ap text_in (look_up-empty key))
 
 pub members_of-gathered : (pairs : List KeyValue) (key : Text) → members_of (gathered pairs) key ≡ all_of pairs key
 members_of-gathered pairs key =
     members_of-from [] pairs key (ap (λ found. is_some (text_in found)) (look_up-empty key))
     ∙ ap (λ found. members_in found ++ all_of pairs key) (look_up-empty key)
-
-pub byte_count-gathered-le : (pairs : List KeyValue) → byte_count (gathered pairs) ≤ value_bytes pairs
-byte_count-gathered-le pairs = omega (arith, bytes-from [] pairs)
-
-pub member_count-gathered-le : (pairs : List KeyValue) → member_count (gathered pairs) ≤ length pairs
-member_count-gathered-le pairs = omega (arith, members-from [] pairs)
-
-pub gathered_more : (pairs : List KeyValue) (index : ℕ) (pair : KeyValue) → slice_get pairs index ≡ Some pair
-    → gathered (take (index + 1) pairs) ≡ gather_one (gathered (take index pairs)) pair
-gathered_more pairs index pair is =
-    fold_more gather_one [] pairs index pair (slice_get_within pairs index pair is)
-    ∙ ap (gather_one (gathered (take index pairs))) (get_or_from_slice_get pairs index pair pair is)
-
--- ---- room for one pair more
-
-pub room_for_bytes : (pairs : List KeyValue) (index : ℕ) (pair : KeyValue) → slice_get pairs index ≡ Some pair
-    → byte_count (gathered (take index pairs)) + length pair.value ≤ value_bytes pairs
-room_for_bytes pairs index pair is =
-    let so_far = byte_count-gathered-le (take index pairs) in
-    let here = ap (λ (p : KeyValue). length p.value) (get_or_from_slice_get pairs index pair pair is) in
-    let whole = sum_by_more_le (λ (p : KeyValue). length p.value) pairs index pair (slice_get_within pairs index pair is) in
-    omega (arith, so_far, here, whole)
-
-pub room_for_member : (pairs : List KeyValue) (index : ℕ) (pair : KeyValue) → slice_get pairs index ≡ Some pair
-    → member_count (gathered (take index pairs)) + 1 ≤ length pairs
-room_for_member pairs index pair is =
-    let within = slice_get_within pairs index pair is in
-    omega (arith, member_count-gathered-le (take index pairs), length-take-le index pairs (omega arith))

@@ -1,10 +1,12 @@
 -- The order of pairs by their keys, and which of them have a key.
-use Rattle.std.proofs.Common.{◌≡◌, ℕ, ◌+◌, ◌-◌, ◌≤◌, ◌<◌, ◌==◌, Bool, true, false, List, filter, length, take, drop, get_or, Option, Some, None, refl, sym, ap}
+use Rattle.std.proofs.Common.{◌≡◌, ℕ, ◌+◌, ◌-◌, ◌≤◌, ◌<◌, ◌==◌, Bool, true, false, List, [], ◌∷◌, ◌++◌, All, append-nil, filter, length, take, drop, get_or}
+use Rattle.std.proofs.Common.{Option, Some, None, refl, sym, ap}
 use Rattle.std.proofs.Common.{◌∙◌, subst, arith, length-drop}
 use Rattle.std.proofs.Math.Logic.{⊎_elim}
 use Rattle.std.proofs.lemmas.Bool.{cases_lt, eqb-true, eq-eqb}
 use Rattle.std.proofs.lemmas.Cmp.{nat_list_cmp_total, nat_list_eq_equiv}
-use Rattle.std.proofs.lemmas.List.{get_or-drop, get_or-take, length-take-le, length-map}
+use Rattle.std.proofs.lemmas.List.{get_or-drop, get_or-take, length-take-le, length-map, take-append-drop}
+use Rattle.std.proofs.lemmas.List.Elements.{All-from_get_or, All-head, All-tail, filter-append}
 use Rattle.std.proofs.lemmas.List.Folds.{Any-from_list_any, list_any_at}
 use Rattle.std.proofs.lemmas.List.FromFn.{length-range_with_len, get_or-range_with_len}
 use Rattle.std.proofs.lemmas.List.Sorted.{All-permutation, list_any-IsPermutation, searchable_from_sorted, sum_by-IsPermutation}
@@ -31,13 +33,15 @@ pub key_order_from_sort : (pairs : List KeyValue) (from to : List ℕ) → from 
     → IsSortedBy (key_lt pairs) to → IsStableBy (key_lt pairs) from to → IsKeyOrder pairs to
 key_order_from_sort pairs from to all moved sorted stable =
     let count = ap length all ∙ length-range_with_len 0 (length pairs) in
-    let at : (i d : ℕ) → i < length pairs → get_or from i d ≡ i = λ i d within. ap (λ xs. get_or xs i d) all ∙ get_or-range_with_len 0 (length pairs) i d within ∙ omega arith in
+    let at : (i d : ℕ) → i < length pairs → get_or from i d ≡ i = λ i d within. ap (λ xs. get_or xs i d) all
+    ∙ get_or-range_with_len 0 (length pairs) i d within ∙ omega arith in
     record {
       sorted = sorted;
       every = λ index within.
           sym (list_any-IsPermutation (λ other. other == index) from to moved)
           ∙ list_any_at (λ other. other == index) from index index (omega arith) (eq-eqb (get_or from index index) index (at index index within));
-      within = All-permutation (λ index. index < length pairs) from to moved (λ k d below. let within : k < length pairs = omega arith in rw (at k d within) within);
+      within = All-permutation (λ index. index < length pairs) from to moved (λ k d below. let within : k < length pairs = omega arith in
+          rw (at k d within) within);
       once = λ weight. sum_by-IsPermutation weight from to moved ∙ ap (sum_by weight) all;
       stable = λ key. stable_keys pairs from to moved stable key ∙ ap (filter (has_key_at key pairs)) all;
     }
@@ -68,17 +72,18 @@ is_le-Falls Greater Less le h = absurd (omega arith)
 is_le-Falls Greater Equal le h = absurd (omega arith)
 is_le-Falls Greater Greater le h = h
 
-pub rises : (pairs : List KeyValue) (order : List ℕ) (key : Text) → IsKeyOrder pairs order → IsNonDecreasingBy (λ index. ordering_index (compared_at pairs key index)) order
+pub rises : (pairs : List KeyValue) (order : List ℕ) (key : Text) → IsKeyOrder pairs order
+    → IsNonDecreasingBy (λ index. ordering_index (compared_at pairs key index)) order
 rises pairs order key ordered = searchable_from_sorted (options_total nat_list_cmp_total) (key_at pairs) order (Some key) ordered.sorted
 
-pub parted : (test : Ordering → Bool) → Falls test → (pairs : List KeyValue) (indices : List ℕ) (key : Text)
+pub splits : (test : Ordering → Bool) → Falls test → (pairs : List KeyValue) (indices : List ℕ) (key : Text)
     → IsNonDecreasingBy (λ index. ordering_index (compared_at pairs key index)) indices → IsPartitionedBy (λ index. test (compared_at pairs key index)) indices
-parted test falls pairs indices key rise i j d le below h = falls _ _ (rise i j d le below) h
+splits test falls pairs indices key rise i j d le below h = falls _ _ (rise i j d le below) h
 
 -- ---- the indices of a key
 
-abbrev PartedAt : (Ordering → Bool) → List KeyValue → Text → List ℕ → ℕ → Type 0
-PartedAt test pairs key = IsPartitionPoint (λ index. test (compared_at pairs key index) ≡ true) (λ index. test (compared_at pairs key index) ≡ false)
+abbrev SplitsAt : (Ordering → Bool) → List KeyValue → Text → List ℕ → ℕ → Type 0
+SplitsAt test pairs key = IsPartitionPoint (λ index. test (compared_at pairs key index) ≡ true) (λ index. test (compared_at pairs key index) ≡ false)
 
 neither : (o : Ordering) → is_lt o ≡ false → is_le o ≡ true → is_eq o ≡ true
 neither Less lt le = absurd (cc)
@@ -102,13 +107,72 @@ passes_equal (Some other) key = nat_list_eq_equiv.symm key other ∙ sym (is_eq-
 within_pairs : (pairs : List KeyValue) (key : Text) (index : ℕ) → is_eq (compared_at pairs key index) ≡ true → index < length pairs
 within_pairs pairs key index equal =
     ⊎_elim (λ below. below)
-    (λ past. let none : key_at pairs index ≡ None = slice_get_past _ index (rw length-map past) in absurd (let e = ap (λ k. is_eq (compared k (Some key))) none in cc))
+    (λ past. let none : key_at pairs index ≡ None = slice_get_past _ index (rw length-map past) in
+    absurd (let e = ap (λ k. is_eq (compared k (Some key))) none in cc))
     (cases_lt index (length pairs))
 
-pub found : (pairs : List KeyValue) (order : List ℕ) (key : Text) (start count : ℕ) → IsKeyOrder pairs order → start ≤ length order → count ≤ length (drop start order)
-    → PartedAt is_lt pairs key order start → PartedAt is_le pairs key (drop start order) count
+filter_none : {X : Type 0} (p : X → Bool) (xs : List X) → All (λ x. p x ≡ false) xs → filter p xs ≡ []
+filter_none p [] none = refl
+filter_none p (x ∷ xs) none =
+    let here : p x ≡ false = All-head (λ y. p y ≡ false) x xs none in
+    rw here (filter_none p xs (All-tail (λ y. p y ≡ false) x xs none))
+
+filter_all : {X : Type 0} (p : X → Bool) (xs : List X) → All (λ x. p x ≡ true) xs → filter p xs ≡ xs
+filter_all p [] all = refl
+filter_all p (x ∷ xs) all =
+    let here : p x ≡ true = All-head (λ y. p y ≡ true) x xs all in
+    rw here (ap (λ ys. x ∷ ys) (filter_all p xs (All-tail (λ y. p y ≡ true) x xs all)))
+
+pub has_key_equal : (pairs : List KeyValue) (key : Text) (index : ℕ) → has_key_at key pairs index ≡ is_eq (compared_at pairs key index)
+has_key_equal pairs key index = by_key (key_at pairs index)
+  where
+    by_key : (other : Option Text) → option_map_or (λ k. bytes_eq k key) other false ≡ is_eq (compared other (Some key))
+    by_key None = refl
+    by_key (Some other) = sym (is_eq-slice_cmp other key)
+
+lt_not_equal : (o : Ordering) → is_lt o ≡ true → is_eq o ≡ false
+lt_not_equal Less lt = refl
+lt_not_equal Equal lt = absurd (cc)
+lt_not_equal Greater lt = refl
+
+gt_not_equal : (o : Ordering) → is_le o ≡ false → is_eq o ≡ false
+gt_not_equal Less le = absurd (cc)
+gt_not_equal Equal le = absurd (cc)
+gt_not_equal Greater le = refl
+
+-- what a filter of the whole order keeps
+pub run_is : (pairs : List KeyValue) (order : List ℕ) (key : Text) (start count : ℕ) → start ≤ length order → count ≤ length (drop start order)
+    → SplitsAt is_lt pairs key order start → SplitsAt is_le pairs key (drop start order) count
+    → take count (drop start order) ≡ filter (has_key_at key pairs) order
+run_is pairs order key start count few fewer lt le =
+    let p = has_key_at key pairs in
+    let rest = drop start order in
+    let left = length-drop start order in
+    let before : filter p (take start order) ≡ [] = filter_none p (take start order)
+    (All-from_get_or (λ i. p i ≡ false) (take start order) 0
+    (λ i below. let n = length-take-le start order few in
+    rw (get_or-take start order i 0 (omega arith)) (has_key_equal pairs key (get_or order i 0) ∙ lt_not_equal _ (lt.0 i 0 (omega arith) (omega arith))))) in
+    let within : filter p (take count rest) ≡ take count rest = filter_all p (take count rest)
+    (All-from_get_or (λ i. p i ≡ true) (take count rest) 0
+    (λ i below. let n = length-take-le count rest fewer in
+    rw (get_or-take count rest i 0 (omega arith), get_or-drop start order i 0)
+    (has_key_equal pairs key (get_or order (start + i) 0)
+    ∙ neither _ (lt.1 (start + i) 0 (omega arith) (omega arith))
+    (subst (λ j. is_le (compared_at pairs key j) ≡ true) (get_or-drop start order i 0) (le.0 i 0 (omega arith) (omega arith)))))) in
+    let after : filter p (drop count rest) ≡ [] = filter_none p (drop count rest)
+    (All-from_get_or (λ i. p i ≡ false) (drop count rest) 0
+    (λ i below. let n = length-drop count rest in
+    rw (get_or-drop count rest i 0) (has_key_equal pairs key (get_or rest (count + i) 0) ∙ gt_not_equal _ (le.1 (count + i) 0 (omega arith) (omega arith))))) in
+    sym (ap (filter p) (sym (take-append-drop start order)) ∙ filter-append p (take start order) rest ∙ ap (λ xs. xs ++ filter p rest) before
+    ∙ ap (filter p) (sym (take-append-drop count rest)) ∙ filter-append p (take count rest) (drop count rest)
+    ∙ ap (λ xs. xs ++ filter p (drop count rest)) within ∙ ap (λ xs. take count rest ++ xs) after ∙ append-nil (take count rest))
+
+pub found : (pairs : List KeyValue) (order : List ℕ) (key : Text) (start count : ℕ) → IsKeyOrder pairs order → start ≤ length order
+    → count ≤ length (drop start order)
+    → SplitsAt is_lt pairs key order start → SplitsAt is_le pairs key (drop start order) count
     → (index : ℕ) → has_index index (take count (drop start order)) ≡ passes_at (bytes_eq key) pairs index
-found pairs order key start count ordered few fewer lt le index = both_ways _ _ (λ h. passes_equal (key_at pairs index) key ∙ forwards h) (λ h. backwards (sym (passes_equal (key_at pairs index) key) ∙ h))
+found pairs order key start count ordered few fewer lt le index =
+    both_ways _ _ (λ h. passes_equal (key_at pairs index) key ∙ forwards h) (λ h. backwards (sym (passes_equal (key_at pairs index) key) ∙ h))
   where
     run : List ℕ
     run = take count (drop start order)
@@ -128,8 +192,10 @@ found pairs order key start count ordered few fewer lt le index = both_ways _ _ 
         let is : x ≡ index = eqb-true x index any.4 in
         let rest = length-drop start order in
         let here : get_or order (start + k) x ≡ index = sym (at_run k x below) ∙ any.3 ∙ is in
-        let not_lt : is_lt (compared_at pairs key index) ≡ false = subst (λ i. is_lt (compared_at pairs key i) ≡ false) here (lt.1 (start + k) x (omega arith) (omega arith)) in
-        let is_le : is_le (compared_at pairs key index) ≡ true = subst (λ i. is_le (compared_at pairs key i) ≡ true) (get_or-drop start order k x ∙ here) (le.0 k x (omega arith) below) in
+        let not_lt : is_lt (compared_at pairs key index) ≡ false =
+        subst (λ i. is_lt (compared_at pairs key i) ≡ false) here (lt.1 (start + k) x (omega arith) (omega arith)) in
+        let is_le : is_le (compared_at pairs key index) ≡ true = subst (λ i. is_le (compared_at pairs key i) ≡ true) (get_or-drop start order k x ∙ here)
+        (le.0 k x (omega arith) below) in
         neither _ not_lt is_le
 
     backwards : is_eq (compared_at pairs key index) ≡ true → has_index index run ≡ true
@@ -140,10 +206,14 @@ found pairs order key start count ordered few fewer lt le index = both_ways _ _ 
         let within = any.2 in
         let rest = length-drop start order in
         let here : get_or order j x ≡ index = any.3 ∙ eqb-true x index any.4 in
-        let from : start ≤ j = ⊎_elim (λ below. absurd (equal_not_lt _ equal (subst (λ i. is_lt (compared_at pairs key i) ≡ true) here (lt.0 j x (omega arith) below)))) (λ ge. ge) (cases_lt j start) in
+        let from : start ≤ j =
+        ⊎_elim (λ below. absurd (equal_not_lt _ equal (subst (λ i. is_lt (compared_at pairs key i) ≡ true) here (lt.0 j x (omega arith) below))))
+        (λ ge. ge) (cases_lt j start) in
         let k = j - start in
         let place : start + k ≡ j = omega arith in
         let there : get_or (drop start order) k x ≡ index = get_or-drop start order k x ∙ ap (λ i. get_or order i x) place ∙ here in
-        let below : k < count = ⊎_elim (λ lt. lt) (λ past. absurd (equal_le _ equal (subst (λ i. is_le (compared_at pairs key i) ≡ false) there (le.1 k x past (omega arith))))) (cases_lt k count) in
+        let below : k < count =
+        ⊎_elim (λ lt. lt) (λ past. absurd (equal_le _ equal (subst (λ i. is_le (compared_at pairs key i) ≡ false) there (le.1 k x past (omega arith)))))
+        (cases_lt k count) in
         let l = run_length in
         list_any_at (λ other. other == index) run k x (omega arith) (eq-eqb (get_or run k x) index (get_or-take count (drop start order) k x below ∙ there))

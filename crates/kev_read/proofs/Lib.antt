@@ -11,4 +11,7 @@ pub mod PairsInText
 pub mod StableKeys
 pub mod KeyOrders
 pub mod PairsByKey
+pub mod KeySpans
+pub mod FilledSums
+pub mod KeyRepeats
 pub mod ListMarks

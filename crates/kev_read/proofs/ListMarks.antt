@@ -12,9 +12,10 @@ use Rattle.environment_model.specs.Lists.{standard_lists, is_list}
 use Rattle.kev_read.specs.Pairs.{KeyValue}
 use Rattle.kev_read.specs.Private.KeyOrder.{key_at, passes_at}
 
--- a key that stands for a list has the name of a standard list or of a declared one
+-- a key that names a list is the name of a standard list or of a declared one
 is_list_parts : (declared : List Text) (key : Option Text)
-    → option_map_or (is_list declared) key false ≡ (option_map_or (λ k. is_among k standard_lists) key false || option_map_or (λ k. is_among k declared) key false)
+    → option_map_or (is_list declared) key false
+    ≡ (option_map_or (λ k. is_among k standard_lists) key false || option_map_or (λ k. is_among k declared) key false)
 is_list_parts declared None = refl
 is_list_parts declared (Some key) = list_any-append (λ name. bytes_eq name key) standard_lists declared
 

@@ -29,7 +29,10 @@ split_parts separator (b ∷ bs) =
     let pieces = form.split separator bs in
     elim (b == separator) as (λ t. IsParted (length (b ∷ bs)) (cond t ([] ∷ pieces) (form.onto_first b pieces))) [
       | true ↦ record { some = omega arith; whole = omega (arith, sum_by-cons length [] pieces) }
-      | false ↦ record { some = omega (arith, onto_first_count b pieces some); whole = omega (arith, onto_first_bytes b pieces, onto_first_count b pieces some) }
+      | false ↦ record {
+        some = omega (arith, onto_first_count b pieces some);
+        whole = omega (arith, onto_first_bytes b pieces, onto_first_count b pieces some);
+      }
     ]
 
 -- the pieces have no byte more than the query

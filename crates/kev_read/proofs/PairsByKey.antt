@@ -12,18 +12,11 @@ use Rattle.std.specs.Option.{option_map}
 use Rattle.std.specs.Str.{bytes_eq}
 use Rattle.text_model.specs.Texts.{Text}
 use Rattle.kev_read.specs.Pairs.{KeyValue, all_of, has_key, value_bytes}
-use Rattle.kev_read.specs.Private.KeyOrder.{IsKeyOrder, has_key_at}
+use Rattle.kev_read.specs.Private.KeyOrder.{IsKeyOrder, has_key_at, pair_at, pairs_at}
 use Rattle.kev_read.proofs.FillingLemmas.{passes_there}
 
 abbrev pub no_pair : KeyValue
 no_pair = record { key = []; value = [] }
-
-abbrev pub pair_at : List KeyValue → ℕ → KeyValue
-pair_at pairs index = get_or pairs index no_pair
-
--- the pairs at the indices
-abbrev pub pairs_at : List KeyValue → List ℕ → List KeyValue
-pairs_at pairs indices = map (pair_at pairs) indices
 
 pub one_of_pairs : (pairs : List KeyValue) (indices : List ℕ) (n : ℕ) (pair : KeyValue) → n < length indices
     → slice_get pairs (get_or indices n 0) ≡ Some pair → slice_get (pairs_at pairs indices) n ≡ Some pair
@@ -90,11 +83,11 @@ all_within n =
 
 -- ---- all indices in the order of the keys
 
-same_test : (pairs : List KeyValue) (key : Text) (index : ℕ) → index < length pairs → has_key key (pair_at pairs index) ≡ has_key_at key pairs index
+pub same_test : (pairs : List KeyValue) (key : Text) (index : ℕ) → index < length pairs → has_key key (pair_at pairs index) ≡ has_key_at key pairs index
 same_test pairs key index within =
     sym (passes_there (λ other. bytes_eq other key) pairs index (pair_at pairs index) (slice_get-get_or pairs index no_pair within))
 
-values_at : (pairs : List KeyValue) (key : Text) (indices : List ℕ) → All (λ index. index < length pairs) indices
+pub values_at : (pairs : List KeyValue) (key : Text) (indices : List ℕ) → All (λ index. index < length pairs) indices
     → all_of (pairs_at pairs indices) key ≡ map (λ (pair : KeyValue). pair.value) (map (pair_at pairs) (filter (has_key_at key pairs) indices))
 values_at pairs key indices within =
     ap (map (λ (pair : KeyValue). pair.value)) (filter-map (pair_at pairs) (has_key key) indices)

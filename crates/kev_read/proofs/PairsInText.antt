@@ -1,5 +1,6 @@
--- Pairs keep their places when text comes behind, and a pair whose text came last lies where it was put.
-use Rattle.std.proofs.Common.{◌≡◌, ℕ, ◌-◌, ◌≤◌, List, [], ◌∷◌, ◌++◌, map, length, take, drop, slice_range, All, IsUtf8, IsCharBoundary, refl, sym, ap, ◌∙◌, arith, length-append, length-drop, take_all, drop_at}
+-- Pairs keep their places when text is appended, and a pair whose text was appended last lies where it was put.
+use Rattle.std.proofs.Common.{◌≡◌, ℕ, ◌-◌, ◌≤◌, List, [], ◌∷◌, ◌++◌, map, length, take, drop, slice_range, All, IsUtf8, IsCharBoundary, refl, sym, ap, ◌∙◌}
+use Rattle.std.proofs.Common.{arith, length-append, length-drop, take_all, drop_at}
 use Rattle.std.proofs.lemmas.List.{take-append-le, drop-append-le, map-append}
 use Rattle.std.proofs.lemmas.List.Elements.{All-head, All-tail, All-push, All-weaker}
 use Rattle.std.proofs.lemmas.Str.{IsUtf8-append, IsUtf8-take, IsCharBoundary-from_take, IsCharBoundary-at_seam, IsCharBoundary-end}
@@ -7,7 +8,7 @@ use Rattle.text_model.specs.Texts.{Text}
 use Rattle.kev_read.specs.Private.Layout.{pair_in, IsPlaced}
 use Rattle.kev_read.specs.declared.pairs.Place.{Place}
 
--- ---- more text behind
+-- ---- appended text
 
 boundary_stays : (text more : Text) (i : ℕ) → IsUtf8 text → IsUtf8 more → IsCharBoundary text i → IsCharBoundary (text ++ more) i
 boundary_stays text more i utf8 more_utf8 at =
@@ -25,7 +26,8 @@ place_stays text more place utf8 more_utf8 is = record {
 }
 
 pub places_stay : (text more : Text) (places : List Place) → IsUtf8 text → IsUtf8 more → All (IsPlaced text) places → All (IsPlaced (text ++ more)) places
-places_stay text more places utf8 more_utf8 are = All-weaker (IsPlaced text) (IsPlaced (text ++ more)) (λ place is. place_stays text more place utf8 more_utf8 is) places are
+places_stay text more places utf8 more_utf8 are =
+    All-weaker (IsPlaced text) (IsPlaced (text ++ more)) (λ place is. place_stays text more place utf8 more_utf8 is) places are
 
 part_stays : (text more : Text) (i j : ℕ) → i ≤ j → j ≤ length text → slice_range (text ++ more) i j ≡ slice_range text i j
 part_stays text more i j forwards inside =
@@ -46,7 +48,7 @@ pairs_stay text more (place ∷ places) are =
     let others = pairs_stay text more places (All-tail (IsPlaced text) place places are) in
     cc
 
--- ---- a pair whose text came last
+-- ---- a pair whose text was appended last
 
 last_part : (text part : Text) (i j : ℕ) → i ≡ length text → j ≡ length (text ++ part) → slice_range (text ++ part) i j ≡ part
 last_part text part i j begins ends =
@@ -54,33 +56,36 @@ last_part text part i j begins ends =
     ap (take (j - i)) (drop_at text part i (sym begins)) ∙ take_all (j - i) part (omega arith)
 
 -- the text grew by the key and the value, and the place says so
-pub record IsBehind (text key value : Text) (place : Place) : Type 0 where
+pub record IsAppended (text key value : Text) (place : Place) : Type 0 where
   pub starts : place.start ≡ length text
-  pub parts : place.middle ≡ length (text ++ key)
+  pub middle : place.middle ≡ length (text ++ key)
   pub ends : place.end ≡ length ((text ++ key) ++ value)
 
-pub pushed : (text key value : Text) (places : List Place) (place : Place) → IsUtf8 text → IsUtf8 key → IsBehind text key value place → All (IsPlaced text) places
+pub pushed : (text key value : Text) (places : List Place) (place : Place) → IsUtf8 text → IsUtf8 key → IsAppended text key value place
+    → All (IsPlaced text) places
     → map (pair_in ((text ++ key) ++ value)) (places ++ place ∷ []) ≡ map (pair_in text) places ++ record { key = key; value = value } ∷ []
-pushed text key value places place utf8 key_utf8 behind are =
+pushed text key value places place utf8 key_utf8 appended are =
     let middle = length-append text key in
-    let starts = behind.starts in
-    let parts = behind.parts in
-    let key_in = part_stays (text ++ key) value place.start place.middle (omega arith) (omega arith) ∙ last_part text key place.start place.middle starts parts in
-    let value_in = last_part (text ++ key) value place.middle place.end parts behind.ends in
+    let starts = appended.starts in
+    let parts = appended.middle in
+    let key_in = part_stays (text ++ key) value place.start place.middle (omega arith) (omega arith) ∙ last_part text key place.start place.middle starts
+    parts in
+    let value_in = last_part (text ++ key) value place.middle place.end parts appended.ends in
     let last : pair_in ((text ++ key) ++ value) place ≡ record { key = key; value = value } = cc in
     let before = pairs_stay text key places are in
     let still = pairs_stay (text ++ key) value places (places_stay text key places utf8 key_utf8 are) in
     map-append (pair_in ((text ++ key) ++ value)) places (place ∷ []) ∙ cc
 
-pub pushed_placed : (text key value : Text) (places : List Place) (place : Place) → IsUtf8 text → IsUtf8 key → IsUtf8 value → IsBehind text key value place → All (IsPlaced text) places
+pub pushed_placed : (text key value : Text) (places : List Place) (place : Place) → IsUtf8 text → IsUtf8 key → IsUtf8 value → IsAppended text key value place
+    → All (IsPlaced text) places
     → All (IsPlaced ((text ++ key) ++ value)) (places ++ place ∷ [])
-pushed_placed text key value places place utf8 key_utf8 value_utf8 behind are =
+pushed_placed text key value places place utf8 key_utf8 value_utf8 appended are =
     let both = IsUtf8-append text key utf8 key_utf8 in
     let whole = length-append (text ++ key) value in
     let front = length-append text key in
-    let starts = behind.starts in
-    let parts = behind.parts in
-    let ends = behind.ends in
+    let starts = appended.starts in
+    let parts = appended.middle in
+    let ends = appended.ends in
     All-push (IsPlaced ((text ++ key) ++ value)) places place
     (places_stay (text ++ key) value places both value_utf8 (places_stay text key places utf8 key_utf8 are))
     record {

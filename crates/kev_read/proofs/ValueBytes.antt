@@ -19,7 +19,9 @@ pieces_value_bytes (piece ∷ pieces) =
     let here = decoded_value_bytes piece in
     let pairs = map decoded_pair (map form.split_pair (filter form.is_nonempty pieces)) in
     let both = sum_by-cons length piece pieces in
-    elim (form.is_nonempty piece) as (λ t. value_bytes (map decoded_pair (map form.split_pair (cond t (piece ∷ filter form.is_nonempty pieces) (filter form.is_nonempty pieces)))) ≤ 3 * sum_by length (piece ∷ pieces)) [
+    elim (form.is_nonempty piece) as (λ t. value_bytes
+    (map decoded_pair (map form.split_pair (cond t (piece ∷ filter form.is_nonempty pieces) (filter form.is_nonempty pieces))))
+    ≤ 3 * sum_by length (piece ∷ pieces)) [
       | true ↦ omega (arith, sum_by-cons (λ (pair : KeyValue). length pair.value) (decoded_pair (form.split_pair piece)) pairs)
       | false ↦ omega arith
     ]

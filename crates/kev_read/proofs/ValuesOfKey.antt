@@ -10,7 +10,7 @@ use Rattle.kev_read.specs.Pairs.{KeyValue, has_key, all_of}
 pub all_of_few : (pairs : List KeyValue) (key : Text) → length (all_of pairs key) ≤ length pairs
 all_of_few pairs key = rw (length-map, length-filter) (count_by-le-length (has_key key) pairs)
 
--- ---- the pair at an index, and those behind it
+-- ---- the pair at an index, and those after it
 
 from_index : (pairs : List KeyValue) (index : ℕ) (pair : KeyValue) → slice_get pairs index ≡ Some pair → drop index pairs ≡ pair ∷ drop (index + 1) pairs
 from_index pairs index pair is =

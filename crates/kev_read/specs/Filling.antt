@@ -15,7 +15,7 @@ use Rattle.kev_read.specs.Pairs.{KeyValue}
 abbrev pub added : Bool → Environment → KeyValue → Environment
 added list env pair = if list then with_member env pair.key pair.value else with_text env pair.key pair.value
 
--- the pair changes the environment: its key does not stand for a text yet, or its key is new
+-- the pair changes the environment: for a list its key has no text, and for a text its key is new
 abbrev pub is_added : Bool → Environment → KeyValue → Bool
 is_added list env pair = if list then not (stands_for_text env pair.key) else not (is_there env pair.key)
 

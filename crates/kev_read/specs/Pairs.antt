@@ -1,4 +1,4 @@
--- The pairs of a request (ANSI/NISO Z39.88-2004, key/encoded-value form), and what is asked of them.
+-- The pairs of a request (ANSI/NISO Z39.88-2004, key/encoded-value form), and the values of a key.
 use Rattle.std.specs.Prelude.{ℕ, Bool, List, map, filter, sum_by, length, Option, slice_get}
 use Rattle.std.specs.Str.{bytes_eq}
 use Rattle.std.specs.Str.Lossy.{utf8_lossy}
@@ -9,7 +9,7 @@ pub record KeyValue : Type 0 where
   pub key : Text
   pub value : Text
 
--- the text that a form's name or value stands for; what is not UTF-8 becomes U+FFFD
+-- the text that a form's name or value encodes; what is not UTF-8 becomes U+FFFD
 abbrev pub decoded : List ℕ → Text
 decoded bytes = utf8_lossy (form.decode bytes)
 

@@ -1,3 +1,5 @@
+//! Why a query is rejected.
+
 use std::alloc::{AllocError, AllocFailed};
 use thiserror::Error;
 

@@ -1,3 +1,5 @@
+//! The pairs of a request, added to an environment.
+
 ghost use Rattle.std.specs.Prelude.{◌≡◌, ◌≤◌, true, ◌↔◌, length, IfErr, OnOk, OnErr};
 ghost use Rattle.text_model.specs.Texts.{texts_of};
 ghost use Rattle.kev_read.specs.Filling as spec;
@@ -28,10 +30,11 @@ pub(crate) fn fill(
     Ok(())
 }
 
-/// Adds a pair to the environment: as a member where its key stands for a list, and otherwise as a text.
+/// Adds a pair to the environment: as a member if its key names a list, and otherwise as a text.
 fn add(pair: Pair<'_>, is_list: bool, env: &mut Env) -> Result<(), VarsError>
     ensures ok { OnOk result (env.new.entries ≡ spec.added is_list env.old.entries (key_value pair.entry)) }
-    ensures too_large { (result ≡ Err VarsError.TooLarge) ↔ spec.IsTooLarge is_list env.old.entries (key_value pair.entry) }
+    ensures too_large { (result ≡ Err VarsError.TooLarge)
+        ↔ spec.IsTooLarge is_list env.old.entries (key_value pair.entry) }
     ensures added { OnErr result (spec.is_added is_list env.old.entries (key_value pair.entry) ≡ true) }
     ensures err { OnErr result (env.new.entries ≡ env.old.entries) }
 {

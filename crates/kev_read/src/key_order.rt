@@ -1,8 +1,10 @@
+//! The pairs of a request in the order of their keys.
+
 ghost use Rattle.std.specs.Prelude.{◌≡◌, ◌<◌, ◌≤◌, ℕ, All, length, IfOk};
 ghost use Rattle.std.specs.List.{range_with_len};
 ghost use Rattle.std.specs.Option.{option_copied};
 ghost use Rattle.std.specs.Str.{bytes_eq};
-ghost use Rattle.kev_read.specs.Private.KeyOrder.{IsKeyOrder, compared, has_index, key_at, passes_at};
+ghost use Rattle.kev_read.specs.Private.KeyOrder.{IsKeyOrder, IsKeyRun, compared, has_index, key_at, passes_at};
 
 use crate::pairs::Pairs;
 use crate::read::MAX_PAIRS;
@@ -32,14 +34,23 @@ fn compare(pairs: &Pairs, index: u16, other: Option<&str>) -> Ordering
     pairs.key(index as usize).cmp(&other)
 }
 
-/// The indices of the pairs that have the key, found by halves.
+/// Where the pairs that have the key are in the order: the place of the first, and how many, by binary search.
+pub(crate) fn run_of(pairs: &Pairs, order: &[u16], key: &str) -> (usize, usize)
+    requires { IsKeyOrder pairs.now order.now }
+    ensures { IsKeyRun pairs.now order.now key.now result.0 result.1 }
+{
+    let start = order.partition_point(|index| compare(pairs, *index, Some(key)).is_lt());
+    let (_, rest) = order.split_at(start);
+    let count = rest.partition_point(|index| compare(pairs, *index, Some(key)).is_le());
+    (start, count)
+}
+
+/// The indices of the pairs that have the key.
 pub(crate) fn indices_of<'a>(pairs: &Pairs, order: &'a [u16], key: &str) -> &'a [u16]
     requires { IsKeyOrder pairs.now order.now }
     ensures found { (index : ℕ) → has_index index result.now ≡ passes_at (bytes_eq key.now) pairs.now index }
     ensures within { All (λ index. index < length pairs.now) result.now }
 {
-    let start = order.partition_point(|index| compare(pairs, *index, Some(key)).is_lt());
-    let (_, rest) = order.split_at(start);
-    let count = rest.partition_point(|index| compare(pairs, *index, Some(key)).is_le());
-    &rest[..count]
+    let (first, count) = run_of(pairs, order, key);
+    &order[first..first + count]
 }

@@ -11,10 +11,11 @@
 //! - A query has at most 65,536 bytes, and 4,096 pairs that are not empty.
 #![tactic(auto)]
 
-mod by_key;
 mod error;
 mod filling;
 mod key_order;
+mod key_sums;
+mod key_values;
 mod list_keys;
 mod pairs;
 mod read;
@@ -23,6 +24,8 @@ mod values;
 mod version;
 
 pub use error::KevError;
+pub use key_values::KeyValues;
+pub use list_keys::is_standard_list;
 pub use read::{MAX_PAIRS, MAX_QUERY_BYTES, read_kev};
 pub use request::Request;
 pub use values::Values;

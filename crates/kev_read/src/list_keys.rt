@@ -1,4 +1,6 @@
-ghost use Rattle.std.specs.Prelude.{◌≡◌, ◌||◌, ◌<◌, ◌≤◌, ℕ, false, All, length, slice_index_or};
+//! Which keys have lists.
+
+ghost use Rattle.std.specs.Prelude.{◌≡◌, ◌||◌, ◌<◌, ◌≤◌, ℕ, [], false, All, length, slice_index_or};
 ghost use Rattle.environment_model.specs.Environment.{is_among};
 ghost use Rattle.environment_model.specs.Lists.{is_list};
 ghost use Rattle.text_model.specs.Texts.{texts_of};
@@ -8,15 +10,27 @@ use crate::key_order::indices_of;
 use crate::pairs::Pairs;
 use crate::read::MAX_PAIRS;
 
-/// The keys that stand for lists in every request: authors, and identifiers of the referent.
-const STANDARD_LISTS: [&str; 2] = ["rft.au", "rft_id"];
+/// The keys that name lists in every request: authors, and identifiers of the referent.
+const STANDARD_LISTS: [&str; 2] = [AUTHORS, IDENTIFIERS];
 
-/// Whether the key of each pair stands for a list. The work grows with the pairs, and with the lists
-/// times the logarithm of the pairs, and takes no memory.
+const AUTHORS: &str = "rft.au";
+
+const IDENTIFIERS: &str = "rft_id";
+
+/// Whether a name is a list in every request.
+pub fn is_standard_list(name: &str) -> bool
+    ensures { result ≡ is_list [] name.now }
+{
+    name == AUTHORS || name == IDENTIFIERS
+}
+
+/// Whether the key of each pair names a list. The work grows with the number of pairs, and with the number of lists
+/// times the logarithm of the number of pairs. It allocates nothing.
 pub(crate) fn list_marks(pairs: &Pairs, order: &[u16], declared: &[&str]) -> [bool; MAX_PAIRS]
     requires order { IsKeyOrder pairs.now order.now }
     requires few { length pairs.now ≤ MAX_PAIRS }
-    ensures { (index : ℕ) → slice_index_or result index false ≡ passes_at (is_list (texts_of declared.now)) pairs.now index }
+    ensures { (index : ℕ) → slice_index_or result index false ≡ passes_at (is_list (texts_of declared.now)) pairs.now
+        index }
 {
     let mut marks = [false; MAX_PAIRS];
     mark_names(pairs, order, &STANDARD_LISTS, &mut marks);
@@ -29,7 +43,8 @@ fn mark_names(pairs: &Pairs, order: &[u16], names: &[&str], marks: &mut [bool])
     requires order { IsKeyOrder pairs.now order.now }
     requires room { length pairs.now ≤ length marks.old }
     ensures { (index : ℕ) → slice_index_or marks.new index false
-        ≡ (slice_index_or marks.old index false || passes_at (λ key. is_among key (texts_of names.now)) pairs.now index) }
+        ≡ (slice_index_or marks.old index false || passes_at (λ key. is_among key (texts_of names.now)) pairs.now
+        index) }
 {
     for name in names {
         mark(marks, indices_of(pairs, order, name));
@@ -38,7 +53,8 @@ fn mark_names(pairs: &Pairs, order: &[u16], names: &[&str], marks: &mut [bool])
 
 fn mark(marks: &mut [bool], indices: &[u16])
     requires { All (λ index. index < length marks.old) indices.now }
-    ensures { (index : ℕ) → slice_index_or marks.new index false ≡ (slice_index_or marks.old index false || has_index index indices.now) }
+    ensures { (index : ℕ) → slice_index_or marks.new index false
+        ≡ (slice_index_or marks.old index false || has_index index indices.now) }
 {
     for index in indices {
         marks[*index as usize] = true;

@@ -1,3 +1,5 @@
+//! Pairs of key and value, kept in one text.
+
 ghost use Rattle.std.specs.Prelude.{◌≡◌, ◌<◌, ◌++◌, ◌∷◌, [], length, slice_get, IfOk, OnOk, Some};
 ghost use Rattle.std.specs.Option.{option_copied};
 ghost use Rattle.kev_read.specs.Private.KeyOrder.{key_at};
@@ -13,7 +15,7 @@ pub(crate) struct Pair<'a> {
     pub(crate) value: &'a str,
 }
 
-/// Where a pair lies in a text, in bytes: its key, and right behind it its value.
+/// Where a pair lies in a text, in bytes: its key, and right after it its value.
 #[derive(Clone, Copy)]
 pub(crate) struct Place {
     start: usize,
@@ -43,7 +45,7 @@ impl Model for Pairs {
 }
 
 impl Pairs {
-    /// No pairs, with room for so many bytes of keys and values.
+    /// No pairs, with room for `bytes` bytes of keys and values.
     pub(crate) fn with_capacity(alloc: Global, bytes: usize) -> Result<Pairs, AllocError>
         ensures { IfOk result (λ pairs. pairs ≡ []) }
     {

@@ -1,3 +1,5 @@
+//! A query is read: its limits, pairs and versions.
+
 ghost use Rattle.std.specs.Prelude.{◌≡◌, ◌≤◌, ◌<◌, ◌↔◌, ◌⊎◌, length, IfOk, IfErr, IsTrue, Some, None};
 ghost use Rattle.kev_read.specs.Pairs.{pairs_of};
 ghost use Rattle.kev_read.specs.ReadQuery.{IsBounded};
@@ -19,8 +21,9 @@ pub const MAX_PAIRS: usize = 4_096;
 
 /// Reads a query in the key/encoded-value form of ANSI/NISO Z39.88-2004.
 ///
-/// The pairs are those of [`form_urlencoded::parse`]: what stands between two `&`, unless it is
-/// empty, decoded, with U+FFFD for bytes that are not UTF-8. The versions are compared decoded.
+/// The pairs are those of [`form_urlencoded::parse`]: the query is split at each `&`, empty pieces are
+/// dropped, and the others are decoded, with U+FFFD for bytes that are not UTF-8. The versions are
+/// compared decoded.
 pub fn read_kev(alloc: Global, query: &[u8]) -> Result<Request, KevError>
     ensures accepted { IfOk result (λ _. refusal query.now ≡ None) }
     ensures pairs { IfOk result (λ request. request.pairs ≡ pairs_of query.now) }
@@ -52,7 +55,7 @@ pub fn read_kev(alloc: Global, query: &[u8]) -> Result<Request, KevError>
 fn has_too_many_pairs(query: &[u8]) -> bool
     ensures { IsTrue result ↔ (MAX_PAIRS < length (pairs_of query.now)) }
 {
-    // A pair has a byte at least, and so has what parts it from the next.
+    // A pair has at least one byte, and an `&` separates it from the next.
     query.len() > 2 * MAX_PAIRS && pair_count(query) > MAX_PAIRS
 }
 
@@ -67,8 +70,8 @@ fn pair_count(query: &[u8]) -> usize
     count
 }
 
-/// The pairs of a query. Their text is as long as the query as a rule, and longer only where U+FFFD
-/// stands for bytes that are not UTF-8.
+/// The pairs of a query. Their text is seldom longer than the query: only where U+FFFD replaces bytes
+/// that are not UTF-8.
 fn read_pairs(alloc: Global, query: &[u8]) -> Result<Pairs, AllocError>
     ensures { IfOk result (λ pairs. pairs ≡ pairs_of query.now) }
 {

@@ -1,15 +1,19 @@
+//! An OpenURL request.
+
 ghost use Rattle.std.specs.Prelude.{◌≡◌, ◌<◌, ◌≤◌, ◌+◌, ◌*◌, [], length, slice_get, IfErr, IfOk, OnOk, Some};
 ghost use Rattle.std.specs.Option.{option_copied};
 ghost use Rattle.environment_model.specs.Environment.{byte_count, member_count, members_of};
 ghost use Rattle.target_vars.specs.declared.env.TheConstants.{MAX_BYTES, MAX_MEMBERS};
 ghost use Rattle.kev_read.specs.Pairs as spec;
 ghost use Rattle.kev_read.specs.Filling.{filled, StopsAtPair};
+ghost use Rattle.kev_read.specs.Sums.{AreSums};
 ghost use Rattle.kev_read.specs.declared.read.TheConstants.{MAX_PAIRS, MAX_QUERY_BYTES};
 ghost use Rattle.text_model.specs.Texts.{Text, texts_of};
 ghost use Rattle.kev_read.specs.Private.KeyOrder.{IsKeyOrder};
 
-use crate::by_key::values_by_key;
 use crate::filling::fill;
+use crate::key_sums::sums;
+use crate::key_values::{KeyValues, values_by_key};
 use crate::pairs::Pairs;
 use crate::values::Values;
 use std::alloc::{AllocError, Global};
@@ -91,25 +95,31 @@ impl Request {
         (pair.key, pair.value)
     }
 
-    /// The values of each key as the list of that name, in the order of the query, whichever keys stand for lists
+    /// The values of each key as the list of that name, in the order of the query, whichever keys name lists
     /// elsewhere.
     ///
-    /// `AllocError` where a growth was refused; an environment has room for any request.
-    pub fn values_by_key(&self, alloc: Global) -> Result<Env, AllocError>
-        ensures lists { IfOk result (λ env.
-            (key : Text) → members_of env.entries key ≡ spec.all_of self.now.pairs key) }
-        ensures short { IfOk result (λ env. length env.buffer ≤ 3 * MAX_QUERY_BYTES) }
-        ensures members { IfOk result (λ env. length env.spans ≤ MAX_PAIRS) }
+    /// `AllocError` if an allocation failed.
+    pub fn values_by_key(&self, alloc: Global) -> Result<KeyValues<'_>, AllocError>
+        ensures lists { IfOk result (λ values.
+            (key : Text) → members_of values.entries key ≡ spec.all_of self.now.pairs key) }
+        ensures short { IfOk result (λ values. length values.buffer ≤ 3 * MAX_QUERY_BYTES) }
+        ensures members { IfOk result (λ values. length values.spans ≤ MAX_PAIRS) }
     {
         values_by_key(alloc, &self.pairs, &self.order)
+    }
+
+    /// E and M of the request where no list is declared: the bytes of all texts and members, and the number of members.
+    pub fn sums(&self) -> (usize, usize)
+        ensures { AreSums self.now.pairs result.0 result.1 }
+    {
+        sums(&self.pairs, &self.order)
     }
 
     /// Adds each pair to the environment, in order: as a member of its key's list where the key is
     /// `rft.au`, `rft_id` or one of `lists`, and otherwise as a text, of which the first of a key stays.
     ///
-    /// `TooLarge` where a pair would pass a limit of the environment, `NoMemory` where a growth of the
-    /// environment was refused; the pairs before the refused one stay added, and the refused one is
-    /// one that would have changed the environment.
+    /// `TooLarge` if a pair would exceed a limit of the environment, `NoMemory` if an allocation failed. The
+    /// pairs before the refused one stay added, and the refused one would have changed the environment.
     pub fn fill(&self, lists: &[&str], env: &mut Env) -> Result<(), VarsError>
         ensures ok { OnOk result (env.new.entries ≡ filled (texts_of lists.now) env.old.entries self.now.pairs) }
         ensures err { IfErr result (StopsAtPair (texts_of lists.now) env.old.entries self.now.pairs env.new.entries) }

@@ -1,3 +1,5 @@
+//! The values of one key.
+
 ghost use Rattle.std.specs.Prelude.{◌≡◌};
 ghost use Rattle.std.specs.Iterator.{YieldsFirstRef, item_count};
 ghost use Rattle.kev_read.specs.Pairs as spec;

@@ -1,3 +1,5 @@
+//! The version that a request states.
+
 ghost use Rattle.std.specs.Prelude.{◌≡◌};
 ghost use Rattle.std.specs.Option.{option_copied};
 ghost use Rattle.kev_read.specs.Refusal as spec;

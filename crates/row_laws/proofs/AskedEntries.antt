@@ -16,7 +16,7 @@ use Rattle.row_laws.specs.Shadowing.{asked, found_in, first_bytes, asked_bytes, 
 use Rattle.row_laws.proofs.Shadowing.{look_up-front}
 use Rattle.row_laws.proofs.NameTests.{itself, undefined}
 
--- what values make of what a name stands for
+-- what a name is bound to after more values
 abbrev pub grown : List Text → Bool → Option Meaning → Option Meaning
 grown [] list m = m
 grown (v ∷ vs) true None = Some (Several (v ∷ vs))

@@ -2,6 +2,7 @@ pub mod NameTests
 pub mod NamesOnce
 pub mod Columns
 pub mod Shadowing
+pub mod ShadowedPairs
 pub mod AskedEntries
 pub mod HiddenSums
 pub mod CellsByName
@@ -9,3 +10,4 @@ pub mod RowSums
 pub mod HiddenColumns
 pub mod OneMoreList
 pub mod SmallRequests
+pub mod SameValues

@@ -19,7 +19,8 @@ one_bytes lists env pair =
 
 one_member : (lists : List Text) (env : Environment) (pair : KeyValue) → member_count (fill_one lists env pair) ≤ member_count env + 1
 one_member lists env pair =
-    elim (is_list lists pair.key) as (λ v. member_count (cond v (with_member env pair.key pair.value) (with_text env pair.key pair.value)) ≤ member_count env + 1) [
+    elim (is_list lists pair.key) as (λ v. member_count (cond v (with_member env pair.key pair.value) (with_text env pair.key pair.value)) ≤ member_count env
+    + 1) [
       | true ↦ member_count-with_member-le env pair.key pair.value
       | false ↦ omega (arith, member_count-with_text env pair.key pair.value)
     ]

@@ -1,5 +1,5 @@
 //! Laws of a row over a request: a cell hides the request's value of its name. Each law is the contract of a function
-//! that does nothing.
+//! with an empty body.
 #![tactic(auto)]
 
 mod hidden;
@@ -9,7 +9,7 @@ mod shown;
 
 pub use hidden::{hidden_by_columns, shadowed_sums};
 pub use requests::{
-    one_more_list, requests_are_small, requests_by_keys, same_lists, values_by_keys,
+    one_more_list, requests_are_small, requests_by_keys, same_lists, sums_by_values, values_by_keys,
 };
 pub use rows::{names_once, row_bytes_are_cell_bytes, rows_by_names};
 pub use shown::{rows_shadow_requests, sums_of_rows_over_requests};

@@ -42,6 +42,16 @@ pub fn same_lists()
         → asked lists pairs ≡ asked others pairs }
 {}
 
+/// How many bytes and members a request alone has depends on the values of each key, and not on the order of the keys.
+pub fn sums_by_values()
+    ensures bytes { (lists : List Text) (pairs others : List KeyValue)
+        → ((key : Text) → all_of pairs key ≡ all_of others key)
+        → byte_count (asked lists pairs) ≡ byte_count (asked lists others) }
+    ensures members { (lists : List Text) (pairs others : List KeyValue)
+        → ((key : Text) → all_of pairs key ≡ all_of others key)
+        → member_count (asked lists pairs) ≡ member_count (asked lists others) }
+{}
+
 /// A request alone has no more bytes than its values have, and no more members than it has pairs.
 pub fn requests_are_small()
     ensures bytes { (lists : List Text) (pairs : List KeyValue) → byte_count (asked lists pairs) ≤ value_bytes pairs }

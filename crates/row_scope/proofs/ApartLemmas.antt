@@ -18,7 +18,8 @@ not_both : (b : Bool) (key : HiddenKey) → (if (b && false) then Some key else 
 not_both true key = refl
 not_both false key = refl
 
-module _ (header : Row) (lists : List Text) (pairs : List KeyValue) (apart : (name : Text) → is_some (column_of header name) ≡ true → all_of pairs name ≡ []) where
+module _ (header : Row) (lists : List Text) (pairs : List KeyValue) (apart : (name : Text) → is_some (column_of header name) ≡ true
+    → all_of pairs name ≡ []) where
   none_at : (column : ℕ) → hidden_key header lists pairs column ≡ None
   none_at column = by_column (column_of header (get_or header column [])) refl
     where
@@ -34,7 +35,8 @@ module _ (header : Row) (lists : List Text) (pairs : List KeyValue) (apart : (na
           ap (λ (found : Option ℕ). if (option_map_or (λ first. first == column) found false && nat_lt 0 (length (all_of pairs (get_or header column []))))
           then Some the_key else None) is
       by_column (Some first) is =
-          ap (λ (values : List Text). if (is_first header column && nat_lt 0 (length values)) then Some the_key else None) (apart (get_or header column []) (ap is_some is))
+          ap (λ (values : List Text). if (is_first header column && nat_lt 0 (length values)) then Some the_key else None)
+          (apart (get_or header column []) (ap is_some is))
           ∙ not_both (is_first header column) the_key
 
   pub none_hidden : hidden_keys header lists pairs ≡ []

@@ -1,5 +1,6 @@
 -- Bindings of names in a request alone, and in a row over it.
-use Rattle.std.proofs.Common.{◌≡◌, ℕ, ◌+◌, ◌<◌, ◌≤◌, true, [], ◌∷◌, All, length, take, drop, Option, Some, None, is_some, refl, sym, ap, ◌∙◌, subst, arith, inl, inr, length-append, if◌then◌else◌}
+use Rattle.std.proofs.Common.{◌≡◌, ℕ, ◌+◌, ◌<◌, ◌≤◌, true, [], ◌∷◌, All, length, take, drop, Option, Some, None, is_some, refl, sym, ap, ◌∙◌, subst, arith, inl}
+use Rattle.std.proofs.Common.{inr, length-append, if◌then◌else◌}
 use Rattle.std.proofs.lemmas.List.Elements.{All-weaker, All-take, All-drop}
 use Rattle.text_model.specs.Texts.{Text}
 use Rattle.environment_model.specs.Environment.{Environment, Meaning, Single, Several, look_up, is_there, text_in, text_of, members_in}
@@ -65,5 +66,12 @@ module _ (values : EnvValue) (line : Text) (row asked full : Environment) (heade
   bound_by_request inside (binding.List first count) nothing h =
       let same = not_hidden nothing in
       let within : All (λ at. at.0 + at.1 ≤ length values.buffer) values.spans = All-weaker (IsWithin values) _ (λ at w. w.inside) values.spans inside in
-      let own = All-take (λ (at : ℕ × ℕ). at.0 + at.1 ≤ length values.buffer) count (drop first values.spans) (All-drop (λ (at : ℕ × ℕ). at.0 + at.1 ≤ length values.buffer) first values.spans within) in
-      (ap text_in same ∙ h.0, record { within = h.1.within; are = ap members_in same ∙ h.1.are ∙ sym (front_pieces values.buffer line (take count (drop first values.spans)) own) })
+      let own = All-take (λ (at : ℕ × ℕ). at.0 + at.1 ≤ length values.buffer) count (drop first values.spans)
+      (All-drop (λ (at : ℕ × ℕ). at.0 + at.1 ≤ length values.buffer) first values.spans within) in (
+        ap text_in same ∙ h.0,
+        record {
+          within = h.1.within;
+          are = ap members_in same ∙ h.1.are
+              ∙ sym (front_pieces values.buffer line (take count (drop first values.spans)) own);
+        },
+      )

@@ -3,7 +3,7 @@ use Rattle.std.proofs.Common.{◌≡◌, ℕ, suc, ◌==◌, ◌<◌, ◌≤◌,
 use Rattle.text_model.specs.Texts.{Text}
 use Rattle.target_vars.specs.EnvValue.{piece_at}
 use Rattle.kbart_rows.specs.Cells.{Row, defined, tab}
-use Rattle.kbart_rows.specs.Lines.{IsCellAt, cells_in, in_front}
+use Rattle.kbart_rows.specs.Lines.{IsCellAt, cells_in, prepended}
 use Rattle.row_scope.proofs.BindingLemmas.{defined_text, undefined_text}
 use Rattle.row_scope.proofs.Pieces.{piece_length}
 
@@ -21,11 +21,11 @@ pub few_cells : (line : Text) → length (cells_in line) ≤ length line
 unfolding cells_in
 few_cells [] = omega arith
 few_cells (b ∷ line) =
-    elim (b == tab) as (λ is. length (if is then [] ∷ cells_in line else in_front b (cells_in line)) ≤ suc (length line)) [
+    elim (b == tab) as (λ is. length (if is then [] ∷ cells_in line else prepended b (cells_in line)) ≤ suc (length line)) [
       | true ↦ omega (arith, few_cells line)
-      | false ↦ omega (arith, few_cells line, in_front_cells b (cells_in line))
+      | false ↦ omega (arith, few_cells line, prepended_cells b (cells_in line))
     ]
   where
-    in_front_cells : (b : ℕ) (cells : Row) → length (in_front b cells) ≡ length cells
-    in_front_cells b [] = refl
-    in_front_cells b (cell ∷ cells) = refl
+    prepended_cells : (b : ℕ) (cells : Row) → length (prepended b cells) ≡ length cells
+    prepended_cells b [] = refl
+    prepended_cells b (cell ∷ cells) = refl

@@ -15,7 +15,8 @@ no_values columns (pair ∷ pairs) none name there =
     let P = λ (p : KeyValue). has columns p.key ≡ false in
     let here = All-head P pair pairs none in
     let others = no_values columns pairs (All-tail P pair pairs none) name there in
-    elim (has_key name pair) as (λ b. has_key name pair ≡ b → map (λ p. p.value) (cond b (pair ∷ filter (has_key name) pairs) (filter (has_key name) pairs)) ≡ []) [
+    elim (has_key name pair) as (λ b. has_key name pair ≡ b → map (λ p. p.value) (cond b (pair ∷ filter (has_key name) pairs) (filter (has_key name) pairs))
+    ≡ []) [
       | true ↦ λ same. absurd (let key = (bytes_eq-Decides pair.key name).0 same in let is = sym here ∙ ap (has columns) key ∙ there in cc)
       | false ↦ λ other. others
     ] refl

@@ -1,5 +1,6 @@
 -- Sums of the lengths of spans.
-use Rattle.std.proofs.Common.{◌≡◌, ℕ, ◌+◌, ◌*◌, ◌≤◌, List, [], ◌∷◌, ◌++◌, All, Some, length, take, drop, get_or, slice_get, sum_by, sym, ap, ◌∙◌, subst, arith, length-drop}
+use Rattle.std.proofs.Common.{◌≡◌, ℕ, ◌+◌, ◌*◌, ◌≤◌, List, [], ◌∷◌, ◌++◌, All, Some, length, take, drop, get_or, slice_get, sum_by, sym, ap, ◌∙◌, subst, arith}
+use Rattle.std.proofs.Common.{length-drop}
 use Rattle.std.proofs.Math.Logic.{⊎_elim}
 use Rattle.std.proofs.lemmas.Bool.{cases_lt}
 use Rattle.std.proofs.lemmas.List.{length-take-le, drop-take, take-take, get_or_append_left, get_or_push}
@@ -28,7 +29,8 @@ ends_more spans ends i end many sums last k d within =
     (cases_lt k (i + 1))
 
 -- the lengths of some spans, by the sums
-pub lengths_between : (spans : List (ℕ × ℕ)) (first count : ℕ) → lengths (take (first + count) spans) ≡ lengths (take first spans) + lengths (take count (drop first spans))
+pub lengths_between : (spans : List (ℕ × ℕ)) (first count : ℕ) → lengths (take (first + count) spans) ≡ lengths (take first spans)
+    + lengths (take count (drop first spans))
 lengths_between spans first count =
     let whole = sum_by-take-drop (λ (span : ℕ × ℕ). span.1) (take (first + count) spans) first in
     sym whole ∙ ap (λ xs. lengths xs + lengths (drop first (take (first + count) spans))) (take-take first (first + count) spans (omega arith))

@@ -1,5 +1,6 @@
 -- Keys of a request that a row hides, column by column.
-use Rattle.std.proofs.Common.{◌≡◌, ℕ, ◌+◌, ◌≤◌, zero, suc, Bool, true, false, ◌&&◌, nat_lt, List, [], ◌∷◌, ◌++◌, All, length, get_or, Option, Some, None, is_some, refl, sym, ap, ◌∙◌, arith, if◌then◌else◌}
+use Rattle.std.proofs.Common.{◌≡◌, ℕ, ◌+◌, ◌≤◌, zero, suc, Bool, true, false, ◌&&◌, nat_lt, List, [], ◌∷◌, ◌++◌, All, length, get_or, Option, Some, None}
+use Rattle.std.proofs.Common.{is_some, refl, sym, ap, ◌∙◌, arith, if◌then◌else◌}
 use borrow.Author.Tests.{ltb-false}
 use Rattle.std.specs.Prelude.{sum_by}
 use Rattle.std.specs.List.{filter_map, cons_option, range_with_len}
@@ -25,7 +26,8 @@ counting_more a n j e = let on : n + 1 ≡ suc n = omega arith in ap (range_with
     last a zero j e = let same : a ≡ j = omega arith in ap (λ k. k ∷ []) same
     last a (suc n) j e = ap (λ l. a ∷ l) (last (a + 1) n j (omega arith))
 
-pub one_column_more : {Y : Type 0} (f : ℕ → Option Y) (n : ℕ) → filter_map f (range_with_len 0 (n + 1)) ≡ filter_map f (range_with_len 0 n) ++ cons_option (f n) []
+pub one_column_more : {Y : Type 0} (f : ℕ → Option Y) (n : ℕ) → filter_map f (range_with_len 0 (n + 1)) ≡ filter_map f (range_with_len 0 n)
+    ++ cons_option (f n) []
 one_column_more f n = ap (filter_map f) (counting_more 0 n n (omega arith)) ∙ filter_map-append f (range_with_len 0 n) (n ∷ [])
 
 -- ---- the columns of the keys rise
@@ -48,7 +50,8 @@ module _ {Y : Type 0} (f : ℕ → Option Y) (column : Y → ℕ) (own : (n : �
   first_before y ys first rest (suc i) zero d le within = absurd (omega (arith, le))
   first_before y ys first rest (suc i) (suc j) d le within = rest i j d (omega (arith, le)) (omega (arith, within))
 
-  rises_with_first : (a : ℕ) (o : Option Y) → f a ≡ o → (ys : List Y) → All (λ y. a + 1 ≤ column y) ys → IsNonDecreasingBy column ys → IsNonDecreasingBy column (cons_option o ys)
+  rises_with_first : (a : ℕ) (o : Option Y) → f a ≡ o → (ys : List Y) → All (λ y. a + 1 ≤ column y) ys → IsNonDecreasingBy column ys
+      → IsNonDecreasingBy column (cons_option o ys)
   rises_with_first a None is ys later rest = rest
   rises_with_first a (Some y) is ys later rest =
       let here = own a y is in
@@ -136,8 +139,12 @@ module _ (header cells : Row) (lists : List Text) (pairs : List KeyValue) where
       by_first true false bytes members none =
           sym (ap (λ m. if is_some (defined (get_or cells n [])) then m else 0) (none refl) ∙ nothing_either_way (is_some (defined (get_or cells n []))))
 
-  pub bytes_of_keys : sum_by (bytes_under cells) (hidden_keys header lists pairs) ≡ sum_by (hidden_bytes_at header cells lists pairs) (range_with_len 0 (length header))
-  bytes_of_keys = sum-filter_map (hidden_key header lists pairs) (bytes_under cells) (hidden_bytes_at header cells lists pairs) bytes_of_column (range_with_len 0 (length header))
+  pub bytes_of_keys : sum_by (bytes_under cells) (hidden_keys header lists pairs) ≡ sum_by (hidden_bytes_at header cells lists pairs)
+      (range_with_len 0 (length header))
+  bytes_of_keys = sum-filter_map (hidden_key header lists pairs) (bytes_under cells) (hidden_bytes_at header cells lists pairs) bytes_of_column
+      (range_with_len 0 (length header))
 
-  pub members_of_keys : sum_by (members_under cells) (hidden_keys header lists pairs) ≡ sum_by (hidden_members_at header cells lists pairs) (range_with_len 0 (length header))
-  members_of_keys = sum-filter_map (hidden_key header lists pairs) (members_under cells) (hidden_members_at header cells lists pairs) members_of_column (range_with_len 0 (length header))
+  pub members_of_keys : sum_by (members_under cells) (hidden_keys header lists pairs) ≡ sum_by (hidden_members_at header cells lists pairs)
+      (range_with_len 0 (length header))
+  members_of_keys = sum-filter_map (hidden_key header lists pairs) (members_under cells) (hidden_members_at header cells lists pairs) members_of_column
+      (range_with_len 0 (length header))

@@ -1,5 +1,6 @@
--- Bindings of the names of a code by their numbers, while the columns of a row are passed over.
-use Rattle.std.proofs.Common.{◌≡◌, ◌≢◌, ◌⊎◌, ℕ, ◌+◌, ◌<◌, zero, suc, List, [], ◌∷◌, ◌++◌, All, length, get_or, set, Option, Some, None, is_some, slice_get, inl, inr, refl, sym, ap, ◌∙◌, subst, arith, if◌then◌else◌}
+-- Bindings of the names of a code by their numbers, while the columns of a row are read.
+use Rattle.std.proofs.Common.{◌≡◌, ◌≢◌, ◌⊎◌, ℕ, ◌+◌, ◌<◌, zero, suc, List, [], ◌∷◌, ◌++◌, All, length, get_or, set, Option, Some, None, is_some, slice_get, inl}
+use Rattle.std.proofs.Common.{inr, refl, sym, ap, ◌∙◌, subst, arith, if◌then◌else◌}
 use Rattle.std.proofs.Math.Logic.{⊎_elim}
 use Rattle.std.proofs.lemmas.Bool.{cases_lt}
 use Rattle.std.proofs.lemmas.List.{length-map}
@@ -26,7 +27,8 @@ use Rattle.row_scope.proofs.CellLemmas.{cell_missing}
 
 -- ---- elements of a list that grows or changes
 
-pub slice_get-push : {X : Type 0} (xs : List X) (y : X) (i : ℕ) (x : X) → slice_get (xs ++ y ∷ []) i ≡ Some x → (slice_get xs i ≡ Some x) ⊎ ((i ≡ length xs) × (y ≡ x))
+pub slice_get-push : {X : Type 0} (xs : List X) (y : X) (i : ℕ) (x : X) → slice_get (xs ++ y ∷ []) i ≡ Some x → (slice_get xs i ≡ Some x)
+    ⊎ ((i ≡ length xs) × (y ≡ x))
 slice_get-push [] y zero x is = inr (refl, (cc))
 slice_get-push [] y (suc i) x is = absurd (cc)
 slice_get-push (z ∷ xs) y zero x is = inl is
@@ -82,7 +84,8 @@ pub none_so_far : (t : TargetRequestValue) (line : Text) (places : List NameColu
 none_so_far t line places bindings are i name b named is = inr (are.bound i name b named is, λ j place below at same. absurd (omega (arith, below)))
 
 module _ (t : TargetRequestValue) (line : Text) (places : List NameColumn)
-    (shadow : (name : Text) → look_up (of_both t line) name ≡ (if is_there (of_row t line) name then look_up (of_row t line) name else look_up (of_request t) name))
+    (shadow : (name : Text)
+    → look_up (of_both t line) name ≡ (if is_there (of_row t line) name then look_up (of_row t line) name else look_up (of_request t) name))
     (by_name : (name : Text) → text_of (of_row t line) name ≡ cell_of t.table.header (cells_in line) name)
     (there : (name : Text) → is_there (of_row t line) name ≡ is_some (cell_of t.table.header (cells_in line) name)) where
   -- a column more
@@ -129,7 +132,7 @@ module _ (t : TargetRequestValue) (line : Text) (places : List NameColumn)
       (shadow name) (by_name name) (there name) start len at.within (cell_of_place place start len name column at named_so) some)))
       (slice_get-set bindings place.number new i b is)
 
-  -- all columns were passed over
+  -- all columns were read
   no_cell_at_all : (i : ℕ) (name : Text) → AreColumns t.code t.table.header places → slice_get (names_of t.code) i ≡ Some name → i < length t.code.names
       → HasNoCell line places (length places) i → (o : Option ℕ) → column_of t.table.header name ≡ o → cell_in (cells_in line) o ≡ None
   no_cell_at_all i name columns named below none None is = refl

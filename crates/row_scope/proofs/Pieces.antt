@@ -25,7 +25,8 @@ pub front_pieces : (values line : Text) (spans : List (ℕ × ℕ)) → All (λ 
 front_pieces values line [] within = refl
 front_pieces values line (at ∷ spans) within =
     let P = λ (a : ℕ × ℕ). a.0 + a.1 ≤ length values in
-    rw (front_piece values line at (All-head P at spans within)) (ap (λ ts. piece_at values at ∷ ts) (front_pieces values line spans (All-tail P at spans within)))
+    rw (front_piece values line at (All-head P at spans within))
+    (ap (λ ts. piece_at values at ∷ ts) (front_pieces values line spans (All-tail P at spans within)))
 
 -- the lengths of pieces
 pub piece_lengths : (text : Text) (spans : List (ℕ × ℕ)) → All (λ at. at.0 + at.1 ≤ length text) spans

@@ -29,13 +29,16 @@ last_is_first : (l : Text) (lists : List Text) (key : Text) → is_list (l ∷ l
 last_is_first l lists key =
     let p = λ (n : Text). bytes_eq n key in
     list_any-append p standard_lists (l ∷ lists)
-    ∙ ap (λ b. list_any p standard_lists || b) (list_any-append p (l ∷ []) lists ∙ or_comm (list_any p (l ∷ [])) (list_any p lists) ∙ sym (list_any-append p lists (l ∷ [])))
+    ∙ ap (λ b. list_any p standard_lists || b) (list_any-append p (l ∷ []) lists ∙ or_comm (list_any p (l ∷ [])) (list_any p lists)
+    ∙ sym (list_any-append p lists (l ∷ [])))
     ∙ sym (list_any-append p standard_lists (lists ++ l ∷ []))
 
-pub names_more : (code : Code) (numbers : List ℕ) (k d : ℕ) → k < length numbers → names_at code (take (k + 1) numbers) ≡ names_at code (take k numbers) ++ name_at code (get_or numbers k d) ∷ []
+pub names_more : (code : Code) (numbers : List ℕ) (k d : ℕ) → k < length numbers → names_at code (take (k + 1) numbers) ≡ names_at code (take k numbers)
+    ++ name_at code (get_or numbers k d) ∷ []
 names_more code numbers k d within = ap (names_at code) (take_more numbers k d within) ∙ map_push (name_at code) (take k numbers) (get_or numbers k d)
 
 pub one_name_more : (code : Code) (numbers : List ℕ) (k d : ℕ) → k < length numbers
     → (key : Text) → is_list (name_at code (get_or numbers k d) ∷ names_at code (take k numbers)) key ≡ is_list (names_at code (take (k + 1) numbers)) key
 one_name_more code numbers k d within key =
-    last_is_first (name_at code (get_or numbers k d)) (names_at code (take k numbers)) key ∙ ap (λ names. is_list names key) (sym (names_more code numbers k d within))
+    last_is_first (name_at code (get_or numbers k d)) (names_at code (take k numbers)) key
+    ∙ ap (λ names. is_list names key) (sym (names_more code numbers k d within))

@@ -13,7 +13,8 @@ taken : (spans : List (ℕ × ℕ)) (first count : ℕ) (at : ℕ × ℕ) → sl
 taken spans first zero at there some = absurd (omega (arith, some))
 taken spans first (suc n) at there some = (
   take n (drop (first + 1) spans),
-  ap (take (suc n)) (drop_more spans first at (slice_get_within spans first at there) ∙ ap (λ x. x ∷ drop (first + 1) spans) (get_or_from_slice_get spans first at at there)),
+  ap (take (suc n)) (drop_more spans first at (slice_get_within spans first at there)
+      ∙ ap (λ x. x ∷ drop (first + 1) spans) (get_or_from_slice_get spans first at at there)),
 )
 
 module _ (request : RequestValue) (key : List ℕ) (first count : ℕ) (at : ℕ × ℕ) (place : AreValuesAt request key first count)

@@ -33,7 +33,7 @@ pub record AreOwnLists (code : Code) (numbers : List ℕ) : Type 0 where
   pub new : (k d : ℕ) → k < length numbers → is_list (names_at code (take k numbers)) (name_at code (get_or numbers k d)) ≡ false
   pub same : (name : Text) → is_list (names_at code numbers) name ≡ is_list (lists_of code) name
 
--- each name that stands for a list is marked
+-- each name that is a list is marked
 pub record AreMarked (code : Code) (marks : List Bool) : Type 0 where
   pub one_each : length marks ≡ length code.names
   pub are : (i : ℕ) (mark : Bool) → slice_get marks i ≡ Some mark → mark ≡ is_list (lists_of code) (name_at code i)
@@ -43,3 +43,4 @@ pub record AreNameColumns (code : Code) (header : Row) (names : NameColumns) : T
   pub columns : AreColumns code header names.columns.items
   pub lists : AreOwnLists code names.lists.items
   pub marks : AreMarked code names.marks.items
+  pub numbers : length names.numbers.items ≡ length code.names

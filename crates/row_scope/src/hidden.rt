@@ -28,7 +28,8 @@ pub(crate) fn hidden_keys(
     request: &RequestValues,
 ) -> Result<Vec<HiddenKey>, AllocError>
     requires { IsApartFrom request.now table.now.header }
-    ensures { IfOk result (λ keys. keys.items ≡ spec.hidden_keys table.now.header (lists_of code.now) request.now.pairs) }
+    ensures { IfOk result
+        (λ keys. keys.items ≡ spec.hidden_keys table.now.header (lists_of code.now) request.now.pairs) }
 {
     if request.meets_columns() {
         keys_of_columns(alloc, code, table, request)
@@ -44,7 +45,8 @@ fn keys_of_columns(
     table: &Table,
     request: &RequestValues,
 ) -> Result<Vec<HiddenKey>, AllocError>
-    ensures { IfOk result (λ keys. keys.items ≡ spec.hidden_keys table.now.header (lists_of code.now) request.now.pairs) }
+    ensures { IfOk result
+        (λ keys. keys.items ≡ spec.hidden_keys table.now.header (lists_of code.now) request.now.pairs) }
 {
     let mut keys = Vec::new(alloc);
     let mut header = RowCursor::new(table.header());

@@ -1,7 +1,7 @@
-//! A row of a table over a request, as an environment that nothing is copied into: a text lies in the row's line, or among
-//! the request's values.
+//! A row of a table over a request, as an environment that nothing is copied into: a text lies in the row's line, or
+//! among the request's values.
 //!
-//! What is found out when, each from what stands left of it:
+//! What is computed when, each from what is to its left:
 //!
 //! ```text
 //! a request         a code over a table     a request at a target     a row
@@ -13,12 +13,16 @@
 
 mod binding;
 mod hidden;
+mod known_values;
 mod name_columns;
+mod name_numbers;
 mod request_values;
 mod row_scope;
 mod target_request;
 
+pub use known_values::KnownValues;
 pub use name_columns::NameColumns;
+pub use name_numbers::NameNumbers;
 pub use request_values::RequestValues;
 pub use row_scope::RowScope;
 pub use target_request::TargetRequest;

@@ -5,15 +5,17 @@ ghost use Rattle.environment_model.specs.Lists as spec;
 ghost use Rattle.row_scope.specs.RowEnvironments.{lists_of};
 ghost use Rattle.row_scope.specs.NameColumns.{AreColumns, AreMarked, AreNameColumns, AreOwnLists, names_at};
 
+use crate::name_numbers::NameNumbers;
 use code_file::Code;
 use kbart_rows::Table;
+use kev_read::is_standard_list;
 use std::alloc::{AllocError, Global};
 
 /// A column of a table that has a name of a code.
 #[derive(Clone, Copy)]
 pub struct NameColumn {
     pub(crate) column: usize,
-    /// Where the name stands in the code's table.
+    /// The index of the name in the code's table.
     pub(crate) number: usize,
 }
 
@@ -24,19 +26,27 @@ pub struct NameColumns {
     pub(crate) columns: Vec<NameColumn>,
     // The numbers of the lists that the code declares beside those of the standard, each once.
     pub(crate) lists: Vec<usize>,
-    // For each name of the code, whether it stands for a list.
+    // For each name of the code, whether it names a list.
     pub(crate) marks: Vec<bool>,
+    // For each name of the code, its number among those of many codes.
+    pub(crate) numbers: Vec<usize>,
 }
 
 impl NameColumns {
-    /// `AllocError` where a growth was refused.
-    pub fn new(alloc: Global, code: &Code, table: &Table) -> Result<NameColumns, AllocError>
+    /// `AllocError` if an allocation failed.
+    pub fn new(
+        alloc: Global,
+        code: &Code,
+        table: &Table,
+        numbers: &mut NameNumbers,
+    ) -> Result<NameColumns, AllocError>
         ensures { IfOk result (AreNameColumns code.now table.now.header) }
     {
         Ok(NameColumns {
             columns: columns_of(alloc, code, table)?,
             lists: own_lists(alloc, code)?,
             marks: marks_of(alloc, code)?,
+            numbers: numbers.of(alloc, code)?,
         })
     }
 }
@@ -76,7 +86,7 @@ fn marks_of(alloc: Global, code: &Code) -> Result<Vec<bool>, AllocError>
         .collect(alloc)
 }
 
-/// Whether a name stands for a list by the standard, or is one of these names of the code.
+/// Whether a name is a list by the standard, or is one of these names of the code.
 fn is_known_list(code: &Code, numbers: &[usize], name: &str) -> bool
     requires { All (λ number. number < length code.now.names) numbers.now }
     ensures { result ≡ spec.is_list (names_at code.now numbers.now) name.now }
@@ -87,7 +97,7 @@ fn is_known_list(code: &Code, numbers: &[usize], name: &str) -> bool
             .any(|number| code.name(*number).text.as_str() == name)
 }
 
-/// Whether a name stands for a list in a request that is asked by a code.
+/// Whether a code reads a name as a list.
 pub(crate) fn is_list(code: &Code, name: &str) -> bool
     ensures { result ≡ spec.is_list (lists_of code.now) name.now }
 {
@@ -96,11 +106,4 @@ pub(crate) fn is_list(code: &Code, name: &str) -> bool
             .names()
             .iter()
             .any(|other| other.list && other.text.as_str() == name)
-}
-
-/// Whether a name stands for a list in every request.
-fn is_standard_list(name: &str) -> bool
-    ensures { result ≡ spec.is_list [] name.now }
-{
-    name == "rft.au" || name == "rft_id"
 }

@@ -1,12 +1,12 @@
 //! The values that a request has under its keys.
 
-ghost use Rattle.std.specs.Prelude.{◌≡◌, ◌+◌, ◌-◌, ◌<◌, ◌≤◌, ◌*◌, [], IfErr, IfOk, List, Some, drop, false, is_ok, length, slice_get, sum_by, take, true};
+ghost use Rattle.std.specs.Prelude.{◌≡◌, ◌+◌, ◌-◌, ◌<◌, ◌≤◌, ◌*◌, [], IfOk, List, Some, drop, false, length, slice_get};
+ghost use Rattle.std.specs.Prelude.{sum_by, take, true};
 ghost use Rattle.text_model.specs.Texts.{Text};
 ghost use Rattle.environment_model.specs.Environment.{byte_count, member_count};
 ghost use Rattle.environment_model.specs.Lists as lists;
 ghost use Rattle.target_vars.specs.EnvValue.{IsWithin, piece_at};
 ghost use Rattle.target_vars.specs.declared.env.TheConstants.{MAX_BYTES, MAX_MEMBERS};
-ghost use Rattle.target_vars.specs.declared.error.VarsError.TheVariants.{NoMemory};
 ghost use Rattle.row_laws.specs.Shadowing.{asked};
 ghost use Rattle.row_scope.specs.Bindings.{IsBound, laid_in};
 ghost use Rattle.row_scope.specs.RequestValues.{AreValues, IsApart, AreValuesAt, bytes_of_key, members_of_key};
@@ -16,18 +16,16 @@ ghost use Rattle.row_scope.specs.Private.Kept.{AreEnds};
 
 use crate::binding::Binding;
 use kbart_rows::ColumnNames;
-use kev_read::Request;
-use row_laws::requests_by_keys;
+use kev_read::{KeyValues, Request};
+use row_laws::{requests_by_keys, sums_by_values};
 use std::alloc::{AllocError, Global};
 use std::marker::Model;
-use target_vars::{Env, VarsError};
 
 /// A request, with the values of each of its keys side by side. Contracts see the pairs, and where the values lie.
 #[derive(Drop)]
 pub struct RequestValues<'a> {
     request: &'a Request,
-    // Each key is the name of the list of its values.
-    values: Env,
+    values: KeyValues<'a>,
     // The bytes of all values before each span, and of all of them.
     ends: Vec<u64>,
     // E and M of the request where no list is declared.
@@ -45,13 +43,14 @@ impl<'a> Model for RequestValues<'a> {
 
     ghost view = { λ r. record { pairs = r.request.now.pairs; values = r.values; meets = r.meets } };
 
-    ghost invariant = { λ r. IsRequest (record { pairs = r.request.now.pairs; values = r.values; meets = r.meets }) r.ends.items r.bytes r.members };
+    ghost invariant = { λ r. IsRequest (record { pairs = r.request.now.pairs; values = r.values; meets = r.meets })
+        r.ends.items r.bytes r.members };
 }
 
 impl<'a> RequestValues<'a> {
     /// The values of a request, for tables whose columns are among these.
     ///
-    /// `AllocError` where a growth was refused.
+    /// `AllocError` if an allocation failed.
     pub fn new(
         alloc: Global,
         request: &'a Request,
@@ -64,7 +63,7 @@ impl<'a> RequestValues<'a> {
         let values = request.values_by_key(alloc)?;
         let _in_order = values.buffer();
         let ends = ends_of(alloc, &values)?;
-        let (bytes, members) = sums_without_lists(alloc, request)?;
+        let (bytes, members) = sums_without_lists(request);
         Ok(RequestValues {
             request,
             values,
@@ -114,7 +113,6 @@ impl<'a> RequestValues<'a> {
         ensures value { slice_get self.now.values.spans i ≡ Some (result.0, result.1) }
         ensures within { IsWithin self.now.values (result.0, result.1) }
     {
-        let _members = self.values.members();
         self.values.span(i)
     }
 
@@ -126,13 +124,15 @@ impl<'a> RequestValues<'a> {
         self.values.members_at(key)
     }
 
-    /// What a name is bound to in the request alone, as a list or as a text.
-    pub(crate) fn binding(&self, name: &str, is_list: bool) -> Binding
-        ensures { (declared : List Text) → is_list ≡ lists.is_list declared name.now
-            → IsBound (laid_in self.now.values (asked declared self.now.pairs)) name.now result }
+    /// What a name is bound to in the request alone, as a list or as a text, if its values are at these spans: the
+    /// first, and the number of spans.
+    pub(crate) fn binding(&self, first: u32, count: u32, is_list: bool) -> Binding
+        requires { first + count ≤ length self.now.values.spans }
+        ensures { (name : Text) (declared : List Text) → AreValuesAt self.now name first count
+            → is_list ≡ lists.is_list declared name
+            → IsBound (laid_in self.now.values (asked declared self.now.pairs)) name result }
     {
         requests_by_keys();
-        let (first, count) = self.values_of(name);
         if count == 0 {
             Binding::Nothing
         } else if is_list {
@@ -183,10 +183,10 @@ fn names_a_column(request: &Request, columns: &ColumnNames) -> bool
 }
 
 /// The bytes of all members before each span, and of all of them.
-fn ends_of(alloc: Global, values: &Env) -> Result<Vec<u64>, AllocError>
+fn ends_of(alloc: Global, values: &KeyValues) -> Result<Vec<u64>, AllocError>
     ensures { IfOk result (λ ends. AreEnds values.now.spans ends.items) }
 {
-    let count = values.members();
+    let count = values.len();
     let mut ends = Vec::with_capacity(alloc, count + 1)?;
     let mut end: u64 = 0;
     ends.push(end)?;
@@ -198,23 +198,10 @@ fn ends_of(alloc: Global, values: &Env) -> Result<Vec<u64>, AllocError>
 }
 
 /// E and M of a request where no list is declared.
-fn sums_without_lists(alloc: Global, request: &Request) -> Result<(usize, usize), AllocError>
-    ensures bytes { IfOk result (λ sums. sums.0 ≡ byte_count (asked [] request.now.pairs)) }
-    ensures members { IfOk result (λ sums. sums.1 ≡ member_count (asked [] request.now.pairs)) }
+fn sums_without_lists(request: &Request) -> (usize, usize)
+    ensures bytes { result.0 ≡ byte_count (asked [] request.now.pairs) }
+    ensures members { result.1 ≡ member_count (asked [] request.now.pairs) }
 {
-    let mut env = Env::new(alloc);
-    where_it_fits(request.fill(&[], &mut env))?;
-    Ok((env.bytes(), env.members()))
-}
-
-/// What came of a filling that the environment had room for.
-fn where_it_fits(filled: Result<(), VarsError>) -> Result<(), AllocError>
-    requires { IfErr filled (λ e. e ≡ NoMemory) }
-    ensures { is_ok result ≡ is_ok filled }
-{
-    match filled {
-        Ok(()) => Ok(()),
-        Err(VarsError::NoMemory) => Err(AllocError),
-        Err(VarsError::TooLarge) => unreachable!(),
-    }
+    sums_by_values();
+    request.sums()
 }

@@ -33,12 +33,14 @@ impl<'t, 'a> Model for RowScope<'t, 'a> {
     ghost Value = { RowValue };
 
     ghost view = { λ r. record {
-      env = laid_over r.target.now.request.values r.line.now (environment_of_row r.target.now.code r.target.now.table r.target.now.request.pairs r.row);
+      env = laid_over r.target.now.request.values r.line.now
+          (environment_of_row r.target.now.code r.target.now.table r.target.now.request.pairs r.row);
       names = names_of r.target.now.code;
     } };
 
     ghost invariant = { λ r. IsRow
-        (laid_over r.target.now.request.values r.line.now (environment_of_row r.target.now.code r.target.now.table r.target.now.request.pairs r.row))
+        (laid_over r.target.now.request.values r.line.now
+        (environment_of_row r.target.now.code r.target.now.table r.target.now.request.pairs r.row))
         (names_of r.target.now.code) r.bindings.items r.bytes r.members };
 }
 
@@ -52,9 +54,11 @@ impl<'t, 'a> RowScope<'t, 'a> {
         members: usize,
     ) -> RowScope<'t, 'a>
         requires { IsRow
-            (laid_over target.now.request.values line.now (environment_of_row target.now.code target.now.table target.now.request.pairs row))
+            (laid_over target.now.request.values line.now
+            (environment_of_row target.now.code target.now.table target.now.request.pairs row))
             (names_of target.now.code) bindings.items bytes members }
-        ensures entries { result.env.entries ≡ environment_of_row target.now.code target.now.table target.now.request.pairs row }
+        ensures entries { result.env.entries ≡ environment_of_row target.now.code target.now.table
+            target.now.request.pairs row }
         ensures names { result.names ≡ names_of target.now.code }
     {
         RowScope {

@@ -13,6 +13,7 @@ ghost use Rattle.row_scope.specs.NameColumns.{AreNameColumns, AreOwnLists, AreMa
 
 use crate::binding::Binding;
 use crate::hidden::{HiddenKey, hidden_keys};
+use crate::known_values::KnownValues;
 use crate::name_columns::NameColumns;
 use crate::request_values::RequestValues;
 use crate::row_scope::RowScope;
@@ -47,25 +48,28 @@ impl<'a> Model for TargetRequest<'a> {
 
     ghost view = { λ t. record { code = t.code.now; table = t.table.now; request = t.request.now } };
 
-    ghost invariant = { λ t. IsTargetRequest (record { code = t.code.now; table = t.table.now; request = t.request.now })
+    ghost invariant = { λ t. IsTargetRequest
+        (record { code = t.code.now; table = t.table.now; request = t.request.now })
         t.names.now t.bindings.items t.bytes t.members t.hidden.items };
 }
 
 impl<'a> TargetRequest<'a> {
-    /// `AllocError` where a growth was refused.
+    /// `AllocError` if an allocation failed.
     pub fn new(
         alloc: Global,
         code: &'a Code,
         table: &'a Table,
         names: &'a NameColumns,
-        request: &'a RequestValues<'a>,
+        known: &mut KnownValues<'a>,
     ) -> Result<TargetRequest<'a>, AllocError>
         requires names { AreNameColumns code.now table.now.header names.now }
-        requires columns { IsApartFrom request.now table.now.header }
-        ensures { IfOk result (λ t. (t.code ≡ code.now) × (t.table ≡ table.now) × (t.request ≡ request.now)) }
+        requires columns { IsApartFrom known.old table.now.header }
+        ensures ok { IfOk result (λ t. (t.code ≡ code.now) × (t.table ≡ table.now) × (t.request ≡ known.old)) }
+        ensures same { known.new ≡ known.old }
     {
+        let request = known.request();
         let _known = request.size();
-        let bindings = bindings_of(alloc, code, &names.marks, request)?;
+        let bindings = bindings_of(alloc, code, names, known)?;
         let hidden = hidden_keys(alloc, code, table, request)?;
         let (bytes, members) = sums_with_lists(code, &names.lists, request);
         Ok(TargetRequest {
@@ -82,10 +86,11 @@ impl<'a> TargetRequest<'a> {
 
     /// A row of the table, counted from 0, over the request.
     ///
-    /// `AllocError` where a growth was refused.
+    /// `AllocError` if an allocation failed.
     pub fn row<'t>(&'t self, alloc: Global, row: usize) -> Result<RowScope<'t, 'a>, AllocError>
         requires { row < length self.now.table.rows }
-        ensures entries { IfOk result (λ r. r.env.entries ≡ environment_of_row self.now.code self.now.table self.now.request.pairs row) }
+        ensures entries { IfOk result
+            (λ r. r.env.entries ≡ environment_of_row self.now.code self.now.table self.now.request.pairs row) }
         ensures names { IfOk result (λ r. r.names ≡ names_of self.now.code) }
     {
         requests_are_small();
@@ -110,7 +115,8 @@ impl<'a> TargetRequest<'a> {
         requires { length line.now ≤ 65537 }
         ensures { IfOk result (λ bindings. AreBound
             (laid_over self.now.request.values line.now
-            (by_pairs.filled (lists_of self.now.code) (row_of (named_cells self.now.table.header (cells_in line.now))) self.now.request.pairs))
+            (by_pairs.filled (lists_of self.now.code) (row_of (named_cells self.now.table.header (cells_in line.now)))
+            self.now.request.pairs))
             (names_of self.now.code) bindings.items) }
     {
         rows_shadow_requests();
@@ -130,8 +136,12 @@ impl<'a> TargetRequest<'a> {
     /// The bytes and the members of the request that the cells of a row's line hide.
     fn hidden_by(&self, line: &str) -> (usize, usize)
         requires { length line.now ≤ 65537 }
-        ensures bytes { result.0 ≡ byte_count (hidden (row_of (named_cells self.now.table.header (cells_in line.now))) (asked (lists_of self.now.code) self.now.request.pairs)) }
-        ensures members { result.1 ≡ member_count (hidden (row_of (named_cells self.now.table.header (cells_in line.now))) (asked (lists_of self.now.code) self.now.request.pairs)) }
+        ensures bytes { result.0
+            ≡ byte_count (hidden (row_of (named_cells self.now.table.header (cells_in line.now)))
+            (asked (lists_of self.now.code) self.now.request.pairs)) }
+        ensures members { result.1
+            ≡ member_count (hidden (row_of (named_cells self.now.table.header (cells_in line.now)))
+            (asked (lists_of self.now.code) self.now.request.pairs)) }
     {
         hidden_by_columns();
         requests_are_small();
@@ -150,18 +160,23 @@ impl<'a> TargetRequest<'a> {
 }
 
 /// What each name of a code is bound to in a request alone.
-fn bindings_of(
+fn bindings_of<'a>(
     alloc: Global,
-    code: &Code,
-    marks: &[bool],
-    request: &RequestValues,
+    code: &'a Code,
+    names: &NameColumns,
+    known: &mut KnownValues<'a>,
 ) -> Result<Vec<Binding>, AllocError>
-    requires { AreMarked code.now marks.now }
-    ensures { IfOk result (λ bindings. AreBound (laid_in request.now.values (asked (lists_of code.now) request.now.pairs)) (names_of code.now) bindings.items) }
+    requires marks { AreMarked code.now names.now.marks.items }
+    requires numbers { length names.now.numbers.items ≡ length code.now.names }
+    ensures ok { IfOk result
+        (λ bindings. AreBound (laid_in known.old.values (asked (lists_of code.now) known.old.pairs))
+        (names_of code.now) bindings.items) }
+    ensures same { known.new ≡ known.old }
 {
-    let mut bindings = Vec::with_capacity(alloc, marks.len())?;
-    for (name, is_list) in code.names().iter().zip(marks.iter()) {
-        bindings.push(request.binding(name.text.as_str(), *is_list))?;
+    let mut bindings = Vec::with_capacity(alloc, names.marks.len())?;
+    for (name, is_list) in code.names().iter().zip(names.marks.iter()) {
+        let number = names.numbers[bindings.len()];
+        bindings.push(known.binding(number, name.text.as_str(), *is_list))?;
     }
     Ok(bindings)
 }

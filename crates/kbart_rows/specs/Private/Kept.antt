@@ -1,5 +1,6 @@
 -- What a table keeps, and how it is read and found.
-use Rattle.std.specs.Prelude.{◌≡◌, ℕ, ◌↔◌, ◌==◌, if◌then◌else◌, ◌+◌, ◌≤◌, ◌<◌, List, [], ◌∷◌, filter, map, min, drop, length, get_or, String, Vec, Bool, false, Option, None, Some}
+use Rattle.std.specs.Prelude.{◌≡◌, ℕ, ◌↔◌, ◌==◌, if◌then◌else◌, ◌+◌, ◌≤◌, ◌<◌, List, [], ◌∷◌, filter, map, min, drop, length, get_or, String, Vec, Bool, false}
+use Rattle.std.specs.Prelude.{Option, None, Some}
 use Rattle.std.specs.HashMap.{HashMap, get_by_text, hasher_of}
 use Rattle.std.specs.List.{range_with_len}
 use Rattle.std.specs.Option.{option_map_or}
@@ -19,7 +20,7 @@ use Rattle.kbart_rows.specs.declared.read.TheConstants.{MAX_ROWS, MAX_ROW_BYTES}
 
 -- ---- reading
 
--- why a line is not added behind so many others
+-- why a line is not added after that many others
 abbrev pub IsRefusedLine : ℕ → Row → TableError → Type 0
 IsRefusedLine before cells TooManyRows = MAX_ROWS < before
 IsRefusedLine before cells RowTooLong = (before ≤ MAX_ROWS) × (MAX_ROW_BYTES < row_bytes cells)
@@ -69,8 +70,8 @@ rows_with columns rows id = filter (λ row. has_identifier columns id (get_or ro
 abbrev pub holdings_of : List Row → Keys → Holdings
 holdings_of lines keys = record { header = get_or lines 0 []; rows = drop 1 lines; keys = keys }
 
--- the names of the header lead to their first columns, and the identifiers to the rows that have them, both with the same keys; each row has
--- so many bytes
+-- the names of the header are mapped to their first columns, and the identifiers to the rows that have them, both with the same keys; the bytes
+-- of each row are counted
 pub record IsIndexed {A B C D E : Type 0} (lines : List Row) (columns : HashMap (String A) ℕ B) (index : HashMap (String C) (Vec ℕ D) B)
     (bytes : Vec ℕ E) : Type 0 where
   pub header : 0 < length lines

@@ -16,13 +16,13 @@ line_of cells = flat_map cell_and_tab cells
 abbrev pub HasNoTab : Text → Type 0
 HasNoTab text = All (λ b. b ≢ tab) text
 
--- what is left of a line behind so many columns
+-- what is left of a line after that many columns
 pub record IsRest (line : Text) (column : ℕ) (rest : Text) : Type 0 where
   pub front : Text
   pub parts : line ≡ front ++ rest
   pub left : cells_in rest ≡ drop column (cells_in line)
 
--- the line begins with the cell, and ends with what is left behind it
+-- the line begins with the cell, and ends with what is left after it
 pub record IsSplit (line cell others : Text) : Type 0 where
   pub starts : take (length cell) line ≡ cell
   pub within : length cell ≤ length line

@@ -1,5 +1,5 @@
 -- The order of the pairs of a request by their keys.
-use Rattle.std.specs.Prelude.{◌≡◌, ℕ, ◌<◌, ◌==◌, Bool, true, false, List, All, filter, length, map, sum_by, Option, slice_get}
+use Rattle.std.specs.Prelude.{◌≡◌, ℕ, ◌<◌, ◌≤◌, ◌+◌, ◌==◌, Bool, true, false, List, [], All, filter, get_or, length, map, take, drop, sum_by, Option, slice_get}
 use Rattle.std.specs.declared.cmp.Ordering.{Ordering}
 use Rattle.std.specs.Ordering.{nat_cmp, is_lt}
 use Rattle.std.specs.Option.{option_cmp, option_map_or}
@@ -25,6 +25,14 @@ compared = option_cmp (slice_cmp nat_cmp)
 abbrev pub has_index : ℕ → List ℕ → Bool
 has_index index indices = list_any (λ other. other == index) indices
 
+-- the pair at the index; without one, a pair of empty texts
+abbrev pub pair_at : List KeyValue → ℕ → KeyValue
+pair_at pairs index = get_or pairs index (record { key = []; value = [] })
+
+-- the pairs at the indices
+abbrev pub pairs_at : List KeyValue → List ℕ → List KeyValue
+pairs_at pairs indices = map (pair_at pairs) indices
+
 -- there is a pair at the index, and it has the key
 abbrev pub has_key_at : Text → List KeyValue → ℕ → Bool
 has_key_at key pairs index = passes_at (λ other. bytes_eq other key) pairs index
@@ -36,3 +44,9 @@ pub record IsKeyOrder (pairs : List KeyValue) (order : List ℕ) : Type 0 where
   pub within : All (λ index. index < length pairs) order
   pub once : (weight : ℕ → ℕ) → sum_by weight order ≡ sum_by weight (range_with_len 0 (length pairs))
   pub stable : (key : Text) → filter (has_key_at key pairs) order ≡ filter (has_key_at key pairs) (range_with_len 0 (length pairs))
+
+-- the indices of the pairs that have the key are those from a place in the order on, and this is how many there are
+pub record IsKeyRun (pairs : List KeyValue) (order : List ℕ) (key : Text) (first count : ℕ) : Type 0 where
+  pub within : first + count ≤ length order
+  pub are : take count (drop first order) ≡ filter (has_key_at key pairs) order
+  pub found : (index : ℕ) → has_index index (take count (drop first order)) ≡ passes_at (bytes_eq key) pairs index

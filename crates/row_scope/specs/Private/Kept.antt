@@ -1,5 +1,5 @@
 -- What is kept of a request, of a request at a target, and of a row.
-use Rattle.std.specs.Prelude.{◌≡◌, ℕ, ◌+◌, ◌≤◌, List, [], ◌&&◌, nat_lt, length, take, sum_by, get_or, Option, Some, None, if◌then◌else◌, Bool, true, false}
+use Rattle.std.specs.Prelude.{◌≡◌, ℕ, ◌+◌, ◌≤◌, List, [], All, ◌&&◌, nat_lt, length, take, sum_by, get_or, Option, Some, None, IfSome, if◌then◌else◌}
 use Rattle.std.specs.List.{filter_map, range_with_len}
 use Rattle.text_model.specs.Texts.{Text}
 use Rattle.environment_model.specs.Environment.{byte_count, member_count}
@@ -10,12 +10,13 @@ use Rattle.kbart_rows.specs.Cells.{Row, is_first}
 use Rattle.row_laws.specs.Shadowing.{asked, asked_bytes, asked_members}
 use Rattle.row_scope.specs.RowEnvironments.{lists_of, names_of}
 use Rattle.row_scope.specs.Bindings.{AreBound, laid_in}
-use Rattle.row_scope.specs.RequestValues.{RequestValue, AreValues}
+use Rattle.row_scope.specs.RequestValues.{RequestValue, AreValues, AreValuesAt}
 use Rattle.row_scope.specs.NameColumns.{AreNameColumns}
 use Rattle.row_scope.specs.RowValue.{TargetRequestValue}
 use Rattle.row_scope.specs.declared.binding.Binding.{Binding}
 use Rattle.row_scope.specs.declared.name_columns.NameColumns.{NameColumns}
 use Rattle.row_scope.specs.declared.hidden.HiddenKey.{HiddenKey}
+use Rattle.row_scope.specs.declared.known_values.KnownName.{KnownName}
 
 -- ---- a request
 
@@ -29,6 +30,10 @@ pub record IsRequest (request : RequestValue) (ends : List ℕ) (bytes members :
   pub summed : AreEnds request.values.spans ends
   pub all_bytes : bytes ≡ byte_count (asked [] request.pairs)
   pub all_members : members ≡ member_count (asked [] request.pairs)
+
+-- the values of each name that is known lie where it says
+abbrev pub AreKnown : RequestValue → List (Option KnownName) → Type 0
+AreKnown request names = All (λ known. IfSome known (λ k. AreValuesAt request k.name.now k.first k.count)) names
 
 -- ---- a request at a target
 

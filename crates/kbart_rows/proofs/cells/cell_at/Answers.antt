@@ -10,4 +10,5 @@ pub returns : goal.returns
 returns c =
     let cells = cells_in c.args.line.now in
     let passed : c.loop.counter + 0 ≡ c.args.column = omega (arith, c.loop-test.false, c.loop.auto.counter-end) in
-    c.split_cell-2.ensures.cell ∙ ap (λ (left : _). get_or left 0 []) c.loop.invariant.1 ∙ get_or-drop c.loop.counter cells 0 [] ∙ ap (λ (place : _). get_or cells place []) passed
+    c.split_cell-2.ensures.cell ∙ ap (λ (left : _). get_or left 0 []) c.loop.invariant.1 ∙ get_or-drop c.loop.counter cells 0 []
+    ∙ ap (λ (place : _). get_or cells place []) passed

@@ -4,6 +4,6 @@ use denote.Shadow.{shadow}
 use Rattle.kbart_rows.specs.Lines.{cells_in}
 use Rattle.kbart_rows.proofs.cells.cell_at.Given as goal
 
--- so many cells were passed over
+-- the cells so far were skipped
 abbrev pub invariant-loop : goal.invariant-loop
 invariant-loop l = shadow (Utf8 l.rest) × (cells_in l.rest ≡ drop l.counter (cells_in l.line))

@@ -1,4 +1,5 @@
-use Rattle.std.proofs.Common.{Bor, ◌≡◌, ◌∷◌, ◌++◌, [], Option, Some, None, IfSome, IfNone, drop, length, take, ap, sym, refl, ◌∙◌, arith, append-nil, append_assoc, length-append}
+use Rattle.std.proofs.Common.{Bor, ◌≡◌, ◌∷◌, ◌++◌, [], Option, Some, None, IfSome, IfNone, drop, length, take, ap, sym, refl, ◌∙◌, arith, append-nil}
+use Rattle.std.proofs.Common.{append_assoc, length-append}
 use Rattle.std.proofs.lemmas.List.{take-append-le}
 use Rattle.std.specs.Option.{unwrap_or}
 use Rattle.text_model.specs.Texts.{Text}
@@ -9,7 +10,8 @@ use Rattle.kbart_rows.proofs.LineCells.{no_cells}
 use Rattle.kbart_rows.proofs.cells.split_cell.Goals as goal
 
 rest : (line : Text) (found : Option (Bor Text × Bor Text)) (other : Bor Text × Bor Text) → other.1.now ≡ []
-    → IfSome found (λ p. cells_in line ≡ p.0.now ∷ cells_in p.1.now) → IfNone found (cells_in line ≡ []) → cells_in (unwrap_or found other).1.now ≡ drop 1 (cells_in line)
+    → IfSome found (λ p. cells_in line ≡ p.0.now ∷ cells_in p.1.now) → IfNone found (cells_in line ≡ []) → cells_in (unwrap_or found other).1.now
+    ≡ drop 1 (cells_in line)
 rest line None other empty some none = ap cells_in empty ∙ no_cells ∙ sym (ap (drop 1) none)
 rest line (Some parts) other empty some none = sym (ap (drop 1) some)
 

@@ -4,7 +4,7 @@ use Rattle.std.specs.Option.{unwrap_or}
 use Rattle.std.specs.Str.{bytes_eq}
 use Rattle.kbart_rows.specs.Cells.{column_of}
 use Rattle.kbart_rows.specs.Lines.{cells_in}
-use Rattle.kbart_rows.proofs.FirstColumns.{stands_at, all_passed, column_entered}
+use Rattle.kbart_rows.proofs.FirstColumns.{item_at, all_passed, column_entered}
 use Rattle.kbart_rows.proofs.columns.columns_of.Goals as goal
 
 pub loop-name-preserved : goal.loop-name-preserved
@@ -12,16 +12,17 @@ loop-name-preserved c =
     let header = cells_in c.args.header.now in
     let column = c.loop-name.column in
     let inv = c.loop-name.invariant in
-    let at = stands_at header column c.in-Some.name.now (cells_in c.in-Some.behind.now) (sym c.in-Some.ensures.cell ∙ inv.1) in
+    let at = item_at header column c.in-Some.name.now (cells_in c.in-Some.others.now) (sym c.in-Some.ensures.cell ∙ inv.1) in
     let inside = at.inside in
     let shorter = c.in-Some.ensures.shorter in (
       search rules,
-      at.behind,
+      at.after,
       omega arith,
       omega (arith, inv.3),
       c.in_ok-add_name.ensures.keyed ∙ inv.4,
-      λ name. c.in_ok-add_name.ensures.added name ∙ ap (λ (text : _). if bytes_eq name text then Some (unwrap_or (get_by_text c.loop-name.columns name) column) else get_by_text c.loop-name.columns name) c.in_ok-from_str.ensures.ok
-          ∙ column_entered header column c.in-Some.name.now name (cells_in c.in-Some.behind.now) (get_by_text c.loop-name.columns name) at (inv.5 name),
+      λ name. c.in_ok-add_name.ensures.added name ∙ ap (λ (text : _). if bytes_eq name text then Some (unwrap_or (get_by_text c.loop-name.columns name) column)
+          else get_by_text c.loop-name.columns name) c.in_ok-from_str.ensures.ok
+          ∙ column_entered header column c.in-Some.name.now name (cells_in c.in-Some.others.now) (get_by_text c.loop-name.columns name) at (inv.5 name),
     )
 
 pub returns-clause-columns : goal.returns-clause-columns

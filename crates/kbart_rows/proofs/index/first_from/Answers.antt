@@ -10,7 +10,8 @@ returns-then-at-rows c =
     let rows = c.args.rows.now in
     let from = c.args.from in
     let at = c.partition_point-at.result in
-    let parts = IsPartitionPoint-from_clause (λ row. nat_lt row from) rows at c.partition_point-at.ensures.partitioned (IsPartitionedBy-ltb (λ row. row) rows from c.requires) (λ a r f' called. search rules) in
+    let parts = IsPartitionPoint-from_clause (λ row. nat_lt row from) rows at c.partition_point-at.ensures.partitioned
+    (IsPartitionedBy-ltb (λ row. row) rows from c.requires) (λ a r f' called. search rules) in
     sym (first_at rows from at parts.0 parts.1 ∙ slice_get-get_or rows at 0 (omega (arith, c.if-at-rows.true)))
 
 pub returns-else-at-rows : goal.returns-else-at-rows
@@ -18,5 +19,6 @@ returns-else-at-rows c =
     let rows = c.args.rows.now in
     let from = c.args.from in
     let at = c.partition_point-at.result in
-    let parts = IsPartitionPoint-from_clause (λ row. nat_lt row from) rows at c.partition_point-at.ensures.partitioned (IsPartitionedBy-ltb (λ row. row) rows from c.requires) (λ a r f' called. search rules) in
+    let parts = IsPartitionPoint-from_clause (λ row. nat_lt row from) rows at c.partition_point-at.ensures.partitioned
+    (IsPartitionedBy-ltb (λ row. row) rows from c.requires) (λ a r f' called. search rules) in
     sym (first_at rows from at parts.0 parts.1 ∙ slice_get_past rows at (omega (arith, c.if-at-rows.false)))

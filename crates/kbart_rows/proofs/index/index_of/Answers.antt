@@ -22,12 +22,14 @@ loop-row-preserved c = (
       ∙ ap (λ (place : _). get_or lines place []) next ∙ sym (get_or-drop 1 lines row []) in
       let first = c.in_ok-first.ensures ∙ ap (λ (cells : _). identifier_in cells print) at in
       let second = c.in_ok-second.ensures ∙ ap (λ (cells : _). identifier_in cells online) at in
-      let passes : (is_id id (option_map string_bytes c.in_ok-first.first) || is_id id (option_map string_bytes c.in_ok-second.second)) ≡ has_identifier (print ∷ online ∷ []) id here =
+      let passes : (is_id id (option_map string_bytes c.in_ok-first.first) || is_id id (option_map string_bytes c.in_ok-second.second))
+      ≡ has_identifier (print ∷ online ∷ []) id here =
       ap (λ (a : _). is_id id a || is_id id (option_map string_bytes c.in_ok-second.second)) first
       ∙ ap (λ (b : _). is_id id (identifier_in here print) || is_id id b) second ∙ sym (one_of_two id (identifier_in here print) (identifier_in here online)) in
       let test = λ (row : _). has_identifier (print ∷ online ∷ []) id (get_or (drop 1 lines) row []) in
       c.in_ok-add_row.ensures.rows id
-      ∙ ap (λ (before : _). before ++ (if is_id id (option_map string_bytes c.in_ok-first.first) || is_id id (option_map string_bytes c.in_ok-second.second) then row ∷ [] else [])) (c.loop-row.invariant.1 id)
+      ∙ ap (λ (before : _). before ++ (if is_id id (option_map string_bytes c.in_ok-first.first) || is_id id (option_map string_bytes c.in_ok-second.second)
+      then row ∷ [] else [])) (c.loop-row.invariant.1 id)
       ∙ ap (λ (b : _). filter test (range_with_len 0 row) ++ (if b then row ∷ [] else [])) passes
       ∙ sym (filter_row test row),
 )

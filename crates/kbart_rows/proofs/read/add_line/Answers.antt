@@ -13,7 +13,8 @@ returns-then-line-clause-refused c =
 pub returns-clause-added : goal.returns-clause-added
 returns-clause-added c =
     let cells = fields_of c.args.cells.now in
-    c.in_ok-push.ensures ∙ ap (λ (line : _). c.args.lines.now ++ line ∷ []) (ap cells_in (c.as_str-line.ensures.value ∙ c.in_ok-write_line.ensures) ∙ cells_of_line cells c.requires)
+    c.in_ok-push.ensures ∙ ap (λ (line : _). c.args.lines.now ++ line ∷ []) (ap cells_in (c.as_str-line.ensures.value ∙ c.in_ok-write_line.ensures)
+    ∙ cells_of_line cells c.requires)
 
 pub returns-clause-fits : goal.returns-clause-fits
 returns-clause-fits c =

@@ -26,5 +26,6 @@ returns-in_err-add-clause-err c =
     let index = c.loop-index.index in
     let e = c.in_err-add.field-0.0 in
     let marked = c.list_marks-are_lists.ensures index ∙ passes_there (is_list lists) pairs index pair c.at.ensures in
-    let stops = stops_at lists old c.loop-index.env.entries new pairs index pair _ e c.at.ensures marked c.loop-index.invariant c.in_err-add.ensures.err c.in_err-add.ensures.added c.in_err-add.ensures.too_large in
+    let stops = stops_at lists old c.loop-index.env.entries new pairs index pair _ e c.at.ensures marked c.loop-index.invariant c.in_err-add.ensures.err
+    c.in_err-add.ensures.added c.in_err-add.ensures.too_large in
     IfErr_passed_on (StopsAtPair lists old pairs new) c.from_residual.result e c.from_residual.ensures.1 stops

@@ -1,4 +1,4 @@
-use Rattle.row_laws.proofs.Shadowing.{entries_are, look_up_is}
+use Rattle.row_laws.proofs.ShadowedPairs.{entries_are, look_up_is}
 use Rattle.row_laws.proofs.shown.rows_shadow_requests.Goals as goal
 
 pub returns-clause-entries : goal.returns-clause-entries

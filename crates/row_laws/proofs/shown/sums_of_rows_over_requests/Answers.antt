@@ -1,4 +1,4 @@
-use Rattle.row_laws.proofs.Shadowing.{bytes_are, members_are}
+use Rattle.row_laws.proofs.ShadowedPairs.{bytes_are, members_are}
 use Rattle.row_laws.proofs.shown.sums_of_rows_over_requests.Goals as goal
 
 pub returns-clause-bytes : goal.returns-clause-bytes

@@ -1,4 +1,5 @@
-use Rattle.std.proofs.Common.{◌≡◌, ◌+◌, ◌<◌, ◌≤◌, ℕ, zero, suc, Bor, Vec, Global, List, [], ◌∷◌, ◌++◌, Option, Some, None, slice_get, length, sym, ap, ◌∙◌, arith, append-nil}
+use Rattle.std.proofs.Common.{◌≡◌, ◌+◌, ◌<◌, ◌≤◌, ℕ, zero, suc, Bor, Vec, Global, List, [], ◌∷◌, ◌++◌, Option, Some, None, slice_get, length, sym, ap, ◌∙◌}
+use Rattle.std.proofs.Common.{arith, append-nil}
 use Rattle.std.specs.List.{cons_option, filter_map, range_with_len}
 use Rattle.std.specs.Option.{option_copied}
 use Rattle.std.proofs.lemmas.Option.{slice_get_within, get_or_from_slice_get}
@@ -14,7 +15,8 @@ use Rattle.row_scope.proofs.hidden.keys_of_columns.Goals.{in-Some-hidden_key+in_
 use Rattle.row_scope.proofs.hidden.keys_of_columns.Goals as goal
 
 -- the name that the cursor gives is that of the column
-named : (header : Row) (cursor : CursorValue) (column : ℕ) (found : Option (Bor Text)) (name : Bor Text) → cells_in cursor.line ≡ header → cursor.column ≡ column
+named : (header : Row) (cursor : CursorValue) (column : ℕ) (found : Option (Bor Text)) (name : Bor Text) → cells_in cursor.line ≡ header
+    → cursor.column ≡ column
     → option_copied found ≡ slice_get (cells_in cursor.line) cursor.column → found ≡ Some name → slice_get header column ≡ Some name.now
 named header cursor column found name line place cell is =
     ap (λ cells. slice_get cells column) (sym line) ∙ ap (slice_get (cells_in cursor.line)) (sym place) ∙ sym cell ∙ ap option_copied is
@@ -25,7 +27,7 @@ within_line : (header : Row) (cursor : CursorValue) (column : ℕ) (name : Text)
 within_line header cursor column name line is =
     let inside = slice_get_within header column name is in (inside, omega (arith, inside, few_cells cursor.line, ap length line))
 
--- where there is no name, all columns were passed over
+-- where there is no name, the cursor is past all columns
 ended : (header : Row) (column : ℕ) → column ≤ length header → slice_get header column ≡ None → column ≡ length header
 ended [] column within none = omega (arith, within)
 ended (name ∷ header) zero within none = absurd (cc)
@@ -81,7 +83,8 @@ loop-name-preserved c =
             let key = w.in-Some-hidden_key.key in
             let there : f column ≡ Some key = sym c.hidden_key.ensures ∙ w.in-Some-hidden_key.is in
             let same : c.match-hidden_key.keys.items ≡ so_far ++ key ∷ [] =
-            ap (λ (keys : Vec HiddenKey Global). keys.items) w.keys-is ∙ w.in_ok-push.ensures.items ∙ ap (λ (keys : List HiddenKey). keys ++ key ∷ []) inv.keys in
+            ap (λ (keys : Vec HiddenKey Global). keys.items) w.keys-is ∙ w.in_ok-push.ensures.items
+            ∙ ap (λ (keys : List HiddenKey). keys ++ key ∷ []) inv.keys in
             same ∙ sym (one_column_more f column ∙ ap (λ (o : Option HiddenKey). so_far ++ cons_option o []) there)
         | in_default-hidden_key w ↦
             let none : f column ≡ None = sym c.hidden_key.ensures ∙ w.in_default-hidden_key.is in

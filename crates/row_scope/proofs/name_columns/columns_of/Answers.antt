@@ -17,13 +17,15 @@ loop-number-preserved c =
     let number = c.loop-number.number in
     let before = c.loop-number.columns.items in
     let within : number < length code.names = omega (arith, c.loop-number-test.true, ap length c.names-number-end.ensures) in
-    let text : c.as_str.result.now ≡ name_at code number = c.as_str.ensures.value ∙ ap (λ n. n.text) c.behind-code.view_is ∙ sym (named code number c.name.result.now c.name.ensures) in
+    let text : c.as_str.result.now ≡ name_at code number = c.as_str.ensures.value ∙ ap (λ n. n.text) c.behind-code.view_is
+    ∙ sym (named code number c.name.result.now c.name.ensures) in
     let found : c.column.result ≡ column_of header (name_at code number) = c.column.ensures.first ∙ ap (column_of header) text in
     elim c.match-column.branch [
       | in-Some+in_ok-push w ↦
           let at = w.in-Some.column in
           let there : column_of header (name_at code number) ≡ Some at = sym found ∙ w.in-Some.is in
-          let items : c.match-column.columns.items ≡ before ++ record { column = at; number = number } ∷ [] = ap (λ v. v.items) w.columns-is ∙ w.in_ok-push.ensures.items in
+          let items : c.match-column.columns.items ≡ before ++ record { column = at; number = number } ∷ [] =
+          ap (λ v. v.items) w.columns-is ∙ w.in_ok-push.ensures.items in
           record {
             are = rw items (All-push (IsNameColumn code header) before _ inv.are (record { number = within; column = there }));
             every = λ n column below is. rw items (one_with code header before number inv.every at there n column below is);
@@ -45,5 +47,6 @@ returns c =
     record {
       are = All-permutation (IsNameColumn c.args.code.now c.args.table.now.header) _ _ moved inv.are;
       rise = IsNonDecreasingBy-from_sort_by_key (λ p. p.column) _ c.sort_unstable_by_key.ensures.sorted (λ a r q k. search rules);
-      every = λ number column within there. Contains-permutation _ _ _ moved (inv.every number column (omega (arith, all, within, c.loop-number-test.false)) there);
+      every = λ number column within there. Contains-permutation _ _ _ moved
+          (inv.every number column (omega (arith, all, within, c.loop-number-test.false)) there);
     }

@@ -15,7 +15,8 @@ returns-else-is_standard_list c =
     let numbers = c.args.numbers.now in
     let name = c.args.name.now in
     let other : is_list [] name ≡ false = sym c.is_standard_list.ensures ∙ c.if-is_standard_list.false in
-    any_from_yields_List (λ number. bytes_eq (name_at code number) name) _ _ _ c.any.ensures.ran (YieldsList-from_slice numbers cc) (λ x b q k. search (rules, tests, named))
+    any_from_yields_List (λ number. bytes_eq (name_at code number) name) _ _ _ c.any.ensures.ran (YieldsList-from_slice numbers cc)
+    (λ x b q k. search (rules, tests, named))
     ∙ sym (among_numbers code numbers name)
     ∙ sym (ap (λ b. b || is_among name (names_at code numbers)) other)
     ∙ sym (listed_among (names_at code numbers) name)

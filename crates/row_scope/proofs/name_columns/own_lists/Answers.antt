@@ -6,7 +6,8 @@ use Rattle.machine_model.specs.Operands.{name_at}
 use Rattle.row_scope.specs.NameColumns.{names_at}
 use Rattle.row_scope.proofs.NameLemmas.{AreNew, AreSame, named, new_more, same_pushed, same_known, same_unlisted}
 use Rattle.row_scope.proofs.name_columns.own_lists.Goals as goal
-use Rattle.row_scope.proofs.name_columns.own_lists.Goals.{then-name+then-not-is_known_list+in_ok-push, else-name, else-name-via-then-name+else-not-is_known_list, else-name-via-else-name}
+use Rattle.row_scope.proofs.name_columns.own_lists.Goals.{then-name+then-not-is_known_list+in_ok-push, else-name}
+use Rattle.row_scope.proofs.name_columns.own_lists.Goals.{else-name-via-then-name+else-not-is_known_list, else-name-via-else-name}
 
 pub loop-number-preserved : goal.loop-number-preserved
 loop-number-preserved c =
@@ -45,13 +46,15 @@ loop-number-preserved c =
                 record {
                   within = rw items inv.within;
                   new = subst (AreNew code) (sym items) inv.new;
-                  same = subst (λ ns. AreSame code ns (number + 1)) (sym items) (same_known code before number name there inv.same (sym list ∙ w'.if-name.true) known);
+                  same = subst (λ ns. AreSame code ns (number + 1)) (sym items)
+                      (same_known code before number name there inv.same (sym list ∙ w'.if-name.true) known);
                 }
             | else-name-via-else-name w' ↦
                 record {
                   within = rw items inv.within;
                   new = subst (AreNew code) (sym items) inv.new;
-                  same = subst (λ ns. AreSame code ns (number + 1)) (sym items) (same_unlisted code before number name there inv.same (sym list ∙ w'.if-name.false));
+                  same = subst (λ ns. AreSame code ns (number + 1)) (sym items)
+                      (same_unlisted code before number name there inv.same (sym list ∙ w'.if-name.false));
                 }
           ]
     ]

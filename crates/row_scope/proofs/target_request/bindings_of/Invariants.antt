@@ -10,6 +10,7 @@ use Rattle.row_scope.proofs.target_request.bindings_of.Given as goal
 abbrev pub invariant-loop-name : goal.invariant-loop-name
 invariant-loop-name l = record {
   one_each : length l.bindings.items ≡ length l.yielded;
+  same : l.known ≡ l.fn.known;
   bound : (i : ℕ) (name : Text) (b : Binding) → slice_get (names_of l.code) i ≡ Some name → slice_get l.bindings.items i ≡ Some b
-      → IsBound (laid_in l.request.values (asked (lists_of l.code) l.request.pairs)) name b;
+      → IsBound (laid_in l.fn.known.values (asked (lists_of l.code) l.fn.known.pairs)) name b;
 }

@@ -54,7 +54,8 @@ loop-number-preserved c =
     c.sums_of-all_bytes.ensures.members ∙ ap (λ (key : Text). length (all_of pairs key)) named in
     let first : c.sums_of.result.0 ≡ first_bytes (all_of pairs name) = c.sums_of.ensures.bytes ∙ ap (λ (key : Text). first_bytes (all_of pairs key)) named in
     let new = c.requires.new k 0 c.loop-number-test.true in
-    let order : asked (name ∷ so_far) pairs ≡ asked more pairs = c.same_lists.ensures (name ∷ so_far) more pairs (one_name_more code numbers k 0 c.loop-number-test.true) in
+    let order : asked (name ∷ so_far) pairs ≡ asked more pairs =
+    c.same_lists.ensures (name ∷ so_far) more pairs (one_name_more code numbers k 0 c.loop-number-test.true) in
     record {
       bytes = omega (arith, c.loop-number.invariant.bytes, all_bytes, first, c.one_more_list.ensures.bytes name so_far pairs new, ap byte_count order);
       members = omega (arith, c.loop-number.invariant.members, all_members, c.one_more_list.ensures.members name so_far pairs new, ap member_count order);
@@ -65,7 +66,8 @@ returns-clause-bytes c =
     let code = c.args.code.now in
     let numbers = c.args.lists.now in
     let pairs = c.args.request.now.pairs in
-    c.loop-number.invariant.bytes ∙ ap (λ (ns : List ℕ). byte_count (asked (names_at code ns) pairs)) (take_all c.loop-number.number-index numbers c.loop-number-test.false)
+    c.loop-number.invariant.bytes ∙ ap (λ (ns : List ℕ). byte_count (asked (names_at code ns) pairs))
+    (take_all c.loop-number.number-index numbers c.loop-number-test.false)
     ∙ ap byte_count (c.same_lists.ensures (names_at code numbers) (lists_of code) pairs c.requires.same)
 
 pub returns-clause-members : goal.returns-clause-members
@@ -73,5 +75,6 @@ returns-clause-members c =
     let code = c.args.code.now in
     let numbers = c.args.lists.now in
     let pairs = c.args.request.now.pairs in
-    c.loop-number.invariant.members ∙ ap (λ (ns : List ℕ). member_count (asked (names_at code ns) pairs)) (take_all c.loop-number.number-index numbers c.loop-number-test.false)
+    c.loop-number.invariant.members ∙ ap (λ (ns : List ℕ). member_count (asked (names_at code ns) pairs))
+    (take_all c.loop-number.number-index numbers c.loop-number-test.false)
     ∙ ap member_count (c.same_lists.ensures (names_at code numbers) (lists_of code) pairs c.requires.same)

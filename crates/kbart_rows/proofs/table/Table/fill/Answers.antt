@@ -8,7 +8,8 @@ use Rattle.kbart_rows.proofs.FillingLemmas.{Reaches, reaches, reached_bytes, rea
 use Rattle.kbart_rows.proofs.table.Table.fill.Goals as goal
 
 -- the cells that were added are those of the row
-cells_are : (c : goal.After-fill) → named_cells (cells_in c.header.result.now) (cells_in c.line.result.now) ≡ named_cells c.args.self.now.header (get_or c.args.self.now.rows c.args.row [])
+cells_are : (c : goal.After-fill) → named_cells (cells_in c.header.result.now) (cells_in c.line.result.now) ≡ named_cells c.args.self.now.header
+    (get_or c.args.self.now.rows c.args.row [])
 cells_are c =
     let lines = c.self.inside.lines in
     let row = c.args.row in
@@ -24,7 +25,8 @@ small c =
     let lines = c.self.inside.lines in
     let row = c.args.row in
     let rows : length (drop 1 lines) ≡ length c.args.self.now.rows = ap (λ (table : Holdings). length table.rows) c.self.view_is in
-    let fits : row_bytes (get_or lines (row + 1) []) ≤ MAX_ROW_BYTES = c.self.invariant.fit (row + 1) [] (omega (arith, c.requires, rows, length-drop 1 lines)) in
+    let fits : row_bytes (get_or lines (row + 1) []) ≤ MAX_ROW_BYTES =
+    c.self.invariant.fit (row + 1) [] (omega (arith, c.requires, rows, length-drop 1 lines)) in
     omega (arith, row_cell_bytes (cells_in c.header.result.now) (cells_in c.line.result.now), ap row_bytes c.line.ensures.cells, fits)
 
 reach : (c : goal.After-fill) → Reaches c.args.env.now.entries (named_cells (cells_in c.header.result.now) (cells_in c.line.result.now)) c.fill.new.env.entries

@@ -22,12 +22,14 @@ loop-id-preserved c =
     ∙ ap (λ (item : _). ids ++ string_bytes item ∷ []) (sym c.id-item.is) in
     c.lesser-best.ensures
     ∙ ap (λ (best : _). lesser_of best c.next_with.result) c.loop-id.invariant
-    ∙ ap (λ (found : _). lesser_of (first_from from (matches columns rows ids)) found) (c.next_with.ensures ∙ ap (λ (text : _). first_from from (rows_with columns rows text)) c.as_str.ensures.value)
+    ∙ ap (λ (found : _). lesser_of (first_from from (matches columns rows ids)) found)
+    (c.next_with.ensures ∙ ap (λ (text : _). first_from from (rows_with columns rows text)) c.as_str.ensures.value)
     ∙ match_more columns rows from ids (string_bytes id)
     ∙ ap (λ (texts : _). first_from from (matches columns rows texts)) (sym more)
 
 -- when all identifiers were asked for
-first : (c : goal.After-loop-id) → c.loop-id.best ≡ first_from c.args.from (matches (identifier_columns c.args.self.now.header) c.args.self.now.rows c.args.ids.now)
+first : (c : goal.After-loop-id)
+    → c.loop-id.best ≡ first_from c.args.from (matches (identifier_columns c.args.self.now.header) c.args.self.now.rows c.args.ids.now)
 first c =
     let items = c.as_slice-id-items.result.now in
     c.loop-id.invariant

@@ -12,7 +12,8 @@ invariant_of-result c =
     let named = λ (name : _). c.in_ok-columns.ensures.columns name ∙ ap (λ (header : _). column_of header name) c.line.ensures.cells in
     let print = c.copied-print.ensures ∙ c.get.ensures.value ∙ named (codes "print_identifier") in
     let online = c.copied-online.ensures ∙ c.get-2.ensures.value ∙ named (codes "online_identifier") in
-    let columns = ap (λ (first : _). first ∷ c.copied-online.result ∷ []) print ∙ ap (λ (second : _). column_of (get_or lines 0 []) (codes "print_identifier") ∷ second ∷ []) online in
+    let columns = ap (λ (first : _). first ∷ c.copied-online.result ∷ []) print
+    ∙ ap (λ (second : _). column_of (get_or lines 0 []) (codes "print_identifier") ∷ second ∷ []) online in
     record {
       header = c.in_ok-lines.ensures.some;
       few = c.in_ok-lines.ensures.few;

@@ -1,6 +1,6 @@
 use Rattle.std.proofs.Common.{rules, ◌++◌, string_bytes}
 use Rattle.std.proofs.lemmas.Str.{IsUtf8-append, IsUtf8-string_bytes}
-use Rattle.kev_read.proofs.PairsInText.{IsBehind, places_stay, pushed, pushed_placed}
+use Rattle.kev_read.proofs.PairsInText.{IsAppended, places_stay, pushed, pushed_placed}
 use Rattle.kev_read.proofs.pairs.Pairs.push.Goals as goal
 
 pub invariant_of-self-in_err-push_str-2 : goal.invariant_of-self-in_err-push_str-2
@@ -16,22 +16,24 @@ invariant_of-self-in_err-push c =
     let utf8 = IsUtf8-string_bytes c.self.inside.text in
     let key = c.args.key.now in
     rw (c.in_err-push.ensures.items, c.in_ok-push_str-2.ensures.bytes, c.in_ok-push_str.ensures.bytes)
-    (places_stay (text ++ key) c.args.value.now places (IsUtf8-append text key utf8 c.utf8.key) c.utf8.value (places_stay text key places utf8 c.utf8.key c.self.invariant))
+    (places_stay (text ++ key) c.args.value.now places (IsUtf8-append text key utf8 c.utf8.key) c.utf8.value
+    (places_stay text key places utf8 c.utf8.key c.self.invariant))
 
--- the place is that of the key and the value behind the text
-behind : (c : goal.In_ok-push) → IsBehind (string_bytes c.self.inside.text) c.args.key.now c.args.value.now (record { start = c.len-start.result; middle = c.len-middle.result; end = c.len-end.result })
-behind c = record {
+-- the place is that of the key and the value after the text
+appended : (c : goal.In_ok-push) → IsAppended (string_bytes c.self.inside.text) c.args.key.now c.args.value.now
+    (record { start = c.len-start.result; middle = c.len-middle.result; end = c.len-end.result })
+appended c = record {
   starts = search rules;
-  parts = search rules;
+  middle = search rules;
   ends = search rules;
 }
 
 pub invariant_of-self-2 : goal.invariant_of-self-2
 invariant_of-self-2 c =
     rw (c.in_ok-push.ensures.items, c.in_ok-push_str-2.ensures.bytes, c.in_ok-push_str.ensures.bytes)
-    (pushed_placed _ _ _ _ _ (IsUtf8-string_bytes c.self.inside.text) c.utf8.key c.utf8.value (behind c) c.self.invariant)
+    (pushed_placed _ _ _ _ _ (IsUtf8-string_bytes c.self.inside.text) c.utf8.key c.utf8.value (appended c) c.self.invariant)
 
 pub returns : goal.returns
 returns c =
     rw (c.in_ok-push.ensures.items, c.in_ok-push_str-2.ensures.bytes, c.in_ok-push_str.ensures.bytes, ← c.self.view_is)
-    (pushed _ _ _ _ _ (IsUtf8-string_bytes c.self.inside.text) c.utf8.key (behind c) c.self.invariant)
+    (pushed _ _ _ _ _ (IsUtf8-string_bytes c.self.inside.text) c.utf8.key (appended c) c.self.invariant)

@@ -10,7 +10,9 @@ loop-self-preserved c =
     sym (all_of_other_key here.pairs.now here.key.now here.index (key_value c.at-pair.result) c.at-pair.ensures (sym c.if-eq.ensures)) ∙ c.loop-self.invariant
 
 -- the first value that was left is the pair's
-first : (c : goal.After-t11-1) → c.args.self.now ≡ c.at-pair.result.value.now ∷ all_of (drop (c.loop-self.self-inside.index + 1) c.loop-self.self-inside.pairs.now) c.loop-self.self-inside.key.now
+first : (c : goal.After-t11-1)
+    → c.args.self.now ≡ c.at-pair.result.value.now ∷ all_of (drop (c.loop-self.self-inside.index + 1) c.loop-self.self-inside.pairs.now)
+    c.loop-self.self-inside.key.now
 first c =
     let here = c.loop-self.self-inside in
     sym c.loop-self.invariant ∙ all_of_this_key here.pairs.now here.key.now here.index (key_value c.at-pair.result) c.at-pair.ensures (sym c.if-eq.ensures)

@@ -4,10 +4,8 @@ use Rattle.row_scope.proofs.ValueLemmas.{first_value}
 use Rattle.row_scope.proofs.request_values.RequestValues.binding.Goals as goal
 
 pub returns-else-is_list : goal.returns-else-is_list
-returns-else-is_list c = λ declared is_list.
+returns-else-is_list c = λ key declared place is_list.
     let request = c.args.self.now in
-    let key = c.args.name.now in
-    let found = c.values_of-first in
     let no = c.if-count-eq0.false in
     let text = sym is_list ∙ c.if-is_list.false in
     let within = c.span-start.ensures.within.inside in (
@@ -15,7 +13,7 @@ returns-else-is_list c = λ declared is_list.
         within = record { inside = within; one_side = inl within };
         is = c.requests_by_keys.ensures.text declared request.pairs key
             ∙ ap (λ b. if b then None else first_of request.pairs key) text
-            ∙ first_value request key found.result.0 found.result.1 c.span-start.result found.ensures.place c.span-start.ensures.value (omega (arith, no));
+            ∙ first_value request key c.args.first c.args.count c.span-start.result place c.span-start.ensures.value (omega (arith, no));
       },
       c.requests_by_keys.ensures.members declared request.pairs key ∙ ap (λ b. if b then all_of request.pairs key else []) text,
     )

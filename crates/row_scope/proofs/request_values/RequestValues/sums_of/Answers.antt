@@ -33,5 +33,6 @@ returns-else-is_list-clause-bytes c =
     let key = c.args.key.now in
     let found = c.values_of-first in
     let no = c.if-count-eq0.false in
-    sym (first_value_bytes request key found.result.0 found.result.1 c.span.result found.ensures.place c.span.ensures.value (omega (arith, no)) c.span.ensures.within.inside)
+    sym (first_value_bytes request key found.result.0 found.result.1 c.span.result found.ensures.place c.span.ensures.value (omega (arith, no))
+    c.span.ensures.within.inside)
     ∙ ap (λ list. if list then sum_by length (all_of request.pairs key) else first_bytes (all_of request.pairs key)) (sym c.if-is_list.false)

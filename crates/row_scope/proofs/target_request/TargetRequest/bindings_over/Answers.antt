@@ -20,7 +20,8 @@ pub loop-place-init : goal.loop-place-init
 loop-place-init c =
     let t = c.args.self.now in
     let s = c.self.inside in
-    let kept = subst (λ (v : TargetRequestValue). IsTargetRequest v s.names.now s.bindings.items s.bytes s.members s.hidden.items) c.self.view_is c.self.invariant in
+    let kept = subst (λ (v : TargetRequestValue). IsTargetRequest v s.names.now s.bindings.items s.bytes s.members s.hidden.items) c.self.view_is
+    c.self.invariant in
     let is = c.new-cells.ensures in
     let same : c.in_ok-bindings.bindings.items ≡ s.bindings.items = c.in_ok-bindings.ensures.items ∙ c.deref.ensures.value in
     record {
@@ -39,14 +40,22 @@ seek-start-requires-clause-short c = omega (arith, ap length c.loop-place.invari
 
 pub overflow_add-seam : goal.overflow_add-seam
 overflow_add-seam c =
-    omega (arith, c.size-seam.ensures.value, c.size-seam.ensures.known.short, c.seek-start.ensures.place.within, ap length c.loop-place.invariant.line, c.requires)
+    omega (
+      arith,
+      c.size-seam.ensures.value,
+      c.size-seam.ensures.known.short,
+      c.seek-start.ensures.place.within,
+      ap length c.loop-place.invariant.line,
+      c.requires,
+    )
 
 pub loop-place-preserved : goal.loop-place-preserved
 loop-place-preserved c =
     let t = c.args.self.now in
     let line = c.args.line.now in
     let s = c.self.inside in
-    let kept = subst (λ (v : TargetRequestValue). IsTargetRequest v s.names.now s.bindings.items s.bytes s.members s.hidden.items) c.self.view_is c.self.invariant in
+    let kept = subst (λ (v : TargetRequestValue). IsTargetRequest v s.names.now s.bindings.items s.bytes s.members s.hidden.items) c.self.view_is
+    c.self.invariant in
     let places = c.deref-place-items.result.now in
     let d : NameColumn = record { column = 0; number = 0 } in
     let k = c.loop-place.place-index in
@@ -63,7 +72,8 @@ loop-place-preserved c =
     let shadow = c.rows_shadow_requests.ensures.look_up (lists_of t.code) row t.request.pairs in
     let by_name = c.rows_by_names.ensures.text t.table.header (cells_in line) in
     let there = c.rows_by_names.ensures.there t.table.header (cells_in line) in
-    let seam : c.size-seam.result ≡ length t.request.values.buffer = c.size-seam.ensures.value ∙ ap (λ (v : TargetRequestValue). length v.request.values.buffer) c.self.view_is in
+    let seam : c.size-seam.result ≡ length t.request.values.buffer =
+    c.size-seam.ensures.value ∙ ap (λ (v : TargetRequestValue). length v.request.values.buffer) c.self.view_is in
     let over = λ (n : ℕ). set c.loop-place.bindings.items place.number (binding.Text (n + c.seek-start.result.0) c.seek-start.result.1) in
     record {
       line = c.seek-start.ensures.line ∙ inv.line;
@@ -71,7 +81,8 @@ loop-place-preserved c =
       one_each = elim c.if-len-gt0.branch [
         | then-len-gt0 w ↦
             ap (λ (bs : Vec Binding Global). length bs.items) w.bindings-is
-            ∙ length-set c.loop-place.bindings.items place.number (binding.Text (c.size-seam.result + c.seek-start.result.0) c.seek-start.result.1) ∙ inv.one_each
+            ∙ length-set c.loop-place.bindings.items place.number (binding.Text (c.size-seam.result + c.seek-start.result.0) c.seek-start.result.1)
+            ∙ inv.one_each
         | else-len-gt0 w ↦ ap (λ (bs : Vec Binding Global). length bs.items) w.bindings-is ∙ inv.one_each
       ];
       bound = elim c.if-len-gt0.branch [
@@ -79,10 +90,12 @@ loop-place-preserved c =
             let same : over (length t.request.values.buffer) ≡ c.if-len-gt0.bindings.items =
             ap over (sym seam) ∙ sym (ap (λ (bs : Vec Binding Global). bs.items) w.bindings-is) in
             subst (AreBoundSoFar t line places (k + 1)) same
-            (bound_with_cell t line places shadow by_name there k place c.seek-start.result.0 c.seek-start.result.1 c.loop-place.bindings.items here column at w.if-len-gt0.true inv.bound)
+            (bound_with_cell t line places shadow by_name there k place c.seek-start.result.0 c.seek-start.result.1 c.loop-place.bindings.items here column at
+            w.if-len-gt0.true inv.bound)
         | else-len-gt0 w ↦
             subst (λ (bs : Vec Binding Global). AreBoundSoFar t line places (k + 1) bs.items) (sym w.bindings-is)
-            (bound_without_cell t line places shadow by_name there k place c.seek-start.result.0 c.seek-start.result.1 c.loop-place.bindings.items here at (omega (arith, w.if-len-gt0.false)) inv.bound)
+            (bound_without_cell t line places shadow by_name there k place c.seek-start.result.0 c.seek-start.result.1 c.loop-place.bindings.items here at
+            (omega (arith, w.if-len-gt0.false)) inv.bound)
       ];
     }
 
@@ -91,7 +104,8 @@ returns c =
     let t = c.args.self.now in
     let line = c.args.line.now in
     let s = c.self.inside in
-    let kept = subst (λ (v : TargetRequestValue). IsTargetRequest v s.names.now s.bindings.items s.bytes s.members s.hidden.items) c.self.view_is c.self.invariant in
+    let kept = subst (λ (v : TargetRequestValue). IsTargetRequest v s.names.now s.bindings.items s.bytes s.members s.hidden.items) c.self.view_is
+    c.self.invariant in
     let places = c.deref-place-items.result.now in
     let are : places ≡ s.names.now.columns.items = c.deref-place-items.ensures.value in
     let columns = subst (AreColumns t.code t.table.header) (sym are) kept.placed.columns in

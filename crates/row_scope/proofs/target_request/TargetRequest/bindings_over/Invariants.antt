@@ -3,7 +3,7 @@ use Rattle.row_scope.specs.RowEnvironments.{names_of}
 use Rattle.row_scope.proofs.OverLemmas.{AreBoundSoFar}
 use Rattle.row_scope.proofs.target_request.TargetRequest.bindings_over.Given as goal
 
--- the columns so far were passed over, and no later one is before the cursor's
+-- the bindings of the columns so far are done, and no later column is before the cursor
 abbrev pub invariant-loop-place : goal.invariant-loop-place
 invariant-loop-place l = record {
   line : l.cells.line ≡ l.line;

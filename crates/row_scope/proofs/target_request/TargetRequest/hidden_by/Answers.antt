@@ -45,7 +45,8 @@ module _ (t : TargetRequestValue) (line : Text) where
   all_bytes keys are law =
       ap (sum_by (bytes_under (cells_in line))) are ∙ bytes_of_keys t.table.header (cells_in line) (lists_of t.code) t.request.pairs ∙ sym law
 
-  all_members : (keys : List HiddenKey) → keys ≡ all_keys → members_by_columns → sum_by (members_under (cells_in line)) keys ≡ member_count (hidden of_row of_request)
+  all_members : (keys : List HiddenKey) → keys ≡ all_keys → members_by_columns → sum_by (members_under (cells_in line)) keys
+      ≡ member_count (hidden of_row of_request)
   all_members keys are law =
       ap (sum_by (members_under (cells_in line))) are ∙ members_of_keys t.table.header (cells_in line) (lists_of t.code) t.request.pairs ∙ sym law
 
@@ -77,7 +78,8 @@ module _ (t : TargetRequestValue) (line : Text) where
 
 -- ---- what it hides of one
 
-module _ (line : Text) (cursor : CursorValue) (key : HiddenKey) (start len : ℕ) (same : cursor.line ≡ line) (at : IsCellAt cursor.line key.column start len) where
+module _ (line : Text) (cursor : CursorValue) (key : HiddenKey) (start len : ℕ) (same : cursor.line ≡ line)
+    (at : IsCellAt cursor.line key.column start len) where
   is_hidden : 0 < len → hides (cells_in line) key ≡ true
   is_hidden some = ap is_some (cell_there line key.column start len (subst (λ (text : Text). IsCellAt text key.column start len) same at) some)
 
@@ -119,7 +121,8 @@ overflow_add-bytes c =
     let t = c.args.self.now in
     let line = c.args.line.now in
     let s = c.self.inside in
-    let kept = subst (λ (v : TargetRequestValue). IsTargetRequest v s.names.now s.bindings.items s.bytes s.members s.hidden.items) c.self.view_is c.self.invariant in
+    let kept = subst (λ (v : TargetRequestValue). IsTargetRequest v s.names.now s.bindings.items s.bytes s.members s.hidden.items) c.self.view_is
+    c.self.invariant in
     let keys = c.deref-key-items.result.now in
     let d : HiddenKey = record { column = 0; bytes = 0; members = 0 } in
     let key = get_or keys c.loop-key.key-index d in
@@ -137,7 +140,8 @@ overflow_add-members c =
     let t = c.args.self.now in
     let line = c.args.line.now in
     let s = c.self.inside in
-    let kept = subst (λ (v : TargetRequestValue). IsTargetRequest v s.names.now s.bindings.items s.bytes s.members s.hidden.items) c.self.view_is c.self.invariant in
+    let kept = subst (λ (v : TargetRequestValue). IsTargetRequest v s.names.now s.bindings.items s.bytes s.members s.hidden.items) c.self.view_is
+    c.self.invariant in
     let keys = c.deref-key-items.result.now in
     let d : HiddenKey = record { column = 0; bytes = 0; members = 0 } in
     let key = get_or keys c.loop-key.key-index d in
@@ -155,14 +159,16 @@ loop-key-preserved c =
     let t = c.args.self.now in
     let line = c.args.line.now in
     let s = c.self.inside in
-    let kept = subst (λ (v : TargetRequestValue). IsTargetRequest v s.names.now s.bindings.items s.bytes s.members s.hidden.items) c.self.view_is c.self.invariant in
+    let kept = subst (λ (v : TargetRequestValue). IsTargetRequest v s.names.now s.bindings.items s.bytes s.members s.hidden.items) c.self.view_is
+    c.self.invariant in
     let keys = c.deref-key-items.result.now in
     let are : keys ≡ hidden_keys t.table.header (lists_of t.code) t.request.pairs = c.deref-key-items.ensures.value ∙ kept.keys in
     let d : HiddenKey = record { column = 0; bytes = 0; members = 0 } in
     let k = c.loop-key.key-index in
     let key = get_or keys k d in
     let inv = c.loop-key.invariant in
-    let rise = subst (λ (ks : List HiddenKey). IsNonDecreasingBy (λ (x : HiddenKey). x.column) ks) (sym are) (keys_rise t.table.header (lists_of t.code) t.request.pairs) in
+    let rise = subst (λ (ks : List HiddenKey). IsNonDecreasingBy (λ (x : HiddenKey). x.column) ks) (sym are)
+    (keys_rise t.table.header (lists_of t.code) t.request.pairs) in
     let more_bytes = sum_by_more (bytes_under (cells_in line)) keys k d c.loop-key-test.true in
     let more_members = sum_by_more (members_under (cells_in line)) keys k d c.loop-key-test.true in
     record {
@@ -183,7 +189,8 @@ loop-key-preserved c =
               w.bytes-is,
               inv.bytes,
               more_bytes,
-              bytes_shown line c.loop-key.cells key c.seek-len.result.0 c.seek-len.result.1 inv.line c.seek-len.ensures.place (omega (arith, w.if-len-gt0.false)),
+              bytes_shown line c.loop-key.cells key c.seek-len.result.0 c.seek-len.result.1 inv.line c.seek-len.ensures.place
+                  (omega (arith, w.if-len-gt0.false)),
             )
       ];
       members = elim c.if-len-gt0.branch [
@@ -201,7 +208,8 @@ loop-key-preserved c =
               w.members-is,
               inv.members,
               more_members,
-              members_shown line c.loop-key.cells key c.seek-len.result.0 c.seek-len.result.1 inv.line c.seek-len.ensures.place (omega (arith, w.if-len-gt0.false)),
+              members_shown line c.loop-key.cells key c.seek-len.result.0 c.seek-len.result.1 inv.line c.seek-len.ensures.place
+                  (omega (arith, w.if-len-gt0.false)),
             )
       ];
     }
@@ -211,7 +219,8 @@ returns-clause-bytes c =
     let t = c.args.self.now in
     let line = c.args.line.now in
     let s = c.self.inside in
-    let kept = subst (λ (v : TargetRequestValue). IsTargetRequest v s.names.now s.bindings.items s.bytes s.members s.hidden.items) c.self.view_is c.self.invariant in
+    let kept = subst (λ (v : TargetRequestValue). IsTargetRequest v s.names.now s.bindings.items s.bytes s.members s.hidden.items) c.self.view_is
+    c.self.invariant in
     let keys = c.deref-key-items.result.now in
     let law = c.hidden_by_columns.ensures.bytes t.table.header (cells_in line) (lists_of t.code) t.request.pairs in
     c.loop-key.invariant.bytes ∙ ap (sum_by (bytes_under (cells_in line))) (take_all c.loop-key.key-index keys c.loop-key-test.false)
@@ -222,7 +231,8 @@ returns-clause-members c =
     let t = c.args.self.now in
     let line = c.args.line.now in
     let s = c.self.inside in
-    let kept = subst (λ (v : TargetRequestValue). IsTargetRequest v s.names.now s.bindings.items s.bytes s.members s.hidden.items) c.self.view_is c.self.invariant in
+    let kept = subst (λ (v : TargetRequestValue). IsTargetRequest v s.names.now s.bindings.items s.bytes s.members s.hidden.items) c.self.view_is
+    c.self.invariant in
     let keys = c.deref-key-items.result.now in
     let law = c.hidden_by_columns.ensures.members t.table.header (cells_in line) (lists_of t.code) t.request.pairs in
     c.loop-key.invariant.members ∙ ap (sum_by (members_under (cells_in line))) (take_all c.loop-key.key-index keys c.loop-key-test.false)

@@ -15,7 +15,8 @@ use Rattle.row_scope.specs.Private.Kept.{IsTargetRequest}
 use Rattle.row_scope.proofs.target_request.TargetRequest.row.Goals as goal
 
 -- a line after a request's values keeps them in order
-in_order_over : (request : RequestValue) (line : Text) (entries : Environment) → AreValues request → length line ≤ 65537 → IsInOrder (laid_over request.values line entries)
+in_order_over : (request : RequestValue) (line : Text) (entries : Environment) → AreValues request → length line ≤ 65537
+    → IsInOrder (laid_over request.values line entries)
 in_order_over request line entries are short =
     let values = request.values in
     let long = length-append values.buffer line in
@@ -31,13 +32,20 @@ pub overflow_add-bytes : goal.overflow_add-bytes
 overflow_add-bytes c =
     let kept = c.self.invariant in
     let request = c.self.inside.request.now in
-    omega (arith, kept.all_bytes, c.requests_are_small.ensures.bytes (lists_of c.self.inside.code.now) request.pairs, kept.values.small, c.cell_bytes.ensures.small)
+    omega (
+      arith,
+      kept.all_bytes,
+      c.requests_are_small.ensures.bytes (lists_of c.self.inside.code.now) request.pairs,
+      kept.values.small,
+      c.cell_bytes.ensures.small,
+    )
 
 pub new-requires : goal.new-requires
 new-requires c =
     let t = c.args.self.now in
     let s = c.self.inside in
-    let kept = subst (λ (v : TargetRequestValue). IsTargetRequest v s.names.now s.bindings.items s.bytes s.members s.hidden.items) c.self.view_is c.self.invariant in
+    let kept = subst (λ (v : TargetRequestValue). IsTargetRequest v s.names.now s.bindings.items s.bytes s.members s.hidden.items) c.self.view_is
+    c.self.invariant in
     let line = c.line-line.result.now in
     let lists = lists_of t.code in
     let pairs = t.request.pairs in

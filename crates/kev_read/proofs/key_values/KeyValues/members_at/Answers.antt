@@ -1,0 +1,26 @@
+use Rattle.std.proofs.Common.{sym, ◌∙◌, arith, string_bytes, subst}
+use Rattle.target_vars.specs.EnvValue.{EnvValue, AreMembersAt}
+use Rattle.kev_read.proofs.KeySpans.{few_spans, members_are, spans_of_order}
+use Rattle.kev_read.proofs.key_values.KeyValues.members_at.Goals as goal
+
+pub overflow_cast-result : goal.overflow_cast-result
+overflow_cast-result c =
+    let within = c.run_of-first.ensures.within in
+    omega (arith, within, spans_of_order _ _ _ _ c.self.invariant, few_spans _ _ _ _ c.self.invariant)
+
+pub overflow_cast-result-2 : goal.overflow_cast-result-2
+overflow_cast-result-2 c =
+    let within = c.run_of-first.ensures.within in
+    omega (arith, within, spans_of_order _ _ _ _ c.self.invariant, few_spans _ _ _ _ c.self.invariant)
+
+pub returns : goal.returns
+returns c =
+    let first = c.run_of-first.result.0 in
+    let count = c.run_of-first.result.1 in
+    let key = c.args.key.now in
+    let within = c.run_of-first.ensures.within in
+    subst (λ (v : EnvValue). AreMembersAt v key first count) c.self.view_is
+    record {
+      within = omega (arith, within, spans_of_order _ _ _ _ c.self.invariant);
+      are = members_are _ _ _ _ c.self.invariant key first count c.run_of-first.ensures;
+    }

@@ -1,0 +1,91 @@
+//! What is known of the names that were looked up in a request before.
+
+ghost use Rattle.std.specs.Prelude.{◌≡◌, IfOk, List};
+ghost use Rattle.text_model.specs.Texts.{Text};
+ghost use Rattle.environment_model.specs.Lists as lists;
+ghost use Rattle.row_laws.specs.Shadowing.{asked};
+ghost use Rattle.row_scope.specs.Bindings.{IsBound, laid_in};
+ghost use Rattle.row_scope.specs.RequestValues.{AreValues, AreValuesAt};
+
+use crate::binding::Binding;
+use crate::name_numbers::NameNumbers;
+use crate::request_values::RequestValues;
+use std::alloc::{AllocError, Global};
+use std::marker::Model;
+
+/// A name, and where its values lie in a request: the first span, and the number of spans.
+#[derive(Clone, Copy)]
+pub struct KnownName<'a> {
+    name: &'a str,
+    first: u32,
+    count: u32,
+}
+
+/// A request, and where the values of names lie that were looked up in it. Contracts see the request.
+#[derive(Drop)]
+pub struct KnownValues<'a> {
+    request: &'a RequestValues<'a>,
+    // By the numbers of names. Names may share a number, so each is compared before it is used.
+    names: Vec<Option<KnownName<'a>>>,
+}
+
+impl<'a> Model for KnownValues<'a> {
+    ghost use Rattle.row_scope.specs.RequestValues.{RequestValue};
+    ghost use Rattle.row_scope.specs.Private.Kept.{AreKnown};
+
+    ghost Value = { RequestValue };
+
+    ghost view = { λ known. known.request.now };
+
+    ghost invariant = { λ known. AreKnown known.request.now known.names.items };
+}
+
+impl<'a> KnownValues<'a> {
+    /// A request in which no name was looked up.
+    ///
+    /// `AllocError` if an allocation failed.
+    pub fn new(
+        alloc: Global,
+        request: &'a RequestValues<'a>,
+        numbers: &NameNumbers,
+    ) -> Result<KnownValues<'a>, AllocError>
+        ensures { IfOk result (λ known. known ≡ request.now) }
+    {
+        let names: Vec<Option<KnownName<'a>>> = vec![in alloc; None; numbers.len()]?;
+        Ok(KnownValues { request, names })
+    }
+
+    /// The request.
+    pub(crate) fn request(&self) -> &'a RequestValues<'a>
+        ensures { result.now ≡ self.now }
+    {
+        self.request
+    }
+
+    /// What a name is bound to in the request alone, as a list or as a text.
+    pub(crate) fn binding(&mut self, number: usize, name: &'a str, is_list: bool) -> Binding
+        ensures bound { (declared : List Text) → is_list ≡ lists.is_list declared name.now
+            → IsBound (laid_in self.old.values (asked declared self.old.pairs)) name.now result }
+        ensures same { self.new ≡ self.old }
+    {
+        let (first, count) = self.values_of(number, name);
+        self.request.binding(first, count, is_list)
+    }
+
+    /// Where the values of a name lie: the first span, and the number of spans.
+    fn values_of(&mut self, number: usize, name: &'a str) -> (u32, u32)
+        ensures place { AreValuesAt self.old name.now result.0 result.1 }
+        ensures same { self.new ≡ self.old }
+    {
+        if let Some(Some(known)) = self.names.get(number) {
+            if known.name == name {
+                return (known.first, known.count);
+            }
+        }
+        let (first, count) = self.request.values_of(name);
+        if let Some(known) = self.names.get_mut(number) {
+            *known = Some(KnownName { name, first, count });
+        }
+        (first, count)
+    }
+}
