@@ -164,7 +164,8 @@ plain_first (d ∷ bs) next p l h = not_both d h.0 p.0 (same_parts _ _ _ _ h.2).
 -- ---- the steps of the reader
 
 -- the next character stands for itself
-pub escaped_more : (whole t rest next : Text) (c : ℕ) (waits : Bool) → is_special c ≡ waits → whole ≡ escaped t ++ waiting waits rest → rest ≡ encode_utf8 c ++ next
+pub escaped_more : (whole t rest next : Text) (c : ℕ) (waits : Bool) → is_special c ≡ waits → whole ≡ escaped t ++ waiting waits rest
+    → rest ≡ encode_utf8 c ++ next
     → whole ≡ escaped (t ++ encode_utf8 c) ++ next
 escaped_more whole t rest next c true s w r =
     let alone : encode_utf8 c ≡ c ∷ [] = encode_ascii c (special_is_ascii c s) in
@@ -192,7 +193,8 @@ not_escaped whole t rest next c false s n w r u e =
     not_quote tail.0 next (tail.1 ∙ r ∙ ap (λ v. v ++ next) alone ∙ ap (λ v. v ∷ next) quote)
 
 -- a backslash that waits for its character at the end
-pub not_escaped_at_end : (whole t rest : Text) (waits : Bool) → waits ≡ true → length rest ≡ 0 → whole ≡ escaped t ++ waiting waits rest → (u : Text) → whole ≡ escaped u → ⊥
+pub not_escaped_at_end : (whole t rest : Text) (waits : Bool) → waits ≡ true → length rest ≡ 0 → whole ≡ escaped t ++ waiting waits rest → (u : Text)
+    → whole ≡ escaped u → ⊥
 not_escaped_at_end whole t (b ∷ rest) waits x l w u e = absurd (omega (arith, l))
 not_escaped_at_end whole t [] false x l w u e = cc
 not_escaped_at_end whole t [] true x l w u e =

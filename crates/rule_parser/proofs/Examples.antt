@@ -21,6 +21,10 @@ variables =
     ∷ record { name = codes "two"; meaning = Single (codes "2") }
     ∷ record { name = codes "nine"; meaning = Single (codes "999999999") }
     ∷ record { name = codes "ten"; meaning = Single (codes "1234567890") }
+    ∷ record { name = codes "plus"; meaning = Single (codes "+5") }
+    ∷ record { name = codes "minus"; meaning = Single (codes "-5") }
+    ∷ record { name = codes "blank"; meaning = Single (codes " 5") }
+    ∷ record { name = codes "letter"; meaning = Single (codes "a") }
     ∷ record { name = codes "rft.au"; meaning = Several (codes "Wu" ∷ codes "Li" ∷ []) }
     ∷ record { name = codes "rft_id"; meaning = Several [] }
     ∷ record { name = codes "by"; meaning = Single (codes "a") }
@@ -35,17 +39,17 @@ abbrev answers : List Guard → List Bool
 answers guards = map (guard_holds (seen (record { lists = declared; rules = [] }) variables)) guards
 
 abbrev names : List Text
-names = codes "x" ∷ codes "empty" ∷ codes "missing" ∷ codes "rft.au" ∷ codes "rft_id" ∷ codes "by" ∷ codes "other" ∷ []
+names = codes "x" ∷ codes "X" ∷ codes "empty" ∷ codes "missing" ∷ codes "rft.au" ∷ codes "rft_id" ∷ codes "by" ∷ codes "other" ∷ []
 
-has : answers (map (λ name. guard.Has name) names) ≡ true ∷ true ∷ false ∷ true ∷ false ∷ false ∷ false ∷ []
+has : answers (map (λ name. guard.Has name) names) ≡ true ∷ false ∷ true ∷ false ∷ true ∷ false ∷ false ∷ false ∷ []
 unfolding variables look_up
 has = refl
 
-lacks : answers (map (λ name. guard.Lacks name) names) ≡ false ∷ false ∷ true ∷ false ∷ true ∷ true ∷ true ∷ []
+lacks : answers (map (λ name. guard.Lacks name) names) ≡ false ∷ true ∷ false ∷ true ∷ false ∷ true ∷ true ∷ true ∷ []
 unfolding variables look_up
 lacks = refl
 
-given : answers (map (λ name. guard.Given name) names) ≡ true ∷ false ∷ false ∷ false ∷ false ∷ false ∷ false ∷ []
+given : answers (map (λ name. guard.Given name) names) ≡ true ∷ false ∷ false ∷ false ∷ false ∷ false ∷ false ∷ false ∷ []
 unfolding variables look_up
 given = refl
 
@@ -56,6 +60,19 @@ is :
     ≡ true ∷ false ∷ true ∷ false ∷ false ∷ false ∷ []
 unfolding variables look_up
 is = refl
+
+-- texts are equal byte by byte, in case, length and spaces
+is_exactly :
+    answers (map (guard.Same (codes "letter")) (codes "a" ∷ codes "A" ∷ codes "" ∷ codes "a " ∷ codes " a" ∷ codes "ab" ∷ codes "%61" ∷ []))
+    ≡ true ∷ false ∷ false ∷ false ∷ false ∷ false ∷ false ∷ []
+unfolding variables look_up
+is_exactly = refl
+
+holds_exactly :
+    answers (map (guard.Holds (codes "rft.au")) (codes "Li" ∷ codes "li" ∷ codes "LI" ∷ codes "L" ∷ codes "Li " ∷ codes "Wu,Li" ∷ codes "" ∷ []))
+    ≡ true ∷ false ∷ false ∷ false ∷ false ∷ false ∷ false ∷ []
+unfolding variables look_up
+holds_exactly = refl
 
 holds :
     answers (
@@ -87,6 +104,19 @@ from_names :
     ≡ false ∷ false ∷ false ∷ false ∷ false ∷ false ∷ true ∷ false ∷ true ∷ true ∷ []
 unfolding variables look_up leading_number value_from
 from_names = refl
+
+-- a sign or a space before the digits is no number, and a bound by such a text is open
+signs :
+    answers (
+    guard.Between (codes "plus") bound.Open bound.Open ∷ guard.Between (codes "minus") bound.Open bound.Open
+    ∷ guard.Between (codes "blank") bound.Open bound.Open
+    ∷ guard.Between (codes "two") (bound.Name (codes "plus")) bound.Open ∷ guard.Between (codes "x") bound.Open (bound.Name (codes "plus"))
+    ∷ guard.Between (codes "two") (bound.Name (codes "minus")) bound.Open ∷ guard.Between (codes "x") bound.Open (bound.Name (codes "minus"))
+    ∷ guard.Between (codes "two") (bound.Name (codes "blank")) bound.Open ∷ guard.Between (codes "x") bound.Open (bound.Name (codes "blank"))
+    ∷ guard.Counts (codes "rft.au") (bound.Name (codes "plus")) bound.Open ∷ [])
+    ≡ false ∷ false ∷ false ∷ true ∷ true ∷ true ∷ true ∷ true ∷ true ∷ true ∷ []
+unfolding variables look_up leading_number value_from
+signs = refl
 
 -- two members
 counts :
@@ -143,11 +173,12 @@ bounds_fit = refl
 abbrev spec_of : Text → ℕ → Bool → Spec
 spec_of name cut explode = record { name = name; cut = cut; explode = explode }
 
--- a prefix stands on texts alone, wherever its spec stands
+-- a prefix fits texts alone, in any part and at any place; an explode fits both
 prefixes_fit :
     map (parts_fit declared) (
     (Literal (codes "by") ∷ Expression operator.Simple (spec_of (codes "by") 0 true ∷ spec_of (codes "x") 3 false ∷ []) ∷ [])
+    ∷ (Expression operator.Simple (spec_of (codes "x") 0 true ∷ spec_of (codes "y") 9999 false ∷ []) ∷ [])
     ∷ (Expression operator.Simple (spec_of (codes "by") 1 false ∷ []) ∷ [])
     ∷ (Literal (codes "a") ∷ Expression operator.Plus (spec_of (codes "x") 0 false ∷ spec_of (codes "rft.au") 9999 false ∷ []) ∷ []) ∷ [])
-    ≡ true ∷ false ∷ false ∷ []
+    ≡ true ∷ true ∷ false ∷ false ∷ []
 prefixes_fit = refl

@@ -28,7 +28,8 @@ not_quoted value h t q = h (escaped t ++ 34 ∷ []) q
 pub not_closed : (value rest : Text) → value ≡ 34 ∷ rest → ((e : Text) → rest ≢ e ++ 34 ∷ []) → (t : Text) → value ≡ quoted t → ⊥
 not_closed value rest v h t q = h (escaped t) (cc)
 
-pub quoted_result : {E : Type 0} (value rest e : Text) (r : Result (Option Text) E) → value ≡ 34 ∷ rest → rest ≡ e ++ 34 ∷ [] → IfOk r (λ read. ReadsEscaped e read)
+pub quoted_result : {E : Type 0} (value rest e : Text) (r : Result (Option Text) E) → value ≡ 34 ∷ rest → rest ≡ e ++ 34 ∷ []
+    → IfOk r (λ read. ReadsEscaped e read)
     → IfOk r (λ read. ReadsQuoted value read)
 quoted_result value rest e (Ok read) v r h = quoted_reads value rest e read v r h
 quoted_result value rest e (Err f) v r h = tt
@@ -181,11 +182,13 @@ no_compared_guard name verb value w v no_is no_holds no_from no_counts' g h e = 
 
 pub no_same : (name value : Text) → IsName name → ReadsQuoted value None → ReadsGuard (name ++ (codes " is " ++ value)) None
 no_same name value n h =
-    no_compared_guard name (codes "is") value (name_is_token name n) (search rules) (λ a b t q. h t q) (λ a b t q. cc) (λ a b low high k q. cc) (λ a b low high k q. cc)
+    no_compared_guard name (codes "is") value (name_is_token name n) (search rules) (λ a b t q. h t q) (λ a b t q. cc) (λ a b low high k q. cc)
+    (λ a b low high k q. cc)
 
 pub no_holds : (name value : Text) → IsName name → ReadsQuoted value None → ReadsGuard (name ++ (codes " holds " ++ value)) None
 no_holds name value n h =
-    no_compared_guard name (codes "holds") value (name_is_token name n) (search rules) (λ a b t q. cc) (λ a b t q. h t q) (λ a b low high k q. cc) (λ a b low high k q. cc)
+    no_compared_guard name (codes "holds") value (name_is_token name n) (search rules) (λ a b t q. cc) (λ a b t q. h t q) (λ a b low high k q. cc)
+    (λ a b low high k q. cc)
 
 pub no_between : (name value : Text) → IsName name → ReadsBounds value None → ReadsGuard (name ++ (codes " from " ++ value)) None
 no_between name value n h =

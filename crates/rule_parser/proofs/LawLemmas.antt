@@ -47,7 +47,8 @@ follows_same one b Begin c d p q = p.1 ∙ sym q.1
 follows_same one b (When g) c d p q =
     p.3 ∙ ap (λ gs. stage b.whole.lists b.whole.rules (Some (gs ++ g ∷ []))) (same_some b.guards p.0 q.0 p.1 q.1) ∙ sym q.3
 follows_same one b (Link text) c d p q =
-    p.whole ∙ ap (λ (gs : List Guard). stage b.whole.lists (b.whole.rules ++ record { guards = gs; template = record { text = text; parts = p.parts } } ∷ []) None)
+    p.whole ∙ ap (λ (gs : List Guard). stage b.whole.lists (b.whole.rules ++ record { guards = gs; template = record { text = text; parts = p.parts } } ∷ [])
+    None)
     (same_some b.guards p.guards q.guards p.in_rule q.in_rule)
     ∙ ap (λ (ps : List Part). stage b.whole.lists (b.whole.rules ++ record { guards = q.guards; template = record { text = text; parts = ps } } ∷ []) None)
     (one text p.parts q.parts p.template q.template) ∙ sym q.whole
@@ -99,8 +100,18 @@ rule_runs lists rules rule h = (
   (refl, refl),
   runs-append (stage lists rules (Some [])) (map When rule.guards) (Link rule.template.text ∷ []) (stage lists rules (Some rule.guards))
       (stage lists (rules ++ rule ∷ []) None)
-      (guards_run lists rules [] rule.guards (recursion_from_All (IsSoundGuard lists) rule.guards h.guards))
-      (stage lists (rules ++ rule ∷ []) None, record { guards = rule.guards; parts = rule.template.parts; in_rule = refl; template = h.template; kinds = h.kinds; whole = refl }, refl),
+      (guards_run lists rules [] rule.guards (recursion_from_All (IsSoundGuard lists) rule.guards h.guards)) (
+        stage lists (rules ++ rule ∷ []) None,
+        record {
+          guards = rule.guards;
+          parts = rule.template.parts;
+          in_rule = refl;
+          template = h.template;
+          kinds = h.kinds;
+          whole = refl;
+        },
+        refl,
+      ),
 )
 
 rules_run : (lists : List Text) (rules more : List Rule) → AllByRecursion (IsSoundRule lists) more

@@ -8,8 +8,11 @@ pub mod NameLemmas
 pub mod LawLemmas
 pub mod LineLaws
 pub mod FaultLaws
+pub mod FirstFaults
 pub mod NameChoice
 pub mod GuardChoice
+pub mod WholeGuards
 pub mod LineChoice
 pub mod Examples
 pub mod LineExamples
+mod MeaningExamples

@@ -1,5 +1,6 @@
 -- Bytes spell rules or have a first fault: each line goes on with those before it, or it is the first that cannot.
-use Rattle.std.proofs.Common.{◌≡◌, ℕ, ◌<◌, ◌≤◌, List, [], ◌∷◌, ◌++◌, ◌+◌, ◌-◌, take, get_or, if◌then◌else◌, Bool, true, false, ◌==◌, Option, Some, None, ◌⊎◌, inl, inr, is_some, map, length, refl, ap, subst, sym, ◌∙◌, codes, arith}
+use Rattle.std.proofs.Common.{◌≡◌, ℕ, ◌<◌, ◌≤◌, List, [], ◌∷◌, ◌++◌, ◌+◌, ◌-◌, take, get_or, if◌then◌else◌, Bool, true, false, ◌==◌, Option, Some, None, ◌⊎◌}
+use Rattle.std.proofs.Common.{inl, inr, is_some, map, length, refl, ap, subst, sym, ◌∙◌, codes, arith}
 use Rattle.std.specs.List.{AllByRecursion, join_with_byte, slice_index, slice_split}
 use Rattle.std.specs.Str.{IsUtf8, is_utf8}
 use Rattle.std.specs.Str.Lines.{lines, lines_of_parts, strip_carriage_return}
@@ -21,13 +22,15 @@ use Rattle.rule_parser.specs.Rules.{RuleSet, IsGuard, IsSound, guard_fits, parts
 use Rattle.rule_parser.specs.Statements.{Statement, Declare, Begin, When, Link, IsStatement, line_of, statements}
 use Rattle.rule_parser.specs.declared.rules.TheConstants.{MAX_BYTES}
 use Rattle.rule_parser.specs.Grammar.{is_significant, significant, IsRuleText}
-use Rattle.rule_parser.specs.Faults.{RulesSoFar, AreSoundSoFar, statements_so_far, takes_lists, IsLineFault, no_statement, out_of_order, bad_template, mismatched_guard, mismatched_link, IsFirstFault, IsRefused}
+use Rattle.rule_parser.specs.Faults.{RulesSoFar, AreSoundSoFar, statements_so_far, takes_lists, IsLineFault, no_statement, out_of_order, bad_template}
+use Rattle.rule_parser.specs.Faults.{mismatched_guard, mismatched_link, IsFirstFault, IsRefused}
 use Rattle.rule_parser.specs.Private.Progress.{GoesOn, no_rules}
 use Rattle.rule_parser.specs.Private.Reading.{ReadsGuard}
 use Rattle.rule_parser.proofs.LineNumbers.{line_number, line_fault, open_rule, first_fault}
 use Rattle.rule_parser.proofs.ReaderLemmas.{stage, begins, declares, guards_more, links, no_list, no_when, no_other}
 use Rattle.rule_parser.proofs.NameChoice.{name_choice}
-use Rattle.rule_parser.proofs.GuardChoice.{text_choice, front_choice, guard_choice}
+use Rattle.rule_parser.proofs.GuardChoice.{text_choice, front_choice}
+use Rattle.rule_parser.proofs.WholeGuards.{guard_choice}
 use Rattle.rule_parser.proofs.LineLemmas.{no_rules_are_sound}
 
 -- a template's text has a tree or a fault
@@ -134,7 +137,8 @@ declared_choice lists rules o name n s (inr f) = faulty (stage lists rules o) _ 
 declared_choice lists rules None name n s (inl t) = goes (stage lists rules None) _ _ (declares lists rules None [] name t n s)
 declared_choice lists rules (Some gs) name n s (inl t) = absurd (cc)
 
-begin_choice : (lists : List Text) (rules : List Rule) (o : Option (List Guard)) → AreSoundSoFar (stage lists rules o) → Goes (stage lists rules o) (line_of Begin)
+begin_choice : (lists : List Text) (rules : List Rule) (o : Option (List Guard)) → AreSoundSoFar (stage lists rules o)
+    → Goes (stage lists rules o) (line_of Begin)
 begin_choice lists rules None s = goes (stage lists rules None) _ _ (begins lists rules None [] refl s)
 begin_choice lists rules (Some gs) s = inr (inr (refl, refl))
 
@@ -187,15 +191,19 @@ at_end ls whole None s e = inl (whole, s.whole, e ∙ append-nil _ ∙ ap (map l
 at_end ls whole (Some gs) s e = inr (kind.NoLink, line_number ls (length (statements whole)), first_fault ls _ _ (open_rule ls whole gs [] s e tt))
 
 rule_in_rule : (ls : List Text) (whole : RuleSet) (o : Option (List Guard)) (line : Text) (rest : List Text) → is_some o ≡ true → line ≡ line_of Begin
-    → AreSoundSoFar (record { whole = whole; guards = o }) → significant ls ≡ map line_of (statements_so_far (record { whole = whole; guards = o })) ++ line ∷ rest
+    → AreSoundSoFar (record { whole = whole; guards = o }) → significant ls ≡ map line_of (statements_so_far (record { whole = whole; guards = o }))
+    ++ line ∷ rest
     → HasRulesOrFault ls
 rule_in_rule ls whole None line rest o b s e = absurd (cc)
-rule_in_rule ls whole (Some gs) line rest o b s e = inr (kind.NoLink, line_number ls (length (statements whole)), first_fault ls _ _ (open_rule ls whole gs (line ∷ rest) s e b))
+rule_in_rule ls whole (Some gs) line rest o b s e =
+    inr (kind.NoLink, line_number ls (length (statements whole)), first_fault ls _ _ (open_rule ls whole gs (line ∷ rest) s e b))
 
-one_more : (ls : List Text) (b new : RulesSoFar) (line : Text) (rest : List Text) → GoesOn b new line → significant ls ≡ map line_of (statements_so_far b) ++ line ∷ rest
+one_more : (ls : List Text) (b new : RulesSoFar) (line : Text) (rest : List Text) → GoesOn b new line → significant ls ≡ map line_of (statements_so_far b)
+    ++ line ∷ rest
     → significant ls ≡ map line_of (statements_so_far new) ++ rest
 one_more ls b new line rest g e =
-    e ∙ ap (λ l. map line_of (statements_so_far b) ++ l ∷ rest) g.spelled ∙ sym (append_assoc (map line_of (statements_so_far b)) (line_of g.statement ∷ []) rest)
+    e ∙ ap (λ l. map line_of (statements_so_far b) ++ l ∷ rest) g.spelled
+    ∙ sym (append_assoc (map line_of (statements_so_far b)) (line_of g.statement ∷ []) rest)
     ∙ ap (λ l. l ++ rest) (sym (map-append line_of (statements_so_far b) (g.statement ∷ [])) ∙ sym (ap (map line_of) g.longer))
 
 lines_choice : TreeOrFault → (ls rest : List Text) (b : RulesSoFar) → AllByRecursion IsUtf8 rest → AreSoundSoFar b
@@ -203,7 +211,8 @@ lines_choice : TreeOrFault → (ls rest : List Text) (b : RulesSoFar) → AllByR
 lines_choice tree ls [] b u s e = at_end ls b.whole b.guards s e
 lines_choice tree ls (line ∷ rest) b u s e = by_case (line_choice tree b line u.0 s) (λ new. lines_choice tree ls rest new u.1)
   where
-    by_case : Goes b line → ((new : RulesSoFar) → AreSoundSoFar new → significant ls ≡ map line_of (statements_so_far new) ++ rest → HasRulesOrFault ls) → HasRulesOrFault ls
+    by_case : Goes b line → ((new : RulesSoFar) → AreSoundSoFar new → significant ls ≡ map line_of (statements_so_far new) ++ rest → HasRulesOrFault ls)
+        → HasRulesOrFault ls
     by_case (inl g) next = next g.0 g.1.sound (one_more ls b g.0 line rest g.1 e)
     by_case (inr (inl f)) next = inr (f.0, line_number ls (length (statements_so_far b)), first_fault ls _ _ (line_fault ls b line rest f.0 s e f.1))
     by_case (inr (inr r)) next = rule_in_rule ls b.whole b.guards line rest r.1 r.0 s e
@@ -217,7 +226,8 @@ bytes_choice tree bytes =
       | inr short ↦ elim (cases_Bool (is_utf8 bytes)) [
         | inr n ↦ inr (kind.NotUtf8, 0, inr (inl (short, (λ u. both_ways (is_utf8 bytes) n (is_utf8-from_IsUtf8 bytes u)), refl, refl)))
         | inl t ↦ of_lines short (IsUtf8-from_is_utf8 bytes t)
-            (lines_choice tree (lines bytes) (significant (lines bytes)) no_rules (significant_utf8 (lines bytes) (lines_utf8 bytes (IsUtf8-from_is_utf8 bytes t))) no_rules_are_sound refl)
+            (lines_choice tree (lines bytes) (significant (lines bytes)) no_rules
+            (significant_utf8 (lines bytes) (lines_utf8 bytes (IsUtf8-from_is_utf8 bytes t))) no_rules_are_sound refl)
       ]
     ]
   where

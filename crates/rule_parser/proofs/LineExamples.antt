@@ -1,5 +1,5 @@
 -- Lines that are skipped, lines of rules, and texts with their rules or their first fault, by the definitions alone.
-use Rattle.std.proofs.Common.{◌≡◌, ℕ, ◌≤◌, [], ◌∷◌, true, false, Some, None, inl, inr, length, map, refl, codes, arith}
+use Rattle.std.proofs.Common.{◌++◌, ◌≡◌, ℕ, ◌≤◌, [], ◌∷◌, true, false, Some, None, inl, inr, length, map, refl, codes, arith}
 use Rattle.std.specs.Prelude.{nat_le, nat_lt}
 use Rattle.std.specs.List.{list_all}
 use Rattle.std.specs.Str.{IsAscii}
@@ -48,7 +48,8 @@ all_forms = record {
 
 spelled :
     map line_of (statements all_forms)
-    ≡ lines (codes "list by\nlist rft.au\nrule\nwhen has a\nwhen lacks b\nwhen given c\nwhen has is \"a\\\"b\\\\\"\nwhen by holds \"\"\nwhen x from * to 09\nwhen by counts to to counts\nlink a b\nrule\nlink \n")
+    ≡ lines (codes "list by\nlist rft.au\nrule\nwhen has a\nwhen lacks b\nwhen given c\nwhen has is \"a\\\"b\\\\\"\nwhen by holds \"\"\n"
+    ++ codes "when x from * to 09\nwhen by counts to to counts\nlink a b\nrule\nlink \n")
 unfolding all_forms
 spelled = refl
 
@@ -70,7 +71,8 @@ no_rules_are_sound = record { names = All-nil IsName; rules = All-nil (IsSoundRu
 nothing : IsRuleText [] (record { lists = []; rules = [] })
 nothing = record { short = text_of [] refl; utf8 = IsUtf8-nil; spelled = refl; sound = no_rules_are_sound }
 
-refused : (text : Text) (k : RuleErrorKind) (number : ℕ) → nat_le (length text) 65536 ≡ true → list_all (λ b. nat_lt b 128) text ≡ true → IsFirstFault (lines text) k number → IsRefused text k number
+refused : (text : Text) (k : RuleErrorKind) (number : ℕ) → nat_le (length text) 65536 ≡ true → list_all (λ b. nat_lt b 128) text ≡ true
+    → IsFirstFault (lines text) k number → IsRefused text k number
 refused text k number t u f = inr (inr (text_of text t, IsUtf8-from_ascii text (is_ascii_text text u), f))
 
 rule_begun : AreSoundSoFar (record { whole = record { lists = []; rules = [] }; guards = Some [] })

@@ -38,7 +38,8 @@ bound_same (bound.Name n) (bound.Name m) h k e = ap (λ t. bound.Name t) e
 
 bounds_same : (b c d f : Bound) → AreBounds b c → AreBounds d f → bounds_text b c ≡ bounds_text d f → (b ≡ d) × (c ≡ f)
 bounds_same b c d f h k e =
-    let cut = token_split (bound_text b) (codes "to " ++ bound_text c) (bound_text d) (codes "to " ++ bound_text f) (bound_is_token b h.0) (bound_is_token d k.0) e in
+    let cut = token_split (bound_text b) (codes "to " ++ bound_text c) (bound_text d) (codes "to " ++ bound_text f) (bound_is_token b h.0)
+    (bound_is_token d k.0) e in
     (bound_same b d h.0 k.0 cut.0, bound_same c f h.1 k.1 (append_cancel_left (codes "to ") (bound_text c) (bound_text f) cut.1))
 
 -- ---- guards
@@ -162,9 +163,12 @@ cons_next x ss ts lines h =
 pub compare : (ss ts : List Statement) (rest behind : List Text) → AreStatements ss → AreStatements ts → map line_of ss ++ rest ≡ map line_of ts ++ behind
     → ((ss ≡ ts) × (rest ≡ behind)) ⊎ (HasNext ss ts rest ⊎ HasNext ts ss behind)
 compare [] [] rest behind a b e = inl (refl, e)
-compare [] (t ∷ ts) rest behind a b e = inr (inl (record { next = t; more = ts; rest = map line_of ts ++ behind; goes_on = refl; is_statement = b.0; spelled = e }))
-compare (s ∷ ss) [] rest behind a b e = inr (inr (record { next = s; more = ss; rest = map line_of ss ++ rest; goes_on = refl; is_statement = a.0; spelled = sym e }))
-compare (s ∷ ss) (t ∷ ts) rest behind a b e = with_head (statement_same s t a.0 b.0 (same_parts _ _ _ _ e).0) (compare ss ts rest behind a.1 b.1 (same_parts _ _ _ _ e).1)
+compare [] (t ∷ ts) rest behind a b e =
+    inr (inl (record { next = t; more = ts; rest = map line_of ts ++ behind; goes_on = refl; is_statement = b.0; spelled = e }))
+compare (s ∷ ss) [] rest behind a b e =
+    inr (inr (record { next = s; more = ss; rest = map line_of ss ++ rest; goes_on = refl; is_statement = a.0; spelled = sym e }))
+compare (s ∷ ss) (t ∷ ts) rest behind a b e =
+    with_head (statement_same s t a.0 b.0 (same_parts _ _ _ _ e).0) (compare ss ts rest behind a.1 b.1 (same_parts _ _ _ _ e).1)
   where
     with_head : s ≡ t → ((ss ≡ ts) × (rest ≡ behind)) ⊎ (HasNext ss ts rest ⊎ HasNext ts ss behind)
         → ((s ∷ ss ≡ t ∷ ts) × (rest ≡ behind)) ⊎ (HasNext (s ∷ ss) (t ∷ ts) rest ⊎ HasNext (t ∷ ts) (s ∷ ss) behind)

@@ -1,5 +1,6 @@
 -- Lines that were read.
-use Rattle.std.proofs.Common.{◌≡◌, ℕ, ◌+◌, ◌<◌, ◌≤◌, zero, suc, List, [], ◌∷◌, ◌++◌, true, false, Option, Some, None, IfSome, Result, Ok, Err, IfOk, IfErr, Bor, ◌⊎◌, inl, inr, map, length, get_or, take, refl, ap, subst, sym, ◌∙◌, arith}
+use Rattle.std.proofs.Common.{◌≡◌, ℕ, ◌+◌, ◌<◌, ◌≤◌, zero, suc, List, [], ◌∷◌, ◌++◌, true, false, Option, Some, None, IfSome, Result, Ok, Err, IfOk, IfErr, Bor}
+use Rattle.std.proofs.Common.{◌⊎◌, inl, inr, map, length, get_or, take, refl, ap, subst, sym, ◌∙◌, arith}
 use Rattle.std.proofs.lemmas.List.{append-nil, map-append, length-map, take_more, take_all}
 use Rattle.std.proofs.lemmas.List.Elements.{All-nil}
 use Rattle.text_model.specs.Texts.{Text}
@@ -18,7 +19,8 @@ use Rattle.rule_parser.specs.declared.rules.TheConstants.{MAX_BYTES}
 use Rattle.rule_parser.specs.Grammar.{is_significant, significant, IsRuleText}
 use Rattle.rule_parser.specs.Faults.{RulesSoFar, AreSoundSoFar, statements_so_far, statements_of_guards, IsFirstFault, EndsRule, IsRefused}
 use Rattle.rule_parser.specs.Private.Progress.{so_far_of, no_rules, GoesOn, IsNumbered, KeepsLine, IsStepFault}
-use Rattle.rule_parser.proofs.LineNumbers.{significant-append, one_significant, line_number, split_at, significant_around, number_is, line_fault, open_rule, first_fault}
+use Rattle.rule_parser.proofs.LineNumbers.{significant-append, one_significant, line_number, split_at, significant_around, number_is, line_fault, open_rule}
+use Rattle.rule_parser.proofs.LineNumbers.{first_fault}
 use Rattle.rule_parser.proofs.ReaderLemmas.{guards_from}
 
 -- ---- lines that were read
@@ -89,7 +91,8 @@ line_refused ls i reader line e r h g x (inr (inl f)) =
 line_refused ls i reader line e r h g x (inr (inr f)) =
     let split = split_at ls i line h g in
     let spelled = significant_around ls (take i ls) split.0 line split.1 x ∙ ap (λ l. l ++ line ∷ significant split.0) r.spelled in
-    inr (no_link_found ls (so_far_of reader).whole reader.guards.items reader.rule_line e.line e.kind (line ∷ significant split.0) f.2 f.0 r.sound spelled f.1 r.numbered)
+    inr (no_link_found ls (so_far_of reader).whole reader.guards.items reader.rule_line e.line e.kind (line ∷ significant split.0) f.2 f.0 r.sound spelled f.1
+    r.numbered)
 
 pub end_refused : (ls : List Text) (i : ℕ) (reader : Reader) (e : RuleError) → AreRead ls i reader → length ls ≤ i → e.kind ≡ kind.NoLink
     → reader.rule_line ≡ Some e.line → IsFirstFault ls e.kind e.line

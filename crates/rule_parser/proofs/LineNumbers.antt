@@ -1,5 +1,6 @@
 -- The numbers of lines: the statement behind so many others has the number of its line.
-use Rattle.std.proofs.Common.{◌≡◌, ℕ, ◌+◌, ◌<◌, zero, suc, List, [], ◌∷◌, ◌++◌, Bool, true, false, Some, map, length, get_or, take, inl, inr, if◌then◌else◌, refl, ap, subst, sym, ◌∙◌, arith}
+use Rattle.std.proofs.Common.{◌≡◌, ℕ, ◌+◌, ◌<◌, zero, suc, List, [], ◌∷◌, ◌++◌, Bool, true, false, Some, map, length, get_or, take, inl, inr, if◌then◌else◌}
+use Rattle.std.proofs.Common.{refl, ap, subst, sym, ◌∙◌, arith}
 use Rattle.std.specs.List.{slice_index}
 use Rattle.std.proofs.lemmas.List.{length-map, length-take, append_assoc, map-append}
 use Rattle.std.proofs.lemmas.List.Elements.{filter-append}
@@ -32,7 +33,8 @@ line_number ls k = slice_index (significant_numbers 1 ls) k
 -- the number of a significant line
 pub number_at : (n : ℕ) (front rest : List Text) (x : Text) → is_significant x ≡ true
     → slice_index (significant_numbers n (front ++ x ∷ rest)) (length (significant front)) ≡ n + length front
-number_at n [] rest x e = ap (λ (y : Bool). slice_index (if y then (n ∷ significant_numbers (n + 1) rest) else significant_numbers (n + 1) rest) 0) e ∙ omega arith
+number_at n [] rest x e = ap (λ (y : Bool). slice_index (if y then (n ∷ significant_numbers (n + 1) rest) else significant_numbers (n + 1) rest) 0) e
+    ∙ omega arith
 number_at n (y ∷ front) rest x e = by_case (is_significant y) (number_at (n + 1) front rest x e)
   where
     by_case : (b : Bool) → slice_index (significant_numbers (n + 1) (front ++ x ∷ rest)) (length (significant front)) ≡ n + 1 + length front
@@ -125,7 +127,8 @@ splits_at (l ∷ ls) before line behind e = by_case (is_significant l) refl befo
           front = l ∷ more.front;
           back = more.back;
           whole = ap (λ t. l ∷ t) more.whole;
-          before_it = ap (λ (b : Bool). if b then (l ∷ significant more.front) else significant more.front) h ∙ ap (λ t. l ∷ t) more.before_it ∙ ap (λ y. y ∷ front) same;
+          before_it = ap (λ (b : Bool). if b then (l ∷ significant more.front) else significant more.front) h ∙ ap (λ t. l ∷ t) more.before_it
+              ∙ ap (λ y. y ∷ front) same;
           behind_it = more.behind_it;
           is_no_comment = more.is_no_comment;
         }

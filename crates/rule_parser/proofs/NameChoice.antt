@@ -1,11 +1,13 @@
 -- A text is a name or it is none: its bytes are gone through once, by what may come next.
-use Rattle.std.proofs.Common.{◌≡◌, ◌≢◌, ℕ, [], ◌∷◌, ◌++◌, Bool, true, false, ◌&&◌, ◌==◌, ◌⊎◌, inl, inr, length, fold, if◌then◌else◌, refl, ap, subst, sym, ◌∙◌, arith}
+use Rattle.std.proofs.Common.{◌≡◌, ◌≢◌, ℕ, [], ◌∷◌, ◌++◌, Bool, true, false, ◌&&◌, ◌==◌, ◌⊎◌, inl, inr, length, fold, if◌then◌else◌, refl, ap, subst, sym, ◌∙◌}
+use Rattle.std.proofs.Common.{arith}
 use Rattle.std.specs.Prelude.{nat_le}
 use Rattle.std.proofs.lemmas.Bool.{and_parts, and_from, cases_lt, leb-true, eqb-true, both_ways, cases_Bool}
 use Rattle.std.proofs.lemmas.List.{append-nil, append_assoc}
 use Rattle.std.proofs.lemmas.List.Sums.{fold-append}
 use Rattle.text_model.specs.Texts.{Text, is_hexadecimal}
-use Rattle.uri_grammar.specs.Names.{IsVarchar, IsVarname, IsName, is_name_character, character_varchar, triplet_varchar, first_varchar, next_varchar, dotted_varchar}
+use Rattle.uri_grammar.specs.Names.{IsVarchar, IsVarname, IsName, is_name_character, character_varchar, triplet_varchar, first_varchar, next_varchar}
+use Rattle.uri_grammar.specs.Names.{dotted_varchar}
 
 -- what may come behind the bytes so far: more or nothing, where they are a name; a varchar; two digits of a triplet, or one; nothing
 pub data Stage : Type 0 where
@@ -43,7 +45,8 @@ varchar_stands front w b = by_case (is_name_character b) (b == 37) refl refl
     by_case : (x y : Bool) → is_name_character b ≡ x → (b == 37) ≡ y → Stands (if x then Named else (if y then TwoDigits else Lost)) (front ++ b ∷ [])
     by_case true y e f = w (b ∷ []) (character_varchar b e)
     by_case false true e f = λ high low h l.
-        subst IsVarname (sym (append_assoc front (b ∷ []) (high ∷ low ∷ []))) (w (b ∷ high ∷ low ∷ []) (triplet_varchar b high low (and_from _ _ f (and_from _ _ h l))))
+        subst IsVarname (sym (append_assoc front (b ∷ []) (high ∷ low ∷ [])))
+        (w (b ∷ high ∷ low ∷ []) (triplet_varchar b high low (and_from _ _ f (and_from _ _ h l))))
     by_case false false e f = tt
 
 step_stands : (stage : Stage) (front : Text) → Stands stage front → (b : ℕ) → Stands (step stage b) (front ++ b ∷ [])
@@ -69,7 +72,8 @@ step_stands Lost front h b = tt
 text_stands : (text front : Text) (stage : Stage) → Stands stage front → Stands (after stage text) (front ++ text)
 text_stands [] front stage h = subst (Stands stage) (sym (append-nil front)) h
 text_stands (b ∷ text) front stage h =
-    subst (Stands (after (step stage b) text)) (append_assoc front (b ∷ []) text) (text_stands text (front ++ b ∷ []) (step stage b) (step_stands stage front h b))
+    subst (Stands (after (step stage b) text)) (append_assoc front (b ∷ []) text)
+    (text_stands text (front ++ b ∷ []) (step stage b) (step_stands stage front h b))
 
 abbrev pub is_named : Stage → Bool
 is_named Named = true

@@ -1,5 +1,6 @@
 -- Texts without those that came before.
-use Rattle.std.proofs.Common.{◌≡◌, ℕ, List, [], ◌∷◌, ◌++◌, Bool, true, false, not, ◌||◌, if◌then◌else◌, inl, inr, map, Bor, length, get_or, take, ◌<◌, ◌+◌, refl, ap, sym, ◌∙◌}
+use Rattle.std.proofs.Common.{◌≡◌, ℕ, List, [], ◌∷◌, ◌++◌, Bool, true, false, not, ◌||◌, if◌then◌else◌, inl, inr, map, Bor, length, get_or, take, ◌<◌, ◌+◌}
+use Rattle.std.proofs.Common.{refl, ap, sym, ◌∙◌}
 use Rattle.std.specs.List.{list_any, filter}
 use Rattle.std.specs.Str.{bytes_eq}
 use Rattle.std.specs.Cmp.Lexicographic.{same_text}
@@ -38,9 +39,11 @@ each_once-push x (t ∷ ts) =
     by_case true true e = refl
     by_case true false e = refl
     by_case false true e =
-        ap (λ l. t ∷ l) (filter-append (others t) (each_once ts) (x ∷ []) ∙ ap (λ (b : Bool). filter (others t) (each_once ts) ++ (if not b then (x ∷ []) else [])) e ∙ append-nil _)
+        ap (λ l. t ∷ l) (filter-append (others t) (each_once ts) (x ∷ [])
+        ∙ ap (λ (b : Bool). filter (others t) (each_once ts) ++ (if not b then (x ∷ []) else [])) e ∙ append-nil _)
     by_case false false e =
-        ap (λ l. t ∷ l) (filter-append (others t) (each_once ts) (x ∷ []) ∙ ap (λ (b : Bool). filter (others t) (each_once ts) ++ (if not b then (x ∷ []) else [])) e)
+        ap (λ l. t ∷ l) (filter-append (others t) (each_once ts) (x ∷ [])
+        ∙ ap (λ (b : Bool). filter (others t) (each_once ts) ++ (if not b then (x ∷ []) else [])) e)
 
 any_lent : (x : Text) (items : List (Bor Text)) → is_among x (map (λ (y : Bor Text). y.now) items) ≡ list_any (λ (y : Bor Text). bytes_eq y.now x) items
 any_lent x [] = refl

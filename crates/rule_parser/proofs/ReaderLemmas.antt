@@ -1,5 +1,6 @@
 -- How each statement goes on with what the lines before it said, and what cannot go on.
-use Rattle.std.proofs.Common.{◌≡◌, ◌≢◌, ℕ, List, [], ◌∷◌, ◌++◌, true, false, Option, Some, None, ◌⊎◌, inl, inr, is_some, length, arith, refl, ap, subst, sym, codes}
+use Rattle.std.proofs.Common.{◌≡◌, ◌≢◌, ℕ, List, [], ◌∷◌, ◌++◌, true, false, Option, Some, None, ◌⊎◌, inl, inr, is_some, length, arith, refl, ap, subst, sym}
+use Rattle.std.proofs.Common.{codes}
 use Rattle.std.specs.Option.{option_map}
 use Rattle.std.proofs.lemmas.List.{append-nil, append_assoc, map-append, append_cancel_left}
 use Rattle.std.proofs.lemmas.Grind.{flat_map-append}
@@ -24,7 +25,7 @@ use Rattle.rule_parser.specs.Statements.{Statement, Declare, Begin, When, Link, 
 use Rattle.rule_parser.specs.Faults.{RulesSoFar, AreSoundSoFar, IsLineFault, no_statement, out_of_order, bad_template, mismatched_guard, takes_lists}
 use Rattle.rule_parser.specs.Private.Progress.{GoesOn, IsStepFault, so_far_of}
 use Rattle.rule_parser.specs.Private.Reading.{ReadsGuard}
-use Rattle.rule_parser.proofs.GuardChoice.{guard_choice}
+use Rattle.rule_parser.proofs.WholeGuards.{guard_choice}
 use Rattle.rule_parser.proofs.TokenLemmas.{same_tails, other_heads}
 
 abbrev pub stage : List Text → List Rule → Option (List Guard) → RulesSoFar
@@ -34,7 +35,8 @@ stage lists rules guards = record { whole = record { lists = lists; rules = rule
 abbrev pub guards_from : Option ℕ → List Guard → Option (List Guard)
 guards_from line guards = option_map (λ l. guards) line
 
-pub begins : (lists : List Text) (rules : List Rule) (line : Option ℕ) (old : List Guard) → line ≡ None → AreSoundSoFar (stage lists rules (guards_from line old))
+pub begins : (lists : List Text) (rules : List Rule) (line : Option ℕ) (old : List Guard) → line ≡ None
+    → AreSoundSoFar (stage lists rules (guards_from line old))
     → GoesOn (stage lists rules (guards_from line old)) (stage lists rules (Some [])) (line_of Begin)
 begins lists rules None old e s =
     record { statement = Begin; spelled = refl; longer = rw append-nil refl; sound = record { whole = s.whole; guards = All-nil (IsSoundGuard lists) } }
@@ -52,7 +54,8 @@ declares lists [] None guards name e n s = record {
 declares lists (r ∷ rules) None guards name e n s = absurd (omega (arith, eqb-true (length (r ∷ rules)) 0 e))
 declares lists rules (Some l) guards name e n s = absurd (cc)
 
-pub guards_more : (lists : List Text) (rules : List Rule) (line : Option ℕ) (guards : List Guard) (g : Guard) → is_some (guards_from line guards) ≡ true → IsSoundGuard lists g
+pub guards_more : (lists : List Text) (rules : List Rule) (line : Option ℕ) (guards : List Guard) (g : Guard) → is_some (guards_from line guards) ≡ true
+    → IsSoundGuard lists g
     → AreSoundSoFar (stage lists rules (guards_from line guards))
     → GoesOn (stage lists rules (guards_from line guards)) (stage lists rules (guards_from line (guards ++ g ∷ []))) (line_of (When g))
 guards_more lists rules None guards g e h s = absurd (cc)
@@ -63,7 +66,8 @@ guards_more lists rules (Some l) guards g e h s = record {
   sound = record { whole = s.whole; guards = All-push (IsSoundGuard lists) guards g s.guards h };
 }
 
-pub links : (lists : List Text) (rules : List Rule) (line : Option ℕ) (rule : Rule) → is_some (guards_from line rule.guards) ≡ true → IsTemplate rule.template.text rule.template.parts
+pub links : (lists : List Text) (rules : List Rule) (line : Option ℕ) (rule : Rule) → is_some (guards_from line rule.guards) ≡ true
+    → IsTemplate rule.template.text rule.template.parts
     → parts_fit lists rule.template.parts ≡ true → AreSoundSoFar (stage lists rules (guards_from line rule.guards))
     → GoesOn (stage lists rules (guards_from line rule.guards)) (stage lists (rules ++ rule ∷ []) None) (line_of (Link rule.template.text))
 links lists rules None rule e t k s = absurd (cc)
@@ -121,7 +125,8 @@ when_out_of_order begun tokens o = by_reading (guard_choice tokens)
     by_reading (None, n) = no_statement begun (codes "when " ++ tokens) (no_when tokens n)
     by_reading (Some g, h) = subst (λ (w : Text). IsLineFault begun (codes "when " ++ w) kind.BadLine) (sym h.1) (out_of_order begun (When g) h.0 o)
 
-pub guard_mismatched : (begun : RulesSoFar) (tokens : Text) (g : Guard) → ReadsGuard tokens (Some g) → is_some begun.guards ≡ true → guard_fits begun.whole.lists g ≡ false
+pub guard_mismatched : (begun : RulesSoFar) (tokens : Text) (g : Guard) → ReadsGuard tokens (Some g) → is_some begun.guards ≡ true
+    → guard_fits begun.whole.lists g ≡ false
     → IsLineFault begun (codes "when " ++ tokens) kind.KindMismatch
 guard_mismatched begun tokens g h o k =
     subst (λ (w : Text). IsLineFault begun (codes "when " ++ w) kind.KindMismatch) (sym h.1) (mismatched_guard begun g o h.0 k)

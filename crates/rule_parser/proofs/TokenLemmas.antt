@@ -5,7 +5,8 @@ use Rattle.std.specs.Char.{is_ascii_digit}
 use Rattle.std.proofs.lemmas.Bool.{and_parts, eqb-false}
 use Rattle.std.proofs.lemmas.List.Elements.{recursion_from_All, All-from_get_or}
 use Rattle.text_model.specs.Texts.{is_hexadecimal}
-use Rattle.uri_grammar.specs.Names.{IsVarchar, IsVarname, IsName, is_name_character, character_varchar, triplet_varchar, first_varchar, next_varchar, dotted_varchar}
+use Rattle.uri_grammar.specs.Names.{IsVarchar, IsVarname, IsName, is_name_character, character_varchar, triplet_varchar, first_varchar, next_varchar}
+use Rattle.uri_grammar.specs.Names.{dotted_varchar}
 use Rattle.rule_parser.specs.declared.rule.Bound.{Bound}
 use Rattle.rule_parser.specs.declared.rule.Bound.TheVariants as bound
 use Rattle.rule_parser.specs.Rules.{IsBound}

@@ -1,3 +1,5 @@
+//! Why bytes are no rule text.
+
 ghost use Rattle.std.specs.Prelude.{◌≡◌, ◌≢◌};
 
 use std::alloc::{AllocError, AllocFailed};
@@ -51,7 +53,8 @@ impl RuleError {
     // A template's fault, at its line. A template's want of memory is the rule text's.
     pub(crate) fn in_template(kind: TemplateErrorKind, line: usize) -> RuleError
         ensures no_memory { kind ≡ TemplateErrorKind.NoMemory → result ≡ NO_MEMORY }
-        ensures fault { kind ≢ TemplateErrorKind.NoMemory → result ≡ record { kind = RuleErrorKind.Template kind; line = line } }
+        ensures fault { kind ≢ TemplateErrorKind.NoMemory
+            → result ≡ record { kind = RuleErrorKind.Template kind; line = line } }
     {
         match kind {
             TemplateErrorKind::NoMemory => NO_MEMORY,

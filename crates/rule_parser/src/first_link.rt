@@ -13,9 +13,9 @@ use std::alloc::{AllocError, Global};
 use target_vars::Env;
 use uri_template::expand_in;
 
-/// The link of the first rule whose guards all hold: the expansion of its template (RFC 6570, section 3). `None` without
-/// such a rule. Each name is seen as the rules declare it: a list where they want a text, and a text where they want a
-/// list, is undefined.
+/// The link of the first rule whose guards all hold: the expansion of its template (RFC 6570, section 3). `None`
+/// without such a rule. Each name is seen as the rules declare it: a list where they want a text, and a text where they
+/// want a list, is undefined.
 ///
 /// `AllocError` where a growth was refused.
 pub fn meaning(alloc: Global, rules: &Rules, env: &Env) -> Result<Option<String>, AllocError>

@@ -5,7 +5,8 @@ ghost use Rattle.std.specs.List.{list_all};
 ghost use Rattle.std.specs.Char.{is_ascii_digit};
 ghost use Rattle.uri_grammar.specs.Names.{IsName};
 ghost use Rattle.rule_parser.specs.Statements.{is_special as is_quote_or_backslash};
-ghost use Rattle.rule_parser.specs.Private.Reading.{ReadsEscaped, ReadsQuoted, ReadsBound, ReadsBounds, ReadsGuard, IsToken};
+ghost use Rattle.rule_parser.specs.Private.Reading.{ReadsEscaped, ReadsQuoted, ReadsBound, ReadsBounds, ReadsGuard};
+ghost use Rattle.rule_parser.specs.Private.Reading.{IsToken};
 
 use crate::names::copy;
 use crate::rule::{Bound, Guard};

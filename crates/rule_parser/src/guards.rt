@@ -7,7 +7,9 @@ ghost use Rattle.std.specs.Option.{option_and_then};
 ghost use Rattle.environment_model.specs.Environment.{text_in, is_among};
 ghost use Rattle.text_model.specs.Number.{leading_number as number_of};
 ghost use Rattle.target_vars.specs.Members.{members_left};
-ghost use Rattle.rule_parser.specs.Meaning.{is_defined as stands_for_something, is_given as is_not_empty, is_text, bound_number as number_of_bound, is_at_least, is_at_most, is_within as lies_within, guard_holds as is_held};
+ghost use Rattle.rule_parser.specs.Meaning.{is_defined as stands_for_something, is_given as is_not_empty, is_text};
+ghost use Rattle.rule_parser.specs.Meaning.{bound_number as number_of_bound, is_at_least, is_at_most};
+ghost use Rattle.rule_parser.specs.Meaning.{is_within as lies_within, guard_holds as is_held};
 
 use crate::rule::{Bound, Guard};
 use target_vars::Members;
@@ -104,7 +106,8 @@ fn bound_number<V: Variables>(variables: &V, bound: &Bound) -> Option<u32>
 }
 
 fn is_within<V: Variables>(variables: &V, low: &Bound, high: &Bound, n: usize) -> bool
-    ensures { result ≡ lies_within (number_of_bound (V.look variables.now) low.now) (number_of_bound (V.look variables.now) high.now) n }
+    ensures { result ≡ lies_within (number_of_bound (V.look variables.now) low.now)
+        (number_of_bound (V.look variables.now) high.now) n }
 {
     reaches(bound_number(variables, low), n) && stays_below(bound_number(variables, high), n)
 }

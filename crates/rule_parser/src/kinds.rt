@@ -2,7 +2,9 @@
 
 ghost use Rattle.std.specs.Prelude.{◌≡◌};
 ghost use Rattle.std.specs.List.{list_all};
-ghost use Rattle.rule_parser.specs.Rules.{bound_fits as bound_is_fit, bounds_fit as bounds_are_fit, guard_fits as guard_is_fit, spec_fits as spec_is_fit, part_fits as part_is_fit, parts_fit as parts_are_fit};
+ghost use Rattle.rule_parser.specs.Rules.{bound_fits as bound_is_fit, bounds_fit as bounds_are_fit};
+ghost use Rattle.rule_parser.specs.Rules.{guard_fits as guard_is_fit, spec_fits as spec_is_fit};
+ghost use Rattle.rule_parser.specs.Rules.{part_fits as part_is_fit, parts_fit as parts_are_fit};
 
 use crate::names::is_list;
 use crate::rule::{Bound, Guard};

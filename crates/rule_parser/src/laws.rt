@@ -13,14 +13,16 @@ use uri_grammar::laws::{
 
 /// A rule text spells one set of rules.
 pub fn one_rule_set()
-    ensures { (bytes : Text) (rules others : RuleSet) → IsRuleText bytes rules → IsRuleText bytes others → rules ≡ others }
+    ensures { (bytes : Text) (rules others : RuleSet) → IsRuleText bytes rules → IsRuleText bytes others
+        → rules ≡ others }
 {
     one_tree();
 }
 
 /// A rule text has no fault.
 pub fn rules_without_fault()
-    ensures { (bytes : Text) (rules : RuleSet) (kind : RuleErrorKind) (line : ℕ) → IsRuleText bytes rules → IsRefused bytes kind line → ⊥ }
+    ensures { (bytes : Text) (rules : RuleSet) (kind : RuleErrorKind) (line : ℕ) → IsRuleText bytes rules
+        → IsRefused bytes kind line → ⊥ }
 {
     one_tree();
     tree_without_fault();
@@ -28,14 +30,16 @@ pub fn rules_without_fault()
 
 /// Bytes have rules or a first fault.
 pub fn rules_or_fault()
-    ensures { (bytes : Text) → ((rules : RuleSet) × IsRuleText bytes rules) ⊎ ((kind : RuleErrorKind) × (line : ℕ) × IsRefused bytes kind line) }
+    ensures { (bytes : Text) → ((rules : RuleSet) × IsRuleText bytes rules)
+        ⊎ ((kind : RuleErrorKind) × (line : ℕ) × IsRefused bytes kind line) }
 {
     tree_or_fault();
 }
 
 /// Bytes have at most one first fault.
 pub fn one_first_fault()
-    ensures { (bytes : Text) (kind other : RuleErrorKind) (line place : ℕ) → IsRefused bytes kind line → IsRefused bytes other place → (kind ≡ other) × (line ≡ place) }
+    ensures { (bytes : Text) (kind other : RuleErrorKind) (line place : ℕ) → IsRefused bytes kind line
+        → IsRefused bytes other place → (kind ≡ other) × (line ≡ place) }
 {
     one_tree();
     tree_without_fault();

@@ -15,7 +15,8 @@ use std::alloc::Global;
 /// The rules that the lines spell, with empty lines and comments left out.
 pub(crate) fn read_lines(alloc: Global, lines: &[&str]) -> Result<Rules, RuleError>
     ensures sound { IfOk result IsSound }
-    ensures spelled { IfOk result (λ rules. significant (map (λ line. line.now) lines.now) ≡ map line_of (statements rules)) }
+    ensures spelled { IfOk result (λ rules. significant (map (λ line. line.now) lines.now)
+        ≡ map line_of (statements rules)) }
     ensures err { IfErr result (λ e. (e ≡ NO_MEMORY) ⊎ IsFirstFault (map (λ line. line.now) lines.now) e.kind e.line) }
 {
     let mut reader = Reader::new(alloc);

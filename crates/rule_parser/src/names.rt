@@ -1,3 +1,5 @@
+//! Names of rules: which are lists.
+
 ghost use Rattle.std.specs.Prelude.{◌≡◌, IfOk};
 ghost use Rattle.environment_model.specs.Environment.{is_among as is_one_of};
 ghost use Rattle.environment_model.specs.Lists.{is_list as stands_for_list};

@@ -1,3 +1,5 @@
+//! A rule, its guards and their bounds.
+
 ghost use Rattle.std.specs.Prelude.{◌≡◌};
 
 use std::marker::Model;

@@ -1,3 +1,5 @@
+//! The rules of a target.
+
 ghost use Rattle.std.specs.Prelude.{◌≡◌, ◌<◌, ◌≤◌, ◌↔◌, ◌⊎◌, map, length, IsUtf8, Err, IfOk, IfErr};
 ghost use Rattle.rule_parser.specs.Grammar.{IsRuleText};
 ghost use Rattle.rule_parser.specs.Faults.{IsRefused};
@@ -42,19 +44,23 @@ impl Rules {
         Rules { lists, rules }
     }
 
-    /// Reads a rule text of at most [`MAX_BYTES`] bytes: UTF-8 lines that end with LF, or with CR and LF; the last end may
-    /// be missing. Empty lines, and lines that begin with `#`, are skipped. First come lines `list NAME`, then rules: a line
+    /// Reads a rule text of at most [`MAX_BYTES`] bytes: UTF-8 lines that end with LF, or with CR and LF; the last end
+    /// may be missing. Empty lines, and lines that begin with `#`, are skipped. First come lines `list NAME`, then
+    /// rules: a line
     /// `rule`, any number of lines `when ..`, and one line `link TEMPLATE`.
     ///
-    /// Any other bytes are refused whole, by their first fault. A rule without a link is found where the next one begins, or
-    /// at the end. `NoMemory` where a growth was refused, and never in place of `TooLong` and `NotUtf8`. The clause `limits`
-    /// says what the limits of every rule text are.
+    /// Any other bytes are refused whole, by their first fault. A rule without a link is found where the next one
+    /// begins, or at the end. `NoMemory` where a growth was refused, and never in place of `TooLong` and `NotUtf8`. The
+    /// clause `limits` says what the limits of every rule text are.
     pub fn parse(alloc: Global, bytes: &[u8]) -> Result<Rules, RuleError>
         ensures limits { (MAX_BYTES ≡ 65536) × (MAX_DIGITS ≡ 9) }
         ensures ok { IfOk result (λ rules. IsRuleText bytes.now rules) }
-        ensures err { IfErr result (λ e. (e ≡ record { kind = RuleErrorKind.NoMemory; line = 0 }) ⊎ IsRefused bytes.now e.kind e.line) }
-        ensures too_long { (result ≡ Err (record { kind = RuleErrorKind.TooLong; line = 0 })) ↔ (MAX_BYTES < length bytes.now) }
-        ensures not_utf8 { (result ≡ Err (record { kind = RuleErrorKind.NotUtf8; line = 0 })) ↔ ((length bytes.now ≤ MAX_BYTES) × (IsUtf8 bytes.now → ⊥)) }
+        ensures err { IfErr result (λ e. (e ≡ record { kind = RuleErrorKind.NoMemory; line = 0 })
+            ⊎ IsRefused bytes.now e.kind e.line) }
+        ensures too_long { (result ≡ Err (record { kind = RuleErrorKind.TooLong; line = 0 }))
+            ↔ (MAX_BYTES < length bytes.now) }
+        ensures not_utf8 { (result ≡ Err (record { kind = RuleErrorKind.NotUtf8; line = 0 }))
+            ↔ ((length bytes.now ≤ MAX_BYTES) × (IsUtf8 bytes.now → ⊥)) }
     {
         if bytes.len() > MAX_BYTES {
             return Err(RuleError::new(RuleErrorKind::TooLong, 0));
@@ -66,8 +72,8 @@ impl Rules {
         read_lines(alloc, &lines)
     }
 
-    /// The names that stand for lists, each once: `rft.au` and `rft_id`, the keys of ANSI/NISO Z39.88 that can come more
-    /// than once, and then the declared names in the order of their lines.
+    /// The names that stand for lists, each once: `rft.au` and `rft_id`, the keys of ANSI/NISO Z39.88 that can come
+    /// more than once, and then the declared names in the order of their lines.
     ///
     /// `AllocError` where a growth was refused.
     pub fn lists(&self, alloc: Global) -> Result<Vec<&str>, AllocError>

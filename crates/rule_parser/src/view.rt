@@ -4,8 +4,8 @@ use crate::rules::Rules;
 use target_vars::{Env, Members};
 use uri_template::Variables;
 
-/// The variables of an environment, each as the rules declare it: a text whose name they declare a list, and a list whose
-/// name they do not, is undefined.
+/// The variables of an environment, each as the rules declare it: a text whose name they declare a list, and a list
+/// whose name they do not, is undefined.
 #[derive(Clone, Copy)]
 pub(crate) struct RulesView<'a> {
     pub(crate) rules: &'a Rules,

@@ -1,3 +1,5 @@
+//! The trees of templates.
+
 use crate::parsed;
 use std::alloc::Global;
 use std::test::Fail;
@@ -21,6 +23,8 @@ const LITERALS: &[(&str, usize, usize, &str)] = &[
     ("{+path:6}here", 2, 1, "here"),
     ("X{.empty}{#x}", 3, 0, "X"),
     ("\u{E1000}\u{10FFFD}", 1, 0, "%F3%A1%80%80%F4%8F%BF%BD"),
+    ("%41a%4a{x}&'%7e", 3, 2, "&'%7e"),
+    ("{x}{y}é", 3, 2, "%C3%A9"),
 ];
 
 #[test]
@@ -71,6 +75,12 @@ const VARIABLES: &[(&str, usize, Op, usize, &str, u16, bool)] = &[
     ("{a:9999}{b:10}{c:250}", 1, Op::Simple, 0, "b", 10, false),
     ("{a:9999}{b:10}{c:250}", 2, Op::Simple, 0, "c", 250, false),
     ("{%41.b_9}", 0, Op::Simple, 0, "%41.b_9", 0, false),
+    ("{?%41}", 0, Op::Question, 0, "%41", 0, false),
+    ("{%c3%A9*}", 0, Op::Simple, 0, "%c3%A9", 0, true),
+    ("{.12.%41_}", 0, Op::Dot, 0, "12.%41_", 0, false),
+    ("{#A:1,a}", 0, Op::Hash, 0, "A", 1, false),
+    ("{#A:1,a}", 0, Op::Hash, 1, "a", 0, false),
+    ("{a}{b}", 1, Op::Simple, 0, "b", 0, false),
 ];
 
 #[test]
@@ -83,9 +93,21 @@ fn variables(rt: HostRuntime) -> Result<(), Fail> {
     Ok(())
 }
 
+const NAMES: &[&str] = &["rft.au", "a", "_", "9", "A.b.%4a", "%41", "a%C3_"];
+
+const NO_NAMES: &[&str] = &[
+    "", ".", ".a", "a.", "a..b", "a-b", "a b", "a:1", "a*", "%", "%4", "%4g", "a%4", "a%", "é",
+    "aé",
+];
+
 #[test]
 fn names(rt: HostRuntime) {
-    assert!(rt; is_name("rft.au") && !is_name("a..b"));
+    for &name in NAMES {
+        assert!(rt; is_name(name), "{name}");
+    }
+    for &text in NO_NAMES {
+        assert!(rt; !is_name(text), "{text}");
+    }
 }
 
 #[test]

@@ -1,5 +1,5 @@
-//! What no contract says of texts in links, templates and rules, and the program does not show: trees, parts of texts, other
-//! variables, lists of rules; and each public call once.
+//! What no contract says of texts in links, templates and rules, and the program does not show: trees, parts of texts,
+//! other variables, lists of rules; and each public call once.
 #![tactic(auto)]
 
 #[cfg(test)]
@@ -7,7 +7,11 @@ mod expansions;
 #[cfg(test)]
 mod grammar;
 #[cfg(test)]
+mod rule_faults;
+#[cfg(test)]
 mod rules;
+#[cfg(test)]
+mod template_faults;
 #[cfg(test)]
 mod texts;
 

@@ -1,3 +1,5 @@
+//! The rules of texts, and their links.
+
 use crate::environment;
 use rule_parser::{RuleError, RuleErrorKind, Rules, meaning};
 use std::alloc::{AllocError, Global};

@@ -1,3 +1,5 @@
+//! How values are written and cut.
+
 use std::alloc::AllocError;
 use std::test::Fail;
 use text_model::Writing;

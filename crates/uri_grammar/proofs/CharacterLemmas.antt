@@ -1,5 +1,6 @@
 -- Characters and the bytes that they have as text.
-use Rattle.std.proofs.Common.{◌≡◌, ℕ, ◌≤◌, List, [], ◌∷◌, ◌++◌, length, drop, take, ap, ◌∙◌, sym, arith, append-nil, take-append-drop, length-append, encode_utf8, encode_utf8_all}
+use Rattle.std.proofs.Common.{◌≡◌, ℕ, ◌≤◌, List, [], ◌∷◌, ◌++◌, length, drop, take, ap, ◌∙◌, sym, arith, append-nil, take-append-drop, length-append}
+use Rattle.std.proofs.Common.{encode_utf8, encode_utf8_all}
 use Rattle.std.proofs.lemmas.Str.{encodes-append}
 
 pub encodes_push : (xs : List ℕ) (c : ℕ) → encode_utf8_all (xs ++ c ∷ []) ≡ encode_utf8_all xs ++ encode_utf8 c

@@ -8,6 +8,9 @@ pub mod ExpressionLemmas
 pub mod TemplateLemmas
 pub mod PromiseLemmas
 pub mod LawLemmas
+pub mod PartLaws
 pub mod ChoiceLemmas
+pub mod ExpressionChoices
 pub mod Examples
+pub mod FaultExamples
 pub mod CharacterTables

@@ -1,5 +1,6 @@
 -- Names as a run of items, how a name grows, and that a name is ASCII and URI text.
-use Rattle.std.proofs.Common.{◌≡◌, ℕ, ◌+◌, ◌<◌, ◌≤◌, Bool, true, false, ⊎_elim, suc, List, [], ◌∷◌, ◌++◌, length, drop, take, refl, ap, ◌∙◌, sym, subst, arith, append_assoc, append-nil, length-append, ◌==◌, ◌||◌, ◌&&◌, encode_utf8_all}
+use Rattle.std.proofs.Common.{◌≡◌, ℕ, ◌+◌, ◌<◌, ◌≤◌, Bool, true, false, ⊎_elim, suc, List, [], ◌∷◌, ◌++◌, length, drop, take, refl, ap, ◌∙◌, sym, subst, arith}
+use Rattle.std.proofs.Common.{append_assoc, append-nil, length-append, ◌==◌, ◌||◌, ◌&&◌, encode_utf8_all}
 use Rattle.std.specs.Char.{is_ascii_alphanumeric}
 use Rattle.std.proofs.Math.Seq.{take-add, take-length}
 use Rattle.std.proofs.lemmas.Bool.{cases_Bool, cond-true, cond-false, eqb-true, ne_eqb, both_ways, false_from_ne_true, and_parts, or_left}
@@ -11,7 +12,8 @@ use Rattle.text_model.specs.Writing.{is_unreserved_or_reserved}
 use Rattle.text_model.specs.UriText.{IsUriText}
 use Rattle.text_model.proofs.UriTexts.{IsUriText-append, IsUriText-character, IsUriText-triplet}
 use Rattle.uri_grammar.specs.Private.Lengths.{varchar_len, next_len}
-use Rattle.uri_grammar.specs.Names.{is_name_character, IsVarchar, character_varchar, triplet_varchar, IsVarname, first_varchar, next_varchar, dotted_varchar, BeginsWithVarname}
+use Rattle.uri_grammar.specs.Names.{is_name_character, IsVarchar, character_varchar, triplet_varchar, IsVarname, first_varchar, next_varchar, dotted_varchar}
+use Rattle.uri_grammar.specs.Names.{BeginsWithVarname}
 use Rattle.uri_grammar.proofs.RunLemmas.{Run, run-append, run_one, run_longest, append_same}
 use Rattle.uri_grammar.proofs.LiteralLemmas.{percent_first}
 
@@ -48,10 +50,13 @@ IsVarchar-front : (cs : List ℕ) → 0 < varchar_len cs → IsVarchar (take (va
 IsVarchar-front [] h = absurd (omega arith)
 IsVarchar-front (c ∷ cs) h =
     ⊎_elim
-    (λ w. let e : varchar_len (c ∷ cs) ≡ 1 = cond-true (is_name_character c) _ _ w in subst (λ (n : ℕ). IsVarchar (take n (c ∷ cs))) (sym e) (character_varchar c w))
+    (λ w. let e : varchar_len (c ∷ cs) ≡ 1 = cond-true (is_name_character c) _ _ w in
+    subst (λ (n : ℕ). IsVarchar (take n (c ∷ cs))) (sym e) (character_varchar c w))
     (λ w. ⊎_elim
-    (λ t. let e : varchar_len (c ∷ cs) ≡ 3 = cond-false (is_name_character c) _ _ w ∙ cond-true (begins_with_triplet (c ∷ cs)) _ _ t in subst (λ (n : ℕ). IsVarchar (take n (c ∷ cs))) (sym e) (triplet c cs t))
-    (λ t. let e : varchar_len (c ∷ cs) ≡ 0 = cond-false (is_name_character c) _ _ w ∙ cond-false (begins_with_triplet (c ∷ cs)) _ _ t in absurd (omega (arith, e)))
+    (λ t. let e : varchar_len (c ∷ cs) ≡ 3 = cond-false (is_name_character c) _ _ w ∙ cond-true (begins_with_triplet (c ∷ cs)) _ _ t in
+    subst (λ (n : ℕ). IsVarchar (take n (c ∷ cs))) (sym e) (triplet c cs t))
+    (λ t. let e : varchar_len (c ∷ cs) ≡ 0 = cond-false (is_name_character c) _ _ w ∙ cond-false (begins_with_triplet (c ∷ cs)) _ _ t in
+    absurd (omega (arith, e)))
     (cases_Bool (begins_with_triplet (c ∷ cs))))
     (cases_Bool (is_name_character c))
   where
@@ -82,7 +87,8 @@ length-varname name (next_varchar n v h k) = omega (arith, length-append n v, le
 length-varname name (dotted_varchar n v h k) = omega (arith, length-append n (46 ∷ v), length-varname n h)
 
 -- a text begins with one longest name at most
-pub longest_same : (cs name after other behind : List ℕ) → BeginsWithVarname cs name after → BeginsWithVarname cs other behind → (name ≡ other) × (after ≡ behind)
+pub longest_same : (cs name after other behind : List ℕ) → BeginsWithVarname cs name after → BeginsWithVarname cs other behind
+    → (name ≡ other) × (after ≡ behind)
 longest_same cs name after other behind h k =
     let size : length name ≡ length other = omega (arith, h.longest other behind k.whole k.is_varname, k.longest name after h.whole h.is_varname) in
     append_same name other after behind size (sym h.whole ∙ k.whole)
@@ -109,10 +115,13 @@ IsVarname-next name (c ∷ cs) h l =
     (λ z. let e : next_len (c ∷ cs) ≡ suc (varchar_len cs) = cond-true (c == 46) _ _ d ∙ (cond-false (varchar_len cs == 0) _ _ z ∙ omega arith) in
     let some : 0 < varchar_len cs = grind (arith, nat_tests) in
     let dot : c ≡ 46 = eqb-true c 46 d in
-    subst (λ (n : ℕ). IsVarname (name ++ take n (c ∷ cs))) (sym e) (subst (λ (x : ℕ). IsVarname (name ++ x ∷ take (varchar_len cs) cs)) (sym dot) (dotted_varchar name (take (varchar_len cs) cs) h (IsVarchar-front cs some))))
+    subst (λ (n : ℕ). IsVarname (name ++ take n (c ∷ cs))) (sym e)
+    (subst (λ (x : ℕ). IsVarname (name ++ x ∷ take (varchar_len cs) cs)) (sym dot)
+    (dotted_varchar name (take (varchar_len cs) cs) h (IsVarchar-front cs some))))
     (cases_Bool (varchar_len cs == 0)))
     (λ d. let e : next_len (c ∷ cs) ≡ varchar_len (c ∷ cs) = cond-false (c == 46) _ _ d in
-    subst (λ (n : ℕ). IsVarname (name ++ take n (c ∷ cs))) (sym e) (next_varchar name (take (varchar_len (c ∷ cs)) (c ∷ cs)) h (IsVarchar-front (c ∷ cs) (subst (λ (n : ℕ). 0 < n) e l))))
+    subst (λ (n : ℕ). IsVarname (name ++ take n (c ∷ cs))) (sym e)
+    (next_varchar name (take (varchar_len (c ∷ cs)) (c ∷ cs)) h (IsVarchar-front (c ∷ cs) (subst (λ (n : ℕ). 0 < n) e l))))
     (cases_Bool (c == 46))
 
 -- one more varchar makes a longer name
@@ -143,7 +152,9 @@ encodes-varname name (first_varchar v h) = encodes-varchar v h
 encodes-varname name (next_varchar n v h k) =
     encodes-append n v ∙ (ap (λ (t : List ℕ). t ++ encode_utf8_all v) (encodes-varname n h) ∙ ap (λ (t : List ℕ). n ++ t) (encodes-varchar v k))
 encodes-varname name (dotted_varchar n v h k) =
-    encodes-append n (46 ∷ v) ∙ (ap (λ (t : List ℕ). t ++ encode_utf8_all (46 ∷ v)) (encodes-varname n h) ∙ ap (λ (t : List ℕ). n ++ t) (encodes_ascii 46 v (omega arith) (encodes-varchar v k)))
+    encodes-append n (46 ∷ v)
+    ∙ (ap (λ (t : List ℕ). t ++ encode_utf8_all (46 ∷ v)) (encodes-varname n h)
+    ∙ ap (λ (t : List ℕ). n ++ t) (encodes_ascii 46 v (omega arith) (encodes-varchar v k)))
 
 -- ---- a name as URI text
 
@@ -173,7 +184,8 @@ IsUriText-varname name (dotted_varchar n v h k) =
 -- ---- texts that are names
 
 -- the longest name at the front of a name is all of it
-pub whole_varname : (cs : List ℕ) (len : ℕ) → len ≤ length cs → BeginsWithVarname cs (take len cs) (drop len cs) → (len ≡ length cs → IsVarname cs) × (IsVarname cs → len ≡ length cs)
+pub whole_varname : (cs : List ℕ) (len : ℕ) → len ≤ length cs → BeginsWithVarname cs (take len cs) (drop len cs) → (len ≡ length cs → IsVarname cs)
+    × (IsVarname cs → len ≡ length cs)
 whole_varname cs len within begins = (
   λ all. subst IsVarname (ap (λ (n : ℕ). take n cs) all ∙ take-length cs) begins.is_varname,
   λ h.

@@ -1,5 +1,6 @@
 -- The numbers of prefixes, digit by digit, and from where to where they go.
-use Rattle.std.proofs.Common.{◌≡◌, ℕ, ◌+◌, ◌-◌, ◌*◌, ◌<◌, ◌≤◌, Bool, true, false, Some, None, List, [], ◌∷◌, length, get_or, drop, refl, ap, ◌∙◌, sym, arith, ◌&&◌, not, ◌==◌}
+use Rattle.std.proofs.Common.{◌≡◌, ℕ, ◌+◌, ◌-◌, ◌*◌, ◌<◌, ◌≤◌, Bool, true, false, Some, None, List, [], ◌∷◌, length, get_or, drop, refl, ap, ◌∙◌, sym, arith}
+use Rattle.std.proofs.Common.{◌&&◌, not, ◌==◌}
 use Rattle.std.specs.Prelude.{nat_le}
 use Rattle.std.specs.List.{list_all}
 use Rattle.std.specs.Char.{is_ascii_digit}
@@ -40,15 +41,18 @@ pub record HasRead (ds : List ℕ) (count value : ℕ) : Type 0 where
 from_place : (ds : List ℕ) (i d : ℕ) → i < length ds → d ≡ get_or ds i d → drop i ds ≡ d ∷ drop (i + 1) ds
 from_place ds i d inside is = drop_more ds i d inside ∙ ap (λ (x : ℕ). x ∷ drop (i + 1) ds) (sym is)
 
-value_of_next : (ds : List ℕ) (i n d : ℕ) → HasRead ds i n → i < length ds → d ≡ get_or ds i d → value_from 0 ds ≡ value_from (10 * n + (d - 48)) (drop (i + 1) ds)
+value_of_next : (ds : List ℕ) (i n d : ℕ) → HasRead ds i n → i < length ds → d ≡ get_or ds i d
+    → value_from 0 ds ≡ value_from (10 * n + (d - 48)) (drop (i + 1) ds)
 unfolding value_from
 value_of_next ds i n d h inside is = h.value_is ∙ ap (value_from n) (from_place ds i d inside is)
 
-digits_of_next : (ds : List ℕ) (i n d : ℕ) (t : Bool) → HasRead ds i n → i < length ds → d ≡ get_or ds i d → is_ascii_digit d ≡ t → list_all is_ascii_digit ds ≡ (t && list_all is_ascii_digit (drop (i + 1) ds))
+digits_of_next : (ds : List ℕ) (i n d : ℕ) (t : Bool) → HasRead ds i n → i < length ds → d ≡ get_or ds i d → is_ascii_digit d ≡ t
+    → list_all is_ascii_digit ds ≡ (t && list_all is_ascii_digit (drop (i + 1) ds))
 digits_of_next ds i n d t h inside is e =
     h.digits ∙ (ap (list_all is_ascii_digit) (from_place ds i d inside is) ∙ ap (λ (x : Bool). x && list_all is_ascii_digit (drop (i + 1) ds)) e)
 
-pub next_read : (ds : List ℕ) (i n d : ℕ) → HasRead ds i n → i < length ds → d ≡ get_or ds i d → is_ascii_digit d ≡ true → 10 * n + (d - 48) ≤ MAX_PREFIX → HasRead ds (i + 1) (10 * n + (d - 48))
+pub next_read : (ds : List ℕ) (i n d : ℕ) → HasRead ds i n → i < length ds → d ≡ get_or ds i d → is_ascii_digit d ≡ true → 10 * n + (d - 48) ≤ MAX_PREFIX
+    → HasRead ds (i + 1) (10 * n + (d - 48))
 next_read ds i n d h inside is digit l =
     record { digits = digits_of_next ds i n d true h inside is digit; value_is = value_of_next ds i n d h inside is; small = l }
 
@@ -63,9 +67,11 @@ unfolding tests
 max_length-tests [] = refl
 max_length-tests (d ∷ ds) = refl
 
-none_by : (ds : List ℕ) (digits small : Bool) → list_all is_ascii_digit ds ≡ digits → nat_le (value_from 0 ds) MAX_PREFIX ≡ small → tests ds digits small ≡ false → number_of ds ≡ None
+none_by : (ds : List ℕ) (digits small : Bool) → list_all is_ascii_digit ds ≡ digits → nat_le (value_from 0 ds) MAX_PREFIX ≡ small
+    → tests ds digits small ≡ false → number_of ds ≡ None
 none_by ds digits small d s e =
-    cond-false (is_max_length ds) _ _ (max_length-tests ds ∙ (ap (λ (t : Bool). tests ds t (nat_le (value_from 0 ds) MAX_PREFIX)) d ∙ (ap (tests ds digits) s ∙ e)))
+    cond-false (is_max_length ds) _ _
+    (max_length-tests ds ∙ (ap (λ (t : Bool). tests ds t (nat_le (value_from 0 ds) MAX_PREFIX)) d ∙ (ap (tests ds digits) s ∙ e)))
 
 pub not_begun : (ds : List ℕ) → begins_above_zero ds ≡ false → number_of ds ≡ None
 unfolding tests
@@ -88,7 +94,8 @@ pub too_large : (ds : List ℕ) (i n d : ℕ) → HasRead ds i n → i < length 
 unfolding tests
 too_large ds i n d h inside is l =
     let large : MAX_PREFIX < value_from 0 ds = omega (arith, value_of_next ds i n d h inside is, value_from-least (drop (i + 1) ds) (10 * n + (d - 48)), l) in
-    none_by ds _ false refl (lt-leb (value_from 0 ds) MAX_PREFIX large) (never (begins_above_zero ds) (list_all is_ascii_digit ds) false (second_false (list_all is_ascii_digit ds)))
+    none_by ds _ false refl (lt-leb (value_from 0 ds) MAX_PREFIX large)
+    (never (begins_above_zero ds) (list_all is_ascii_digit ds) false (second_false (list_all is_ascii_digit ds)))
 
 pub all_read : (ds : List ℕ) (i n : ℕ) → HasRead ds i n → length ds ≤ i → begins_above_zero ds ≡ true → number_of ds ≡ Some n
 unfolding tests value_from

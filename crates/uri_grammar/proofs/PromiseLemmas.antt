@@ -33,7 +33,10 @@ sound_parts [] cs h = All-nil IsSoundPart
 sound_parts (Literal text ∷ parts) cs h =
     All-cons IsSoundPart (Literal text) parts (subst IsUriText (sym h.1.is_written) (written_ur-uri (encode_utf8_all h.1.raw))) (sound_parts parts h.0 h.3)
 sound_parts (Expression op specs ∷ parts) cs h =
-    All-cons IsSoundPart (Expression op specs) parts (some_spec specs h.1.is_body.0 h.1.is_body.2, sound_specs specs (h.1.is_body.0 ++ comma ∷ []) h.1.is_body.2) (sound_parts parts h.0 h.2)
+    All-cons IsSoundPart (Expression op specs) parts (
+      some_spec specs h.1.is_body.0 h.1.is_body.2,
+      sound_specs specs (h.1.is_body.0 ++ comma ∷ []) h.1.is_body.2,
+    ) (sound_parts parts h.0 h.2)
 
 pub template_sound : (text : Text) (parts : List Part) → IsTemplate text parts → All IsSoundPart parts
 template_sound text parts h = sound_parts parts h.1 h.3

@@ -1,5 +1,6 @@
 -- Modifiers and specs: what the reader needs of them, and that a text is one spec at most.
-use Rattle.std.proofs.Common.{◌≡◌, ℕ, ◌+◌, ◌<◌, ◌≤◌, Bool, true, false, ◌⊎◌, ⊎_elim, inl, inr, List, [], ◌∷◌, ◌++◌, length, get_or, drop, take, refl, ap, ◌∙◌, sym, subst, arith, append_assoc, take-append-drop, length-append, ◌==◌, ◌&&◌, nat_eq, Some, None}
+use Rattle.std.proofs.Common.{◌≡◌, ℕ, ◌+◌, ◌<◌, ◌≤◌, Bool, true, false, ◌⊎◌, ⊎_elim, inl, inr, List, [], ◌∷◌, ◌++◌, length, get_or, drop, take, refl, ap, ◌∙◌}
+use Rattle.std.proofs.Common.{sym, subst, arith, append_assoc, take-append-drop, length-append, ◌==◌, ◌&&◌, nat_eq, Some, None}
 use Rattle.std.proofs.Math.Seq.{take-add, take-append-add}
 use Rattle.std.proofs.lemmas.Bool.{cases_Bool, cond-true, cond-false, eqb-true, and_parts, false≢true}
 use Rattle.std.proofs.lemmas.List.{drop_more, length-take-le, drop-append-le}
@@ -79,7 +80,8 @@ explode_here c (d ∷ cs) p e l q = absurd (omega arith)
 
 prefix_here : (c : ℕ) (cs : List ℕ) (p : ℕ × Bool) → c ≡ 58 → is_max_length cs ≡ true → p ≡ (value_from 0 cs, false) → IsModifier (c ∷ cs) p.0 p.1
 prefix_here c cs p e t q =
-    subst (λ (m : ℕ × Bool). IsModifier (c ∷ cs) m.0 m.1) (sym q) (subst (λ (x : ℕ). IsModifier (x ∷ cs) (value_from 0 cs) false) (sym e) (prefix_modifier cs t))
+    subst (λ (m : ℕ × Bool). IsModifier (c ∷ cs) m.0 m.1) (sym q)
+    (subst (λ (x : ℕ). IsModifier (x ∷ cs) (value_from 0 cs) false) (sym e) (prefix_modifier cs t))
 
 some_same : (p q : ℕ × Bool) → Some p ≡ Some q → p ≡ q
 some_same p q e = cc
@@ -93,11 +95,13 @@ modifier_of-some (c ∷ cs) p e =
     ⊎_elim
     (λ t.
     let parts = and_parts (c == 42) (nat_eq (length cs) 0) t in
-    explode_here c cs p (eqb-true c 42 parts.0) (eqb-true (length cs) 0 parts.1) (some_same p (0, true) (e ∙ cond-true (c == 42 && nat_eq (length cs) 0) _ _ t)))
+    explode_here c cs p (eqb-true c 42 parts.0) (eqb-true (length cs) 0 parts.1)
+    (some_same p (0, true) (e ∙ cond-true (c == 42 && nat_eq (length cs) 0) _ _ t)))
     (λ f. ⊎_elim
     (λ t.
     let parts = and_parts (c == 58) (is_max_length cs) t in
-    prefix_here c cs p (eqb-true c 58 parts.0) parts.1 (some_same p (value_from 0 cs, false) (e ∙ (cond-false (c == 42 && nat_eq (length cs) 0) _ _ f ∙ cond-true (c == 58 && is_max_length cs) _ _ t))))
+    prefix_here c cs p (eqb-true c 58 parts.0) parts.1
+    (some_same p (value_from 0 cs, false) (e ∙ (cond-false (c == 42 && nat_eq (length cs) 0) _ _ f ∙ cond-true (c == 58 && is_max_length cs) _ _ t))))
     (λ g. absurd (some_none p (e ∙ (cond-false (c == 42 && nat_eq (length cs) 0) _ _ f ∙ cond-false (c == 58 && is_max_length cs) _ _ g))))
     (cases_Bool (c == 58 && is_max_length cs)))
     (cases_Bool (c == 42 && nat_eq (length cs) 0))
@@ -110,12 +114,14 @@ modifier_of-none cs e n explode h = some_none (n, explode) (sym (e ∙ modifier_
 pub no_name : (cs : List ℕ) → varchar_len cs ≡ 0 → (name after : List ℕ) → IsNamed cs name after → ⊥
 no_name cs z name after h = omega (arith, z, ap varchar_len h.begins.whole, varchar_len-varname name after h.begins.is_varname)
 
-pub long_name : (cs name after : List ℕ) → BeginsWithVarname cs name after → MAX_NAME_BYTES < length name → (other behind : List ℕ) → IsNamed cs other behind → ⊥
+pub long_name : (cs name after : List ℕ) → BeginsWithVarname cs name after → MAX_NAME_BYTES < length name → (other behind : List ℕ) → IsNamed cs other behind
+    → ⊥
 long_name cs name after h l other behind k =
     let short : length other ≤ MAX_NAME_BYTES = k.short in
     omega (arith, short, l, ap length (longest_same cs name after other behind h k.begins).0)
 
-pub bad_follower : (cs name after : List ℕ) → BeginsWithVarname cs name after → 0 < length after → begins_with_modifier after ≡ false → (other behind : List ℕ) → IsNamed cs other behind → ⊥
+pub bad_follower : (cs name after : List ℕ) → BeginsWithVarname cs name after → 0 < length after → begins_with_modifier after ≡ false → (other behind : List ℕ)
+    → IsNamed cs other behind → ⊥
 bad_follower cs name after h l b other behind k =
     let same : after ≡ behind = (longest_same cs name after other behind h k.begins).1 in
     ⊎_elim
@@ -169,8 +175,13 @@ spec_before front rest more s h = record {
   is_spec = h.is_spec;
 }
 
-pub SpellsSpecs-more : (ss : List Spec) (front piece : List ℕ) (s : Spec) → SpellsSpecs front ss → Lacks comma piece → IsSpec piece s → SpellsSpecs (front ++ (piece ++ comma ∷ [])) (ss ++ s ∷ [])
-SpellsSpecs-more [] front piece s h l is = ([], record { piece = piece; whole = ap (λ (t : List ℕ). t ++ (piece ++ comma ∷ [])) h; lacks = l; is_spec = is }, refl)
+pub SpellsSpecs-more : (ss : List Spec) (front piece : List ℕ) (s : Spec) → SpellsSpecs front ss → Lacks comma piece → IsSpec piece s
+    → SpellsSpecs (front ++ (piece ++ comma ∷ [])) (ss ++ s ∷ [])
+SpellsSpecs-more [] front piece s h l is = (
+  [],
+  record { piece = piece; whole = ap (λ (t : List ℕ). t ++ (piece ++ comma ∷ [])) h; lacks = l; is_spec = is },
+  refl,
+)
 SpellsSpecs-more (t ∷ ts) front piece s h l is =
     (h.0 ++ (piece ++ comma ∷ []), spec_before (front) (h.0) (piece ++ comma ∷ []) t h.1, SpellsSpecs-more ts h.0 piece s h.2 l is)
 
@@ -185,21 +196,28 @@ piece_cut rest end l h =
     let whole : rest ≡ take end rest ++ comma ∷ drop (end + 1) rest = sym (take-append-drop end rest) ∙ ap (λ (t : List ℕ). take end rest ++ t) back in
     (drop (end + 1) rest ++ comma ∷ [], ap (λ (t : List ℕ). t ++ comma ∷ []) whole ∙ append_assoc (take end rest) (comma ∷ drop (end + 1) rest) (comma ∷ []))
 
-behind : (list rest : List ℕ) (done len : ℕ) → done ≤ length list → rest ≡ drop done list → (x : List ℕ) → rest ++ comma ∷ [] ≡ take len rest ++ comma ∷ x → drop done (list ++ comma ∷ []) ≡ take len rest ++ comma ∷ x
+behind : (list rest : List ℕ) (done len : ℕ) → done ≤ length list → rest ≡ drop done list → (x : List ℕ) → rest ++ comma ∷ [] ≡ take len rest ++ comma ∷ x
+    → drop done (list ++ comma ∷ []) ≡ take len rest ++ comma ∷ x
 behind list rest done len w r x e = drop-append-le done list (comma ∷ []) w ∙ (ap (λ (t : List ℕ). t ++ comma ∷ []) (sym r) ∙ e)
 
 -- one more piece that is a spec
-pub specs_step : (list rest piece : List ℕ) (done len : ℕ) (ss : List Spec) (s : Spec) → done ≤ length list → rest ≡ drop done list → piece ≡ take len rest → len ≤ length rest → Lacks comma (take len rest) → ((x : List ℕ) × (rest ++ comma ∷ [] ≡ take len rest ++ comma ∷ x)) → IsSpec piece s → SpellsSpecs (take done (list ++ comma ∷ [])) ss → SpellsSpecs (take (done + (len + 1)) (list ++ comma ∷ [])) (ss ++ s ∷ [])
+pub specs_step : (list rest piece : List ℕ) (done len : ℕ) (ss : List Spec) (s : Spec) → done ≤ length list → rest ≡ drop done list → piece ≡ take len rest
+    → len ≤ length rest → Lacks comma (take len rest) → ((x : List ℕ) × (rest ++ comma ∷ [] ≡ take len rest ++ comma ∷ x)) → IsSpec piece s
+    → SpellsSpecs (take done (list ++ comma ∷ [])) ss → SpellsSpecs (take (done + (len + 1)) (list ++ comma ∷ [])) (ss ++ s ∷ [])
 specs_step list rest piece done len ss s w r p within lacks cut is h =
     let size : length (take len rest) ≡ len = length-take-le len rest within in
     let front : take (len + 1) (take len rest ++ comma ∷ cut.0) ≡ take len rest ++ comma ∷ [] =
     ap (λ (n : ℕ). take (n + 1) (take len rest ++ comma ∷ cut.0)) (sym size) ∙ take-append-add (take len rest) (comma ∷ cut.0) 1 in
     let all : take (done + (len + 1)) (list ++ comma ∷ []) ≡ take done (list ++ comma ∷ []) ++ (take len rest ++ comma ∷ []) =
-    take-add done (len + 1) (list ++ comma ∷ []) ∙ ap (λ (t : List ℕ). take done (list ++ comma ∷ []) ++ t) (ap (λ (t : List ℕ). take (len + 1) t) (behind list rest done len w r cut.0 cut.1) ∙ front) in
-    subst (λ (t : List ℕ). SpellsSpecs t (ss ++ s ∷ [])) (sym all) (SpellsSpecs-more ss (take done (list ++ comma ∷ [])) (take len rest) s h lacks (subst (λ (t : List ℕ). IsSpec t s) p is))
+    take-add done (len + 1) (list ++ comma ∷ []) ∙ ap (λ (t : List ℕ). take done (list ++ comma ∷ []) ++ t)
+    (ap (λ (t : List ℕ). take (len + 1) t) (behind list rest done len w r cut.0 cut.1) ∙ front) in
+    subst (λ (t : List ℕ). SpellsSpecs t (ss ++ s ∷ [])) (sym all)
+    (SpellsSpecs-more ss (take done (list ++ comma ∷ [])) (take len rest) s h lacks (subst (λ (t : List ℕ). IsSpec t s) p is))
 
 -- a piece that is no spec
-pub specs_fault : (list rest piece : List ℕ) (done len : ℕ) (ss : List Spec) (e : TemplateError) → done ≤ length list → rest ≡ drop done list → piece ≡ take len rest → Lacks comma (take len rest) → ((x : List ℕ) × (rest ++ comma ∷ [] ≡ take len rest ++ comma ∷ x)) → SpellsSpecs (take done (list ++ comma ∷ [])) ss → IsFault e (IsSpecFault piece) → IsFault (moved e done) (IsListFault list)
+pub specs_fault : (list rest piece : List ℕ) (done len : ℕ) (ss : List Spec) (e : TemplateError) → done ≤ length list → rest ≡ drop done list
+    → piece ≡ take len rest → Lacks comma (take len rest) → ((x : List ℕ) × (rest ++ comma ∷ [] ≡ take len rest ++ comma ∷ x))
+    → SpellsSpecs (take done (list ++ comma ∷ [])) ss → IsFault e (IsSpecFault piece) → IsFault (moved e done) (IsListFault list)
 specs_fault list rest piece done len ss e w r p lacks cut h f =
     let size : length (take done (list ++ comma ∷ [])) ≡ done = length-take-le done (list ++ comma ∷ []) (omega (arith, length-append list (comma ∷ []), w)) in
     let whole : list ++ comma ∷ [] ≡ take done (list ++ comma ∷ []) ++ (take len rest ++ comma ∷ cut.0) =
@@ -207,7 +225,8 @@ specs_fault list rest piece done len ss e w r p lacks cut h f =
     ⊎_elim
     (λ m. inl (ap (λ (x : TemplateError). moved x done) m))
     (λ g.
-    let place : moved_place e.kind e.at done ≡ length (take done (list ++ comma ∷ [])) + e.at = spec_moves piece e.kind e.at e.at done g ∙ omega (arith, size) in
+    let place : moved_place e.kind e.at done ≡ length (take done (list ++ comma ∷ [])) + e.at = spec_moves piece e.kind e.at e.at done g
+    ∙ omega (arith, size) in
     inr (record {
       front = take done (list ++ comma ∷ []);
       specs = ss;

@@ -1,4 +1,7 @@
-ghost use Rattle.std.specs.Prelude.{◌≡◌, ◌<◌, ◌≤◌, IsTrue, IfOk, IfSome, IfNone, length, slice_index, take, encode_utf8_all, string_bytes};
+//! Characters and texts: triplets, copies, and numbers of bytes.
+
+ghost use Rattle.std.specs.Prelude.{◌≡◌, ◌<◌, ◌≤◌, IsTrue, IfOk, IfSome, IfNone, length, slice_index, take};
+ghost use Rattle.std.specs.Prelude.{encode_utf8_all, string_bytes};
 ghost use Rattle.text_model.specs.Texts as texts;
 ghost use Rattle.uri_grammar.specs.Specs.{Lacks};
 
@@ -25,7 +28,8 @@ pub(crate) fn begins_with_triplet(text: &[char]) -> bool
 // Where the first such character stands.
 pub(crate) fn place_of(text: &[char], sought: char) -> Option<usize>
     ensures none { IfNone result (Lacks sought text.now) }
-    ensures found { IfSome result (λ at. (at < length text.now) × (slice_index text.now at ≡ sought) × Lacks sought (take at text.now)) }
+    ensures found { IfSome result (λ at. (at < length text.now) × (slice_index text.now at ≡ sought)
+        × Lacks sought (take at text.now)) }
 {
     for (i, c) in text.iter().enumerate() {
         if *c == sought {

@@ -1,3 +1,5 @@
+//! What is wrong with a template.
+
 ghost use Rattle.std.specs.Prelude.{◌≡◌, ◌+◌, ◌<◌, ◌^◌};
 ghost use Rattle.uri_grammar.specs.Private.Moved.{moved};
 

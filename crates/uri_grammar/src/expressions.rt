@@ -1,3 +1,5 @@
+//! Expressions (RFC 6570, section 2.2): an operator and a list of variables in braces.
+
 ghost use Rattle.std.specs.Prelude.{◌≡◌, ◌+◌, ◌<◌, ◌≤◌, ℕ, List, [], ◌∷◌, ◌++◌, IfOk, IfErr, length, take};
 ghost use Rattle.uri_grammar.specs.Characters.{comma};
 ghost use Rattle.uri_grammar.specs.Private.Lengths.{literal_item_len};

@@ -10,22 +10,26 @@ ghost use Rattle.uri_grammar.specs.Promises.{IsSoundPart};
 
 /// A text has at most one tree.
 pub fn one_tree()
-    ensures { (text : Text) (parts others : List Part) → IsTemplate text parts → IsTemplate text others → parts ≡ others }
+    ensures { (text : Text) (parts others : List Part) → IsTemplate text parts → IsTemplate text others
+        → parts ≡ others }
 {}
 
 /// A text with a tree has no fault.
 pub fn tree_without_fault()
-    ensures { (text : Text) (parts : List Part) (kind : TemplateErrorKind) (at : ℕ) → IsTemplate text parts → IsRefused text kind at → ⊥ }
+    ensures { (text : Text) (parts : List Part) (kind : TemplateErrorKind) (at : ℕ) → IsTemplate text parts
+        → IsRefused text kind at → ⊥ }
 {}
 
 /// A text has at most one first fault.
 pub fn one_first_fault()
-    ensures { (text : Text) (kind other : TemplateErrorKind) (at place : ℕ) → IsRefused text kind at → IsRefused text other place → (kind ≡ other) × (at ≡ place) }
+    ensures { (text : Text) (kind other : TemplateErrorKind) (at place : ℕ) → IsRefused text kind at
+        → IsRefused text other place → (kind ≡ other) × (at ≡ place) }
 {}
 
 /// A text has a tree or a fault.
 pub fn tree_or_fault()
-    ensures { (text : Text) → IsUtf8 text → ((parts : List Part) × IsTemplate text parts) ⊎ ((kind : TemplateErrorKind) × (at : ℕ) × IsRefused text kind at) }
+    ensures { (text : Text) → IsUtf8 text → ((parts : List Part) × IsTemplate text parts)
+        ⊎ ((kind : TemplateErrorKind) × (at : ℕ) × IsRefused text kind at) }
 {}
 
 /// A tree keeps to what the code above counts on: URI text in its literals and names, a variable in each

@@ -1,3 +1,5 @@
+//! Literals (RFC 6570, section 2.1).
+
 ghost use Rattle.std.specs.Prelude.{◌≡◌, ◌<◌, ◌≤◌, IfOk, length, take, drop, encode_utf8_all};
 ghost use Rattle.text_model.specs.Writing.{written_ur};
 ghost use Rattle.uri_grammar.specs.Literals.{is_literal_character, AreLiterals};

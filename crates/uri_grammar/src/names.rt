@@ -1,3 +1,5 @@
+//! Names of variables (RFC 6570, section 2.3).
+
 ghost use Rattle.std.specs.Prelude.{◌≡◌, ◌<◌, ◌≤◌, ◌↔◌, IsTrue, length, take, drop};
 ghost use Rattle.uri_grammar.specs.Names.{is_name_character, IsVarname, BeginsWithVarname, IsName};
 ghost use Rattle.uri_grammar.specs.Private.Lengths.{varchar_len, next_len};

@@ -1,3 +1,5 @@
+//! The parts of a template's tree.
+
 ghost use Rattle.std.specs.Prelude.{◌≡◌, string_bytes};
 
 use std::marker::Model;

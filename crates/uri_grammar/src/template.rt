@@ -1,3 +1,5 @@
+//! A template, and how it is read.
+
 ghost use Rattle.std.specs.Prelude.{◌≡◌, ◌<◌, ◌≤◌, ◌⊎◌, All, IfOk, IfErr, length, encode_utf8_all};
 ghost use Rattle.uri_grammar.specs.Templates.{Spells};
 ghost use Rattle.uri_grammar.specs.Faults.{IsFirstFault};

@@ -1,4 +1,7 @@
-ghost use Rattle.std.specs.Prelude.{◌≡◌, true, ◌+◌, ◌-◌, ◌<◌, ◌≤◌, ℕ, Bool, List, IfOk, IfErr, IfSome, IfNone, length, take, drop};
+//! Variables and their modifiers (RFC 6570, sections 2.3 and 2.4).
+
+ghost use Rattle.std.specs.Prelude.{◌≡◌, true, ◌+◌, ◌-◌, ◌<◌, ◌≤◌, ℕ, Bool, List, IfOk, IfErr, IfSome, IfNone, length};
+ghost use Rattle.std.specs.Prelude.{take, drop};
 ghost use Rattle.std.specs.Char.{is_ascii_digit};
 ghost use Rattle.uri_grammar.specs.Specs.{IsModifier, IsSpec};
 ghost use Rattle.uri_grammar.specs.Faults.{begins_with_modifier, IsNamed, IsSpecFault};
@@ -69,7 +72,8 @@ fn begins_with_modifier(after: &[char]) -> bool
 // How long the name at the front is, where a spec can go on or end behind it.
 fn named_len(text: &[char]) -> Option<usize>
     requires { length text.now ≤ MAX_BYTES }
-    ensures some { IfSome result (λ len. (len ≤ length text.now) × IsNamed text.now (take len text.now) (drop len text.now)) }
+    ensures some { IfSome result
+        (λ len. (len ≤ length text.now) × IsNamed text.now (take len text.now) (drop len text.now)) }
     ensures none { IfNone result ((name after : List ℕ) → IsNamed text.now name after → ⊥) }
 {
     let len = varname_len(text);

@@ -1,4 +1,5 @@
 pub mod Led
 pub mod UriExpansions
 pub mod Undefined
-mod Examples
+pub mod Examples
+mod EdgeExamples

@@ -15,5 +15,6 @@ undefined-pieces look style (spec ∷ specs) h =
     let behind = All-tail (λ (s : Spec). look s.name ≡ None) spec specs h in
     ap (λ m. cons_option (piece style spec m) (pieces look style specs)) here ∙ undefined-pieces look style specs behind
 
-pub undefined-led : (look : LookUp) (op : Op) (specs : List Spec) → All (λ spec. look spec.name ≡ None) specs → led (style_of op) (pieces look (style_of op) specs) ≡ []
+pub undefined-led : (look : LookUp) (op : Op) (specs : List Spec) → All (λ spec. look spec.name ≡ None) specs
+    → led (style_of op) (pieces look (style_of op) specs) ≡ []
 undefined-led look op specs h = ap (led (style_of op)) (undefined-pieces look (style_of op) specs h)

@@ -56,7 +56,8 @@ IfUriText (Some t) = IsUriText t
 separated-uri : (sep : Text) (texts : List Text) → IsUriText sep → AreUriTexts texts → IsUriText (flat_map (λ next. sep ++ next) texts)
 unfolding AreUriTexts
 separated-uri sep [] s h = nothing
-separated-uri sep (t ∷ texts) s h = IsUriText-append (sep ++ t) (flat_map (λ next. sep ++ next) texts) (IsUriText-append sep t s h.0) (separated-uri sep texts s h.1)
+separated-uri sep (t ∷ texts) s h = IsUriText-append (sep ++ t) (flat_map (λ next. sep ++ next) texts) (IsUriText-append sep t s h.0)
+    (separated-uri sep texts s h.1)
 
 joined_by-uri : (sep : Text) (texts : List Text) → IsUriText sep → AreUriTexts texts → IsUriText (joined_by sep texts)
 unfolding AreUriTexts
@@ -79,17 +80,21 @@ item-uri style name t s n = by_named style.named
     by_named true = IsUriText-append name (equated style t) n (equated-uri style t s)
     by_named false = written-uri style.writing t
 
-list_piece-uri : (style : Style) (name : Text) (explode : Bool) (members : List Text) → HasUriTexts style → IsUriText name → IsUriText (list_piece style name explode members)
-list_piece-uri style name true members s n = joined_by-uri style.sep (map (item style name) members) s.sep (map-uri (item style name) members (λ t. item-uri style name t s n))
+list_piece-uri : (style : Style) (name : Text) (explode : Bool) (members : List Text) → HasUriTexts style → IsUriText name
+    → IsUriText (list_piece style name explode members)
+list_piece-uri style name true members s n =
+    joined_by-uri style.sep (map (item style name) members) s.sep (map-uri (item style name) members (λ t. item-uri style name t s n))
 list_piece-uri style name false members s n =
     IsUriText-append (if style.named then (name ++ codes "=") else []) (joined_by (codes ",") (map (written style.writing) members))
-    (by_named style.named) (joined_by-uri (codes ",") (map (written style.writing) members) comma (map-uri (written style.writing) members (written-uri style.writing)))
+    (by_named style.named)
+    (joined_by-uri (codes ",") (map (written style.writing) members) comma (map-uri (written style.writing) members (written-uri style.writing)))
   where
     by_named : (x : Bool) → IsUriText (if x then (name ++ codes "=") else [])
     by_named true = IsUriText-append name (codes "=") n equals_sign
     by_named false = nothing
 
-several_piece-uri : (style : Style) (spec : Spec) (n : ℕ) (members : List Text) → HasUriTexts style → IsUriText spec.name → IfUriText (several_piece style spec n members)
+several_piece-uri : (style : Style) (spec : Spec) (n : ℕ) (members : List Text) → HasUriTexts style → IsUriText spec.name
+    → IfUriText (several_piece style spec n members)
 unfolding IfUriText
 several_piece-uri style spec n [] s u = tt
 several_piece-uri style spec zero (t ∷ members) s u = list_piece-uri style spec.name spec.explode (t ∷ members) s u
@@ -114,7 +119,8 @@ pieces-uri look style [] s h = tt
 pieces-uri look style (spec ∷ specs) s h =
     let here = All-head IsSoundSpec spec specs h in
     let behind = All-tail IsSoundSpec spec specs h in
-    cons_option-uri (piece style spec (look spec.name)) (pieces look style specs) (piece-uri style spec (look spec.name) s here.uri_text) (pieces-uri look style specs s behind)
+    cons_option-uri (piece style spec (look spec.name)) (pieces look style specs) (piece-uri style spec (look spec.name) s here.uri_text)
+    (pieces-uri look style specs s behind)
 
 led-uri : (style : Style) (ps : List Text) → HasUriTexts style → AreUriTexts ps → IsUriText (led style ps)
 led-uri style [] s h = nothing
@@ -122,7 +128,8 @@ led-uri style (p ∷ ps) s h = IsUriText-append style.first (joined_by style.sep
 
 part_text-uri : (look : LookUp) (part : Part) → IsSoundPart part → IsUriText (part_text look part)
 part_text-uri look (Literal text) h = h
-part_text-uri look (Expression op specs) h = led-uri (style_of op) (pieces look (style_of op) specs) (style_of-uri op) (pieces-uri look (style_of op) specs (style_of-uri op) h.1)
+part_text-uri look (Expression op specs) h =
+    led-uri (style_of op) (pieces look (style_of op) specs) (style_of-uri op) (pieces-uri look (style_of op) specs (style_of-uri op) h.1)
 
 -- the expansion of a tree whose literals and names are URI text
 pub expansion-uri : (look : LookUp) (parts : List Part) → All IsSoundPart parts → IsUriText (expansion look parts)

@@ -63,7 +63,8 @@ pub(crate) fn push_text(
 ) -> Result<(), AllocError>
     requires { length text.now ≤ MAX_BYTES }
     ensures { OnOk result (string_bytes out.new
-        ≡ string_bytes out.old ++ (lead.now ++ item style.now spec.now.name (prefix style.now.writing spec.now.cut text.now))) }
+        ≡ string_bytes out.old
+        ++ (lead.now ++ item style.now spec.now.name (prefix style.now.writing spec.now.cut text.now))) }
 {
     out.push_str(lead)?;
     push_item(
@@ -77,7 +78,9 @@ pub(crate) fn push_text(
 // A member: an item of its own where the list is exploded.
 fn push_member(out: &mut String, style: &Style, spec: &Spec, member: &str) -> Result<(), AllocError>
     requires { length member.now ≤ MAX_BYTES }
-    ensures { OnOk result (string_bytes out.new ≡ string_bytes out.old ++ member_text style.now spec.now.name spec.now.explode member.now) }
+    ensures { OnOk result
+        (string_bytes out.new ≡ string_bytes out.old ++ member_text style.now spec.now.name spec.now.explode
+        member.now) }
 {
     if spec.explode {
         push_item(out, style, spec.name.as_str(), member.as_bytes())
@@ -130,7 +133,8 @@ fn push_members(
 
 // The name before the members of a list that is not exploded.
 fn push_head(out: &mut String, style: &Style, spec: &Spec) -> Result<(), AllocError>
-    ensures { OnOk result (string_bytes out.new ≡ string_bytes out.old ++ list_head style.now spec.now.name spec.now.explode) }
+    ensures { OnOk result
+        (string_bytes out.new ≡ string_bytes out.old ++ list_head style.now spec.now.name spec.now.explode) }
 {
     if spec.explode || !style.named {
         return Ok(());

@@ -27,7 +27,13 @@ impl Model for Style {
 
     ghost Value = { Row };
 
-    ghost view = { λ s. record { first = s.first.now; sep = s.sep.now; named = s.named; ifemp = s.ifemp.now; writing = s.writing } };
+    ghost view = { λ s. record {
+      first = s.first.now;
+      sep = s.sep.now;
+      named = s.named;
+      ifemp = s.ifemp.now;
+      writing = s.writing;
+    } };
 }
 
 impl Style {
@@ -55,7 +61,13 @@ fn row(
     ifemp: &'static str,
     writing: Writing,
 ) -> Style
-    ensures { result ≡ record { first = first.now; sep = sep.now; named = named; ifemp = ifemp.now; writing = writing } }
+    ensures { result ≡ record {
+      first = first.now;
+      sep = sep.now;
+      named = named;
+      ifemp = ifemp.now;
+      writing = writing;
+    } }
 {
     Style {
         first,

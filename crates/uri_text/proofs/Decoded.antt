@@ -23,7 +23,8 @@ later_bytes : (b : ℕ) (t : Text) → AreBytes (b ∷ t) → AreBytes t
 later_bytes b t h = All-tail (λ x. x < 256) b t h
 
 -- the byte that was written comes first, unless `%` was copied
-decoded_byte : (stays : Bool) (b : ℕ) (rest : Text) → b < 256 → (stays ≡ true → b ≢ 37) → percent_decode (written_byte stays b ++ rest) ≡ b ∷ percent_decode rest
+decoded_byte : (stays : Bool) (b : ℕ) (rest : Text) → b < 256 → (stays ≡ true → b ≢ 37) → percent_decode (written_byte stays b ++ rest)
+    ≡ b ∷ percent_decode rest
 decoded_byte true b rest small other = percent_decode_not_percent b rest (other refl)
 decoded_byte false b rest small other =
     ap (λ x. percent_decode (x ++ rest)) (sym (percent_encode_byte_triplet b)) ∙ percent_decode-percent_encode_byte b rest small
@@ -62,13 +63,18 @@ decoded_ur (b ∷ c ∷ []) h =
     decoded_ur_byte b (written_byte (is_unreserved_or_reserved c) c) (first_byte b (c ∷ []) h)
     ∙ ap (λ x. b ∷ x) (alone_ur c (first_byte c [] (later_bytes b (c ∷ []) h)))
 decoded_ur (b ∷ high ∷ low ∷ t) h =
-    by_test (is_triplet b high low) refl (decoded_ur t (later_bytes low t (later_bytes high (low ∷ t) (later_bytes b (high ∷ low ∷ t) h)))) (decoded_ur (high ∷ low ∷ t) (later_bytes b (high ∷ low ∷ t) h))
+    by_test (is_triplet b high low) refl (decoded_ur t (later_bytes low t (later_bytes high (low ∷ t) (later_bytes b (high ∷ low ∷ t) h))))
+    (decoded_ur (high ∷ low ∷ t) (later_bytes b (high ∷ low ∷ t) h))
   where
-    by_test : (x : Bool) → is_triplet b high low ≡ x → percent_decode (written_ur t) ≡ percent_decode t → percent_decode (written_ur (high ∷ low ∷ t)) ≡ percent_decode (high ∷ low ∷ t)
-        → percent_decode (if x then (b ∷ high ∷ low ∷ written_ur t) else (written_byte (is_unreserved_or_reserved b) b ++ written_ur (high ∷ low ∷ t))) ≡ percent_decode (b ∷ high ∷ low ∷ t)
+    by_test : (x : Bool) → is_triplet b high low ≡ x → percent_decode (written_ur t) ≡ percent_decode t → percent_decode (written_ur (high ∷ low ∷ t))
+        ≡ percent_decode (high ∷ low ∷ t)
+        → percent_decode (if x then (b ∷ high ∷ low ∷ written_ur t) else (written_byte (is_unreserved_or_reserved b) b ++ written_ur (high ∷ low ∷ t)))
+        ≡ percent_decode (b ∷ high ∷ low ∷ t)
     by_test true e i j =
         let parts = and_parts (b == 37) (is_hexadecimal high && is_hexadecimal low) e in
         let digits = and_parts (is_hexadecimal high) (is_hexadecimal low) parts.1 in
-        let escaped = λ (rest : Text). percent_decode_escape b high low rest (eqb-true b 37 parts.0) (hexadecimal_value high digits.0) (hexadecimal_value low digits.1) in
+        let escaped = λ (rest : Text). percent_decode_escape b high low rest (eqb-true b 37 parts.0) (hexadecimal_value high digits.0)
+        (hexadecimal_value low digits.1) in
         escaped (written_ur t) ∙ (ap (λ x. (16 * digit_value high + digit_value low) ∷ x) i ∙ sym (escaped t))
-    by_test false e i j = decoded_ur_byte b (written_ur (high ∷ low ∷ t)) (first_byte b (high ∷ low ∷ t) h) ∙ (ap (λ x. b ∷ x) j ∙ sym (kept_first b high low t e))
+    by_test false e i j = decoded_ur_byte b (written_ur (high ∷ low ∷ t)) (first_byte b (high ∷ low ∷ t) h)
+        ∙ (ap (λ x. b ∷ x) j ∙ sym (kept_first b high low t e))

@@ -1,5 +1,6 @@
 -- The item at the front of a text.
-use Rattle.std.proofs.Common.{◌≡◌, ℕ, suc, ◌+◌, ◌<◌, ◌-◌, ◌≤◌, ◌⊎◌, inl, inr, append_assoc, append-nil, List, [], ◌∷◌, ◌++◌, length, take, drop, Bool, true, false, cond, ◌&&◌, ◌==◌, not, add-one, refl, sym, ap, ◌∙◌, arith}
+use Rattle.std.proofs.Common.{◌≡◌, ℕ, suc, ◌+◌, ◌<◌, ◌-◌, ◌≤◌, ◌⊎◌, inl, inr, append_assoc, append-nil, List, [], ◌∷◌, ◌++◌, length, take, drop, Bool, true}
+use Rattle.std.proofs.Common.{false, cond, ◌&&◌, ◌==◌, not, add-one, refl, sym, ap, ◌∙◌, arith}
 use Rattle.std.specs.Prelude.{if◌then◌else◌}
 use Rattle.std.specs.List.{prefix_len}
 use Rattle.std.proofs.lemmas.Bool.{and_parts, not-true}
@@ -25,7 +26,8 @@ code_points-alone : (b : ℕ) (t : Text) → continues t ≡ false → code_poin
 code_points-alone b t e = code_points-next b t ∙ ap (λ k. (b ∷ take k t) ∷ code_points (drop k t)) (run_alone t e)
 
 -- a byte that something continues is not
-code_points-longer : (b : ℕ) (t : Text) → continues t ≡ true → (c : ℕ) × (front : Text) × (points : List Text) × (code_points (b ∷ t) ≡ (b ∷ c ∷ front) ∷ points)
+code_points-longer : (b : ℕ) (t : Text) → continues t ≡ true → (c : ℕ) × (front : Text) × (points : List Text)
+    × (code_points (b ∷ t) ≡ (b ∷ c ∷ front) ∷ points)
 code_points-longer b [] e = absurd (cc)
 code_points-longer b (c ∷ t) e =
     let k = prefix_len is_continuation t in
@@ -42,7 +44,8 @@ long_second b c d front [] = refl
 long_second b c d front (r ∷ points) = refl
 
 -- whether the third code point is a byte alone
-by_third : (b c d : ℕ) (t : Text) (x : Bool) → continues t ≡ x → (is_triplet b c d && not (continues t)) ≡ false → begins_with_triplet_points (b ∷ []) ((c ∷ []) ∷ code_points (d ∷ t)) ≡ false
+by_third : (b c d : ℕ) (t : Text) (x : Bool) → continues t ≡ x → (is_triplet b c d && not (continues t)) ≡ false
+    → begins_with_triplet_points (b ∷ []) ((c ∷ []) ∷ code_points (d ∷ t)) ≡ false
 by_third b c d t true e h =
     let longer = code_points-longer d t e in
     ap (λ points. begins_with_triplet_points (b ∷ []) ((c ∷ []) ∷ points)) longer.3
@@ -54,7 +57,8 @@ by_third b c d t false e h =
     by_rest true g = g
     by_rest false g = refl
 
-by_second : (b c : ℕ) (t : Text) (x : Bool) → continues t ≡ x → begins_with_triplet_item (b ∷ c ∷ t) ≡ false → begins_with_triplet_points (b ∷ []) (code_points (c ∷ t)) ≡ false
+by_second : (b c : ℕ) (t : Text) (x : Bool) → continues t ≡ x → begins_with_triplet_item (b ∷ c ∷ t) ≡ false
+    → begins_with_triplet_points (b ∷ []) (code_points (c ∷ t)) ≡ false
 unfolding code_points
 by_second b c t true e h =
     let longer = code_points-longer c t e in
@@ -62,7 +66,8 @@ by_second b c t true e h =
 by_second b c [] false e h = ap (begins_with_triplet_points (b ∷ [])) (code_points-next c [])
 by_second b c (d ∷ t) false e h = ap (begins_with_triplet_points (b ∷ [])) (code_points-alone c (d ∷ t) e) ∙ by_third b c d t (continues t) refl h
 
-by_first : (b : ℕ) (t : Text) (x : Bool) → continues t ≡ x → begins_with_triplet_item (b ∷ t) ≡ false → begins_with_triplet_points (b ∷ take (prefix_len is_continuation t) t) (code_points (drop (prefix_len is_continuation t) t)) ≡ false
+by_first : (b : ℕ) (t : Text) (x : Bool) → continues t ≡ x → begins_with_triplet_item (b ∷ t) ≡ false
+    → begins_with_triplet_points (b ∷ take (prefix_len is_continuation t) t) (code_points (drop (prefix_len is_continuation t) t)) ≡ false
 unfolding code_points
 by_first b [] true e h = absurd (cc)
 by_first b (c ∷ t) true e h =
@@ -95,10 +100,12 @@ first_item false (b ∷ t) l = rw add-one (code_points-next b t)
 first_item true (b ∷ t) l = by_test (begins_with_triplet_item (b ∷ t)) refl
   where
     by_test : (x : Bool) → begins_with_triplet_item (b ∷ t) ≡ x
-        → with_triplets (code_points (b ∷ t)) ≡ take (if x then 3 else code_point_length (b ∷ t)) (b ∷ t) ∷ with_triplets (code_points (drop (if x then 3 else code_point_length (b ∷ t)) (b ∷ t)))
+        → with_triplets (code_points (b ∷ t)) ≡ take (if x then 3 else code_point_length (b ∷ t)) (b ∷ t) ∷ with_triplets
+        (code_points (drop (if x then 3 else code_point_length (b ∷ t)) (b ∷ t)))
     by_test true h = whole t h
       where
-        whole : (r : Text) → begins_with_triplet_item (b ∷ r) ≡ true → with_triplets (code_points (b ∷ r)) ≡ take 3 (b ∷ r) ∷ with_triplets (code_points (drop 3 (b ∷ r)))
+        whole : (r : Text) → begins_with_triplet_item (b ∷ r) ≡ true → with_triplets (code_points (b ∷ r))
+            ≡ take 3 (b ∷ r) ∷ with_triplets (code_points (drop 3 (b ∷ r)))
         whole [] g = absurd (cc)
         whole (c ∷ []) g = absurd (cc)
         whole (c ∷ d ∷ r) g = triplet_item b c d r g

@@ -1,5 +1,6 @@
 -- The number that a text begins with, byte by byte.
-use Rattle.std.proofs.Common.{◌≡◌, ℕ, ◌+◌, ◌*◌, ◌-◌, ◌^◌, ◌<◌, ◌≤◌, [], ◌∷◌, length, get_or, drop, Bool, true, false, ◌&&◌, Some, None, refl, sym, ap, ◌∙◌, arith, add-one, lit<}
+use Rattle.std.proofs.Common.{◌≡◌, ℕ, ◌+◌, ◌*◌, ◌-◌, ◌^◌, ◌<◌, ◌≤◌, [], ◌∷◌, length, get_or, drop, Bool, true, false, ◌&&◌, Some, None, refl, sym, ap, ◌∙◌}
+use Rattle.std.proofs.Common.{arith, add-one, lit<}
 use Rattle.std.specs.Prelude.{nat_le, nat_lt, not, ◌==◌, if◌then◌else◌}
 use Rattle.std.specs.Bool.{then_some}
 use Rattle.std.specs.Char.{is_ascii_digit}
@@ -34,7 +35,8 @@ next_small value count b h d =
     rw e (omega arith)
 
 -- one more digit
-pub next_read : (t : Text) (count value : ℕ) → HasRead t count value → count < length t → is_ascii_digit (get_or t count 0) ≡ true → get_or t count 0 - 48 < 10 → count < 9
+pub next_read : (t : Text) (count value : ℕ) → HasRead t count value → count < length t → is_ascii_digit (get_or t count 0) ≡ true → get_or t count 0 - 48 < 10
+    → count < 9
     → HasRead t (count + 1) (10 * value + (get_or t count 0 - 48))
 unfolding value_from
 next_read t count value h inside digit low room =
@@ -60,7 +62,8 @@ number_ends t count value h none =
     by_test true = refl
     by_test false = refl
 
-pub number_before : (t : Text) (count value : ℕ) → HasRead t count value → count < length t → is_ascii_digit (get_or t count 0) ≡ false → leading_number t ≡ then_some (nat_lt 0 count) value
+pub number_before : (t : Text) (count value : ℕ) → HasRead t count value → count < length t → is_ascii_digit (get_or t count 0) ≡ false
+    → leading_number t ≡ then_some (nat_lt 0 count) value
 number_before t count value h inside other =
     number_ends t count value h (ap leading_digits (drop_more t count 0 inside) ∙ digits-other (get_or t count 0) (drop (count + 1) t) other)
 

@@ -5,11 +5,13 @@ use Rattle.std.proofs.Common.{◌≡◌, ℕ, ◌+◌, ◌≤◌, List, ◌++◌
 pub bytes_left : (before piece whole rest all after : List ℕ) → after ≡ before ++ piece → whole ≡ piece ++ rest → before ++ whole ≡ all → after ++ rest ≡ all
 bytes_left before piece whole rest all after e f g = rw e (append_assoc before piece rest ∙ (ap (λ x. before ++ x) (sym f) ∙ g))
 
-pub len_left : (used used_after all : ℕ) (piece whole rest : List ℕ) → used_after ≡ used + length piece → whole ≡ piece ++ rest → used + length whole ≡ all → used_after + length rest ≡ all
+pub len_left : (used used_after all : ℕ) (piece whole rest : List ℕ) → used_after ≡ used + length piece → whole ≡ piece ++ rest → used + length whole ≡ all
+    → used_after + length rest ≡ all
 len_left used used_after all piece whole rest e f g = omega (arith, ap length f, length-append piece rest)
 
 -- and the room that it needs
-pub room_left : (used used_after : ℕ) (piece whole rest : List ℕ) (room room_after : ℕ) → used_after ≡ used + length piece → whole ≡ piece ++ rest → used + length whole ≤ room → room ≤ room_after → used_after + length rest ≤ room_after
+pub room_left : (used used_after : ℕ) (piece whole rest : List ℕ) (room room_after : ℕ) → used_after ≡ used + length piece → whole ≡ piece ++ rest
+    → used + length whole ≤ room → room ≤ room_after → used_after + length rest ≤ room_after
 room_left used used_after piece whole rest room room_after e f g h = omega (arith, ap length f, length-append piece rest)
 
 -- there is room for the piece

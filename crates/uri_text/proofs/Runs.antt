@@ -1,5 +1,6 @@
 -- Runs of characters that stay as they are.
-use Rattle.std.proofs.Common.{◌≡◌, ℕ, suc, ◌+◌, ◌<◌, [], ◌∷◌, ◌++◌, length, take, drop, get_or, Bool, true, false, cond, refl, sym, ap, ◌∙◌, subst, arith, append-nil}
+use Rattle.std.proofs.Common.{◌≡◌, ℕ, suc, ◌+◌, ◌<◌, [], ◌∷◌, ◌++◌, length, take, drop, get_or, Bool, true, false, cond, refl, sym, ap, ◌∙◌, subst, arith}
+use Rattle.std.proofs.Common.{append-nil}
 use Rattle.std.specs.List.{prefix_len}
 use Rattle.std.specs.Str.{IsAscii}
 use Rattle.std.proofs.lemmas.Bool.{ne_eqb}
@@ -45,7 +46,8 @@ unreserved_or_reserved_ascii t = run_ascii is_unreserved_or_reserved t unreserve
 -- ---- a run is written as it is
 
 -- a front of one more byte
-longer : (write : Text → Text) (b k : ℕ) (t : Text) → b ∷ write t ≡ b ∷ (take k t ++ write (drop k t)) → b ∷ write t ≡ take (1 + k) (b ∷ t) ++ write (drop (1 + k) (b ∷ t))
+longer : (write : Text → Text) (b k : ℕ) (t : Text) → b ∷ write t ≡ b ∷ (take k t ++ write (drop k t))
+    → b ∷ write t ≡ take (1 + k) (b ∷ t) ++ write (drop (1 + k) (b ∷ t))
 longer write b k t is = let more : suc k ≡ 1 + k = omega arith in subst (λ n. b ∷ write t ≡ take n (b ∷ t) ++ write (drop n (b ∷ t))) more is
 
 copied : (b : ℕ) (t : Text) → is_unreserved b ≡ true → written_u (b ∷ t) ≡ b ∷ written_u t
@@ -62,8 +64,10 @@ pub written_u-run : (t : Text) → written_u t ≡ take (prefix_len is_unreserve
 written_u-run [] = refl
 written_u-run (b ∷ t) = by_cases (is_unreserved b) refl (written_u-run t)
   where
-    by_cases : (stays : Bool) → is_unreserved b ≡ stays → written_u t ≡ take (prefix_len is_unreserved t) t ++ written_u (drop (prefix_len is_unreserved t) t) → written_u (b ∷ t) ≡ take (prefix_len is_unreserved (b ∷ t)) (b ∷ t) ++ written_u (drop (prefix_len is_unreserved (b ∷ t)) (b ∷ t))
-    by_cases false is run = subst (λ n. written_u (b ∷ t) ≡ take n (b ∷ t) ++ written_u (drop n (b ∷ t))) (ap (λ x. cond x (1 + prefix_len is_unreserved t) 0) (sym is)) refl
+    by_cases : (stays : Bool) → is_unreserved b ≡ stays → written_u t ≡ take (prefix_len is_unreserved t) t ++ written_u (drop (prefix_len is_unreserved t) t)
+        → written_u (b ∷ t) ≡ take (prefix_len is_unreserved (b ∷ t)) (b ∷ t) ++ written_u (drop (prefix_len is_unreserved (b ∷ t)) (b ∷ t))
+    by_cases false is run =
+        subst (λ n. written_u (b ∷ t) ≡ take n (b ∷ t) ++ written_u (drop n (b ∷ t))) (ap (λ x. cond x (1 + prefix_len is_unreserved t) 0) (sym is)) refl
     by_cases true is run =
         subst (λ n. written_u (b ∷ t) ≡ take n (b ∷ t) ++ written_u (drop n (b ∷ t))) (ap (λ x. cond x (1 + prefix_len is_unreserved t) 0) (sym is))
         (copied b t is ∙ longer written_u b (prefix_len is_unreserved t) t (ap (λ u. b ∷ u) run))
@@ -77,8 +81,14 @@ pub written_ur-run : (t : Text) → written_ur t ≡ take (prefix_len is_unreser
 written_ur-run [] = refl
 written_ur-run (b ∷ t) = by_cases (is_unreserved_or_reserved b) refl (written_ur-run t)
   where
-    by_cases : (stays : Bool) → is_unreserved_or_reserved b ≡ stays → written_ur t ≡ take (prefix_len is_unreserved_or_reserved t) t ++ written_ur (drop (prefix_len is_unreserved_or_reserved t) t) → written_ur (b ∷ t) ≡ take (prefix_len is_unreserved_or_reserved (b ∷ t)) (b ∷ t) ++ written_ur (drop (prefix_len is_unreserved_or_reserved (b ∷ t)) (b ∷ t))
-    by_cases false is run = subst (λ n. written_ur (b ∷ t) ≡ take n (b ∷ t) ++ written_ur (drop n (b ∷ t))) (ap (λ x. cond x (1 + prefix_len is_unreserved_or_reserved t) 0) (sym is)) refl
+    by_cases : (stays : Bool) → is_unreserved_or_reserved b ≡ stays → written_ur t ≡ take (prefix_len is_unreserved_or_reserved t) t
+        ++ written_ur (drop (prefix_len is_unreserved_or_reserved t) t) → written_ur (b ∷ t) ≡ take (prefix_len is_unreserved_or_reserved (b ∷ t)) (b ∷ t)
+        ++ written_ur (drop (prefix_len is_unreserved_or_reserved (b ∷ t)) (b ∷ t))
+    by_cases false is run =
+        subst (λ n. written_ur (b ∷ t) ≡ take n (b ∷ t) ++ written_ur (drop n (b ∷ t)))
+        (ap (λ x. cond x (1 + prefix_len is_unreserved_or_reserved t) 0) (sym is)) refl
     by_cases true is run =
-        subst (λ n. written_ur (b ∷ t) ≡ take n (b ∷ t) ++ written_ur (drop n (b ∷ t))) (ap (λ x. cond x (1 + prefix_len is_unreserved_or_reserved t) 0) (sym is))
-        (written_ur-byte (b ∷ t) (no_triplet b t is) (omega arith) ∙ ap (λ stays. written_byte stays b ++ written_ur t) is ∙ longer written_ur b (prefix_len is_unreserved_or_reserved t) t (ap (λ u. b ∷ u) run))
+        subst (λ n. written_ur (b ∷ t) ≡ take n (b ∷ t) ++ written_ur (drop n (b ∷ t)))
+        (ap (λ x. cond x (1 + prefix_len is_unreserved_or_reserved t) 0) (sym is))
+        (written_ur-byte (b ∷ t) (no_triplet b t is) (omega arith) ∙ ap (λ stays. written_byte stays b ++ written_ur t) is
+        ∙ longer written_ur b (prefix_len is_unreserved_or_reserved t) t (ap (λ u. b ∷ u) run))

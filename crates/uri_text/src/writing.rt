@@ -1,6 +1,7 @@
 //! The two ways in which a text is written.
 
-ghost use Rattle.std.specs.Prelude.{◌≡◌, true, ◌+◌, ◌*◌, ◌<◌, ◌≤◌, ◌++◌, length, string_bytes, string_len, string_capacity};
+ghost use Rattle.std.specs.Prelude.{◌≡◌, true, ◌+◌, ◌*◌, ◌<◌, ◌≤◌, ◌++◌, length, string_bytes, string_len};
+ghost use Rattle.std.specs.Prelude.{string_capacity};
 ghost use Rattle.std.specs.List.{prefix_len};
 ghost use Rattle.std.specs.Str.{IsAscii};
 ghost use Rattle.text_model.specs.Texts.{is_unreserved, is_reserved, begins_with_triplet};
@@ -120,7 +121,8 @@ fn push_front_u<'t>(out: &mut String, text: &'t [u8]) -> &'t [u8]
     requires room { string_len out.old + length (written_u text.now) ≤ string_capacity out.old }
     ensures shorter { length result.now < length text.now }
     ensures bytes { string_bytes out.new ++ written_u result.now ≡ string_bytes out.old ++ written_u text.now }
-    ensures len { string_len out.new + length (written_u result.now) ≡ string_len out.old + length (written_u text.now) }
+    ensures len { string_len out.new + length (written_u result.now) ≡ string_len out.old
+        + length (written_u text.now) }
     ensures capacity { string_capacity out.old ≤ string_capacity out.new }
 {
     let (run, after) = text.split_at(unreserved_len(text));
@@ -140,7 +142,8 @@ fn push_front_ur<'t>(out: &mut String, text: &'t [u8]) -> &'t [u8]
     requires room { string_len out.old + length (written_ur text.now) ≤ string_capacity out.old }
     ensures shorter { length result.now < length text.now }
     ensures bytes { string_bytes out.new ++ written_ur result.now ≡ string_bytes out.old ++ written_ur text.now }
-    ensures len { string_len out.new + length (written_ur result.now) ≡ string_len out.old + length (written_ur text.now) }
+    ensures len { string_len out.new + length (written_ur result.now) ≡ string_len out.old
+        + length (written_ur text.now) }
     ensures capacity { string_capacity out.old ≤ string_capacity out.new }
 {
     let (run, after) = text.split_at(unreserved_or_reserved_len(text));

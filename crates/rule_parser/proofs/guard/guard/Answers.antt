@@ -24,5 +24,6 @@ compared-requires-clause-verb c =
 pub returns-in-Some-split_once : goal.returns-in-Some-split_once
 returns-in-Some-split_once c =
     let first = split_parts 32 c.args.tokens.now (Some (c.in-Some.first, c.in-Some.rest)) c.in-Some.ensures.cases (lit< tt) in
-    let second = split_parts 32 c.in-Some.rest.now (Some (c.in-Some-split_once.verb, c.in-Some-split_once.value)) c.in-Some-split_once.ensures.cases (lit< tt) in
+    let second = split_parts 32 c.in-Some.rest.now (Some (c.in-Some-split_once.verb, c.in-Some-split_once.value)) c.in-Some-split_once.ensures.cases
+    (lit< tt) in
     rw (first.0, second.0) c.compared.ensures

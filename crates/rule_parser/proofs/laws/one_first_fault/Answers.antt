@@ -1,6 +1,7 @@
 -- Bytes are too many, or no text, or have lines with one first fault.
-use Rattle.rule_parser.proofs.FaultLaws.{one_refusal}
+use Rattle.rule_parser.proofs.FirstFaults.{one_refusal}
 use Rattle.rule_parser.proofs.laws.one_first_fault.Goals as goal
 
 pub returns : goal.returns
-returns c = λ bytes kind other line place a b. one_refusal c.one_tree.ensures c.tree_without_fault.ensures c.one_first_fault.ensures bytes kind other line place a b
+returns c = λ bytes kind other line place a b. one_refusal c.one_tree.ensures c.tree_without_fault.ensures c.one_first_fault.ensures bytes kind other line
+    place a b

@@ -1,6 +1,6 @@
 -- Lines spell one list of statements, and statements are those of one set of rules.
 use Rattle.std.specs.Str.Lines.{lines}
-use Rattle.rule_parser.proofs.FaultLaws.{rules_same}
+use Rattle.rule_parser.proofs.FirstFaults.{rules_same}
 use Rattle.rule_parser.proofs.laws.one_rule_set.Goals as goal
 
 pub returns : goal.returns

@@ -1,5 +1,5 @@
 -- Lines that spell rules have no fault, and their bytes are neither too many nor no text.
-use Rattle.rule_parser.proofs.FaultLaws.{no_refusal}
+use Rattle.rule_parser.proofs.FirstFaults.{no_refusal}
 use Rattle.rule_parser.proofs.laws.rules_without_fault.Goals as goal
 
 pub returns : goal.returns

@@ -16,4 +16,6 @@ returns-in-Err-clause-err c =
     c.operator_len-skipped.ensures ∙ ap (λ (q : Op). length (operator_text q)) c.operator-op.ensures in
     let list = c.split_at.ensures.back ∙ ap (λ (k : ℕ). drop k c.args.text.now) skipped in
     let operator = operator_of-HasOperator c.args.text.now (sym c.begins_with_reserved.ensures ∙ c.if-begins_with_reserved.false) in
-    rw (c.after.ensures, skipped) (body_fault c.args.text.now (operator_of c.args.text.now) (drop (length (operator_text (operator_of c.args.text.now))) c.args.text.now) c.in-Err.e operator (subst (λ (t : List ℕ). IsFault c.in-Err.e (IsListFault t)) list c.in-Err.ensures.err))
+    rw (c.after.ensures, skipped)
+    (body_fault c.args.text.now (operator_of c.args.text.now) (drop (length (operator_text (operator_of c.args.text.now))) c.args.text.now) c.in-Err.e
+    operator (subst (λ (t : List ℕ). IsFault c.in-Err.e (IsListFault t)) list c.in-Err.ensures.err))

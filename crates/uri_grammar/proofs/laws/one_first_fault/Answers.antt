@@ -1,4 +1,4 @@
-use Rattle.uri_grammar.proofs.LawLemmas.{one_first_fault}
+use Rattle.uri_grammar.proofs.PartLaws.{one_first_fault}
 use Rattle.uri_grammar.proofs.laws.one_first_fault.Goals as goal
 
 pub returns : goal.returns

@@ -1,4 +1,4 @@
-use Rattle.uri_grammar.proofs.LawLemmas.{tree_without_fault}
+use Rattle.uri_grammar.proofs.PartLaws.{tree_without_fault}
 use Rattle.uri_grammar.proofs.laws.tree_without_fault.Goals as goal
 
 pub returns : goal.returns

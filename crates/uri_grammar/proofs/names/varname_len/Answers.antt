@@ -22,4 +22,5 @@ loop-more-preserved c = record {
 
 pub returns-clause-varname : goal.returns-clause-varname
 returns-clause-varname c = λ _.
-    ended_varname c.args.text.now (take c.loop-more.len c.args.text.now) (drop c.loop-more.len c.args.text.now) (sym (take-append-drop c.loop-more.len c.args.text.now)) c.loop-more.invariant.name (omega (arith, c.loop-more.invariant.next, c.loop-more-test.false))
+    ended_varname c.args.text.now (take c.loop-more.len c.args.text.now) (drop c.loop-more.len c.args.text.now)
+    (sym (take-append-drop c.loop-more.len c.args.text.now)) c.loop-more.invariant.name (omega (arith, c.loop-more.invariant.next, c.loop-more-test.false))

@@ -18,4 +18,6 @@ returns-clause-none c =
     let back = c.split_at.ensures.back in
     let some : 0 < length c.split_at.result.1.now = grind (arith, nat_tests) in
     let follower : begins_with_modifier c.split_at.result.1.now ≡ false = sym c.begins_with_modifier.ensures ∙ c.if-begins_with_modifier.false in
-    bad_follower c.args.text.now (take c.varname_len-len.result c.args.text.now) (drop c.varname_len-len.result c.args.text.now) (c.varname_len-len.ensures.varname (omega arith)) (subst (λ (t : List ℕ). 0 < length t) back some) (subst (λ (t : List ℕ). begins_with_modifier t ≡ false) back follower)
+    bad_follower c.args.text.now (take c.varname_len-len.result c.args.text.now) (drop c.varname_len-len.result c.args.text.now)
+    (c.varname_len-len.ensures.varname (omega arith)) (subst (λ (t : List ℕ). 0 < length t) back some)
+    (subst (λ (t : List ℕ). begins_with_modifier t ≡ false) back follower)

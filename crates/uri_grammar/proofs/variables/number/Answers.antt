@@ -12,8 +12,10 @@ pub loop-c-preserved : goal.loop-c-preserved
 loop-c-preserved c =
     let digit = sym c.is_ascii_digit.ensures.value ∙ c.if-not-is_ascii_digit.false in
     let small : 10 * c.loop-c.number + (c.c-item.result - 48) ≤ MAX_PREFIX = omega (arith, c.if-number-from.false, c.from.ensures, c.digit.ensures.value) in
-    rw c.digit.ensures.value (next_read c.args.digits.now c.loop-c.c-index c.loop-c.number c.c-item.result c.loop-c.invariant c.loop-c-test.true c.c-item.is digit small)
+    rw c.digit.ensures.value (next_read c.args.digits.now c.loop-c.c-index c.loop-c.number c.c-item.result c.loop-c.invariant c.loop-c-test.true c.c-item.is
+    digit small)
 
 pub returns : goal.returns
 returns c =
-    sym (all_read c.args.digits.now c.loop-c.c-index c.loop-c.number c.loop-c.invariant c.loop-c-test.false (sym c.begins_above_zero.ensures ∙ c.if-not-begins_above_zero.false))
+    sym (all_read c.args.digits.now c.loop-c.c-index c.loop-c.number c.loop-c.invariant c.loop-c-test.false
+    (sym c.begins_above_zero.ensures ∙ c.if-not-begins_above_zero.false))

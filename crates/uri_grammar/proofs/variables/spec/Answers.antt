@@ -16,7 +16,10 @@ returns-in_default-modifier-clause-err c =
     let is = c.in-Some.ensures.some in
     let size : length (take c.in-Some.len c.args.text.now) ≡ c.in-Some.len = length-take-le c.in-Some.len c.args.text.now is.0 in
     let none : None ≡ modifier_of (drop c.in-Some.len c.args.text.now) = c.in_default-modifier.ensures ∙ ap modifier_of c.split_at.ensures.back in
-    rw c.new-in_default-modifier.ensures (inr (subst (λ (n : ℕ). IsSpecFault c.args.text.now kind.BadModifier n) size (bad_modifier c.args.text.now (take c.in-Some.len c.args.text.now) (drop c.in-Some.len c.args.text.now) is.1 (modifier_of-none (drop c.in-Some.len c.args.text.now) none))))
+    rw c.new-in_default-modifier.ensures
+    (inr (subst (λ (n : ℕ). IsSpecFault c.args.text.now kind.BadModifier n) size
+    (bad_modifier c.args.text.now (take c.in-Some.len c.args.text.now) (drop c.in-Some.len c.args.text.now) is.1
+    (modifier_of-none (drop c.in-Some.len c.args.text.now) none))))
 
 pub returns-clause-ok : goal.returns-clause-ok
 returns-clause-ok c =
@@ -25,7 +28,8 @@ returns-clause-ok c =
     let after = drop c.in-Some.len c.args.text.now in
     let modifier : Some (c.in-Some-modifier.cut, c.in-Some-modifier.explode) ≡ modifier_of after =
     c.in-Some-modifier.ensures ∙ ap modifier_of c.split_at.ensures.back in
-    let named : c.new-2.result ≡ name = c.new-2.ensures ∙ (c.in_ok-text_of.ensures ∙ (ap encode_utf8_all c.split_at.ensures.front ∙ encodes-varname name is.begins.is_varname)) in
+    let named : c.new-2.result ≡ name =
+    c.new-2.ensures ∙ (c.in_ok-text_of.ensures ∙ (ap encode_utf8_all c.split_at.ensures.front ∙ encodes-varname name is.begins.is_varname)) in
     record {
       after = after;
       whole = is.begins.whole ∙ ap (λ (t : List ℕ). t ++ after) (sym named);

@@ -10,14 +10,17 @@ loop-left-preserved c =
     c.item_len-end.ensures.value ∙ ap (item_length c.args.triplets) c.split_at.ensures.back in
     record {
       within = omega (arith, c.item_len-end.ensures.within, c.split_at.ensures.back_len);
-      taken = rw len (c.loop-left.invariant.taken ∙ next_item c.args.triplets c.args.text.now c.loop-left.end c.loop-left.left c.if-end-text.true c.loop-left-test.true);
+      taken = rw len (c.loop-left.invariant.taken ∙ next_item c.args.triplets c.args.text.now c.loop-left.end c.loop-left.left c.if-end-text.true
+          c.loop-left-test.true);
     }
 
 pub returns-clause-items : goal.returns-clause-items
 returns-clause-items c =
     elim c.loop-left-test.branch [
       | then-loop-left-test+else-end-text w ↦
-          c.split_at-2.ensures.front ∙ sym (c.loop-left.invariant.taken ∙ all_taken c.args.triplets c.args.text.now c.loop-left.end c.loop-left.left (inr w.if-end-text.false))
+          c.split_at-2.ensures.front
+          ∙ sym (c.loop-left.invariant.taken ∙ all_taken c.args.triplets c.args.text.now c.loop-left.end c.loop-left.left (inr w.if-end-text.false))
       | else-loop-left-test w ↦
-          c.split_at-2.ensures.front ∙ sym (c.loop-left.invariant.taken ∙ all_taken c.args.triplets c.args.text.now c.loop-left.end c.loop-left.left (inl (omega arith)))
+          c.split_at-2.ensures.front
+          ∙ sym (c.loop-left.invariant.taken ∙ all_taken c.args.triplets c.args.text.now c.loop-left.end c.loop-left.left (inl (omega arith)))
     ]

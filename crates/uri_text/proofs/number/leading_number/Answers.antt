@@ -7,12 +7,14 @@ use Rattle.uri_text.proofs.number.leading_number.Goals as goal
 pub returns-then-not-is_ascii_digit-clause-value : goal.returns-then-not-is_ascii_digit-clause-value
 returns-then-not-is_ascii_digit-clause-value c =
     c.then_some.ensures
-    ∙ sym (number_before c.args.text.now c.loop-count.count c.loop-count.number c.loop-count.invariant c.loop-count-test.true (sym c.is_ascii_digit.ensures.value ∙ c.if-not-is_ascii_digit.true))
+    ∙ sym (number_before c.args.text.now c.loop-count.count c.loop-count.number c.loop-count.invariant c.loop-count-test.true
+    (sym c.is_ascii_digit.ensures.value ∙ c.if-not-is_ascii_digit.true))
 
 pub returns-then-count-eq9-clause-value : goal.returns-then-count-eq9-clause-value
 returns-then-count-eq9-clause-value c =
     let nine = c.if-count-eq9.true in
-    sym (number_too_long c.args.text.now c.loop-count.number (subst (λ n. HasRead c.args.text.now n c.loop-count.number) nine c.loop-count.invariant) (omega arith)
+    sym (number_too_long c.args.text.now c.loop-count.number (subst (λ n. HasRead c.args.text.now n c.loop-count.number) nine c.loop-count.invariant)
+    (omega arith)
     (ap (λ n. is_ascii_digit (get_or c.args.text.now n 0)) (sym nine) ∙ (sym c.is_ascii_digit.ensures.value ∙ c.if-not-is_ascii_digit.false)))
 
 pub overflow_mul-number : goal.overflow_mul-number
@@ -22,7 +24,12 @@ overflow_mul-number c =
 pub overflow_add-number : goal.overflow_add-number
 overflow_add-number c =
     let digit : is_ascii_digit (get_or c.args.text.now c.loop-count.count 0) ≡ true = sym c.is_ascii_digit.ensures.value ∙ c.if-not-is_ascii_digit.false in
-    omega (arith, digit_low (get_or c.args.text.now c.loop-count.count 0) digit, room_for_digit c.args.text.now c.loop-count.count c.loop-count.number c.loop-count.invariant (omega arith))
+    omega (
+      arith,
+      digit_low (get_or c.args.text.now c.loop-count.count 0) digit,
+      room_for_digit c.args.text.now c.loop-count.count c.loop-count.number
+          c.loop-count.invariant (omega arith),
+    )
 
 pub loop-count-preserved : goal.loop-count-preserved
 loop-count-preserved c =

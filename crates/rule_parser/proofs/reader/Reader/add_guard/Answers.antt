@@ -25,4 +25,5 @@ returns-clause-ok c =
     let reads = rw c.in-Some.is at c.in_ok-guard.ensures in
     let fits = rw c.deref.ensures.value at (sym c.guard_fits.ensures ∙ c.if-not-guard_fits.false) in
     rw (c.in_ok-push.ensures.items, reads.1)
-    (guards_more _ _ c.args.self.now.rule_line _ _ (sym c.is_in_rule.ensures ∙ c.if-not-is_in_rule.false) (record { tokens = reads.0; kinds = fits }) c.requires)
+    (guards_more _ _ c.args.self.now.rule_line _ _ (sym c.is_in_rule.ensures ∙ c.if-not-is_in_rule.false) (record { tokens = reads.0; kinds = fits })
+    c.requires)
