@@ -4,3 +4,4 @@ pub mod Walk
 pub mod Totals
 pub mod Steps
 pub mod Limits
+mod Examples

@@ -7,7 +7,8 @@ use Rattle.code_model.specs.declared.code.Instruction.{Instruction}
 use Rattle.code_model.specs.declared.code.Instruction.TheVariants as instruction
 use Rattle.machine_model.specs.declared.form.Body.{Body}
 use Rattle.machine_model.specs.Form.{body_at, is_in_body}
-use Rattle.machine_model.specs.Budget.{Sums, fixed_bytes, fixed_at, separator_bytes, separator_at, written_bytes, written_at, is_of_element, of_element, of_others, total, where_outside, where_inside}
+use Rattle.machine_model.specs.Budget.{Sums, fixed_bytes, fixed_at, separator_bytes, separator_at, written_bytes, written_at, is_of_element, of_element}
+use Rattle.machine_model.specs.Budget.{of_others, total, where_outside, where_inside}
 use Rattle.code_file.specs.Grammar.{IsCode}
 use Rattle.budget.specs.Small.{IsSmall}
 use Rattle.budget.specs.Private.SumsBelow.{sums_below}
@@ -66,7 +67,8 @@ module _ (c : Code) (is : IsCode c) where
   small_below n h =
       let few : length c.instrs ≤ 4096 = is.header.instrs in
       let steps = apart c (λ p. 1) (λ p. 1) 1 (λ p. omega arith) (λ p. omega arith) n in
-      let printed = apart c (fixed_at c) (λ p. of_others c (fixed_at c) p + separator_at c p) 196605 (λ p. fixed_le (reading_at c p)) (λ p. printed_le (is_of_element c p) (reading_at c p)) n in
+      let printed = apart c (fixed_at c) (λ p. of_others c (fixed_at c) p + separator_at c p) 196605 (λ p. fixed_le (reading_at c p))
+      (λ p. printed_le (is_of_element c p) (reading_at c p)) n in
       let o2 = apart c (written_at c) (of_element c (written_at c)) 3 written_at_le of_element_le n in
       let o3 = apart c (written_at c) (of_others c (written_at c)) 3 written_at_le of_others_le n in
       record {

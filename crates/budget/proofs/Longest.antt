@@ -26,7 +26,8 @@ longest_more ls i d h =
 
 -- the same where that one is the literal l: a comparison text, or a text of the link
 module _ (ls : List Literal) (i : ℕ) (l : Literal) (lt : i < length ls) (is : l ≡ get_or ls i l) where
-  pub longest_compared_more : (n m : ℕ) → n ≡ longest_compared (take i ls) → l.compared ≡ true → m ≡ max n (length l.bytes) → m ≡ longest_compared (take (i + 1) ls)
+  pub longest_compared_more : (n m : ℕ) → n ≡ longest_compared (take i ls) → l.compared ≡ true → m ≡ max n (length l.bytes)
+      → m ≡ longest_compared (take (i + 1) ls)
   longest_compared_more n m h is_compared e = rw (longest_more ls i l lt, ← is, is_compared, ← h) e
 
   pub longest_other_more : (n : ℕ) → n ≡ longest_compared (take i ls) → l.compared ≡ false → n ≡ longest_compared (take (i + 1) ls)

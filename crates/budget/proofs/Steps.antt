@@ -30,4 +30,5 @@ module _ (c : Code) (p : ℕ) (b : Sums) (h : b ≡ sums_below c p) (i : Option 
     after_element mine =
         let is_print = (and_parts (prints r.body.element i) r.kept mine).0 in
         ap (λ x. plus_element x s) h
-        ∙ sym (element_step c p s here r.body (the_body_at c p r in_body) (of_element_at c p r i in_body e ∙ mine) (subst (λ x. prints r.body.element x ≡ true) e is_print))
+        ∙ sym (element_step c p s here r.body (the_body_at c p r in_body) (of_element_at c p r i in_body e ∙ mine)
+        (subst (λ x. prints r.body.element x ≡ true) e is_print))

@@ -5,7 +5,8 @@ use Rattle.code_model.specs.declared.code.Instruction.{Instruction}
 use Rattle.code_model.specs.declared.code.Instruction.TheVariants as instruction
 use Rattle.machine_model.specs.declared.form.Body.{Body}
 use Rattle.machine_model.specs.Form.{body_at}
-use Rattle.machine_model.specs.Budget.{fixed_at, separator_bytes, separator_at, written_at, prints, is_of_element, of_element, of_others, total, where_outside, where_inside}
+use Rattle.machine_model.specs.Budget.{fixed_at, separator_bytes, separator_at, written_at, prints, is_of_element, of_element, of_others, total, where_outside}
+use Rattle.machine_model.specs.Budget.{where_inside}
 use Rattle.budget.specs.declared.share.Share.{Share}
 use Rattle.budget.specs.Private.SumsBelow.{sums_below}
 use Rattle.budget.specs.Private.Shares.{IsShareOf, plus_outside, plus_inside, plus_element}
@@ -41,11 +42,14 @@ module _ (c : Code) (p : ℕ) (s : Share) (is : IsShareOf c (reading_at c p) s) 
   outside_step e =
       let s0 = outside_more c (λ q. 1) p e in
       let s1 = inside_same c (λ q. 1) p e in
-      let o0 : total (where_outside c (fixed_at c)) (p + 1) ≡ total (where_outside c (fixed_at c)) p + s.fixed = rw is.fixed (outside_more c (fixed_at c) p e) in
+      let o0 : total (where_outside c (fixed_at c)) (p + 1) ≡ total (where_outside c (fixed_at c)) p + s.fixed =
+      rw is.fixed (outside_more c (fixed_at c) p e) in
       let o1 = inside_same c (λ q. of_others c (fixed_at c) q + separator_at c q) p e in
       let out = outside_more c (written_at c) p e in
       let ins = inside_same c (of_element c (written_at c)) p e in
-      let o2 : total (where_outside c (written_at c)) (p + 1) + total (where_inside c (of_element c (written_at c))) (p + 1) ≡ total (where_outside c (written_at c)) p + total (where_inside c (of_element c (written_at c))) p + s.written = omega (arith, out, ins, is.written) in
+      let o2 : total (where_outside c (written_at c)) (p + 1) + total (where_inside c (of_element c (written_at c))) (p + 1)
+      ≡ total (where_outside c (written_at c)) p + total (where_inside c (of_element c (written_at c))) p + s.written =
+      omega (arith, out, ins, is.written) in
       let o3 = inside_same c (of_others c (written_at c)) p e in
       λ t. record { s0 = s0 t; s1 = s1 t; o0 = o0 t; o1 = o1 t; o2 = o2 t; o3 = o3 t }
 
@@ -56,11 +60,13 @@ module _ (c : Code) (p : ℕ) (s : Share) (is : IsShareOf c (reading_at c p) s) 
         let s1 = inside_more c (λ q. 1) p b e in
         let o0 = outside_same c (fixed_at c) p b e in
         let mine : of_others c (fixed_at c) p + separator_at c p ≡ s.fixed + s.separator = rw (other, is.fixed, is.separator) refl in
-        let o1 = inside_more c (λ q. of_others c (fixed_at c) q + separator_at c q) p b e ∙ ap (λ n. total (where_inside c (λ q. of_others c (fixed_at c) q + separator_at c q)) p + n) mine in
+        let o1 = inside_more c (λ q. of_others c (fixed_at c) q + separator_at c q) p b e
+        ∙ ap (λ n. total (where_inside c (λ q. of_others c (fixed_at c) q + separator_at c q)) p + n) mine in
         let none : of_element c (written_at c) p ≡ 0 = rw other refl in
         let out = outside_same c (written_at c) p b e in
         let ins = inside_more c (of_element c (written_at c)) p b e in
-        let o2 : total (where_outside c (written_at c)) (p + 1) + total (where_inside c (of_element c (written_at c))) (p + 1) ≡ total (where_outside c (written_at c)) p + total (where_inside c (of_element c (written_at c))) p = omega (arith, out, ins, none) in
+        let o2 : total (where_outside c (written_at c)) (p + 1) + total (where_inside c (of_element c (written_at c))) (p + 1)
+        ≡ total (where_outside c (written_at c)) p + total (where_inside c (of_element c (written_at c))) p = omega (arith, out, ins, none) in
         let all : of_others c (written_at c) p ≡ s.written = rw (other, is.written) refl in
         let o3 = inside_more c (of_others c (written_at c)) p b e ∙ ap (λ n. total (where_inside c (of_others c (written_at c))) p + n) all in
         λ t. record { s0 = s0 t; s1 = s1 t; o0 = o0 t; o1 = o1 t; o2 = o2 t; o3 = o3 t }
@@ -72,12 +78,15 @@ module _ (c : Code) (p : ℕ) (s : Share) (is : IsShareOf c (reading_at c p) s) 
         let o0 = outside_same c (fixed_at c) p b e in
         let nothing : of_others c (fixed_at c) p + separator_at c p ≡ 0 = rw (mine, no_separator c b.element (reading_at c p) is_print) refl in
         let more = inside_more c (λ q. of_others c (fixed_at c) q + separator_at c q) p b e in
-        let o1 : total (where_inside c (λ q. of_others c (fixed_at c) q + separator_at c q)) (p + 1) ≡ total (where_inside c (λ q. of_others c (fixed_at c) q + separator_at c q)) p = omega (arith, more, nothing) in
+        let o1 : total (where_inside c (λ q. of_others c (fixed_at c) q + separator_at c q)) (p + 1)
+        ≡ total (where_inside c (λ q. of_others c (fixed_at c) q + separator_at c q)) p = omega (arith, more, nothing) in
         let all : of_element c (written_at c) p ≡ s.written = rw (mine, is.written) refl in
         let out = outside_same c (written_at c) p b e in
         let ins = inside_more c (of_element c (written_at c)) p b e in
-        let o2 : total (where_outside c (written_at c)) (p + 1) + total (where_inside c (of_element c (written_at c))) (p + 1) ≡ total (where_outside c (written_at c)) p + total (where_inside c (of_element c (written_at c))) p + s.written = omega (arith, out, ins, all) in
+        let o2 : total (where_outside c (written_at c)) (p + 1) + total (where_inside c (of_element c (written_at c))) (p + 1)
+        ≡ total (where_outside c (written_at c)) p + total (where_inside c (of_element c (written_at c))) p + s.written = omega (arith, out, ins, all) in
         let none : of_others c (written_at c) p ≡ 0 = rw mine refl in
         let last = inside_more c (of_others c (written_at c)) p b e in
-        let o3 : total (where_inside c (of_others c (written_at c))) (p + 1) ≡ total (where_inside c (of_others c (written_at c))) p = omega (arith, last, none) in
+        let o3 : total (where_inside c (of_others c (written_at c))) (p + 1) ≡ total (where_inside c (of_others c (written_at c))) p =
+        omega (arith, last, none) in
         λ t. record { s0 = s0 t; s1 = s1 t; o0 = o0 t; o1 = o1 t; o2 = o2 t; o3 = o3 t }

@@ -55,5 +55,6 @@ module _ (c : Code) where
       let after : body_at c (suc p) ≡ begun c p (reading_at c p) = body_suc c p ∙ ap (body_after c p) (no_body_at p h) in
       ap (running_in c) (sym (rw add-one after))
 
-  pub of_element_at : (p : ℕ) (r : Running) (i : Option Instruction) → Some r ≡ running_at c p → i ≡ reading_at c p → is_of_element c p ≡ (prints r.body.element i && r.kept)
+  pub of_element_at : (p : ℕ) (r : Running) (i : Option Instruction) → Some r ≡ running_at c p → i ≡ reading_at c p
+      → is_of_element c p ≡ (prints r.body.element i && r.kept)
   of_element_at p r i h e = rw (the_body_at p r h, kept_at p r h, e) refl

@@ -1,3 +1,4 @@
 pub mod Operands
 pub mod Outcomes
 pub mod Results
+mod Examples

@@ -9,18 +9,21 @@ use Rattle.code_model.specs.Code.{Code, Literal}
 use Rattle.text_model.specs.UriText.{IsUriText}
 use Rattle.code_model.specs.declared.code.Instruction.{Instruction}
 use Rattle.code_model.specs.Operands.{Operand, Register, TextName, ListName, LinkText, Compared, Items, Mode, operands, is_in_range}
-use Rattle.machine_model.specs.Operands.{register_count, is_register, is_in_table, has_table_kind, is_right, has_right_operands, is_link_text, literal_at, text_of_literal}
+use Rattle.machine_model.specs.Operands.{register_count, is_register, is_in_table, has_table_kind, is_right, has_right_operands, is_link_text, literal_at}
+use Rattle.machine_model.specs.Operands.{text_of_literal}
 use Rattle.code_file.specs.Grammar.{IsCode, IsLiteral, IsTextOf}
 use Rattle.checked_machine.specs.Private.Given.{IsGiven, AreGiven}
 
 -- the parts of what makes an operand right
 in_table : (c : Code) (o : Operand) → is_right c o ≡ true → is_in_table c o ≡ true
 in_table c o e =
-    (and_parts (is_in_table c o) (has_table_kind c o) ((and_parts (is_register c o) (is_in_table c o && has_table_kind c o) ((and_parts (is_in_range o) _ e).1)).1)).0
+    (and_parts (is_in_table c o) (has_table_kind c o)
+    ((and_parts (is_register c o) (is_in_table c o && has_table_kind c o) ((and_parts (is_in_range o) _ e).1)).1)).0
 
 of_kind : (c : Code) (o : Operand) → is_right c o ≡ true → has_table_kind c o ≡ true
 of_kind c o e =
-    (and_parts (is_in_table c o) (has_table_kind c o) ((and_parts (is_register c o) (is_in_table c o && has_table_kind c o) ((and_parts (is_in_range o) _ e).1)).1)).1
+    (and_parts (is_in_table c o) (has_table_kind c o)
+    ((and_parts (is_register c o) (is_in_table c o && has_table_kind c o) ((and_parts (is_in_range o) _ e).1)).1)).1
 
 as_register : (c : Code) (o : Operand) → is_right c o ≡ true → is_register c o ≡ true
 as_register c o e = (and_parts (is_register c o) (is_in_table c o && has_table_kind c o) ((and_parts (is_in_range o) _ e).1)).0
@@ -39,7 +42,8 @@ link_text c n h e = by_entry (slice_get c.literals n) refl e
     by_entry : (o : Option Literal) → slice_get c.literals n ≡ o → is_link_text o ≡ true → IsUriText (text_of_literal o)
     by_entry None k t = absurd (cc)
     by_entry (Some l) k t =
-        not_compared l (subst IsLiteral (get_or_from_slice_get c.literals n l l k) (All-get_or IsLiteral c.literals n l (slice_get_within c.literals n l k) h.literals)) t
+        not_compared l (subst IsLiteral (get_or_from_slice_get c.literals n l l k)
+        (All-get_or IsLiteral c.literals n l (slice_get_within c.literals n l k) h.literals)) t
 
 -- a register of either version is one of the machine's
 below_all : (n : ℕ) (t : Bool) → n < (if t then 64 else 16) → n < 64

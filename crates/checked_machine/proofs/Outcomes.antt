@@ -18,25 +18,37 @@ pub at_start : (c : Code) (v : Environment) → After c v 0 (Running start)
 unfolding After
 at_start c v = refl
 
-pub one_more : StepIsDecided → (c : Code) (v : Environment) (k : ℕ) (s : Frame) (new : State) → After c v k (Running s) → next_state c v (Running s) ≡ Some new → After c v (k + 1) new
+pub one_more : StepIsDecided → (c : Code) (v : Environment) (k : ℕ) (s : Frame) (new : State) → After c v k (Running s) → next_state c v (Running s) ≡ Some new
+    → After c v (k + 1) new
 unfolding After
 one_more decided c v k s new h e = rw add-one ((Running s, h, (decided c v (Running s) new).1 e))
 
-pub comes_to_link : StepIsDecided → (c : Code) (v : Environment) (k : ℕ) (s : Frame) → After c v k (Running s) → (text : _) → next_state c v (Running s) ≡ Some (Ended (end.Link text)) → HasOutcome c v (Link text)
+pub comes_to_link : StepIsDecided → (c : Code) (v : Environment) (k : ℕ) (s : Frame) → After c v k (Running s) → (text : _)
+    → next_state c v (Running s) ≡ Some (Ended (end.Link text)) → HasOutcome c v (Link text)
 comes_to_link decided c v k s h text e = (k + 1, one_more decided c v k s (Ended (end.Link text)) h e)
 
-pub comes_to_no_link : StepIsDecided → (c : Code) (v : Environment) (k : ℕ) (s : Frame) → After c v k (Running s) → next_state c v (Running s) ≡ Some (Ended end.NoLink) → HasOutcome c v NoLink
+pub comes_to_no_link : StepIsDecided → (c : Code) (v : Environment) (k : ℕ) (s : Frame) → After c v k (Running s)
+    → next_state c v (Running s) ≡ Some (Ended end.NoLink) → HasOutcome c v NoLink
 comes_to_no_link decided c v k s h e = (k + 1, one_more decided c v k s (Ended end.NoLink) h e)
 
-pub gets_stuck : StepIsDecided → (c : Code) (v : Environment) (k : ℕ) (s : Frame) → After c v k (Running s) → next_state c v (Running s) ≡ None → HasOutcome c v (Stuck s.place)
+pub gets_stuck : StepIsDecided → (c : Code) (v : Environment) (k : ℕ) (s : Frame) → After c v k (Running s) → next_state c v (Running s) ≡ None
+    → HasOutcome c v (Stuck s.place)
 gets_stuck decided c v k s h e =
     (k, (s, h, refl, λ new step. let z : None ≡ Some new = sym e ∙ (decided c v (Running s) new).0 step in absurd (cc)))
 
 -- after as many steps as any run takes
 pub is_stuck_last : StepIsDecided → (c : Code) (v : Environment) (s : Frame)
     → ((k : ℕ) (t : State) → After c v k t → k ≤ step_limit c v) → After c v (step_limit c v) (Running s) → HasOutcome c v (Stuck s.place)
-is_stuck_last decided c v s in_time h =
-    (step_limit c v, (s, h, refl, λ new step. let z : step_limit c v + 1 ≤ step_limit c v = in_time (step_limit c v + 1) new (one_more decided c v (step_limit c v) s new h ((decided c v (Running s) new).0 step)) in absurd (omega arith)))
+is_stuck_last decided c v s in_time h = (
+  step_limit c v,
+  (
+    s,
+    h,
+    refl,
+    λ new step. let z : step_limit c v + 1 ≤ step_limit c v = in_time (step_limit c v + 1) new
+        (one_more decided c v (step_limit c v) s new h ((decided c v (Running s) new).0 step)) in absurd (omega arith),
+  ),
+)
 
 -- the law that where a run comes to is computed
 abbrev pub CourseIsDecided : Type 0

@@ -75,7 +75,8 @@ impl<'a> Frame<'a> {
     /// To a place if a test holds, and on if not.
     pub(crate) fn jump_if(&self, test: bool, to: u16) -> Move
         requires { self.now.place < usize.MAX }
-        ensures { move_in (frame_of self.now) result ≡ Goes (if test then at to (frame_of self.now) else on (frame_of self.now)) }
+        ensures { move_in (frame_of self.now) result
+            ≡ Goes (if test then at to (frame_of self.now) else on (frame_of self.now)) }
     {
         if test {
             Move::Goes(to as usize)

@@ -14,7 +14,8 @@ impl<'a> Frame<'a> {
     /// Jumps where the register is Undefined.
     pub(crate) fn jump_if_undefined(&self, register: Register, to: u16) -> Option<Move>
         requires { self.now.place < usize.MAX }
-        ensures { moves (frame_of self.now) result ≡ undef_move (frame_of self.now) to ((frame_of self.now).registers register.number) }
+        ensures { moves (frame_of self.now) result ≡ undef_move (frame_of self.now) to
+            ((frame_of self.now).registers register.number) }
     {
         match self.value(register) {
             Value::Undefined => Some(Move::Goes(to as usize)),
@@ -26,7 +27,8 @@ impl<'a> Frame<'a> {
     /// Jumps where the register's text is empty.
     pub(crate) fn jump_if_empty(&self, register: Register, to: u16) -> Option<Move>
         requires { self.now.place < usize.MAX }
-        ensures { moves (frame_of self.now) result ≡ for_text ((frame_of self.now).registers register.number) (jump_if_none (frame_of self.now) to) }
+        ensures { moves (frame_of self.now) result ≡ for_text ((frame_of self.now).registers register.number)
+            (jump_if_none (frame_of self.now) to) }
     {
         match self.value(register) {
             Value::Text(text) => Some(self.jump_if(text.is_empty(), to)),
@@ -37,7 +39,8 @@ impl<'a> Frame<'a> {
     /// Jumps where the register's list has no member.
     pub(crate) fn jump_if_no_member(&self, register: Register, to: u16) -> Option<Move>
         requires { self.now.place < usize.MAX }
-        ensures { moves (frame_of self.now) result ≡ for_list ((frame_of self.now).registers register.number) (jump_if_none (frame_of self.now) to) }
+        ensures { moves (frame_of self.now) result ≡ for_list ((frame_of self.now).registers register.number)
+            (jump_if_none (frame_of self.now) to) }
     {
         match self.value(register) {
             Value::List(members) => Some(self.jump_if(members.is_empty(), to)),
@@ -53,7 +56,8 @@ impl<'a> Frame<'a> {
         to: u16,
     ) -> Option<Move>
         requires { self.now.place < usize.MAX }
-        ensures { moves (frame_of self.now) result ≡ for_text ((frame_of self.now).registers first.number) (λ t. for_text ((frame_of self.now).registers second.number)
+        ensures { moves (frame_of self.now) result ≡ for_text ((frame_of self.now).registers first.number)
+            (λ t. for_text ((frame_of self.now).registers second.number)
             (λ u. Some (Goes (if bytes_eq t u then on (frame_of self.now) else at to (frame_of self.now))))) }
     {
         match (self.value(first), self.value(second)) {
@@ -65,7 +69,8 @@ impl<'a> Frame<'a> {
     /// Jumps where the first register's number is below the second's.
     pub(crate) fn jump_if_less(&self, first: Register, second: Register, to: u16) -> Option<Move>
         requires { self.now.place < usize.MAX }
-        ensures { moves (frame_of self.now) result ≡ for_number ((frame_of self.now).registers first.number) (λ m. for_number ((frame_of self.now).registers second.number)
+        ensures { moves (frame_of self.now) result ≡ for_number ((frame_of self.now).registers first.number)
+            (λ m. for_number ((frame_of self.now).registers second.number)
             (λ n. Some (Goes (if nat_lt m n then at to (frame_of self.now) else on (frame_of self.now))))) }
     {
         match (self.value(first), self.value(second)) {

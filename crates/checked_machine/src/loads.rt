@@ -57,7 +57,8 @@ impl<'a> Frame<'a> {
     /// Puts a value into a register, and goes on.
     pub(crate) fn load(&mut self, register: Register, value: Value<'a>) -> Move
         requires { self.old.place < usize.MAX }
-        ensures { move_in (frame_of self.new) result ≡ Goes (on (holding register.number (value_of value.entry) (frame_of self.old))) }
+        ensures { move_in (frame_of self.new) result
+            ≡ Goes (on (holding register.number (value_of value.entry) (frame_of self.old))) }
     {
         self.hold(register, value);
         self.on()

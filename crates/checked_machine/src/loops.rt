@@ -14,7 +14,8 @@ impl<'a> Frame<'a> {
     pub(crate) fn begin_loop(&mut self, element: Register, list: Register, end: u16) -> Option<Move>
         requires { self.old.place < usize.MAX }
         ensures { moves (frame_of self.new) result ≡ in_no_loop (frame_of self.old).loop
-            (if nat_lt (self.old.place + 1) end then for_list ((frame_of self.old).registers list.number) (each_move (frame_of self.old) element.number end) else None) }
+            (if nat_lt (self.old.place + 1) end then for_list ((frame_of self.old).registers list.number)
+            (each_move (frame_of self.old) element.number end) else None) }
     {
         let start = self.place + 1;
         let end = end as usize;

@@ -38,7 +38,8 @@ impl<'a> Frame<'a> {
     pub(crate) fn emit(&mut self, text: &[u8]) -> Result<Move, AllocError>
         requires uri_text { IsUriText text.now }
         requires place { self.old.place < usize.MAX }
-        ensures { IfOk result (λ to. move_in (frame_of self.new) to ≡ Goes (on (printing text.now (frame_of self.old)))) }
+        ensures { IfOk result
+            (λ to. move_in (frame_of self.new) to ≡ Goes (on (printing text.now (frame_of self.old)))) }
     {
         append(&mut self.output, text)?;
         Ok(self.on())
@@ -67,7 +68,8 @@ impl<'a> Frame<'a> {
         writing: Writing,
     ) -> Result<Option<Move>, AllocError>
         requires { self.old.place < usize.MAX }
-        ensures { IfOk result (λ to. moves (frame_of self.new) to ≡ for_text ((frame_of self.old).registers register.number)
+        ensures { IfOk result
+            (λ to. moves (frame_of self.new) to ≡ for_text ((frame_of self.old).registers register.number)
             (λ t. Some (Goes (on (printing (written writing t) (frame_of self.old)))))) }
     {
         let Value::Text(text) = self.value(register) else {
@@ -85,7 +87,8 @@ impl<'a> Frame<'a> {
         writing: Writing,
     ) -> Result<Option<Move>, AllocError>
         requires { self.old.place < usize.MAX }
-        ensures { IfOk result (λ to. moves (frame_of self.new) to ≡ for_text ((frame_of self.old).registers register.number)
+        ensures { IfOk result
+            (λ to. moves (frame_of self.new) to ≡ for_text ((frame_of self.old).registers register.number)
             (λ t. Some (Goes (on (printing (written writing (cut writing t count)) (frame_of self.old)))))) }
     {
         let Value::Text(text) = self.value(register) else {

@@ -56,7 +56,8 @@ impl<'a> Frame<'a> {
 
     /// Carries out the instruction at the place.
     pub(crate) fn step(&mut self, code: &'a Code, env: &'a Env) -> Result<Stepped, AllocError>
-        ensures next { IfOk result (λ came. stepped self.new came ≡ next_state code.now env.now.entries (Running (frame_of self.old))) }
+        ensures next { IfOk result
+            (λ came. stepped self.new came ≡ next_state code.now env.now.entries (Running (frame_of self.old))) }
         ensures stuck { (place : ℕ) → result ≡ Ok (Stuck place) → place ≡ self.old.place }
     {
         let place = self.place;

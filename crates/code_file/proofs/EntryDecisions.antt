@@ -1,5 +1,6 @@
 -- Each entry and each table is good or faulty.
-use Rattle.std.proofs.Common.{◌≡◌, ◌<◌, ◌+◌, ◌*◌, ◌⊎◌, ℕ, zero, suc, Bool, true, false, [], ◌∷◌, ◌++◌, length, take, drop, refl, sym, ◌∙◌, ap, subst, inl, inr, append_assoc, arith}
+use Rattle.std.proofs.Common.{◌≡◌, ◌<◌, ◌+◌, ◌*◌, ◌⊎◌, ℕ, zero, suc, Bool, true, false, [], ◌∷◌, ◌++◌, length, take, drop, refl, sym, ◌∙◌, ap, subst, inl, inr}
+use Rattle.std.proofs.Common.{append_assoc, arith}
 use Rattle.std.specs.Prelude.{◌==◌}
 use Rattle.std.specs.Str.{is_utf8}
 use Rattle.std.proofs.lemmas.Bool.{cases_lt, cases_Bool}
@@ -10,7 +11,8 @@ use Rattle.code_model.specs.Code.{Name, Literal}
 use Rattle.code_file.specs.declared.limits.TheConstants.{MAX_NAME_BYTES}
 use Rattle.code_file.specs.declared.error.CodeError.{CodeError}
 use Rattle.code_file.specs.Grammar.{number, kind_byte, name_field, literal_field, IsName, IsTextOf, IsLiteral}
-use Rattle.code_file.specs.Fault.{after, IsNameLength, IsNameFault, IsLiteralFault, in_kind, no_kind, bad_kind, no_length, bad_length, no_text, bad_text, IsTable, IsTableFault}
+use Rattle.code_file.specs.Fault.{after, IsNameLength, IsNameFault, IsLiteralFault, in_kind, no_kind, bad_kind, no_length, bad_length, no_text, bad_text}
+use Rattle.code_file.specs.Fault.{IsTable, IsTableFault}
 use Rattle.code_file.specs.Private.FromLeft.{is_uri_text}
 use Rattle.code_file.specs.Private.Tables.{BeginsWith}
 use Rattle.code_file.proofs.UriTextLemmas.{IsUriText-from_left, is_uri_text-from_set}

@@ -1,8 +1,10 @@
--- The bytes of parts, and the limits, on the definitions alone.
+-- The bytes of parts, which bytes names have, and the limits, on the definitions alone.
 use Rattle.std.proofs.Common.{◌≡◌, refl, true, false, [], ◌∷◌, codes, Some, None, arith}
-use Rattle.code_model.specs.Code.{row}
+use Rattle.std.specs.Prelude.{drop, length}
+use Rattle.text_model.specs.Texts.{Text}
+use Rattle.code_model.specs.Code.{Code, row, upgraded}
 use Rattle.code_file.specs.declared.error.CodeErrorKind.TheVariants.{TooMany, NoCode}
-use Rattle.code_file.specs.Grammar.{name_field, literal_field, code_of, spelled}
+use Rattle.code_file.specs.Grammar.{name_field, literal_field, code_of, spelled, IsNameByte}
 use Rattle.code_file.specs.Fault.{fault, header_fault, IsNameLength}
 
 -- ---- bytes
@@ -20,6 +22,59 @@ list_name = refl
 
 link_text : literal_field (record { compared = false; bytes = codes "," }) ≡ 0 ∷ 0 ∷ 1 ∷ 0x2c ∷ []
 link_text = refl
+
+-- the members of `list`, separated by commas
+abbrev pub list_code : Code
+list_code =
+    code_of 1 (record { list = true; text = codes "list" } ∷ []) (record { compared = false; bytes = codes "," } ∷ [])
+    (row 5 0 0 0 0 ∷ row 16 1 0 0 5 ∷ row 17 0 0 0 0 ∷ row 14 1 0 0 0 ∷ row 18 0 0 0 0 ∷ row 1 0 0 0 0 ∷ [])
+
+-- what a rule with the template `http://e.org/{rft.issn}` is compiled to
+abbrev pub issn_code : Code
+issn_code =
+    code_of 1 (record { list = false; text = codes "rft.issn" } ∷ [])
+    (record { compared = false; bytes = codes "http://e.org/" }
+    ∷ record { compared = true; bytes = [] }
+    ∷ record { compared = false; bytes = codes "," }
+    ∷ record { compared = true; bytes = codes "1" }
+    ∷ [])
+    (row 13 0 0 0 0 ∷ row 6 4 1 0 0 ∷ row 4 0 0 0 0 ∷ row 8 0 0 0 8 ∷ row 9 4 0 0 6 ∷ row 13 0 2 0 0 ∷ row 6 4 3 0 0
+    ∷ row 14 0 0 0 0 ∷ row 1 0 0 0 0 ∷ row 2 0 0 0 0 ∷ [])
+
+abbrev list_file : Text
+list_file =
+    0x4f ∷ 0x4c ∷ 0x4b ∷ 0x31 ∷ 0x00 ∷ 0x01 ∷ 0x00 ∷ 0x01 ∷ 0x00 ∷ 0x06 ∷ 0x01 ∷ 0x04
+    ∷ 0x6c ∷ 0x69 ∷ 0x73 ∷ 0x74 ∷ 0x00 ∷ 0x00 ∷ 0x01 ∷ 0x2c
+    ∷ 0x05 ∷ 0x00 ∷ 0x00 ∷ 0x00 ∷ 0x00 ∷ 0x00 ∷ 0x00 ∷ 0x00
+    ∷ 0x10 ∷ 0x01 ∷ 0x00 ∷ 0x00 ∷ 0x00 ∷ 0x00 ∷ 0x00 ∷ 0x05
+    ∷ 0x11 ∷ 0x00 ∷ 0x00 ∷ 0x00 ∷ 0x00 ∷ 0x00 ∷ 0x00 ∷ 0x00
+    ∷ 0x0e ∷ 0x01 ∷ 0x00 ∷ 0x00 ∷ 0x00 ∷ 0x00 ∷ 0x00 ∷ 0x00
+    ∷ 0x12 ∷ 0x00 ∷ 0x00 ∷ 0x00 ∷ 0x00 ∷ 0x00 ∷ 0x00 ∷ 0x00
+    ∷ 0x01 ∷ 0x00 ∷ 0x00 ∷ 0x00 ∷ 0x00 ∷ 0x00 ∷ 0x00 ∷ 0x00
+    ∷ []
+
+list_code_spelled : spelled list_code ≡ list_file
+list_code_spelled = refl
+
+upgraded_list_code_spelled : spelled (upgraded list_code) ≡ 0x4f ∷ 0x4c ∷ 0x4b ∷ 0x32 ∷ drop 4 list_file
+upgraded_list_code_spelled = refl
+
+issn_code_is_long : length (spelled issn_code) ≡ 127
+issn_code_is_long = refl
+
+-- ---- names
+
+exclamation_mark_in_names : IsNameByte 0x21
+exclamation_mark_in_names = (omega arith, omega arith)
+
+tilde_in_names : IsNameByte 0x7e
+tilde_in_names = (omega arith, omega arith)
+
+space_in_no_name : IsNameByte 0x20 → ⊥
+space_in_no_name p = omega (arith, p.0)
+
+delete_in_no_name : IsNameByte 0x7f → ⊥
+delete_in_no_name p = omega (arith, p.1)
 
 -- ---- limits
 

@@ -18,7 +18,8 @@ pub name_spelled : (bytes rest text after : Text) (list : Bool) (len : ℕ) → 
     → text ≡ take len rest → after ≡ drop len rest → length text ≡ len
     → bytes ≡ kind_byte list ∷ length text ∷ (text ++ after)
 name_spelled bytes rest text after list len h front back n =
-    h ∙ ap (λ (t : Text). kind_byte list ∷ len ∷ t) (sym (ap (λ (t : Text). t ++ after) front ∙ ap (λ (t : Text). take len rest ++ t) back ∙ take-append-drop len rest))
+    h ∙ ap (λ (t : Text). kind_byte list ∷ len ∷ t)
+    (sym (ap (λ (t : Text). t ++ after) front ∙ ap (λ (t : Text). take len rest ++ t) back ∙ take-append-drop len rest))
     ∙ ap (λ (k : ℕ). kind_byte list ∷ k ∷ (text ++ after)) (sym n)
 
 pub literal_spelled : (bytes behind rest text after : Text) (compared : Bool) (len : ℕ) → bytes ≡ kind_byte compared ∷ behind
@@ -26,7 +27,8 @@ pub literal_spelled : (bytes behind rest text after : Text) (compared : Bool) (l
     → bytes ≡ kind_byte compared ∷ (number (length text) ++ (text ++ after))
 literal_spelled bytes behind rest text after compared len h g front back n =
     h ∙ ap (λ (t : Text). kind_byte compared ∷ t) g
-    ∙ ap (λ (t : Text). kind_byte compared ∷ (number len ++ t)) (sym (ap (λ (t : Text). t ++ after) front ∙ ap (λ (t : Text). take len rest ++ t) back ∙ take-append-drop len rest))
+    ∙ ap (λ (t : Text). kind_byte compared ∷ (number len ++ t))
+    (sym (ap (λ (t : Text). t ++ after) front ∙ ap (λ (t : Text). take len rest ++ t) back ∙ take-append-drop len rest))
     ∙ ap (λ (k : ℕ). kind_byte compared ∷ (number k ++ (text ++ after))) (sym n)
 
 -- a kind, and what follows it

@@ -1,5 +1,6 @@
 -- All bytes have a code or a first fault: each field is good or faulty, from the first to the last.
-use Rattle.std.proofs.Common.{◌≡◌, ◌<◌, ◌≤◌, ◌+◌, ◌*◌, ◌⊎◌, ℕ, [], ◌∷◌, ◌++◌, length, take, drop, refl, sym, ◌∙◌, ap, subst, inl, inr, arith, Option, Some, None}
+use Rattle.std.proofs.Common.{◌≡◌, ◌<◌, ◌≤◌, ◌+◌, ◌*◌, ◌⊎◌, ℕ, [], ◌∷◌, ◌++◌, length, take, drop, refl, sym, ◌∙◌, ap, subst, inl, inr, arith, Option, Some}
+use Rattle.std.proofs.Common.{None}
 use Rattle.std.specs.Prelude.{All}
 use Rattle.std.proofs.lemmas.Bool.{cases_lt, cases_eq}
 use Rattle.std.proofs.lemmas.List.{append-nil, take-append-drop, length-take-le, get_or_past, nil_from_length}
@@ -8,7 +9,8 @@ use Rattle.code_model.specs.Code.{Code}
 use Rattle.code_file.specs.declared.limits.TheConstants.{MAX_BYTES}
 use Rattle.code_file.specs.declared.error.CodeError.{CodeError}
 use Rattle.code_file.specs.Grammar.{digit_byte, magic, number, name_field, literal_field, header_field, IsVersion, IsName, IsLiteral, IsCodeFile}
-use Rattle.code_file.specs.Fault.{IsNameFault, IsLiteralFault, header_fault, PastMagic, PastCounts, PastHeader, PastNames, PastLiterals, IsFieldFault, bad_magic, no_counts, bad_counts, in_names, in_literals, in_instrs, IsFirstFault, too_long, in_field}
+use Rattle.code_file.specs.Fault.{IsNameFault, IsLiteralFault, header_fault, PastMagic, PastCounts, PastHeader, PastNames, PastLiterals, IsFieldFault}
+use Rattle.code_file.specs.Fault.{bad_magic, no_counts, bad_counts, in_names, in_literals, in_instrs, IsFirstFault, too_long, in_field}
 use Rattle.code_file.specs.Private.Tables.{AreTables}
 use Rattle.code_file.proofs.FileLemmas.{AreBytes, bytes_right, number_of_bytes, number_small, code_of_tables, trailing_here, five_parts}
 use Rattle.code_file.proofs.PartsLemmas.{allowed_header}
@@ -81,7 +83,8 @@ counts_here version (n ∷ n' ∷ l ∷ l' ∷ i ∷ i' ∷ rest) known h fits =
           h
           ∙ ap (λ (t : Text). magic version ++ (t ++ (l ∷ l' ∷ i ∷ i' ∷ rest))) (sym (number_of_bytes n n' (fits 0) (fits 1)))
           ∙ ap (λ (t : Text). magic version ++ (number (256 * n + n') ++ (t ++ (i ∷ i' ∷ rest)))) (sym (number_of_bytes l l' (fits 2) (fits 3)))
-          ∙ ap (λ (t : Text). magic version ++ (number (256 * n + n') ++ (number (256 * l + l') ++ (t ++ rest)))) (sym (number_of_bytes i i' (fits 4) (fits 5)));
+          ∙ ap (λ (t : Text). magic version ++ (number (256 * n + n') ++ (number (256 * l + l') ++ (t ++ rest))))
+          (sym (number_of_bytes i i' (fits 4) (fits 5)));
     })
 
 -- the bytes behind the tables of names and of literals

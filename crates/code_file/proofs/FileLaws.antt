@@ -1,5 +1,6 @@
 -- A file has one code or one first fault, since each stage of reading gives one answer.
-use Rattle.std.proofs.Common.{◌≡◌, ◌≤◌, ◌+◌, ◌*◌, ℕ, false, List, [], ◌∷◌, ◌++◌, length, refl, sym, ◌∙◌, ap, subst, inl, inr, append_assoc, arith, length-append, Option, None}
+use Rattle.std.proofs.Common.{◌≡◌, ◌≤◌, ◌+◌, ◌*◌, ℕ, false, List, [], ◌∷◌, ◌++◌, length, refl, sym, ◌∙◌, ap, subst, inl, inr, append_assoc, arith}
+use Rattle.std.proofs.Common.{length-append, Option, None}
 use Rattle.std.specs.Prelude.{Result, Ok, Err, ◌==◌}
 use Rattle.std.specs.List.{flat_map}
 use Rattle.std.proofs.lemmas.Bool.{le-ltb, ne_eqb}
@@ -11,10 +12,13 @@ use Rattle.code_file.specs.declared.limits.TheConstants.{MAX_BYTES, MAX_NAMES, M
 use Rattle.code_file.specs.declared.error.CodeError.{CodeError}
 use Rattle.code_file.specs.declared.error.CodeErrorKind.TheVariants.{Truncated, Trailing, NoMemory}
 use Rattle.code_file.specs.Grammar.{header_field, header_of, name_field, literal_field, instr_field, IsName, IsLiteral, IsHeader, IsCodeFile}
-use Rattle.code_file.specs.Fault.{fault, after, header_fault, PastHeader, PastNames, PastLiterals, IsNameFault, IsLiteralFault, IsTable, IsTableFault, IsFieldFault, bad_magic, no_counts, bad_counts, in_names, in_literals, in_instrs, trailing, IsFirstFault, too_long, in_field, IsRefusal}
+use Rattle.code_file.specs.Fault.{fault, after, header_fault, PastHeader, PastNames, PastLiterals, IsNameFault, IsLiteralFault, IsTable, IsTableFault}
+use Rattle.code_file.specs.Fault.{IsFieldFault, bad_magic, no_counts, bad_counts, in_names, in_literals, in_instrs, trailing, IsFirstFault, too_long, in_field}
+use Rattle.code_file.specs.Fault.{IsRefusal}
 use Rattle.code_file.proofs.StageLemmas.{ReadsTable, found, faulty, Then, stops, goes}
 use Rattle.code_file.proofs.PartsLemmas.{length-instrs}
-use Rattle.code_file.proofs.ReadingStages.{outcome, ReadsHeader, no_magic, short_counts, counted, names_found, names_faulty, ReadsLiterals, literals_found, literals_faulty, ReadsInstrs, too_few, too_many, whole, Reads, one_reading}
+use Rattle.code_file.proofs.ReadingStages.{outcome, ReadsHeader, no_magic, short_counts, counted, names_found, names_faulty, ReadsLiterals, literals_found}
+use Rattle.code_file.proofs.ReadingStages.{literals_faulty, ReadsInstrs, too_few, too_many, whole, Reads, one_reading}
 
 -- ---- a code, or a fault, is what the stages give
 

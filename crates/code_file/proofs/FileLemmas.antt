@@ -1,5 +1,6 @@
 -- A whole file, and its code.
-use Rattle.std.proofs.Common.{◌≡◌, ◌<◌, ◌≤◌, ◌+◌, ◌*◌, ◌-◌, ◌/◌, ◌%◌, ℕ, zero, suc, false, List, [], ◌∷◌, ◌++◌, length, take, drop, get_or, refl, sym, ◌∙◌, ap, subst, append_assoc, arith, length-append}
+use Rattle.std.proofs.Common.{◌≡◌, ◌<◌, ◌≤◌, ◌+◌, ◌*◌, ◌-◌, ◌/◌, ◌%◌, ℕ, zero, suc, false, List, [], ◌∷◌, ◌++◌, length, take, drop, get_or, refl, sym, ◌∙◌, ap}
+use Rattle.std.proofs.Common.{subst, append_assoc, arith, length-append}
 use Rattle.std.specs.Prelude.{◌==◌}
 use Rattle.std.specs.List.{flat_map}
 use Rattle.std.proofs.lemmas.List.{nil_from_length, take-append-drop}
@@ -9,7 +10,8 @@ use Rattle.code_model.specs.declared.code.Instr.{Instr}
 use Rattle.code_file.specs.declared.header.Header.{Header}
 use Rattle.code_file.specs.declared.limits.TheConstants.{MAX_BYTES}
 use Rattle.code_file.specs.declared.error.CodeErrorKind.TheVariants.{Trailing}
-use Rattle.code_file.specs.Grammar.{number, header_field, header_of, spelled, name_field, literal_field, instr_field, IsName, IsLiteral, IsInstr, IsHeader, IsCodeFile}
+use Rattle.code_file.specs.Grammar.{number, header_field, header_of, spelled, name_field, literal_field, instr_field, IsName, IsLiteral, IsInstr, IsHeader}
+use Rattle.code_file.specs.Grammar.{IsCodeFile}
 use Rattle.code_file.specs.Fault.{fault, IsTableOf, IsTable, IsFieldFault, trailing}
 use Rattle.code_file.specs.Private.Tables.{AreTables}
 use Rattle.code_file.proofs.TableLemmas.{table_none, table_cons}

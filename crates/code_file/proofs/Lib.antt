@@ -12,3 +12,4 @@ pub mod FileLaws
 pub mod EntryDecisions
 pub mod FileDecisions
 mod Examples
+mod ListingExamples

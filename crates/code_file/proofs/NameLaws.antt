@@ -1,5 +1,6 @@
 -- Names can be told apart, and bytes have one fault of a name at most.
-use Rattle.std.proofs.Common.{◌≡◌, ◌<◌, ◌≤◌, ◌+◌, ◌⊎◌, ℕ, Bool, true, false, [], ◌∷◌, ◌++◌, length, take, get_or, refl, sym, ◌∙◌, ap, subst, inl, inr, arith, length-append}
+use Rattle.std.proofs.Common.{◌≡◌, ◌<◌, ◌≤◌, ◌+◌, ◌⊎◌, ℕ, Bool, true, false, [], ◌∷◌, ◌++◌, length, take, get_or, refl, sym, ◌∙◌, ap, subst, inl, inr, arith}
+use Rattle.std.proofs.Common.{length-append}
 use Rattle.std.specs.Prelude.{Result, Ok, Err, nat_lt, nat_le, ◌&&◌, slice_index, if◌then◌else◌}
 use Rattle.std.proofs.lemmas.Bool.{cases_order, cases_Bool, lt-ltb, le-ltb, le-leb, ltb-true, leb-true, and_from, and_parts}
 use Rattle.std.proofs.lemmas.List.{length-take-le, get_or-take}
@@ -10,7 +11,8 @@ use Rattle.code_file.specs.declared.error.CodeError.{CodeError}
 use Rattle.code_file.specs.declared.error.CodeErrorKind.TheVariants.{BadKind, BadName}
 use Rattle.code_file.specs.declared.limits.TheConstants.{MAX_NAME_BYTES}
 use Rattle.code_file.specs.Grammar.{kind_byte, name_field, IsNameByte, IsName}
-use Rattle.code_file.specs.Fault.{fault, cut_short, IsFirstWrong, IsNameLength, IsKindFault, no_kind, bad_kind, IsNameFault, in_kind, no_length, bad_length, no_text, bad_text}
+use Rattle.code_file.specs.Fault.{fault, cut_short, IsFirstWrong, IsNameLength, IsKindFault, no_kind, bad_kind, IsNameFault, in_kind, no_length, bad_length}
+use Rattle.code_file.specs.Fault.{no_text, bad_text}
 use Rattle.code_file.proofs.StageLemmas.{IsApart}
 
 -- ---- lists and kinds

@@ -1,5 +1,6 @@
 -- Parts that are given as values, and the faults of the file that they spell.
-use Rattle.std.proofs.Common.{◌≡◌, ◌<◌, ◌≤◌, ◌+◌, ◌*◌, ◌^◌, ◌⊎◌, ℕ, suc, Bool, true, false, List, [], ◌∷◌, ◌++◌, length, take, drop, refl, sym, ◌∙◌, ap, inl, inr, append_assoc, arith, length-append, drop-cons, cond, Some, None}
+use Rattle.std.proofs.Common.{◌≡◌, ◌<◌, ◌≤◌, ◌+◌, ◌*◌, ◌^◌, ◌⊎◌, ℕ, suc, Bool, true, false, List, [], ◌∷◌, ◌++◌, length, take, drop, refl, sym, ◌∙◌, ap, inl}
+use Rattle.std.proofs.Common.{inr, append_assoc, arith, length-append, drop-cons, cond, Some, None}
 use Rattle.std.specs.Prelude.{All, min, Option, nat_lt, ◌==◌, is_some, IfSome, IfNone}
 use Rattle.std.specs.List.{flat_map, slice_index_or}
 use Rattle.std.proofs.lemmas.Bool.{cases_lt, ltb-false, eqb-false}
@@ -14,7 +15,8 @@ use Rattle.code_file.specs.declared.limits.TheConstants.{MAX_BYTES, MAX_NAMES, M
 use Rattle.code_file.specs.declared.error.CodeError.{CodeError}
 use Rattle.code_file.specs.declared.error.CodeErrorKind.TheVariants.{BadName, BadLiteral}
 use Rattle.code_file.specs.Grammar.{spelled, header_of, name_field, literal_field, instr_field, IsNameByte, IsVersion, IsName, IsLiteral, IsHeader}
-use Rattle.code_file.specs.Fault.{fault, after, IsFirstWrong, IsNameFault, IsLiteralFault, bad_length, bad_text, header_fault, IsTableFault, IsHeaderField, in_names, in_literals, IsFirstFault, in_field}
+use Rattle.code_file.specs.Fault.{fault, after, IsFirstWrong, IsNameFault, IsLiteralFault, bad_length, bad_text, header_fault, IsTableFault, IsHeaderField}
+use Rattle.code_file.specs.Fault.{in_names, in_literals, IsFirstFault, in_field}
 use Rattle.code_file.specs.Private.Tables.{IsFirstBad}
 
 pub length-instrs : (is : List Instr) → length (flat_map instr_field is) ≡ 8 * length is

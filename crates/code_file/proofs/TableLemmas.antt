@@ -1,5 +1,6 @@
 -- Tables of entries that follow one another.
-use Rattle.std.proofs.Common.{◌≡◌, ◌<◌, ◌≤◌, ◌+◌, ◌-◌, ◌*◌, ℕ, suc, List, [], ◌∷◌, ◌++◌, length, take, drop, refl, sym, ◌∙◌, ap, subst, append_assoc, arith, length-append}
+use Rattle.std.proofs.Common.{◌≡◌, ◌<◌, ◌≤◌, ◌+◌, ◌-◌, ◌*◌, ℕ, suc, List, [], ◌∷◌, ◌++◌, length, take, drop, refl, sym, ◌∙◌, ap, subst, append_assoc, arith}
+use Rattle.std.proofs.Common.{length-append}
 use Rattle.std.specs.Prelude.{All}
 use Rattle.std.specs.List.{flat_map}
 use Rattle.std.proofs.lemmas.List.{append-nil, take-append-drop, nil_from_length}
@@ -72,7 +73,8 @@ building_none {IsGood = IsGood} t = record {
 pub building_next : {X : Type 0} {IsGood : X → Type 0} {field : X → Text} {count : ℕ} {bytes rest : Text} {built : List X}
     → IsBuilding IsGood field count bytes rest built → length built < count
     → (x : X) × (after : Text) × IsGood x × (rest ≡ field x ++ after) × IsBuilding IsGood field count bytes after (built ++ x ∷ [])
-building_next {X = X} {IsGood = IsGood} {field = field} {count = count} {bytes = bytes} {rest = rest} {built = built} b fewer = go b.left b.left_good b.counted b.left_spells
+building_next {X = X} {IsGood = IsGood} {field = field} {count = count} {bytes = bytes} {rest = rest} {built = built} b fewer =
+    go b.left b.left_good b.counted b.left_spells
   where
     go : (left : List X) → All IsGood left → length built + length left ≡ count → rest ≡ flat_map field left
         → (x : X) × (after : Text) × IsGood x × (rest ≡ field x ++ after) × IsBuilding IsGood field count bytes after (built ++ x ∷ [])

@@ -1,5 +1,6 @@
 -- URI text read from the left: what a reader's loop needs of the set, which grows at its end.
-use Rattle.std.proofs.Common.{◌≡◌, ◌<◌, ◌≤◌, ◌⊎◌, ℕ, Bool, true, false, [], ◌∷◌, ◌++◌, length, drop, get_or, refl, ◌∙◌, subst, inl, inr, append_assoc, arith, cond}
+use Rattle.std.proofs.Common.{◌≡◌, ◌<◌, ◌≤◌, ◌⊎◌, ℕ, Bool, true, false, [], ◌∷◌, ◌++◌, length, drop, get_or, refl, ◌∙◌, subst, inl, inr, append_assoc, arith}
+use Rattle.std.proofs.Common.{cond}
 use Rattle.std.specs.Prelude.{◌&&◌, ◌==◌}
 use Rattle.std.proofs.lemmas.List.{append-nil}
 use Rattle.std.proofs.lemmas.Bool.{eqb-true, ne_eqb}
@@ -48,7 +49,8 @@ grows s (b ∷ c ∷ []) h u =
     subst IsUriText (append_assoc s (b ∷ []) (c ∷ [])) (and_character (s ++ b ∷ []) c (and_character s b u e.0) e.1)
 grows s (b ∷ high ∷ low ∷ t) h u =
     let more : is_uri_text t ≡ true → IsUriText (s ++ 37 ∷ high ∷ low ∷ []) → IsUriText ((s ++ 37 ∷ high ∷ low ∷ []) ++ t) = λ g v. grows _ t g v in
-    let one : is_uri_text (high ∷ low ∷ t) ≡ true → IsUriText (s ++ b ∷ []) → IsUriText ((s ++ b ∷ []) ++ (high ∷ low ∷ t)) = λ g v. grows _ (high ∷ low ∷ t) g v in
+    let one : is_uri_text (high ∷ low ∷ t) ≡ true → IsUriText (s ++ b ∷ []) → IsUriText ((s ++ b ∷ []) ++ (high ∷ low ∷ t)) = λ g v. grows _ (high ∷ low ∷ t) g
+    v in
     elim (chosen (is_triplet b high low) _ _ h) [
       | inl p ↦
           let e = and_true p.0 in

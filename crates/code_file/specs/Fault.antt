@@ -1,15 +1,18 @@
 -- The first fault of bytes that are no code file. Fields are read from the left: good ones come first, and
 -- then one that is not all there, or is wrong.
-use Rattle.std.specs.Prelude.{◌≡◌, ℕ, ◌+◌, ◌*◌, ◌^◌, ◌<◌, ◌≤◌, ◌⊎◌, Bool, List, [], ◌∷◌, ◌++◌, length, take, slice_index, All, Option, Some, None, nat_lt, ◌==◌, if◌then◌else◌}
+use Rattle.std.specs.Prelude.{◌≡◌, ℕ, ◌+◌, ◌*◌, ◌^◌, ◌<◌, ◌≤◌, ◌⊎◌, Bool, List, [], ◌∷◌, ◌++◌, length, take, slice_index, All, Option, Some, None, nat_lt, ◌==◌}
+use Rattle.std.specs.Prelude.{if◌then◌else◌}
 use Rattle.std.specs.List.{flat_map}
 use Rattle.text_model.specs.Texts.{Text}
 use Rattle.code_model.specs.Code.{Name, Literal, Code}
 use Rattle.code_file.specs.declared.error.CodeError.{CodeError}
 use Rattle.code_file.specs.declared.error.CodeErrorKind.{CodeErrorKind}
-use Rattle.code_file.specs.declared.error.CodeErrorKind.TheVariants.{TooLong, BadMagic, Truncated, TooMany, NoCode, BadName, BadKind, BadLiteral, Trailing, NoMemory}
+use Rattle.code_file.specs.declared.error.CodeErrorKind.TheVariants.{TooLong, BadMagic, Truncated, TooMany, NoCode, BadName, BadKind, BadLiteral, Trailing}
+use Rattle.code_file.specs.declared.error.CodeErrorKind.TheVariants.{NoMemory}
 use Rattle.code_file.specs.declared.header.Header.{Header}
 use Rattle.code_file.specs.declared.limits.TheConstants.{MAX_BYTES, MAX_NAMES, MAX_LITERALS, MAX_INSTRS, MAX_NAME_BYTES}
-use Rattle.code_file.specs.Grammar.{magic, number, kind_byte, name_field, literal_field, header_field, IsVersion, IsNameByte, IsName, IsTextOf, IsLiteral, IsHeader, IsCodeFile}
+use Rattle.code_file.specs.Grammar.{magic, number, kind_byte, name_field, literal_field, header_field, IsVersion, IsNameByte, IsName, IsTextOf, IsLiteral}
+use Rattle.code_file.specs.Grammar.{IsHeader, IsCodeFile}
 
 abbrev pub fault : CodeErrorKind → ℕ → CodeError
 fault kind at = record { kind = kind; at = at }

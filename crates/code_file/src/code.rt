@@ -1,9 +1,11 @@
 //! Code as its tables and its instructions.
 
-ghost use Rattle.std.specs.Prelude.{◌≡◌, ◌<◌, ◌++◌, ℕ, All, length, slice_get, IfOk, IfErr, OnOk, map, filter, string_bytes};
+ghost use Rattle.std.specs.Prelude.{◌≡◌, ◌<◌, ◌++◌, ℕ, All, length, slice_get, IfOk, IfErr, OnOk, map, filter};
+ghost use Rattle.std.specs.Prelude.{string_bytes};
 ghost use Rattle.std.specs.List.{flat_map};
 ghost use Rattle.code_model.specs.Code.{upgraded};
-ghost use Rattle.code_file.specs.Grammar.{IsVersion, IsCode, IsCodeFile, IsInstr, header_field, header_of, name_field, literal_field, instr_field, spelled, code_of};
+ghost use Rattle.code_file.specs.Grammar.{IsVersion, IsCode, IsCodeFile, IsInstr, header_field, header_of, name_field};
+ghost use Rattle.code_file.specs.Grammar.{literal_field, instr_field, spelled, code_of};
 ghost use Rattle.code_file.specs.Fault.{fault, IsFirstFault, IsRefusal};
 ghost use Rattle.code_file.specs.Listing.{listing};
 
@@ -37,9 +39,20 @@ impl Model for Code {
 
     ghost Value = { code.Code };
 
-    ghost view = { λ c. record { version = c.version; names = c.names.items; literals = c.literals.items; instrs = c.instrs.items } };
+    ghost view = { λ c. record {
+      version = c.version;
+      names = c.names.items;
+      literals = c.literals.items;
+      instrs = c.instrs.items;
+    } };
 
-    ghost invariant = { λ c. grammar.IsCode (record { version = c.version; names = c.names.items; literals = c.literals.items; instrs = c.instrs.items }) };
+    ghost invariant = { λ c. grammar.IsCode
+        (record {
+          version = c.version;
+          names = c.names.items;
+          literals = c.literals.items;
+          instrs = c.instrs.items;
+        }) };
 }
 
 impl Code {
@@ -169,7 +182,8 @@ impl Code {
     pub fn len(&self) -> usize
         ensures count { result ≡ length self.now.instrs }
         ensures is_code { IsCode self.now }
-        ensures limits { (MAX_BYTES ≡ 65536) × (MAX_NAMES ≡ 256) × (MAX_LITERALS ≡ 1024) × (MAX_INSTRS ≡ 4096) × (MAX_NAME_BYTES ≡ 255) }
+        ensures limits { (MAX_BYTES ≡ 65536) × (MAX_NAMES ≡ 256) × (MAX_LITERALS ≡ 1024) × (MAX_INSTRS ≡ 4096)
+            × (MAX_NAME_BYTES ≡ 255) }
     {
         self.instrs.len()
     }
@@ -184,7 +198,8 @@ impl Code {
 
     /// The names of list kind, in the order of their table; a name that stands there twice comes twice.
     pub fn lists(&self, alloc: Global) -> Result<Vec<&str>, AllocError>
-        ensures { IfOk result (λ v. map (λ s. s.now) v.items ≡ map (λ n. n.text) (filter (λ n. n.list) self.now.names)) }
+        ensures { IfOk result
+            (λ v. map (λ s. s.now) v.items ≡ map (λ n. n.text) (filter (λ n. n.list) self.now.names)) }
     {
         let mut lists = Vec::new(alloc);
         for name in &self.names {
@@ -217,7 +232,8 @@ impl Code {
 
     fn push_tables(&self, out: &mut Vec<u8>) -> Result<(), AllocError>
         ensures spells { OnOk result (out.new.items ≡ out.old.items
-            ++ (flat_map name_field self.now.names ++ (flat_map literal_field self.now.literals ++ flat_map instr_field self.now.instrs))) }
+            ++ (flat_map name_field self.now.names
+            ++ (flat_map literal_field self.now.literals ++ flat_map instr_field self.now.instrs))) }
         ensures fields { OnOk result (All IsInstr self.now.instrs) }
     {
         push_names(out, &self.names)?;

@@ -1,8 +1,10 @@
 //! The fields of a code file, from the front of its bytes. Nothing here takes memory.
 
-ghost use Rattle.std.specs.Prelude.{◌≡◌, ◌≤◌, ◌<◌, ◌+◌, ◌^◌, ◌++◌, ◌∷◌, ◌↔◌, ℕ, length, take, IsTrue, IfOk, IfErr, IfNone, IfSome, All};
+ghost use Rattle.std.specs.Prelude.{◌≡◌, ◌≤◌, ◌<◌, ◌+◌, ◌^◌, ◌++◌, ◌∷◌, ◌↔◌, ℕ, length, take, IsTrue, IfOk, IfErr};
+ghost use Rattle.std.specs.Prelude.{IfNone, IfSome, All};
 ghost use Rattle.code_model.specs.Code.{Name, Literal};
-ghost use Rattle.code_file.specs.Grammar.{kind_byte, number, name_field, literal_field, instr_field, IsNameByte, IsName, IsTextOf, IsLiteral, IsInstr};
+ghost use Rattle.code_file.specs.Grammar.{kind_byte, number, name_field, literal_field, instr_field, IsNameByte};
+ghost use Rattle.code_file.specs.Grammar.{IsName, IsTextOf, IsLiteral, IsInstr};
 ghost use Rattle.code_file.specs.Fault as fault;
 ghost use Rattle.code_file.specs.Fault.{IsFirstWrong, IsKindFault, IsNameLength, IsNameFault, IsLiteralFault};
 
@@ -117,7 +119,8 @@ pub(crate) fn is_text_of(compared: bool, bytes: &[u8]) -> bool
 
 /// What follows the literal with which the bytes begin, or its fault.
 pub(crate) fn after_literal(bytes: &[u8]) -> Result<&[u8], CodeError>
-    ensures good { IfOk result (λ rest. (literal : Literal) × IsLiteral literal × (bytes.now ≡ literal_field literal ++ rest.now)) }
+    ensures good { IfOk result (λ rest. (literal : Literal) × IsLiteral literal
+        × (bytes.now ≡ literal_field literal ++ rest.now)) }
     ensures fault { IfErr result (IsLiteralFault bytes.now) }
     ensures within { IfErr result (λ e. e.at ≤ length bytes.now) }
 {

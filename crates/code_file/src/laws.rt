@@ -12,12 +12,14 @@ ghost use Rattle.code_file.specs.Fault.{fault, IsFirstFault, IsRefusal};
 /// Two bytes and their number determine each other.
 pub fn number_has_two_bytes()
     ensures number { (n : ℕ) → n < 2 ^ 16 → big_number 2 (number n) ≡ n }
-    ensures bytes { (high low : ℕ) → high < 2 ^ 8 → low < 2 ^ 8 → number (big_number 2 (high ∷ low ∷ [])) ≡ high ∷ low ∷ [] }
+    ensures bytes { (high low : ℕ) → high < 2 ^ 8 → low < 2 ^ 8 → number (big_number 2 (high ∷ low ∷ []))
+        ≡ high ∷ low ∷ [] }
 {}
 
 /// All bytes are the file of a code, or have a first fault.
 pub fn bytes_have_a_code_or_a_fault()
-    ensures { (bytes : Text) → All (λ b. b < 2 ^ 8) bytes → ((c : Code) × IsCodeFile bytes c) ⊎ ((e : CodeError) × IsFirstFault bytes e) }
+    ensures { (bytes : Text) → All (λ b. b < 2 ^ 8) bytes → ((c : Code) × IsCodeFile bytes c)
+        ⊎ ((e : CodeError) × IsFirstFault bytes e) }
 {}
 
 /// Bytes are the file of at most one code.
@@ -38,7 +40,8 @@ pub fn file_has_no_fault()
 /// What was written is read as the code that it was written from, or memory runs out.
 pub fn written_code_is_read()
     ensures { (bytes : Text) (c : Code) → IsCodeFile bytes c
-        → ((d : Code) → IsCodeFile bytes d → d ≡ c) × ((e : CodeError) → IsRefusal bytes e → e ≡ fault kind.NoMemory 0) }
+        → ((d : Code) → IsCodeFile bytes d → d ≡ c)
+        × ((e : CodeError) → IsRefusal bytes e → e ≡ fault kind.NoMemory 0) }
 {}
 
 /// Bytes have at most one first fault.

@@ -5,7 +5,8 @@ ghost use Rattle.std.specs.Fmt.{decimal};
 ghost use Rattle.std.specs.List.{flat_map};
 ghost use Rattle.code_model.specs.declared.code.Instruction.TheVariants as variant;
 ghost use Rattle.code_file.specs.Grammar.{IsVersion};
-ghost use Rattle.code_file.specs.Listing.{mode_word, instruction_text, byte_text, is_plain, name_line, literal_line, instr_line, instr_text, fields_text, lines_from, first_line};
+ghost use Rattle.code_file.specs.Listing.{mode_word, instruction_text, byte_text, is_plain, name_line, literal_line};
+ghost use Rattle.code_file.specs.Listing.{instr_line, instr_text, fields_text, lines_from, first_line};
 
 use crate::decode::{instruction, is_in_range, spelling};
 use crate::entry::{Literal, Name};
@@ -60,7 +61,9 @@ fn push_two(
     between: &str,
     second: u16,
 ) -> Result<(), AllocError>
-    ensures { OnOk result (string_bytes out.new ≡ string_bytes out.old ++ (before.now ++ (decimal first ++ (between.now ++ decimal second)))) }
+    ensures { OnOk result
+        (string_bytes out.new ≡ string_bytes out.old
+        ++ (before.now ++ (decimal first ++ (between.now ++ decimal second)))) }
 {
     write!(out, "{before}{first}{between}{second}")
 }
@@ -183,7 +186,8 @@ pub(crate) fn push_instr_lines(
     version: u8,
     instrs: &[Instr],
 ) -> Result<(), AllocError>
-    ensures { OnOk result (string_bytes out.new ≡ string_bytes out.old ++ lines_from (instr_line version) 0 instrs.now) }
+    ensures { OnOk result
+        (string_bytes out.new ≡ string_bytes out.old ++ lines_from (instr_line version) 0 instrs.now) }
 {
     for (place, instr) in instrs.iter().enumerate() {
         push_instr_line(out, version, place, *instr)?;

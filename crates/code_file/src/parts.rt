@@ -1,8 +1,10 @@
 //! The fault of parts that are given as values.
 
-ghost use Rattle.std.specs.Prelude.{◌≡◌, ◌≤◌, ◌<◌, ◌*◌, ◌++◌, ℕ, length, take, min, IfNone, IfSome, All, IsTrue, ◌↔◌, ◌^◌};
+ghost use Rattle.std.specs.Prelude.{◌≡◌, ◌≤◌, ◌<◌, ◌*◌, ◌++◌, ℕ, length, take, min, IfNone, IfSome, All, IsTrue, ◌↔◌};
+ghost use Rattle.std.specs.Prelude.{◌^◌};
 ghost use Rattle.std.specs.List.{flat_map};
-ghost use Rattle.code_file.specs.Grammar.{IsCode, spelled, code_of, name_field, literal_field, instr_field, IsVersion, IsName, IsLiteral, IsTextOf};
+ghost use Rattle.code_file.specs.Grammar.{IsCode, spelled, code_of, name_field, literal_field, instr_field, IsVersion};
+ghost use Rattle.code_file.specs.Grammar.{IsName, IsLiteral, IsTextOf};
 ghost use Rattle.code_file.specs.Fault.{fault, IsFirstFault};
 ghost use Rattle.code_file.specs.Private.Tables.{IsFirstBad};
 
@@ -37,7 +39,8 @@ fn literals_len(literals: &[Literal]) -> usize
 
 /// How many bytes the file of the parts has in either version, at most `usize::MAX`.
 fn file_len(names: &[Name], literals: &[Literal], instrs: &[Instr]) -> usize
-    ensures { (version : ℕ) → result ≡ min (length (spelled (code_of version names.now literals.now instrs.now))) usize.MAX }
+    ensures { (version : ℕ) → result ≡ min (length (spelled (code_of version names.now literals.now instrs.now)))
+        usize.MAX }
 {
     let instrs_len = instrs.len().saturating_mul(8);
     names_len(names)

@@ -2,7 +2,8 @@
 
 ghost use Rattle.std.specs.Prelude.{◌≡◌, ◌≤◌, ◌<◌, ◌+◌, ◌*◌, ◌^◌, ◌++◌, ℕ, List, length, IfNone, IfSome, IfOk, IfErr};
 ghost use Rattle.code_file.specs.Grammar.{magic, header_field, IsVersion, IsHeader};
-ghost use Rattle.code_file.specs.Fault.{AreNames, AreLiterals, IsFaultOfNames, IsFaultOfLiterals, PastMagic, IsFieldFault, IsFirstFault};
+ghost use Rattle.code_file.specs.Fault.{AreNames, AreLiterals, IsFaultOfNames, IsFaultOfLiterals, PastMagic};
+ghost use Rattle.code_file.specs.Fault.{IsFieldFault, IsFirstFault};
 ghost use Rattle.code_file.specs.Private.Tables.{AreTables};
 
 use crate::error::{CodeError, CodeErrorKind};

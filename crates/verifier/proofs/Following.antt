@@ -1,5 +1,6 @@
 -- Tables that grow along edges: below every closed table, and closed at the end.
-use Rattle.std.proofs.Common.{◌≡◌, ℕ, suc, ◌+◌, ◌-◌, ◌*◌, ◌<◌, ◌≤◌, List, [], ◌∷◌, ◌++◌, length, Option, Some, None, true, refl, sym, ap, ◌∙◌, subst, arith, ⊎_elim}
+use Rattle.std.proofs.Common.{◌≡◌, ℕ, suc, ◌+◌, ◌-◌, ◌*◌, ◌<◌, ◌≤◌, List, [], ◌∷◌, ◌++◌, length, Option, Some, None, true, refl, sym, ap, ◌∙◌, subst, arith}
+use Rattle.std.proofs.Common.{⊎_elim}
 use Rattle.std.specs.Prelude.{option_and_then}
 use Rattle.std.specs.List.{AllByRecursion}
 use Rattle.std.proofs.Math.Path.{fun_ext}
@@ -43,7 +44,8 @@ follows_both es fs t u v f g =
 
 module _ (c : Code) where
   -- the edges of a place, followed in two parts
-  pub place_followed : (p : ℕ) (ks : Kinds) (o : Option Body) (i : Instruction) (es fs : List Edge) (t u v : Table) → reading_at c p ≡ Some i → o ≡ body_at c p → es ++ fs ≡ edges p ks o i → Follows es t u → Follows fs u v → Follows (edges_at c p ks) t v
+  pub place_followed : (p : ℕ) (ks : Kinds) (o : Option Body) (i : Instruction) (es fs : List Edge) (t u v : Table) → reading_at c p ≡ Some i → o ≡ body_at c p
+      → es ++ fs ≡ edges p ks o i → Follows es t u → Follows fs u v → Follows (edges_at c p ks) t v
   place_followed p ks o i es fs t u v r b e f g =
       let there : es ++ fs ≡ edges_at c p ks = e ∙ ap (λ x. edges p ks x i) b ∙ sym (ap (λ x. for_instruction x (edges p ks (body_at c p))) r) in
       subst (λ x. Follows x t v) there (follows_both es fs t u v f g)
@@ -57,7 +59,8 @@ module _ (c : Code) where
   edges_hold : (u : Table) → IsClosed c u → (p : ℕ) (ks ms : Kinds) → u p ≡ Some ms → IsBelow ks ms → AllByRecursion (Holds u) (edges_at c p ks)
   edges_hold u closed p ks ms known b = by_reading (reading_at c p) (closed.along p ms known)
     where
-      by_reading : (o : Option Instruction) → AllByRecursion (Holds u) (for_instruction o (edges p ms (body_at c p))) → AllByRecursion (Holds u) (for_instruction o (edges p ks (body_at c p)))
+      by_reading : (o : Option Instruction) → AllByRecursion (Holds u) (for_instruction o (edges p ms (body_at c p)))
+          → AllByRecursion (Holds u) (for_instruction o (edges p ks (body_at c p)))
       by_reading None k = tt
       by_reading (Some i) k = holds_below u (edges p ks (body_at c p) i) (edges p ms (body_at c p) i) (edges_below p ks ms (body_at c p) i b) k
 
@@ -67,11 +70,14 @@ module _ (c : Code) where
       f.below u (edges_hold u closed p ks here.0 here.1 here.2) (b u closed)
 
   -- the edges of a place hold, and those of the places before it, up to where kinds rose
-  pub closed_on : (p to : ℕ) (ks : Kinds) (t new : Table) → t p ≡ Some ks → Follows (edges_at c p ks) t new → IsSameBefore to t new → to ≤ p + 1 → IsClosedBefore c p t → IsClosedBefore c to new
+  pub closed_on : (p to : ℕ) (ks : Kinds) (t new : Table) → t p ≡ Some ks → Follows (edges_at c p ks) t new → IsSameBefore to t new → to ≤ p + 1
+      → IsClosedBefore c p t → IsClosedBefore c to new
   closed_on p to ks t new known f same le h =
       record {
         first = f.kept (edge 0 any_kinds) h.first;
-        along = λ q ms lt is. let was : t q ≡ Some ms = sym (same q lt) ∙ is in ⊎_elim (λ less. all_kept t new (edges_at c q ms) f.kept (h.along q ms less was)) (λ more. let e : q ≡ p = omega arith in by_place q ms e was) (cases_lt q p);
+        along = λ q ms lt is. let was : t q ≡ Some ms = sym (same q lt) ∙ is in
+            ⊎_elim (λ less. all_kept t new (edges_at c q ms) f.kept (h.along q ms less was)) (λ more. let e : q ≡ p = omega arith in by_place q ms e was)
+            (cases_lt q p);
       }
     where
       by_place : (q : ℕ) (ms : Kinds) → q ≡ p → t q ≡ Some ms → AllByRecursion (Holds new) (edges_at c q ms)
@@ -81,7 +87,12 @@ module _ (c : Code) where
 
   -- a place without kinds has no edges
   pub closed_past_none : (p : ℕ) (t : Table) → t p ≡ None → IsClosedBefore c p t → IsClosedBefore c (p + 1) t
-  closed_past_none p t none h = record { first = h.first; along = λ q ms lt is. ⊎_elim (λ less. h.along q ms less is) (λ more. let e : q ≡ p = omega arith in let n : None ≡ Some ms = sym none ∙ ap t (sym e) ∙ is in absurd (cc)) (cases_lt q p) }
+  closed_past_none p t none h =
+      record {
+        first = h.first;
+        along = λ q ms lt is. ⊎_elim (λ less. h.along q ms less is) (λ more. let e : q ≡ p = omega arith in
+            let n : None ≡ Some ms = sym none ∙ ap t (sym e) ∙ is in absurd (cc)) (cases_lt q p);
+      }
 
   above_any : (k : Kind) → kind_le Any k ≡ true → k ≡ Any
   above_any Any h = refl
@@ -89,7 +100,11 @@ module _ (c : Code) where
 
   -- closed before the end is closed
   pub closed_all : (n : ℕ) (t : Table) → length c.instrs ≤ n → IsClosedBefore c n t → IsClosed c t
-  closed_all n t le h = record { first = h.first.1 ∙ ap Some (fun_ext (λ r. above_any (h.first.0 r) (h.first.2.at r))); along = λ p ks known. ⊎_elim (λ lt. h.along p ks lt known) (past p ks) (cases_lt p n) }
+  closed_all n t le h =
+      record {
+        first = h.first.1 ∙ ap Some (fun_ext (λ r. above_any (h.first.0 r) (h.first.2.at r)));
+        along = λ p ks known. ⊎_elim (λ lt. h.along p ks lt known) (past p ks) (cases_lt p n);
+      }
     where
       past : (p : ℕ) (ks : Kinds) → n ≤ p → AllByRecursion (Holds t) (edges_at c p ks)
       past p ks more =
@@ -102,7 +117,8 @@ module _ (c : Code) where
 -- ---- the measure
 
 -- a place further, or back with fewer rises left
-pub less_left : (n from to old new : ℕ) → from < n → to ≤ from + 1 → new ≤ old → (to < from + 1 → new < old) → new * (n + 1) + (n - to) < old * (n + 1) + (n - from)
+pub less_left : (n from to old new : ℕ) → from < n → to ≤ from + 1 → new ≤ old → (to < from + 1 → new < old)
+    → new * (n + 1) + (n - to) < old * (n + 1) + (n - from)
 less_left n from to old new lt on less back = ⊎_elim rose further (cases_lt to (from + 1))
   where
     rose : to < from + 1 → new * (n + 1) + (n - to) < old * (n + 1) + (n - from)
@@ -116,5 +132,7 @@ less_left n from to old new lt on less back = ⊎_elim rose further (cases_lt to
         let m : old ≡ (old - new) + new = omega arith in
         subst (λ x. new * (n + 1) + (n - to) < x * (n + 1) + (n - from)) (sym m) (omega arith)
 
-pub less_left_in : (n m from to old new : ℕ) → m ≡ n → from < n → to ≤ from + 1 → new ≤ old → (to < from + 1 → new < old) → new * (m + 1) + (m - to) < old * (n + 1) + (n - from)
-less_left_in n m from to old new e lt on less back = subst (λ k. new * (k + 1) + (k - to) < old * (n + 1) + (n - from)) (sym e) (less_left n from to old new lt on less back)
+pub less_left_in : (n m from to old new : ℕ) → m ≡ n → from < n → to ≤ from + 1 → new ≤ old → (to < from + 1 → new < old)
+    → new * (m + 1) + (m - to) < old * (n + 1) + (n - from)
+less_left_in n m from to old new e lt on less back =
+    subst (λ k. new * (k + 1) + (k - to) < old * (n + 1) + (n - from)) (sym e) (less_left n from to old new lt on less back)

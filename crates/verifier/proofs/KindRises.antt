@@ -67,7 +67,8 @@ row_rises_set (m ∷ ks) zero k lt = omega arith
 row_rises_set (m ∷ ks) (suc r) k lt = omega (arith, row_rises_set ks r k (omega arith))
 
 -- one place of a table has another row
-pub table_rises_set : (rows : List (Option Row)) (p : ℕ) (o : Option Row) → p < length rows → table_rises (set rows p o) + place_rises (get_or rows p None) ≡ table_rises rows + place_rises o
+pub table_rises_set : (rows : List (Option Row)) (p : ℕ) (o : Option Row) → p < length rows → table_rises (set rows p o) + place_rises (get_or rows p None)
+    ≡ table_rises rows + place_rises o
 unfolding table_rises
 table_rises_set [] p o lt = absurd (omega arith)
 table_rises_set (x ∷ rows) zero o lt = omega arith

@@ -8,3 +8,4 @@ pub mod Loads
 pub mod ComparedTexts
 pub mod Firsts
 pub mod GoodEdges
+pub mod Continuing

@@ -7,7 +7,8 @@ use Rattle.text_model.specs.Texts.{Text}
 use Rattle.text_model.specs.UriText.{IsUriText}
 use Rattle.code_model.specs.Code.{Code, Literal}
 use Rattle.code_file.specs.Grammar.{IsTextOf, IsLiteral, IsCode, IsCodeFile}
-use Rattle.code_file.specs.Fault.{fault, after, cut_short, IsKindFault, no_kind, bad_kind, IsNameFault, IsLiteralFault, IsTableFault, header_fault, IsFieldFault, bad_magic, no_counts, bad_counts, in_names, in_literals, in_instrs, trailing, IsFirstFault, too_long, in_field}
+use Rattle.code_file.specs.Fault.{fault, after, cut_short, IsKindFault, no_kind, bad_kind, IsNameFault, IsLiteralFault, IsTableFault, header_fault}
+use Rattle.code_file.specs.Fault.{IsFieldFault, bad_magic, no_counts, bad_counts, in_names, in_literals, in_instrs, trailing, IsFirstFault, too_long, in_field}
 use Rattle.code_file.specs.Fault as read
 use Rattle.code_file.specs.declared.error.CodeError.{CodeError}
 use Rattle.code_file.specs.declared.error.CodeErrorKind.{CodeErrorKind}
@@ -41,14 +42,18 @@ in_literal : (bytes : Text) (e : CodeError) → IsLiteralFault bytes e → e.kin
 in_literal bytes e (IsLiteralFault.in_kind f h) k = in_kind_field bytes f h k
 in_literal bytes e _ k = absurd (cc)
 
-in_table : {X : Type 0} (IsGood : X → Type 0) (field : X → Text) (IsFault : Text → CodeError → Type 0) (count : ℕ) (bytes : Text) (e : CodeError) → ((b : Text) (f : CodeError) → IsFault b f → f.kind ≡ NoMemory → ⊥) → IsTableFault IsGood field IsFault count bytes e → e.kind ≡ NoMemory → ⊥
+in_table : {X : Type 0} (IsGood : X → Type 0) (field : X → Text) (IsFault : Text → CodeError → Type 0) (count : ℕ) (bytes : Text) (e : CodeError)
+    → ((b : Text) (f : CodeError) → IsFault b f → f.kind ≡ NoMemory → ⊥) → IsTableFault IsGood field IsFault count bytes e → e.kind ≡ NoMemory → ⊥
 in_table IsGood field IsFault count bytes e never t k = never t.rest t.here t.faulty (sym (ap (λ (f : CodeError). f.kind) t.place) ∙ k)
 
-in_counts : (a b d z : Bool) (e : CodeError) → (if a then Some (fault TooMany 4) else if b then Some (fault TooMany 6) else if d then Some (fault TooMany 8) else if z then Some (fault NoCode 8) else None) ≡ Some e → e.kind ≡ NoMemory → ⊥
+in_counts : (a b d z : Bool) (e : CodeError) → (if a then Some (fault TooMany 4) else if b then Some (fault TooMany 6) else if d then Some (fault TooMany 8)
+    else if z then Some (fault NoCode 8) else None) ≡ Some e → e.kind ≡ NoMemory → ⊥
 in_counts true b d z e h k = let s : fault TooMany 4 ≡ e = some_one h in let t : TooMany ≡ NoMemory = ap (λ (f : CodeError). f.kind) s ∙ k in absurd (cc)
 in_counts false true d z e h k = let s : fault TooMany 6 ≡ e = some_one h in let t : TooMany ≡ NoMemory = ap (λ (f : CodeError). f.kind) s ∙ k in absurd (cc)
-in_counts false false true z e h k = let s : fault TooMany 8 ≡ e = some_one h in let t : TooMany ≡ NoMemory = ap (λ (f : CodeError). f.kind) s ∙ k in absurd (cc)
-in_counts false false false true e h k = let s : fault NoCode 8 ≡ e = some_one h in let t : NoCode ≡ NoMemory = ap (λ (f : CodeError). f.kind) s ∙ k in absurd (cc)
+in_counts false false true z e h k = let s : fault TooMany 8 ≡ e = some_one h in let t : TooMany ≡ NoMemory = ap (λ (f : CodeError). f.kind) s ∙ k in
+    absurd (cc)
+in_counts false false false true e h k = let s : fault NoCode 8 ≡ e = some_one h in let t : NoCode ≡ NoMemory = ap (λ (f : CodeError). f.kind) s ∙ k in
+    absurd (cc)
 in_counts false false false false e h k = absurd (cc)
 
 in_file : (bytes : Text) (e : CodeError) → IsFieldFault bytes e → e.kind ≡ NoMemory → ⊥
@@ -87,7 +92,9 @@ not_of_form form.UnknownOp place m e = absurd (cc)
 not_of_form _ place m e = absurd (cc)
 
 -- what is refused by kinds is not typable
-pub exact : ((bytes : Text) (c d : Code) → IsCodeFile bytes c → IsCodeFile bytes d → c ≡ d) → ((c : Code) (m : Located ℕ) → IsFirstMismatch c m → IsTypable c → ⊥) → (bytes : Text) (e : LoadError) → IsLoadFault bytes e → (m : Located ℕ) (c : Code) → e ≡ mismatch_error m → IsCodeFile bytes c → IsTypable c → ⊥
+pub exact : ((bytes : Text) (c d : Code) → IsCodeFile bytes c → IsCodeFile bytes d → c ≡ d)
+    → ((c : Code) (m : Located ℕ) → IsFirstMismatch c m → IsTypable c → ⊥) → (bytes : Text) (e : LoadError) → IsLoadFault bytes e → (m : Located ℕ) (c : Code)
+    → e ≡ mismatch_error m → IsCodeFile bytes c → IsTypable c → ⊥
 exact one untypable bytes e (IsLoadFault.no_code f h) m c is file y = absurd (cc)
 exact one untypable bytes e (IsLoadFault.bad_form d f g h) m c is file y = not_of_form f.what f.place m is
 exact one untypable bytes e (IsLoadFault.mismatch d n g w h) m c is file y = untypable d n h (subst IsTypable (one bytes c d file g) y)
@@ -104,13 +111,19 @@ file_code c k = record { some = k.header.some; links = λ n h. by_literal n (sli
     by_literal : (n : ℕ) (o : Option Literal) → slice_get c.literals n ≡ o → is_link_text o ≡ true → IsUriText (text_of_literal o)
     by_literal n None e h = absurd (cc)
     by_literal n (Some l) e h =
-        let good : IsLiteral l = subst IsLiteral (get_or_from_slice_get c.literals n l l e) (All-get_or IsLiteral c.literals n l (slice_get_within c.literals n l e) k.literals) in
+        let good : IsLiteral l =
+        subst IsLiteral (get_or_from_slice_get c.literals n l l e) (All-get_or IsLiteral c.literals n l (slice_get_within c.literals n l e) k.literals) in
         by_text l.compared l.bytes good.text h
 
 -- ---- what the checks found
 
-pub form_refused : (c d : Code) (found : Option (FormFault × ℕ)) (f : FormFault × ℕ) (e : LoadError) → d ≡ c → located_of found ≡ first_form_fault d → found ≡ Some f → e ≡ form_error (record { place = f.1; what = f.0 }) → IsRefusal c e
-form_refused c d found f e same h is er = subst (IsRefusal c) (sym er) (IsRefusal.bad_form (record { place = f.1; what = f.0 }) (ap first_form_fault (sym same) ∙ sym h ∙ ap located_of is))
+pub form_refused : (c d : Code) (found : Option (FormFault × ℕ)) (f : FormFault × ℕ) (e : LoadError) → d ≡ c → located_of found ≡ first_form_fault d
+    → found ≡ Some f → e ≡ form_error (record { place = f.1; what = f.0 }) → IsRefusal c e
+form_refused c d found f e same h is er =
+    subst (IsRefusal c) (sym er) (IsRefusal.bad_form (record { place = f.1; what = f.0 }) (ap first_form_fault (sym same) ∙ sym h ∙ ap located_of is))
 
-pub kinds_refused : (c d : Code) (found : Option (ℕ × ℕ)) (m : ℕ × ℕ) (t : Table) → d ≡ c → HasGoodForm d → IsLeast d t → located_of found ≡ first_mismatch d t → found ≡ Some m → IsRefusal c (load.KindMismatch m.1 m.0)
-kinds_refused c d found m t same form least h is = subst (λ x. IsRefusal x (load.KindMismatch m.1 m.0)) same (IsRefusal.mismatch (record { place = m.1; what = m.0 }) form (t, least, sym h ∙ ap located_of is))
+pub kinds_refused : (c d : Code) (found : Option (ℕ × ℕ)) (m : ℕ × ℕ) (t : Table) → d ≡ c → HasGoodForm d → IsLeast d t → located_of found ≡ first_mismatch d t
+    → found ≡ Some m → IsRefusal c (load.KindMismatch m.1 m.0)
+kinds_refused c d found m t same form least h is =
+    subst (λ x. IsRefusal x (load.KindMismatch m.1 m.0)) same
+    (IsRefusal.mismatch (record { place = m.1; what = m.0 }) form (t, least, sym h ∙ ap located_of is))

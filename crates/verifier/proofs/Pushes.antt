@@ -1,5 +1,6 @@
 -- A table in which an edge's end is written, or needs no writing; and the table at the start.
-use Rattle.std.proofs.Common.{◌≡◌, ◌≢◌, ℕ, zero, suc, ◌<◌, ◌≤◌, List, [], ◌∷◌, length, get_or, set, replicate, Option, Some, None, Bool, true, false, refl, sym, ap, ◌∙◌, subst, arith, length-set, ⊎_elim}
+use Rattle.std.proofs.Common.{◌≡◌, ◌≢◌, ℕ, zero, suc, ◌<◌, ◌≤◌, List, [], ◌∷◌, length, get_or, set, replicate, Option, Some, None, Bool, true, false, refl, sym}
+use Rattle.std.proofs.Common.{ap, ◌∙◌, subst, arith, length-set, ⊎_elim}
 use Rattle.std.proofs.lemmas.Bool.{cases_lt}
 use Rattle.std.specs.Prelude.{option_map}
 use Rattle.code_model.specs.Code.{Code}
@@ -17,7 +18,8 @@ module _ (rows : List (Option Row)) (to : ℕ) (row : Row) where
   pub written_same : (n : ℕ) → n ≤ to → IsSameBefore n (table_of rows) (table_of (set rows to (Some row)))
   written_same n le q lt = let ne : q ≢ to = omega arith in table_other rows to row q ne
 
-  pub written_on : (next n : ℕ) → to < length rows → row_rises row.kinds < place_rises (get_or rows to None) → n ≤ next → GoesOn next n rows (set rows to (Some row))
+  pub written_on : (next n : ℕ) → to < length rows → row_rises row.kinds < place_rises (get_or rows to None) → n ≤ next
+      → GoesOn next n rows (set rows to (Some row))
   written_on next n lt less le = record {
     long = length-set rows to (Some row);
     on = le;
@@ -34,23 +36,32 @@ module _ (rows : List (Option Row)) (to : ℕ) (row : Row) where
   pub first_rises : get_or rows to None ≡ None → length row.kinds ≡ 64 → row_rises row.kinds < place_rises (get_or rows to None)
   first_rises is long = subst (λ o. row_rises row.kinds < place_rises o) (sym is) (omega (arith, row_rises_few row.kinds, long))
 
-  pub more_follows : (known other : Row) → to < length rows → get_or rows to None ≡ Some known → ((r : ℕ) → get_or row.kinds r Any ≡ kind_join (get_or known.kinds r Any) (get_or other.kinds r Any)) → Follows (edge to (kinds_of other) ∷ []) (table_of rows) (table_of (set rows to (Some row)))
+  pub more_follows : (known other : Row) → to < length rows → get_or rows to None ≡ Some known
+      → ((r : ℕ) → get_or row.kinds r Any ≡ kind_join (get_or known.kinds r Any) (get_or other.kinds r Any))
+      → Follows (edge to (kinds_of other) ∷ []) (table_of rows) (table_of (set rows to (Some row)))
   more_follows known other lt is j =
       follows_one (table_of rows) (table_of (set rows to (Some row))) (edge to (kinds_of other)) (kinds_of row)
-      (subst (λ o. Arrives (option_map kinds_of o) (kinds_of other) (kinds_of row)) (sym is) (arrives_joined (kinds_of known) (kinds_of other) (kinds_of row) j))
+      (subst (λ o. Arrives (option_map kinds_of o) (kinds_of other) (kinds_of row)) (sym is)
+      (arrives_joined (kinds_of known) (kinds_of other) (kinds_of row) j))
       (table_here rows to row lt) (table_other rows to row)
 
-  pub more_rises : (known : Row) → get_or rows to None ≡ Some known → row_rises row.kinds < row_rises known.kinds → row_rises row.kinds < place_rises (get_or rows to None)
+  pub more_rises : (known : Row) → get_or rows to None ≡ Some known → row_rises row.kinds < row_rises known.kinds
+      → row_rises row.kinds < place_rises (get_or rows to None)
   more_rises known is less = subst (λ o. row_rises row.kinds < place_rises o) (sym is) less
 
 -- the place has kinds at or above what the edge carries already
-pub kept_follows : (rows : List (Option Row)) (to : ℕ) (known other : Row) → get_or rows to None ≡ Some known → ((r : ℕ) → get_or known.kinds r Any ≡ kind_join (get_or known.kinds r Any) (get_or other.kinds r Any)) → Follows (edge to (kinds_of other) ∷ []) (table_of rows) (table_of rows)
+pub kept_follows : (rows : List (Option Row)) (to : ℕ) (known other : Row) → get_or rows to None ≡ Some known
+    → ((r : ℕ) → get_or known.kinds r Any ≡ kind_join (get_or known.kinds r Any) (get_or other.kinds r Any))
+    → Follows (edge to (kinds_of other) ∷ []) (table_of rows) (table_of rows)
 kept_follows rows to known other is j =
     follows_one (table_of rows) (table_of rows) (edge to (kinds_of other)) (kinds_of known)
-    (subst (λ o. Arrives (option_map kinds_of o) (kinds_of other) (kinds_of known)) (sym is) (arrives_joined (kinds_of known) (kinds_of other) (kinds_of known) j))
+    (subst (λ o. Arrives (option_map kinds_of o) (kinds_of other) (kinds_of known)) (sym is)
+    (arrives_joined (kinds_of known) (kinds_of other) (kinds_of known) j))
     (ap (option_map kinds_of) is) (λ q ne. refl)
 
-pub kept_join : (rose : Bool) (olds others news : List Kind) → rose ≡ false → Rises row_rises rose olds news → ((r : ℕ) → get_or news r Any ≡ kind_join (get_or olds r Any) (get_or others r Any)) → (r : ℕ) → get_or olds r Any ≡ kind_join (get_or olds r Any) (get_or others r Any)
+pub kept_join : (rose : Bool) (olds others news : List Kind) → rose ≡ false → Rises row_rises rose olds news
+    → ((r : ℕ) → get_or news r Any ≡ kind_join (get_or olds r Any) (get_or others r Any)) → (r : ℕ)
+    → get_or olds r Any ≡ kind_join (get_or olds r Any) (get_or others r Any)
 kept_join true olds others news e h j r = absurd (cc)
 kept_join false olds others news e h j r = sym (ap (λ ks. get_or ks r Any) h) ∙ j r
 
@@ -66,7 +77,8 @@ on_both from next to t u v a b = record {
   long = b.long ∙ a.long;
   on = omega (arith, a.on, b.on);
   less = omega (arith, a.less, b.less);
-  back = λ lt. ⊎_elim (λ less. omega (arith, a.back less, b.less)) (λ le. let same : next ≡ from = omega (arith, a.on) in let before : to < next = omega arith in omega (arith, a.less, b.back before)) (cases_lt next from);
+  back = λ lt. ⊎_elim (λ less. omega (arith, a.back less, b.less)) (λ le. let same : next ≡ from = omega (arith, a.on) in
+      let before : to < next = omega arith in omega (arith, a.less, b.back before)) (cases_lt next from);
 }
 
 -- ---- the table at the start
@@ -79,7 +91,8 @@ none_at zero p = refl
 none_at (suc n) zero = refl
 none_at (suc n) (suc p) = none_at n p
 
-module _ (c : Code) (n : ℕ) (rows : List (Option Row)) (row : Row) (some : 0 < n) (e : rows ≡ set (replicate n None) 0 (Some row)) (any : kinds_of row ≡ any_kinds) where
+module _ (c : Code) (n : ℕ) (rows : List (Option Row)) (row : Row) (some : 0 < n) (e : rows ≡ set (replicate n None) 0 (Some row))
+    (any : kinds_of row ≡ any_kinds) where
   at_first : (n : ℕ) → 0 < n → table_of (set (replicate n None) 0 (Some row)) 0 ≡ Some (kinds_of row)
   at_first zero lt = absurd (omega arith)
   at_first (suc n) lt = refl

@@ -1,5 +1,6 @@
 -- Rows of kinds, and tables of rows, where one place is written.
-use Rattle.std.proofs.Common.{◌≡◌, ℕ, ◌<◌, List, [], ◌∷◌, length, set, Option, Some, None, Bool, true, false, refl, sym, ap, ◌∙◌, subst, get_or-set_other, get_or-set_same}
+use Rattle.std.proofs.Common.{◌≡◌, ℕ, ◌<◌, List, [], ◌∷◌, length, set, Option, Some, None, Bool, true, false, refl, sym, ap, ◌∙◌, subst, get_or-set_other}
+use Rattle.std.proofs.Common.{get_or-set_same}
 use Rattle.std.specs.Prelude.{◌==◌}
 use Rattle.std.specs.List.{AllByRecursion}
 use Rattle.std.proofs.lemmas.Bool.{eqb-true, eq-eqb, false≢true}
@@ -21,7 +22,12 @@ pub record Arrives (old : Option Kinds) (ks new : Kinds) : Type 0 where
   pub least : (ns : Kinds) → ((ms : Kinds) → old ≡ Some ms → IsBelow ms ns) → IsBelow ks ns → IsBelow new ns
 
 pub follows_one : (t u : Table) (e : Edge) (ks : Kinds) → Arrives (t e.to) e.kinds ks → u e.to ≡ Some ks → IsSameAt e.to t u → Follows (e ∷ []) t u
-follows_one t u e ks a here other = record { held = ((ks, here, a.above), tt); kept = λ f h. kept f h (f.to == e.to) refl; below = λ v holds b p ms known. below v holds b p ms known (p == e.to) refl }
+follows_one t u e ks a here other =
+    record {
+      held = ((ks, here, a.above), tt);
+      kept = λ f h. kept f h (f.to == e.to) refl;
+      below = λ v holds b p ms known. below v holds b p ms known (p == e.to) refl;
+    }
   where
     kept : (f : Edge) → Holds t f → (b : Bool) → (f.to == e.to) ≡ b → Holds u f
     kept f h true s =
@@ -29,7 +35,8 @@ follows_one t u e ks a here other = record { held = ((ks, here, a.above), tt); k
         (ks, ap u same ∙ here, below_trans f.kinds h.0 ks h.2 (a.kept h.0 (ap t (sym same) ∙ h.1)))
     kept f h false s = (h.0, other f.to (λ same. false≢true (sym s ∙ eq-eqb f.to e.to same)) ∙ h.1, h.2)
 
-    below : (v : Table) → AllByRecursion (Holds v) (e ∷ []) → TableBelow t v → (p : ℕ) (ms : Kinds) → u p ≡ Some ms → (b : Bool) → (p == e.to) ≡ b → (ns : Kinds) × (v p ≡ Some ns) × IsBelow ms ns
+    below : (v : Table) → AllByRecursion (Holds v) (e ∷ []) → TableBelow t v → (p : ℕ) (ms : Kinds) → u p ≡ Some ms → (b : Bool) → (p == e.to) ≡ b
+        → (ns : Kinds) × (v p ≡ Some ns) × IsBelow ms ns
     below v holds b p ms known true s =
         let same = eqb-true p e.to s in
         let is : ks ≡ ms = some_one (sym here ∙ ap u (sym same) ∙ known) in
@@ -47,8 +54,10 @@ pub arrives_joined : (ms ks ns : Kinds) → ((r : ℕ) → ns r ≡ kind_join (m
 arrives_joined ms ks ns j =
     record {
       above = record { at = λ r. subst (λ x. kind_le (ks r) x ≡ true) (sym (j r)) (kind_le-join_right (ms r) (ks r)) };
-      kept = λ xs e. subst (λ y. IsBelow y ns) (some_one e) (record { at = λ r. subst (λ x. kind_le (ms r) x ≡ true) (sym (j r)) (kind_le-join_left (ms r) (ks r)) });
-      least = λ xs f b. record { at = λ r. subst (λ x. kind_le x (xs r) ≡ true) (sym (j r)) (kind_join-least (ms r) (ks r) (xs r) ((f ms refl).at r) (b.at r)) };
+      kept = λ xs e. subst (λ y. IsBelow y ns) (some_one e)
+          (record { at = λ r. subst (λ x. kind_le (ms r) x ≡ true) (sym (j r)) (kind_le-join_left (ms r) (ks r)) });
+      least = λ xs f b.
+          record { at = λ r. subst (λ x. kind_le x (xs r) ≡ true) (sym (j r)) (kind_join-least (ms r) (ks r) (xs r) ((f ms refl).at r) (b.at r)) };
     }
 
 -- ---- and as lists

@@ -6,7 +6,8 @@ ghost use Rattle.code_model.specs.Operands.{operands, is_in_range, LinkText, Com
 ghost use Rattle.machine_model.specs.First.{Located};
 ghost use Rattle.machine_model.specs.Operands as operand;
 ghost use Rattle.machine_model.specs.Form as form;
-ghost use Rattle.machine_model.specs.Form.{is_next, is_sep, goes_to, is_same_body, is_in_body, ends_body, body_at, first_failing, fault_at, first_form_fault};
+ghost use Rattle.machine_model.specs.Form.{is_next, is_sep, goes_to, is_same_body, is_in_body, ends_body, body_at};
+ghost use Rattle.machine_model.specs.Form.{first_failing, fault_at, first_form_fault};
 ghost use Rattle.verifier.specs.Private.Checks.{operand_checks, jump_checks, each_checks, order_checks, located_of};
 
 use crate::layout::Layout;

@@ -54,7 +54,8 @@ pub fn load(alloc: Global, bytes: &[u8]) -> Result<Verified, LoadError>
     ensures typable { IfOk result IsTypable }
     ensures safe { IfOk result IsSafe }
     ensures refused { IfErr result (IsLoadFault bytes.now) }
-    ensures exact { IfErr result (λ e. (m : Located ℕ) (c : Code) → e ≡ mismatch_error m → IsCodeFile bytes.now c → IsTypable c → ⊥) }
+    ensures exact { IfErr result (λ e. (m : Located ℕ) (c : Code) → e ≡ mismatch_error m → IsCodeFile bytes.now c
+        → IsTypable c → ⊥) }
 {
     typable_code_is_safe();
     mismatch_is_exact();

@@ -77,7 +77,8 @@ impl Row {
 /// Raises kinds to the least above both rows, and answers whether one rose.
 pub(crate) fn raise(kinds: &mut [Kind], others: &[Kind]) -> bool
     requires { length kinds.old ≡ length others.now }
-    ensures joined { (r : ℕ) → slice_index_or kinds.new r Any ≡ kind_join (slice_index_or kinds.old r Any) (slice_index_or others.now r Any) }
+    ensures joined { (r : ℕ) → slice_index_or kinds.new r Any ≡ kind_join (slice_index_or kinds.old r Any)
+        (slice_index_or others.now r Any) }
     ensures rises { Rises row_rises result kinds.old kinds.new }
 {
     let mut rose = false;

@@ -1,12 +1,13 @@
-//! The least table of kinds: kinds are carried along the edges of each place, in rising place, and from the
-//! head of a loop again while it rises.
+//! The least table of kinds: kinds are carried along the edges of each place, in rising place, and again from the
+//! head of a loop while kinds rise there.
 
-ghost use Rattle.std.specs.Prelude.{◌≡◌, ◌<◌, ◌+◌, [], ◌∷◌, length, min, IfOk};
+ghost use Rattle.std.specs.Prelude.{◌≡◌, ◌<◌, ◌+◌, ◌⊎◌, [], ◌∷◌, length, min, IfOk};
 ghost use Rattle.std.specs.List.{AllByRecursion};
 ghost use Rattle.machine_model.specs.Form.{HasGoodForm};
 ghost use Rattle.machine_model.specs.Typable.{IsLeast};
 ghost use Rattle.verifier.specs.Private.Rows.{table_of, edge_of, edges_of, one_or_none};
 ghost use Rattle.verifier.specs.Private.Walks.{Follows, IsSameBefore, GoesOn, IsClosedBefore, IsBelowClosed};
+ghost use Rattle.verifier.specs.Private.Walks.{ContinuesAt, IsReturn};
 
 use crate::edges::{Edge, edges};
 use crate::layout::Layout;
@@ -20,13 +21,14 @@ fn earlier(place: usize, other: usize) -> usize
     if other < place { other } else { place }
 }
 
-/// Joins the kinds that an edge carries with those of its end. The answer is the place from which the walk
-/// goes on: the edge's end where kinds rose there and it is before `next`.
+/// Joins the kinds that an edge carries with those of its end. Returns the place at which the walk continues:
+/// the end of the edge if kinds rose there and it is before `next`, and otherwise `next`.
 fn push(table: &mut [Option<Row>], edge: Edge, next: usize) -> usize
     requires { edge.to < length table.old }
     ensures follows { Follows (edge_of edge ∷ []) (table_of table.old) (table_of table.new) }
     ensures same { IsSameBefore result (table_of table.old) (table_of table.new) }
     ensures on { GoesOn next result table.old table.new }
+    ensures at { ContinuesAt next (edge_of edge ∷ []) result }
 {
     let Some(mut row) = table[edge.to] else {
         table[edge.to] = Some(edge.row);
@@ -39,12 +41,13 @@ fn push(table: &mut [Option<Row>], edge: Edge, next: usize) -> usize
     earlier(next, edge.to)
 }
 
-/// Follows an edge, if there is one, and answers the place from which the walk goes on.
+/// Follows an edge, if there is one, and returns the place at which the walk continues.
 fn follow(table: &mut [Option<Row>], edge: Option<Edge>, next: usize) -> usize
     requires { AllByRecursion (λ e. e.to < length table.old) (one_or_none edge_of edge) }
     ensures follows { Follows (one_or_none edge_of edge) (table_of table.old) (table_of table.new) }
     ensures same { IsSameBefore result (table_of table.old) (table_of table.new) }
     ensures on { GoesOn next result table.old table.new }
+    ensures at { ContinuesAt next (one_or_none edge_of edge) result }
 {
     match edge {
         None => next,
@@ -52,7 +55,8 @@ fn follow(table: &mut [Option<Row>], edge: Option<Edge>, next: usize) -> usize
     }
 }
 
-/// Follows the edges of a place, and answers the place from which the walk goes on.
+/// Follows the edges of a place, and returns the place at which the walk continues: the next one, or the head of a
+/// loop's body if the place is its NEXT and kinds rose at the head.
 fn step(layout: &Layout, table: &mut [Option<Row>], place: usize) -> usize
     requires form { HasGoodForm layout.now.code.now }
     requires place { place < length layout.now.code.now.instrs }
@@ -62,6 +66,7 @@ fn step(layout: &Layout, table: &mut [Option<Row>], place: usize) -> usize
     ensures closed { IsClosedBefore layout.now.code.now result (table_of table.new) }
     ensures below { IsBelowClosed layout.now.code.now (table_of table.new) }
     ensures on { GoesOn (place + 1) result table.old table.new }
+    ensures at { (result ≡ place + 1) ⊎ IsReturn layout.now.code.now place result }
 {
     let Some(row) = table[place] else {
         return place + 1;

@@ -19,8 +19,8 @@ fn bounds_of(alloc: Global, text: &str, members: u16, bytes: u16) -> Result<Stri
     Ok(bounds(alloc, budget_of(&code), members, bytes)?)
 }
 
-/// Instructions, how many members and bytes an environment has, and the bounds. The longest text that is compared has 10
-/// bytes, so 30 may be written of it.
+/// Instructions, how many members and bytes an environment has, and the bounds. The longest text that is compared has
+/// 10 bytes, so 30 may be written of it.
 const BOUNDS: [(&str, u16, u16, &str); 7] = [
     (LIST_CODE, 3, 12, "12 steps, 39 bytes"),
     (LIST_CODE, 20, 20_000, "63 steps, 60020 bytes"),

@@ -29,8 +29,8 @@ fn ended(alloc: Global, code: &Verified, env: &Env, n: u64) -> Result<(String, u
     Ok((shown(alloc, run.finish())?, steps))
 }
 
-/// The outcome of the checked machine for the code of a file. Where the code is accepted, its runs have the same outcome,
-/// after as many steps however long their turns are: the second is their number, and 0 for other code.
+/// The outcome of the checked machine for the code of a file. Where the code is accepted, its runs have the same
+/// outcome, after as many steps however long their turns are: the second is their number, and 0 for other code.
 fn came<R: Abort + AllocGlobal>(rt: &R, file: &[u8], env: &Env) -> Result<(String, u64), Fail> {
     let wanted = checked(rt.alloc(), file, env)?;
     let code = match load(rt.alloc(), file) {

@@ -40,8 +40,8 @@ fn fault(
     Ok(Code::from_parts(names, literals, instrs).err())
 }
 
-/// How many letters a name has, a link text, how many instructions there are, and the fault: no part is judged by what its
-/// instructions do.
+/// How many letters a name has, a link text, how many instructions there are, and the fault: no part is judged by what
+/// its instructions do.
 const FAULTS: [(usize, &str, usize, Option<CodeErrorKind>); 7] = [
     (1, ",", 1, None),
     (1, ",", 0, Some(NoCode)),

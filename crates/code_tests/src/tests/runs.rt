@@ -9,7 +9,8 @@ use std::test::Fail;
 use target_vars::Env;
 use verifier::{Verified, load};
 
-/// Whether a run has ended after a turn, its steps, its place, in a loop's turn the first two registers, and its output.
+/// Whether a run has ended after a turn, its steps, its place, in a loop's turn the first two registers, and its
+/// output.
 fn standing(alloc: Global, run: &Run<'_>, ended: bool) -> Result<String, AllocError> {
     let steps = run.steps();
     let output = str::from_utf8(run.output()).unwrap_or("?");

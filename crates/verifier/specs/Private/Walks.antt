@@ -1,7 +1,10 @@
 -- How a table of kinds grows while edges are followed.
-use Rattle.std.specs.Prelude.{◌≡◌, ℕ, ◌+◌, ◌<◌, ◌≤◌, List, [], ◌∷◌, Option, Some, None, Bool, true, false, length}
+use Rattle.std.specs.Prelude.{◌≡◌, ℕ, ◌+◌, ◌<◌, ◌≤◌, ◌⊎◌, List, [], ◌∷◌, Option, Some, None, Bool, true, false, length}
 use Rattle.std.specs.List.{AllByRecursion}
-use Rattle.code_model.specs.Code.{Code}
+use Rattle.code_model.specs.Code.{Code, reading_at}
+use Rattle.code_model.specs.declared.code.Instruction.TheVariants.{Next}
+use Rattle.machine_model.specs.declared.form.Body.{Body}
+use Rattle.machine_model.specs.Form.{body_at}
 use Rattle.machine_model.specs.declared.kind.Kind.{Kind}
 use Rattle.machine_model.specs.declared.kind.Kind.TheVariants.{Any, OptText, Text as TextKind, List as ListKind, Number as NumberKind}
 use Rattle.machine_model.specs.Kinds.{Kinds, any_kinds, Edge, edge, edges_at}
@@ -66,3 +69,17 @@ pub record GoesOn (from to : ℕ) (old new : List (Option Row)) : Type 0 where
   pub on : to ≤ from
   pub less : table_rises new ≤ table_rises old
   pub back : to < from → table_rises new < table_rises old
+
+-- ---- where the walk continues
+
+-- at the place that was next, or at the end of one of the edges, where that end is earlier
+abbrev pub ContinuesAt : ℕ → List Edge → ℕ → Type 0
+ContinuesAt next [] to = to ≡ next
+ContinuesAt next (e ∷ es) to = ((to ≡ e.to) × (to < next)) ⊎ ContinuesAt next es to
+
+-- NEXT at place p returns to this place, the head of its body
+pub record IsReturn (c : Code) (p to : ℕ) : Type 0 where
+  pub body : Body
+  pub within : body_at c p ≡ Some body
+  pub reads : reading_at c p ≡ Some Next
+  pub head : to ≡ body.start

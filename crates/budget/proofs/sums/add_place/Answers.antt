@@ -16,19 +16,23 @@ returns-in-None c =
 pub add_element-requires : goal.add_element-requires
 add_element-requires c =
     small_after c.args.code.now c.requires.is_code c.args.place _ c.requires.place
-    (after_element _ _ _ c.requires.sums _ c.reading-instruction.ensures _ c.share_of-share.ensures _ (sym c.in-Some.is ∙ c.requires.running) (sym c.prints_element.ensures ∙ c.if-prints_element.true))
+    (after_element _ _ _ c.requires.sums _ c.reading-instruction.ensures _ c.share_of-share.ensures _ (sym c.in-Some.is ∙ c.requires.running)
+    (sym c.prints_element.ensures ∙ c.if-prints_element.true))
 
 pub returns-then-prints_element : goal.returns-then-prints_element
 returns-then-prints_element c =
     c.add_element.ensures
-    ∙ after_element _ _ _ c.requires.sums _ c.reading-instruction.ensures _ c.share_of-share.ensures _ (sym c.in-Some.is ∙ c.requires.running) (sym c.prints_element.ensures ∙ c.if-prints_element.true)
+    ∙ after_element _ _ _ c.requires.sums _ c.reading-instruction.ensures _ c.share_of-share.ensures _ (sym c.in-Some.is ∙ c.requires.running)
+    (sym c.prints_element.ensures ∙ c.if-prints_element.true)
 
 pub add_inside-requires : goal.add_inside-requires
 add_inside-requires c =
     small_after c.args.code.now c.requires.is_code c.args.place _ c.requires.place
-    (after_inside _ _ _ c.requires.sums _ c.reading-instruction.ensures _ c.share_of-share.ensures _ (sym c.in-Some.is ∙ c.requires.running) (sym c.prints_element.ensures ∙ c.if-prints_element.false))
+    (after_inside _ _ _ c.requires.sums _ c.reading-instruction.ensures _ c.share_of-share.ensures _ (sym c.in-Some.is ∙ c.requires.running)
+    (sym c.prints_element.ensures ∙ c.if-prints_element.false))
 
 pub returns-else-prints_element : goal.returns-else-prints_element
 returns-else-prints_element c =
     c.add_inside.ensures
-    ∙ after_inside _ _ _ c.requires.sums _ c.reading-instruction.ensures _ c.share_of-share.ensures _ (sym c.in-Some.is ∙ c.requires.running) (sym c.prints_element.ensures ∙ c.if-prints_element.false)
+    ∙ after_inside _ _ _ c.requires.sums _ c.reading-instruction.ensures _ c.share_of-share.ensures _ (sym c.in-Some.is ∙ c.requires.running)
+    (sym c.prints_element.ensures ∙ c.if-prints_element.false)

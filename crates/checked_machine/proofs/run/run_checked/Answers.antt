@@ -12,7 +12,8 @@ loop-steps-init c =
 
 pub loop-steps-preserved : goal.loop-steps-preserved
 loop-steps-preserved c =
-    one_more c.step_is_decided.ensures c.args.code.now c.args.env.now.entries c.loop-steps._steps (frame_of c.loop-steps.frame) (Running (frame_of c.step.new.self)) c.loop-steps.invariant
+    one_more c.step_is_decided.ensures c.args.code.now c.args.env.now.entries c.loop-steps._steps (frame_of c.loop-steps.frame)
+    (Running (frame_of c.step.new.self)) c.loop-steps.invariant
     (sym c.in_ok-step.ensures.next ∙ ap (stepped c.step.new.self) c.in-Onward.is)
 
 pub returns-in-Link : goal.returns-in-Link
@@ -40,5 +41,6 @@ pub returns : goal.returns
 returns c =
     let last : c.loop-steps._steps ≡ step_limit c.args.code.now c.args.env.now.entries = omega (arith, c.step_limit-steps-end.ensures) in
     the_only c.course_is_decided.ensures.course c.args.code.now c.args.env.now.entries (Stuck c.loop-steps.frame.place)
-    (is_stuck_last c.step_is_decided.ensures c.args.code.now c.args.env.now.entries (frame_of c.loop-steps.frame) (c.every_run_ends.ensures.in_time c.args.code.now c.args.env.now.entries)
+    (is_stuck_last c.step_is_decided.ensures c.args.code.now c.args.env.now.entries (frame_of c.loop-steps.frame)
+    (c.every_run_ends.ensures.in_time c.args.code.now c.args.env.now.entries)
     (subst (λ k. After c.args.code.now c.args.env.now.entries k (Running (frame_of c.loop-steps.frame))) last c.loop-steps.invariant))

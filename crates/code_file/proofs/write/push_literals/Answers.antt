@@ -9,5 +9,6 @@ push_literal-requires c =
 
 pub loop-literal-preserved : goal.loop-literal-preserved
 loop-literal-preserved c =
-    joined_more literal_field _ c.args.literals.now c.loop-literal.literal-index c.literal-item.result _ _ c.loop-literal-test.true c.literal-item.is c.loop-literal.invariant
+    joined_more literal_field _ c.args.literals.now c.loop-literal.literal-index c.literal-item.result _ _ c.loop-literal-test.true c.literal-item.is
+    c.loop-literal.invariant
     c.in_ok-push_literal.ensures

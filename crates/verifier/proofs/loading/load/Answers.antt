@@ -4,16 +4,23 @@ use Rattle.verifier.proofs.Loads.{read_refused, code_refused, exact, file_code}
 use Rattle.verifier.proofs.loading.load.Goals as goal
 
 pub returns-in_err-code-clause-refused : goal.returns-in_err-code-clause-refused
-returns-in_err-code-clause-refused c = let p = err_from_is_err_and c.from_residual.result c.from_residual.ensures.1 in rw (p.1, p.2) (read_refused c.args.bytes.now _ c.in_err-code.ensures.refused)
+returns-in_err-code-clause-refused c = let p = err_from_is_err_and c.from_residual.result c.from_residual.ensures.1 in
+    rw (p.1, p.2) (read_refused c.args.bytes.now _ c.in_err-code.ensures.refused)
 
 pub returns-in_err-instructions-clause-refused : goal.returns-in_err-instructions-clause-refused
-returns-in_err-instructions-clause-refused c = let p = err_from_is_err_and c.from_residual-in_err-instructions.result c.from_residual-in_err-instructions.ensures.1 in rw (p.1, p.2) (code_refused c.args.bytes.now c.in_ok-code.code _ c.in_ok-code.ensures.code c.in_err-instructions.ensures.refused)
+returns-in_err-instructions-clause-refused c = let p =
+    err_from_is_err_and c.from_residual-in_err-instructions.result c.from_residual-in_err-instructions.ensures.1 in
+    rw (p.1, p.2) (code_refused c.args.bytes.now c.in_ok-code.code _ c.in_ok-code.ensures.code c.in_err-instructions.ensures.refused)
 
 pub returns-in_err-instructions-clause-exact : goal.returns-in_err-instructions-clause-exact
-returns-in_err-instructions-clause-exact c = let p = err_from_is_err_and c.from_residual-in_err-instructions.result c.from_residual-in_err-instructions.ensures.1 in rw (p.1, p.2) (exact c.file_has_one_code.ensures c.mismatch_is_exact.ensures.untypable c.args.bytes.now _ (code_refused c.args.bytes.now c.in_ok-code.code _ c.in_ok-code.ensures.code c.in_err-instructions.ensures.refused))
+returns-in_err-instructions-clause-exact c = let p =
+    err_from_is_err_and c.from_residual-in_err-instructions.result c.from_residual-in_err-instructions.ensures.1 in
+    rw (p.1, p.2) (exact c.file_has_one_code.ensures c.mismatch_is_exact.ensures.untypable c.args.bytes.now _
+    (code_refused c.args.bytes.now c.in_ok-code.code _ c.in_ok-code.ensures.code c.in_err-instructions.ensures.refused))
 
 pub returns-in_err-compared-clause-refused : goal.returns-in_err-compared-clause-refused
-returns-in_err-compared-clause-refused c = let p = err_from_is_err_and c.from_residual-in_err-compared.result c.from_residual-in_err-compared.ensures.1 in rw (p.1, p.2) (IsLoadFault.no_memory c.in_ok-code.code c.in_ok-code.ensures.code)
+returns-in_err-compared-clause-refused c = let p = err_from_is_err_and c.from_residual-in_err-compared.result c.from_residual-in_err-compared.ensures.1 in
+    rw (p.1, p.2) (IsLoadFault.no_memory c.in_ok-code.code c.in_ok-code.ensures.code)
 
 pub new-requires-clause-accepted : goal.new-requires-clause-accepted
 new-requires-clause-accepted c =

@@ -9,4 +9,5 @@ pub unmet-requires : goal.unmet-requires
 unmet-requires c = registers_fit c.args.layout.now.code.now c.requires.form c.args.place c.instruction.result c.requires.place c.instruction.ensures
 
 pub returns : goal.returns
-returns c = mismatch_some c.args.layout.now.code.now c.args.table.now c.args.place c.in-Some.row c.instruction.result _ c.in-Some.is c.instruction.ensures c.unmet.ensures
+returns c = mismatch_some c.args.layout.now.code.now c.args.table.now c.args.place c.in-Some.row c.instruction.result _ c.in-Some.is c.instruction.ensures
+    c.unmet.ensures

@@ -10,4 +10,6 @@ pub loop-place-preserved : goal.loop-place-preserved
 loop-place-preserved c = first_more (fault_at c.args.self.now.code.now) c.loop-place.place c.loop-place.invariant (sym c.fault.ensures ∙ c.in_default.is)
 
 pub returns-in-Some : goal.returns-in-Some
-returns-in-Some c = sym (first_found (fault_at c.args.self.now.code.now) (length c.args.self.now.code.now.instrs) c.loop-place.place c.in-Some.fault (omega (arith, c.len-place-end.ensures.count)) c.loop-place.invariant (sym c.fault.ensures ∙ c.in-Some.is))
+returns-in-Some c =
+    sym (first_found (fault_at c.args.self.now.code.now) (length c.args.self.now.code.now.instrs) c.loop-place.place c.in-Some.fault
+    (omega (arith, c.len-place-end.ensures.count)) c.loop-place.invariant (sym c.fault.ensures ∙ c.in-Some.is))
