@@ -1,5 +1,6 @@
 -- The parts of rules' code: the size of their file, and that within the limits a code file may have them.
-use Rattle.std.proofs.Common.{◌≡◌, ℕ, suc, ◌+◌, ◌*◌, ◌^◌, ◌<◌, ◌≤◌, List, [], ◌∷◌, ◌++◌, length, Bool, true, false, Some, None, refl, ap, inl, inr, arith, length-append}
+use Rattle.std.proofs.Common.{◌≡◌, ℕ, suc, ◌+◌, ◌*◌, ◌^◌, ◌<◌, ◌≤◌, List, [], ◌∷◌, ◌++◌, length, Bool, true, false, Some, None, refl, ap, inl, inr, arith}
+use Rattle.std.proofs.Common.{length-append}
 use Rattle.std.specs.Prelude.{All, min, not, sum_by, slice_get, if◌then◌else◌}
 use Rattle.std.specs.List.{flat_map}
 use Rattle.std.specs.Str.{IsUtf8}
@@ -12,7 +13,8 @@ use Rattle.text_model.specs.UriText.{IsUriText}
 use Rattle.code_model.specs.Code.{Name, Literal, Code}
 use Rattle.code_model.specs.declared.code.Instr.{Instr}
 use Rattle.code_file.specs.declared.error.CodeError.{CodeError}
-use Rattle.code_file.specs.Grammar.{spelled, name_field, literal_field, instr_field, IsVersion, IsTextOf, IsName as IsFileName, IsLiteral, IsInstr, IsCode, IsCodeFile, code_of as code_of_parts}
+use Rattle.code_file.specs.Grammar.{spelled, name_field, literal_field, instr_field, IsVersion, IsTextOf, IsName as IsFileName, IsLiteral, IsInstr, IsCode}
+use Rattle.code_file.specs.Grammar.{IsCodeFile, code_of as code_of_parts}
 use Rattle.code_file.specs.Fault.{IsFirstFault}
 use Rattle.machine_model.specs.Operands.{is_link_text, text_of_literal}
 use Rattle.machine_model.specs.Safe.{IsFileCode}
@@ -29,11 +31,18 @@ use Rattle.compiler.proofs.NameBytes.{file_name}
 
 length-names : (names : List Name) → length (flat_map name_field names) ≡ sum_by (λ (name : Name). 2 + length name.text) names
 length-names [] = refl
-length-names (n ∷ names) = omega (arith, length-names names, length-append n.text (flat_map name_field names), sum_by-cons (λ (name : Name). 2 + length name.text) n names)
+length-names (n ∷ names) =
+    omega (arith, length-names names, length-append n.text (flat_map name_field names), sum_by-cons (λ (name : Name). 2 + length name.text) n names)
 
 length-literals : (literals : List Literal) → length (flat_map literal_field literals) ≡ sum_by (λ (literal : Literal). 3 + length literal.bytes) literals
 length-literals [] = refl
-length-literals (l ∷ literals) = omega (arith, length-literals literals, length-append l.bytes (flat_map literal_field literals), sum_by-cons (λ (literal : Literal). 3 + length literal.bytes) l literals)
+length-literals (l ∷ literals) =
+    omega (
+      arith,
+      length-literals literals,
+      length-append l.bytes (flat_map literal_field literals),
+      sum_by-cons (λ (literal : Literal). 3 + length literal.bytes) l literals,
+    )
 
 length-instrs : (instrs : List Instr) → length (flat_map instr_field instrs) ≡ 8 * length instrs
 length-instrs [] = refl
@@ -56,7 +65,8 @@ text_of_kind : (compared : Bool) (text : Text) → IsUtf8 text → (not compared
 text_of_kind true text utf8 uri = utf8
 text_of_kind false text utf8 uri = uri refl
 
-good_literals : (ls : List Literal) → length (flat_map literal_field ls) < 2 ^ 16 → All IsUtf8Literal ls → ((n : ℕ) → is_link_text (slice_get ls n) ≡ true → IsUriText (text_of_literal (slice_get ls n))) → All IsLiteral ls
+good_literals : (ls : List Literal) → length (flat_map literal_field ls) < 2 ^ 16 → All IsUtf8Literal ls
+    → ((n : ℕ) → is_link_text (slice_get ls n) ≡ true → IsUriText (text_of_literal (slice_get ls n))) → All IsLiteral ls
 good_literals [] short utf8 links = All-nil IsLiteral
 good_literals (l ∷ ls) short utf8 links =
     let size = length-append l.bytes (flat_map literal_field ls) in
@@ -64,7 +74,8 @@ good_literals (l ∷ ls) short utf8 links =
     (record { short = omega (arith, short, size); text = text_of_kind l.compared l.bytes (All-head IsUtf8Literal l ls utf8) (links 0) })
     (good_literals ls (omega (arith, short, size)) (All-tail IsUtf8Literal l ls utf8) (λ n. links (suc n)))
 
-pub is_code : (c : Code) → IsVersion c.version → IsFileCode c → All (λ (name : Name). IsName name.text) c.names → All IsUtf8Literal c.literals → length c.names ≤ 256 → length c.literals ≤ 1024 → length c.instrs ≤ 4096 → length (spelled c) ≤ 65536 → IsCode c
+pub is_code : (c : Code) → IsVersion c.version → IsFileCode c → All (λ (name : Name). IsName name.text) c.names → All IsUtf8Literal c.literals
+    → length c.names ≤ 256 → length c.literals ≤ 1024 → length c.instrs ≤ 4096 → length (spelled c) ≤ 65536 → IsCode c
 is_code c version file names utf8 few_names few_literals few_instrs short =
     let front = length-append (flat_map name_field c.names) (flat_map literal_field c.literals ++ flat_map instr_field c.instrs) in
     let back = length-append (flat_map literal_field c.literals) (flat_map instr_field c.instrs) in
@@ -76,7 +87,9 @@ is_code c version file names utf8 few_names few_literals few_instrs short =
     }
 
 -- parts that are those of the rules' code make it
-pub whole_code : (rules : RuleSet) (counts : Bool) (names : List Name) (literals : List Literal) (instrs : List Instr) → counts ≡ has_counts rules → names ≡ (code_of rules).names → literals ≡ (code_of rules).literals → instrs ≡ (code_of rules).instrs → code_of_parts (if counts then 2 else 1) names literals instrs ≡ code_of rules
+pub whole_code : (rules : RuleSet) (counts : Bool) (names : List Name) (literals : List Literal) (instrs : List Instr) → counts ≡ has_counts rules
+    → names ≡ (code_of rules).names → literals ≡ (code_of rules).literals → instrs ≡ (code_of rules).instrs
+    → code_of_parts (if counts then 2 else 1) names literals instrs ≡ code_of rules
 whole_code rules counts names literals instrs b n l i = λ t. code_of_parts (if b t then 2 else 1) (n t) (l t) (i t)
 
 pub known_version : (b : Bool) → IsVersion (if b then 2 else 1)
@@ -84,7 +97,8 @@ known_version true = inr refl
 known_version false = inl refl
 
 -- what a file may have but for its length is refused for its length
-pub refused_long : ((bytes : Text) (c : Code) (e : CodeError) → IsCodeFile bytes c → IsFirstFault bytes e → ⊥) → (c : Code) (e : CodeError) → (length (spelled c) ≤ 65536 → IsCode c) → All IsInstr c.instrs → IsFirstFault (spelled c) e → 65536 < file_size c
+pub refused_long : ((bytes : Text) (c : Code) (e : CodeError) → IsCodeFile bytes c → IsFirstFault bytes e → ⊥) → (c : Code) (e : CodeError)
+    → (length (spelled c) ≤ 65536 → IsCode c) → All IsInstr c.instrs → IsFirstFault (spelled c) e → 65536 < file_size c
 refused_long no_fault c e good fields fault = elim (cases_lt 65536 (length (spelled c))) [
   | inl long ↦ omega (arith, length-spelled c)
   | inr short ↦ absurd (no_fault (spelled c) c e (record { is_code = good short; fields = fields; spells = refl }) fault)
@@ -92,14 +106,17 @@ refused_long no_fault c e good fields fault = elim (cases_lt 65536 (length (spel
 
 -- ---- the limits
 
-pub none_passed : (names literals instrs bytes : ℕ) → names ≤ 256 → literals ≤ 1024 → instrs ≤ 4096 → bytes ≤ 65536 → first_passed names literals instrs bytes ≡ None
+pub none_passed : (names literals instrs bytes : ℕ) → names ≤ 256 → literals ≤ 1024 → instrs ≤ 4096 → bytes ≤ 65536 → first_passed names literals instrs bytes
+    ≡ None
 none_passed names literals instrs bytes n l i b = grind (arith, nat_tests)
 
-pub file_passed : (names literals instrs bytes : ℕ) → names ≤ 256 → literals ≤ 1024 → instrs ≤ 4096 → 65536 < bytes → first_passed names literals instrs bytes ≡ Some FileTooLong
+pub file_passed : (names literals instrs bytes : ℕ) → names ≤ 256 → literals ≤ 1024 → instrs ≤ 4096 → 65536 < bytes → first_passed names literals instrs bytes
+    ≡ Some FileTooLong
 file_passed names literals instrs bytes n l i b = grind (arith, nat_tests)
 
 -- a count that stops at the largest number passes the limit where the whole count does
-pub counted : (names literals lines n bytes : ℕ) → lines ≡ min n 18446744073709551615 → first_passed names literals lines bytes ≡ first_passed names literals n bytes
+pub counted : (names literals lines n bytes : ℕ) → lines ≡ min n 18446744073709551615 → first_passed names literals lines bytes
+    ≡ first_passed names literals n bytes
 counted names literals lines n bytes e = elim (cases_lt 4096 n) [
   | inl many ↦ grind (arith, nat_tests)
   | inr few ↦ let same : lines ≡ n = omega arith in ap (λ k. first_passed names literals k bytes) same

@@ -1,3 +1,5 @@
+mod CodeFileExamples
+mod LimitExamples
 pub mod ShapeChoice
 pub mod TableGrowth
 pub mod ReachLemmas

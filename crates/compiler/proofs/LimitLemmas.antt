@@ -15,10 +15,12 @@ pub record IsWithin (rules : RuleSet) : Type 0 where
   pub literals : length (code_of rules).literals ≤ 1024
   pub instrs : length (code_of rules).instrs ≤ 4096
 
-module _ (rules : RuleSet) (names : List Name) (literals : List Literal) (lines : ℕ) (n : names ≡ (code_of rules).names) (l : literals ≡ (code_of rules).literals) (e : lines ≡ min (length (all_lines rules)) 18446744073709551615) where
+module _ (rules : RuleSet) (names : List Name) (literals : List Literal) (lines : ℕ) (n : names ≡ (code_of rules).names)
+    (l : literals ≡ (code_of rules).literals) (e : lines ≡ min (length (all_lines rules)) 18446744073709551615) where
   pub limit_counted : first_passed (length names) (length literals) lines (file_size (code_of rules)) ≡ limit_passed rules
   limit_counted =
-      counted (length names) (length literals) lines (length (code_of rules).instrs) (file_size (code_of rules)) (e ∙ ap (λ k. min k 18446744073709551615) (sym (length-code rules)))
+      counted (length names) (length literals) lines (length (code_of rules).instrs) (file_size (code_of rules))
+      (e ∙ ap (λ k. min k 18446744073709551615) (sym (length-code rules)))
       ∙ (λ t. first_passed (length (n t)) (length (l t)) (length (code_of rules).instrs) (file_size (code_of rules)))
 
   pub within : length names ≤ 256 → length literals ≤ 1024 → lines ≤ 4096 → IsWithin rules

@@ -6,7 +6,8 @@ use Rattle.std.proofs.lemmas.Bool.Decides.{nat_tests}
 use Rattle.std.proofs.lemmas.List.Elements.{All-nil, All-cons, All-append}
 use Rattle.text_model.specs.Texts.{Text, is_hexadecimal}
 use Rattle.code_model.specs.Code.{Name}
-use Rattle.uri_grammar.specs.Names.{IsVarchar, character_varchar, triplet_varchar, IsVarname, first_varchar, next_varchar, dotted_varchar, IsName, is_name_character}
+use Rattle.uri_grammar.specs.Names.{IsVarchar, character_varchar, triplet_varchar, IsVarname, first_varchar, next_varchar, dotted_varchar, IsName}
+use Rattle.uri_grammar.specs.Names.{is_name_character}
 use Rattle.code_file.specs.Grammar.{IsNameByte, IsName as IsFileName}
 
 character_visible : (c : ℕ) → is_name_character c ≡ true → IsNameByte c

@@ -13,15 +13,18 @@ pub lead_later : (first sep : Text) → (length first == 0) ≡ true → lines (
 lead_later [] sep e = refl
 lead_later (b ∷ first) sep e = absurd (cc (sym e ∙ eqb-suc-zero (length first)))
 
-pub lead_first : (first sep : Text) → (length first == 0) ≡ false → lines (lead_block first sep) ≡ lines (Then (Either (IsEmpty 4) (Does (Emits sep)) (Does (Emits first))) (Does (LoadConst 4 (codes "1"))))
+pub lead_first : (first sep : Text) → (length first == 0) ≡ false
+    → lines (lead_block first sep) ≡ lines (Then (Either (IsEmpty 4) (Does (Emits sep)) (Does (Emits first))) (Does (LoadConst 4 (codes "1"))))
 lead_first [] sep e = absurd (cc (e))
 lead_first (b ∷ first) sep e = refl
 
-pub named_bare : (ifemp : Text) (r : ℕ) (name : Text) (value : Action) → (length ifemp == 0) ≡ true → lines (named_block ifemp r name value) ≡ lines (named_block [] r name value)
+pub named_bare : (ifemp : Text) (r : ℕ) (name : Text) (value : Action) → (length ifemp == 0) ≡ true → lines (named_block ifemp r name value)
+    ≡ lines (named_block [] r name value)
 named_bare [] r name value e = refl
 named_bare (b ∷ ifemp) r name value e = absurd (cc (sym e ∙ eqb-suc-zero (length ifemp)))
 
-pub named_always : (ifemp : Text) (r : ℕ) (name : Text) (value : Action) → (length ifemp == 0) ≡ false → lines (named_block ifemp r name value) ≡ lines (Then (Does (Emits (name ++ codes "="))) (Does value))
+pub named_always : (ifemp : Text) (r : ℕ) (name : Text) (value : Action) → (length ifemp == 0) ≡ false → lines (named_block ifemp r name value)
+    ≡ lines (Then (Does (Emits (name ++ codes "="))) (Does value))
 named_always [] r name value e = absurd (cc (e))
 named_always (b ∷ ifemp) r name value e = refl
 

@@ -1,5 +1,6 @@
 -- Tables: where an entry is. And a table that grows by the entries that are used has each of them once, in the order of first use.
-use Rattle.std.proofs.Common.{◌≡◌, ℕ, suc, ◌+◌, ◌<◌, ◌≤◌, length, drop, get_or, arith, List, [], ◌∷◌, ◌++◌, Option, Some, None, Bool, true, false, refl, sym, ap, ◌∙◌, subst}
+use Rattle.std.proofs.Common.{◌≡◌, ℕ, suc, ◌+◌, ◌<◌, ◌≤◌, length, drop, get_or, arith, List, [], ◌∷◌, ◌++◌, Option, Some, None, Bool, true, false, refl, sym}
+use Rattle.std.proofs.Common.{ap, ◌∙◌, subst}
 use Rattle.std.specs.Prelude.{◌||◌, not, filter, if◌then◌else◌, nat_lt, unwrap_or}
 use Rattle.std.specs.List.{list_any, cons_option, position, position_or_len, filter_map, flat_map}
 use Rattle.std.specs.Bool.{Decides}
@@ -28,11 +29,13 @@ first_within p (x ∷ xs) = by_test (p x) (first_within p xs)
 pub index_or_len : {X : Type 0} (p : X → Bool) (xs : List X) → unwrap_or (position p xs) (length xs) ≡ position_or_len p xs
 index_or_len p xs = by_test (nat_lt (position_or_len p xs) (length xs)) refl
   where
-    by_test : (b : Bool) → nat_lt (position_or_len p xs) (length xs) ≡ b → unwrap_or (if b then Some (position_or_len p xs) else None) (length xs) ≡ position_or_len p xs
+    by_test : (b : Bool) → nat_lt (position_or_len p xs) (length xs) ≡ b → unwrap_or (if b then Some (position_or_len p xs) else None) (length xs)
+        ≡ position_or_len p xs
     by_test true e = refl
     by_test false e = omega (arith, ltb-false (position_or_len p xs) (length xs) e, first_within p xs)
 
-pub gathered_entry : {X : Type 0} (same : X → X → Bool) (xs : List X) (o : Option X) (ys : List X) → gathered same xs (cons_option o ys) ≡ gathered same (with_entry same xs o) ys
+pub gathered_entry : {X : Type 0} (same : X → X → Bool) (xs : List X) (o : Option X) (ys : List X) → gathered same xs (cons_option o ys)
+    ≡ gathered same (with_entry same xs o) ys
 gathered_entry same xs None ys = refl
 gathered_entry same xs (Some x) ys = refl
 
@@ -42,8 +45,10 @@ module _ {X : Type 0} (same : X → X → Bool) (decides : (x y : X) → Decides
   among_others x y [] d = refl
   among_others x y (z ∷ ys) d = by_test (same y z) refl (among_others x y ys d)
     where
-      by_test : (b : Bool) → same y z ≡ b → list_any (same x) (filter (λ z. not (same y z)) ys) ≡ list_any (same x) ys → list_any (same x) (if not b then (z ∷ filter (λ z. not (same y z)) ys) else filter (λ z. not (same y z)) ys) ≡ (same x z || list_any (same x) ys)
-      by_test true e rest = subst (λ w. list_any (same x) (filter (λ z. not (same y z)) ys) ≡ (same x w || list_any (same x) ys)) ((decides y z).0 e) (rw d rest)
+      by_test : (b : Bool) → same y z ≡ b → list_any (same x) (filter (λ z. not (same y z)) ys) ≡ list_any (same x) ys
+          → list_any (same x) (if not b then (z ∷ filter (λ z. not (same y z)) ys) else filter (λ z. not (same y z)) ys) ≡ (same x z || list_any (same x) ys)
+      by_test true e rest = subst (λ w. list_any (same x) (filter (λ z. not (same y z)) ys) ≡ (same x w || list_any (same x) ys)) ((decides y z).0 e)
+          (rw d rest)
       by_test false e rest = ap (λ b. same x z || b) rest
 
   firsts_push : (xs : List X) (x : X) → firsts same (xs ++ x ∷ []) ≡ added same (firsts same xs) x
@@ -53,13 +58,19 @@ module _ {X : Type 0} (same : X → X → Bool) (decides : (x y : X) → Decides
       others : List X
       others = filter (λ z. not (same y z)) (firsts same xs)
 
-      by_test : (b : Bool) → same x y ≡ b → (c : Bool) → list_any (same x) (firsts same xs) ≡ c → y ∷ filter (λ z. not (same y z)) (if c then firsts same xs else (firsts same xs ++ x ∷ [])) ≡ (if same x y || list_any (same x) (filter (λ z. not (same y z)) (firsts same xs)) then (y ∷ filter (λ z. not (same y z)) (firsts same xs)) else ((y ∷ filter (λ z. not (same y z)) (firsts same xs)) ++ x ∷ []))
+      by_test : (b : Bool) → same x y ≡ b → (c : Bool) → list_any (same x) (firsts same xs) ≡ c
+          → y ∷ filter (λ z. not (same y z)) (if c then firsts same xs else (firsts same xs ++ x ∷ []))
+          ≡ (if same x y || list_any (same x) (filter (λ z. not (same y z)) (firsts same xs)) then (y ∷ filter (λ z. not (same y z)) (firsts same xs))
+          else ((y ∷ filter (λ z. not (same y z)) (firsts same xs)) ++ x ∷ []))
       by_test true e true f = rw e refl
       by_test true e false f =
           let mirrored : same y x ≡ true = (decides y x).1 (sym ((decides x y).0 e)) in
-          rw e (ap (λ zs. y ∷ zs) (filter-append (λ z. not (same y z)) (firsts same xs) (x ∷ []) ∙ rw mirrored (append-nil (filter (λ z. not (same y z)) (firsts same xs)))))
+          rw e (ap (λ zs. y ∷ zs) (filter-append (λ z. not (same y z)) (firsts same xs) (x ∷ [])
+          ∙ rw mirrored (append-nil (filter (λ z. not (same y z)) (firsts same xs)))))
       by_test false e true f = rw (e, among_others x y (firsts same xs) e, f) refl
-      by_test false e false f = rw (e, among_others x y (firsts same xs) e, f) (ap (λ zs. y ∷ zs) (filter-append (λ z. not (same y z)) (firsts same xs) (x ∷ []) ∙ rw (unlike (same y x) refl) refl))
+      by_test false e false f =
+          rw (e, among_others x y (firsts same xs) e, f)
+          (ap (λ zs. y ∷ zs) (filter-append (λ z. not (same y z)) (firsts same xs) (x ∷ []) ∙ rw (unlike (same y x) refl) refl))
         where
           unlike : (b : Bool) → same y x ≡ b → same y x ≡ false
           unlike true g = absurd (false≢true (sym e ∙ (decides x y).1 (sym ((decides y x).0 g))))
@@ -76,7 +87,8 @@ gathered-append same xs [] zs = refl
 gathered-append same xs (y ∷ ys) zs = gathered-append same (added same xs y) ys zs
 
 -- what lines and later lines make of a table
-pub gathered_lines : {X : Type 0} (same : X → X → Bool) (used : Line → Option X) (xs : List X) (a b : List Line) → gathered same xs (filter_map used (a ++ b)) ≡ gathered same (gathered same xs (filter_map used a)) (filter_map used b)
+pub gathered_lines : {X : Type 0} (same : X → X → Bool) (used : Line → Option X) (xs : List X) (a b : List Line) → gathered same xs (filter_map used (a ++ b))
+    ≡ gathered same (gathered same xs (filter_map used a)) (filter_map used b)
 gathered_lines same used xs a b = ap (gathered same xs) (filter_map-append used a b) ∙ gathered-append same xs (filter_map used a) (filter_map used b)
 
 -- FAIL behind all lines uses nothing
@@ -84,13 +96,19 @@ unused_end : {X : Type 0} (used : Line → Option X) (ls : List Line) → used F
 unused_end used ls e = filter_map-append used ls (Fails ∷ []) ∙ rw e (append-nil (filter_map used ls))
 
 pub all_names : (rules : RuleSet) → gathered is_same_name [] (filter_map name_used (flat_map (rule_lines rules.lists) rules.rules)) ≡ names_of (all_lines rules)
-all_names rules = gathered_firsts is_same_name same_names [] _ ∙ ap (firsts is_same_name) (sym (unused_end name_used (flat_map (rule_lines rules.lists) rules.rules) refl))
+all_names rules = gathered_firsts is_same_name same_names [] _
+    ∙ ap (firsts is_same_name) (sym (unused_end name_used (flat_map (rule_lines rules.lists) rules.rules) refl))
 
-pub all_literals : (rules : RuleSet) → gathered is_same_literal [] (filter_map literal_used (flat_map (rule_lines rules.lists) rules.rules)) ≡ literals_of (all_lines rules)
-all_literals rules = gathered_firsts is_same_literal same_literals [] _ ∙ ap (firsts is_same_literal) (sym (unused_end literal_used (flat_map (rule_lines rules.lists) rules.rules) refl))
+pub all_literals : (rules : RuleSet) → gathered is_same_literal [] (filter_map literal_used (flat_map (rule_lines rules.lists) rules.rules))
+    ≡ literals_of (all_lines rules)
+all_literals rules = gathered_firsts is_same_literal same_literals [] _
+    ∙ ap (firsts is_same_literal) (sym (unused_end literal_used (flat_map (rule_lines rules.lists) rules.rules) refl))
 
 -- one more rule
-pub gather_step : {X : Type 0} (same : X → X → Bool) (used : Line → Option X) (lists : List Text) (all : List Rule) (i : ℕ) (rule : Rule) (table new : List X) (ls : List Line) (whole : List X) → i < length all → rule ≡ get_or all i rule → ls ≡ rule_lines lists rule → new ≡ gathered same table (filter_map used ls) → gathered same table (filter_map used (flat_map (rule_lines lists) (drop i all))) ≡ whole → gathered same new (filter_map used (flat_map (rule_lines lists) (drop (i + 1) all))) ≡ whole
+pub gather_step : {X : Type 0} (same : X → X → Bool) (used : Line → Option X) (lists : List Text) (all : List Rule) (i : ℕ) (rule : Rule) (table new : List X)
+    (ls : List Line) (whole : List X) → i < length all → rule ≡ get_or all i rule → ls ≡ rule_lines lists rule → new ≡ gathered same table (filter_map used ls)
+    → gathered same table (filter_map used (flat_map (rule_lines lists) (drop i all))) ≡ whole
+    → gathered same new (filter_map used (flat_map (rule_lines lists) (drop (i + 1) all))) ≡ whole
 gather_step same used lists all i rule table new ls whole lt is lines grown before =
     let rest = flat_map (rule_lines lists) (drop (i + 1) all) in
     let next : drop i all ≡ rule ∷ drop (i + 1) all = drop_more all i rule lt ∙ ap (λ (r : Rule). r ∷ drop (i + 1) all) (sym is) in

@@ -1,6 +1,7 @@
 //! The code of rules.
 
-ghost use Rattle.std.specs.Prelude.{◌≡◌, ◌⊎◌, ◌↔◌, ◌≤◌, ◌<◌, ℕ, None, Some, All, length, map, IfOk, IfErr, if◌then◌else◌};
+ghost use Rattle.std.specs.Prelude.{◌≡◌, ◌⊎◌, ◌↔◌, ◌≤◌, ◌<◌, ℕ, None, Some, All, length, map, IfOk, IfErr};
+ghost use Rattle.std.specs.Prelude.{if◌then◌else◌};
 ghost use Rattle.std.specs.List.{list_any};
 ghost use Rattle.environment_model.specs.Environment.{Environment};
 ghost use Rattle.code_model.specs.Code.{spelling as spelled_as};
@@ -12,7 +13,8 @@ ghost use Rattle.machine_model.specs.Runs.{Outcome, HasOutcome};
 ghost use Rattle.rule_parser.specs.Rules.{IsSound};
 ghost use Rattle.rule_parser.specs.Meaning.{meaning};
 ghost use Rattle.compiler_model.specs.Answer.{answer};
-ghost use Rattle.compiler_model.specs.Compiled.{all_lines, rules_instructions, is_counts, has_counts as has_guard_counts, code_of};
+ghost use Rattle.compiler_model.specs.Compiled.{all_lines, rules_instructions, is_counts};
+ghost use Rattle.compiler_model.specs.Compiled.{has_counts as has_guard_counts, code_of};
 ghost use Rattle.compiler_model.specs.Size.{file_size};
 ghost use Rattle.compiler.specs.Private.Growth.{IsUtf8Literal};
 ghost use Rattle.compiler.specs.Limits.{limit_passed};
@@ -54,7 +56,8 @@ fn instructions(alloc: Global, rules: &Rules, tables: &Tables) -> Result<Vec<Ins
     requires literals { length tables.now.literals.items ≤ 1024 }
     requires room { length (all_lines rules.now) ≤ 4096 }
     ensures pushed { IfOk result (λ instrs. instrs.items
-        ≡ map spelled_as (rules_instructions tables.now.names.items tables.now.literals.items rules.now.lists 0 rules.now.rules)) }
+        ≡ map spelled_as (rules_instructions tables.now.names.items tables.now.literals.items rules.now.lists 0
+        rules.now.rules)) }
     ensures fields { IfOk result (λ instrs. All IsInstr instrs.items) }
 {
     let mut instrs = Vec::new(alloc);
@@ -73,9 +76,11 @@ fn of_parts(
     literals: Vec<Literal>,
     instrs: Vec<Instr>,
 ) -> Result<Code, CodeErrorKind>
-    ensures code { IfOk result (λ c. (c ≡ code_of_parts (if counts then 2 else 1) names.items literals.items instrs.items) × IsCode c) }
+    ensures code { IfOk result
+        (λ c. (c ≡ code_of_parts (if counts then 2 else 1) names.items literals.items instrs.items) × IsCode c) }
     ensures refused { IfErr result (λ kind. (at : ℕ)
-        × IsFirstFault (spelled (code_of_parts (if counts then 2 else 1) names.items literals.items instrs.items)) (fault kind at)) }
+        × IsFirstFault (spelled (code_of_parts (if counts then 2 else 1) names.items literals.items instrs.items))
+        (fault kind at)) }
 {
     if counts {
         Code::from_parts2(names, literals, instrs)
@@ -108,11 +113,12 @@ fn finish(rules: &Rules, tables: Tables, instrs: Vec<Instr>) -> Result<Code, Com
     }
 }
 
-/// The code of the rules, of version 2 where a rule has a guard `counts` and of version 1 otherwise. It is accepted, and
-/// comes on every environment to the link of the first rule whose guards all hold, or to no link where there is none.
+/// The code of the rules, of version 2 where a rule has a guard `counts` and of version 1 otherwise. It is accepted,
+/// and comes on every environment to the link of the first rule whose guards all hold, or to no link where there is
+/// none.
 ///
-/// Code has at most 256 names, 1,024 literals, 4,096 instructions and 65,536 bytes of file: the first limit that would be
-/// passed is the error. `NoMemory` where a growth was refused.
+/// Code has at most 256 names, 1,024 literals, 4,096 instructions and 65,536 bytes of file: the first limit that would
+/// be passed is the error. `NoMemory` where a growth was refused.
 pub fn compile(alloc: Global, rules: &Rules) -> Result<Code, CompileError>
     ensures ok { IfOk result (λ code. (code ≡ code_of rules.now) × (limit_passed rules.now ≡ None)) }
     ensures err { IfErr result (λ e. (e ≡ NoMemory) ⊎ (limit_passed rules.now ≡ Some e)) }

@@ -2,7 +2,8 @@
 
 ghost use Rattle.std.specs.Prelude.{◌≡◌, ◌+◌, ◌≤◌, ℕ, Some, All, length, min, IfOk, IfErr, OnOk};
 ghost use Rattle.std.specs.List.{filter_map};
-ghost use Rattle.compiler_model.specs.Tables.{is_same_name, is_same_literal, name_used, literal_used, names_of, literals_of};
+ghost use Rattle.compiler_model.specs.Tables.{is_same_name, is_same_literal, name_used, literal_used, names_of};
+ghost use Rattle.compiler_model.specs.Tables.{literals_of};
 ghost use Rattle.compiler_model.specs.Compiled.{all_lines};
 ghost use Rattle.compiler.specs.Private.Growth.{gathered, IsUtf8Literal};
 ghost use Rattle.compiler.specs.Limits.{first_passed};
@@ -26,8 +27,10 @@ pub(crate) struct Tables {
 impl Tables {
     fn add(&mut self, alloc: Global, lines: &[Line]) -> Result<(), AllocError>
         requires { All IsUtf8Literal self.old.literals.items }
-        ensures names { OnOk result (self.new.names.items ≡ gathered is_same_name self.old.names.items (filter_map name_used lines.now)) }
-        ensures literals { OnOk result (self.new.literals.items ≡ gathered is_same_literal self.old.literals.items (filter_map literal_used lines.now)) }
+        ensures names { OnOk result
+            (self.new.names.items ≡ gathered is_same_name self.old.names.items (filter_map name_used lines.now)) }
+        ensures literals { OnOk result (self.new.literals.items ≡ gathered is_same_literal self.old.literals.items
+            (filter_map literal_used lines.now)) }
         ensures utf8 { OnOk result (All IsUtf8Literal self.new.literals.items) }
         ensures lines { OnOk result (self.new.lines ≡ min (self.old.lines + length lines.now) usize.MAX) }
     {
@@ -62,7 +65,9 @@ impl Tables {
         ensures names { OnOk result (length self.now.names.items ≤ 256) }
         ensures literals { OnOk result (length self.now.literals.items ≤ 1024) }
         ensures lines { OnOk result (self.now.lines ≤ 4096) }
-        ensures err { IfErr result (λ e. (bytes : ℕ) → first_passed (length self.now.names.items) (length self.now.literals.items) self.now.lines bytes ≡ Some e) }
+        ensures err { IfErr result (λ e. (bytes : ℕ)
+            → first_passed (length self.now.names.items) (length self.now.literals.items) self.now.lines bytes
+            ≡ Some e) }
     {
         if self.names.len() > 256 {
             return Err(CompileError::TooManyNames);

@@ -1,3 +1,5 @@
+//! Why rules have no code.
+
 use std::alloc::{AllocError, AllocFailed};
 use std::fmt;
 use thiserror::Error;

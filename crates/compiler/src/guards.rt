@@ -4,7 +4,8 @@ ghost use Rattle.std.specs.Prelude.{◌≡◌, ◌++◌, [], false, true, OnOk, 
 ghost use Rattle.compiler_model.specs.declared.lines.Action.TheVariants as actions;
 ghost use Rattle.compiler_model.specs.declared.lines.Test.TheVariants as tests;
 ghost use Rattle.compiler_model.specs.Blocks.{Does, Then, Unless, ForEach, LeaveIf, Leave, lines};
-ghost use Rattle.compiler_model.specs.Shapes.{loading, is_missing, bound_block, bounds_block, guard_block, guards_block};
+ghost use Rattle.compiler_model.specs.Shapes.{loading, is_missing, bound_block, bounds_block, guard_block};
+ghost use Rattle.compiler_model.specs.Shapes.{guards_block};
 ghost use Rattle.rule_parser.specs.declared.rule.Guard.TheVariants as guards;
 
 use crate::lines::{
@@ -57,7 +58,8 @@ fn push_name_bound(
     name: &str,
 ) -> Result<(), AllocError>
     ensures { OnOk result (out.new.items ≡ out.old.items
-        ++ lines (Then (Does (actions.LoadText 2 name.now)) (Unless (tests.IsUndefined 2) (Unless (tests.HasNoNumber 3 2) (LeaveIf test))))) }
+        ++ lines (Then (Does (actions.LoadText 2 name.now))
+        (Unless (tests.IsUndefined 2) (Unless (tests.HasNoNumber 3 2) (LeaveIf test))))) }
 {
     let mut body = Vec::new(alloc);
     push_number(alloc, &mut body, test)?;
@@ -97,14 +99,17 @@ fn push_bounds(
 }
 
 fn push_has(alloc: Global, out: &mut Vec<Line>, list: bool, name: &str) -> Result<(), AllocError>
-    ensures { OnOk result (out.new.items ≡ out.old.items ++ lines (Then (Does (loading list name.now)) (LeaveIf (is_missing list)))) }
+    ensures { OnOk result
+        (out.new.items ≡ out.old.items ++ lines (Then (Does (loading list name.now)) (LeaveIf (is_missing list)))) }
 {
     push_loading(alloc, out, list, name)?;
     push_leave_if(out, missing(list))
 }
 
 fn push_lacks(alloc: Global, out: &mut Vec<Line>, list: bool, name: &str) -> Result<(), AllocError>
-    ensures { OnOk result (out.new.items ≡ out.old.items ++ lines (Then (Does (loading list name.now)) (Unless (is_missing list) Leave))) }
+    ensures { OnOk result
+        (out.new.items ≡ out.old.items
+        ++ lines (Then (Does (loading list name.now)) (Unless (is_missing list) Leave))) }
 {
     let mut body = Vec::new(alloc);
     body.push(Line::Jumps(Target::Away))?;
@@ -114,7 +119,9 @@ fn push_lacks(alloc: Global, out: &mut Vec<Line>, list: bool, name: &str) -> Res
 
 // A text into r0; the rule is left where it is not defined.
 fn push_text(alloc: Global, out: &mut Vec<Line>, name: &str) -> Result<(), AllocError>
-    ensures { OnOk result (out.new.items ≡ out.old.items ++ lines (Then (Does (loading false name.now)) (LeaveIf (tests.IsUndefined 0)))) }
+    ensures { OnOk result
+        (out.new.items ≡ out.old.items
+        ++ lines (Then (Does (loading false name.now)) (LeaveIf (tests.IsUndefined 0)))) }
 {
     push_load_text(alloc, out, 0, name)?;
     push_leave_if(out, Test::IsUndefined(0))
@@ -160,7 +167,8 @@ fn push_holds(alloc: Global, out: &mut Vec<Line>, name: &str, text: &str) -> Res
 // The number that a text begins with into r1; the rule is left where there is none.
 fn push_leading_number(alloc: Global, out: &mut Vec<Line>, name: &str) -> Result<(), AllocError>
     ensures { OnOk result (out.new.items ≡ out.old.items
-        ++ lines (Then (Then (Does (loading false name.now)) (LeaveIf (tests.IsUndefined 0))) (LeaveIf (tests.HasNoNumber 1 0)))) }
+        ++ lines (Then (Then (Does (loading false name.now)) (LeaveIf (tests.IsUndefined 0)))
+        (LeaveIf (tests.HasNoNumber 1 0)))) }
 {
     push_text(alloc, out, name)?;
     push_leave_if(out, Test::HasNoNumber(1, 0))
@@ -168,7 +176,9 @@ fn push_leading_number(alloc: Global, out: &mut Vec<Line>, name: &str) -> Result
 
 // How many members a list has, into r1.
 fn push_count(alloc: Global, out: &mut Vec<Line>, name: &str) -> Result<(), AllocError>
-    ensures { OnOk result (out.new.items ≡ out.old.items ++ lines (Then (Does (loading true name.now)) (Does (actions.CountMembers 1 0)))) }
+    ensures { OnOk result
+        (out.new.items ≡ out.old.items
+        ++ lines (Then (Does (loading true name.now)) (Does (actions.CountMembers 1 0)))) }
 {
     push_load_list(alloc, out, 0, name)?;
     out.push(Line::Acts(Action::CountMembers(1, 0)))?;

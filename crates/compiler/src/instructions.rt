@@ -3,7 +3,8 @@
 ghost use Rattle.std.specs.Prelude.{◌≡◌, ◌+◌, ◌≤◌, ◌++◌, ◌∷◌, [], All, length, map, OnOk};
 ghost use Rattle.code_model.specs.Code.{spelling as spelled};
 ghost use Rattle.code_file.specs.Grammar.{IsInstr};
-ghost use Rattle.compiler_model.specs.Compiled.{mode_of, place_of, action_instruction, test_instruction, line_instruction, instructions_from};
+ghost use Rattle.compiler_model.specs.Compiled.{mode_of, place_of, action_instruction, test_instruction};
+ghost use Rattle.compiler_model.specs.Compiled.{line_instruction, instructions_from};
 ghost use Rattle.compiler.specs.Private.Reach.{distance, reach, StayWithin};
 
 use crate::tables::{literal_index, name_index};
@@ -126,7 +127,8 @@ pub(crate) fn push_rule(
     requires within { StayWithin 0 lines.now }
     requires fields { All IsInstr instrs.old.items }
     ensures pushed { OnOk result (instrs.new.items ≡ instrs.old.items
-        ++ map spelled (instructions_from names.now literals.now (length instrs.old.items + length lines.now) (length instrs.old.items) lines.now)) }
+        ++ map spelled (instructions_from names.now literals.now (length instrs.old.items + length lines.now)
+        (length instrs.old.items) lines.now)) }
     ensures fields { OnOk result (All IsInstr instrs.new.items) }
 {
     let away = instrs.len() + lines.len();

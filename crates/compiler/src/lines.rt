@@ -2,7 +2,8 @@
 
 ghost use Rattle.std.specs.Prelude.{◌≡◌, ◌+◌, ◌∷◌, [], ◌++◌, length, IfOk, OnOk};
 ghost use Rattle.compiler_model.specs.declared.lines.Line.TheVariants.{Acts, Tests, Begins, Turns};
-ghost use Rattle.compiler_model.specs.declared.lines.Action.TheVariants.{LoadText, LoadList, LoadConst, Emits, Separates};
+ghost use Rattle.compiler_model.specs.declared.lines.Action.TheVariants.{LoadText, LoadList, LoadConst, Emits};
+ghost use Rattle.compiler_model.specs.declared.lines.Action.TheVariants.{Separates};
 ghost use Rattle.compiler_model.specs.declared.lines.Target.TheVariants.{Ahead, Away};
 
 use compiler_model::{Action, Line, Target, Test};
@@ -98,7 +99,8 @@ pub(crate) fn push_each(
     list: u8,
     mut body: Vec<Line>,
 ) -> Result<(), AllocError>
-    ensures { OnOk result (out.new.items ≡ out.old.items ++ Begins element list (length body.items + 2) ∷ body.items ++ Turns ∷ []) }
+    ensures { OnOk result (out.new.items ≡ out.old.items ++ Begins element list (length body.items + 2) ∷ body.items
+        ++ Turns ∷ []) }
 {
     out.push(Line::Begins(element, list, body.len() + 2))?;
     out.append(&mut body)?;

@@ -4,7 +4,9 @@ ghost use Rattle.std.specs.Prelude.{◌≡◌, ◌++◌, [], false, true, OnOk, 
 ghost use Rattle.compiler_model.specs.declared.lines.Action.TheVariants as actions;
 ghost use Rattle.compiler_model.specs.declared.lines.Test.TheVariants as tests;
 ghost use Rattle.compiler_model.specs.Blocks.{Does, Then, Unless, Either, ForEach, lines};
-ghost use Rattle.compiler_model.specs.Shapes.{lead_block, writing_action, named_block, item_block, head_block, members_block, shown_block, spec_block, specs_block, part_block, parts_block};
+ghost use Rattle.compiler_model.specs.Shapes.{lead_block, writing_action, named_block, item_block, head_block};
+ghost use Rattle.compiler_model.specs.Shapes.{members_block, shown_block, spec_block, specs_block, part_block};
+ghost use Rattle.compiler_model.specs.Shapes.{parts_block};
 ghost use Rattle.uri_template.specs.Expansion.{style_of};
 
 use crate::guards::{missing, push_loading};
@@ -33,7 +35,8 @@ fn push_first_lead(
     sep: &str,
 ) -> Result<(), AllocError>
     ensures { OnOk result (out.new.items ≡ out.old.items
-        ++ lines (Then (Either (tests.IsEmpty 4) (Does (actions.Emits sep.now)) (Does (actions.Emits first.now))) (Does (actions.LoadConst 4 (codes "1"))))) }
+        ++ lines (Then (Either (tests.IsEmpty 4) (Does (actions.Emits sep.now)) (Does (actions.Emits first.now)))
+        (Does (actions.LoadConst 4 (codes "1"))))) }
 {
     out.push(Line::Tests(Test::IsEmpty(4), Target::Ahead(3)))?;
     push_emit(alloc, out, sep)?;
@@ -91,7 +94,8 @@ fn push_bare(
     by: Writing,
     cut: u16,
 ) -> Result<(), AllocError>
-    ensures { OnOk result (out.new.items ≡ out.old.items ++ lines (named_block [] register name.now (writing_action register by cut))) }
+    ensures { OnOk result
+        (out.new.items ≡ out.old.items ++ lines (named_block [] register name.now (writing_action register by cut))) }
 {
     let mut body = Vec::new(alloc);
     push_emit(alloc, &mut body, "=")?;
@@ -125,7 +129,9 @@ fn push_named(
     by: Writing,
     cut: u16,
 ) -> Result<(), AllocError>
-    ensures { OnOk result (out.new.items ≡ out.old.items ++ lines (named_block ifemp.now register name.now (writing_action register by cut))) }
+    ensures { OnOk result
+        (out.new.items ≡ out.old.items
+        ++ lines (named_block ifemp.now register name.now (writing_action register by cut))) }
 {
     if ifemp.is_empty() {
         push_bare(alloc, out, register, name, by, cut)

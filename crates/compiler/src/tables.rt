@@ -2,7 +2,9 @@
 
 ghost use Rattle.std.specs.Prelude.{◌≡◌, ◌≤◌, All, length, OnOk};
 ghost use Rattle.std.specs.List.{list_any, filter_map, position};
-ghost use Rattle.compiler_model.specs.Tables.{name_entry, literal_entry, is_same_name, is_same_literal, name_used, literal_used, name_index as index_of_name, literal_index as index_of_literal};
+ghost use Rattle.compiler_model.specs.Tables.{name_entry, literal_entry, is_same_name, is_same_literal, name_used};
+ghost use Rattle.compiler_model.specs.Tables.{literal_used, name_index as index_of_name};
+ghost use Rattle.compiler_model.specs.Tables.{literal_index as index_of_literal};
 ghost use Rattle.compiler.specs.Private.Growth.{added, with_entry, gathered, IsUtf8Literal};
 
 use code_file::{Literal, Name};
@@ -41,7 +43,8 @@ fn add_literal(
     text: &str,
 ) -> Result<(), AllocError>
     requires { All IsUtf8Literal literals.old.items }
-    ensures added { OnOk result (literals.new.items ≡ added is_same_literal literals.old.items (literal_entry compared text.now)) }
+    ensures added { OnOk result
+        (literals.new.items ≡ added is_same_literal literals.old.items (literal_entry compared text.now)) }
     ensures utf8 { OnOk result (All IsUtf8Literal literals.new.items) }
 {
     if has_literal(literals, compared, text.as_bytes()) {
@@ -68,7 +71,8 @@ fn add_used_literal(
     line: &Line,
 ) -> Result<(), AllocError>
     requires { All IsUtf8Literal literals.old.items }
-    ensures added { OnOk result (literals.new.items ≡ with_entry is_same_literal literals.old.items (literal_used line.now)) }
+    ensures added { OnOk result
+        (literals.new.items ≡ with_entry is_same_literal literals.old.items (literal_used line.now)) }
     ensures utf8 { OnOk result (All IsUtf8Literal literals.new.items) }
 {
     match line {
@@ -102,7 +106,8 @@ pub(crate) fn add_literals(
     lines: &[Line],
 ) -> Result<(), AllocError>
     requires { All IsUtf8Literal literals.old.items }
-    ensures gathered { OnOk result (literals.new.items ≡ gathered is_same_literal literals.old.items (filter_map literal_used lines.now)) }
+    ensures gathered { OnOk result (literals.new.items ≡ gathered is_same_literal literals.old.items
+        (filter_map literal_used lines.now)) }
     ensures utf8 { OnOk result (All IsUtf8Literal literals.new.items) }
 {
     for line in lines {

@@ -26,17 +26,25 @@ use Rattle.compiler_model.proofs.Formed.{TreesAreSound, AreFormed}
 use Rattle.compiler_model.proofs.Standing.{IsFormedLine}
 use Rattle.compiler_model.proofs.RuleRuns.{RulesLie}
 use Rattle.compiler_model.proofs.CodeLies.{IsFounded, length-instructions_from, code_formed, founded, code_lies}
-use Rattle.compiler_model.proofs.Forming.{HasNoFault, clean_one, clean_both, body_next, body_behind, block_clean, last_good}
+use Rattle.compiler_model.proofs.Forming.{body_next, body_behind}
+use Rattle.compiler_model.proofs.NoFaults.{HasNoFault, clean_one, clean_both, block_clean, last_good}
 
 -- ---- lengths
 
-length-rules_instructions : (names : List Name) (literals : List Literal) (lists : List Text) (place : ℕ) (rules : List Rule) → length (rules_instructions names literals lists place rules) ≡ length (flat_map (rule_lines lists) rules) + 1
+length-rules_instructions : (names : List Name) (literals : List Literal) (lists : List Text) (place : ℕ) (rules : List Rule)
+    → length (rules_instructions names literals lists place rules) ≡ length (flat_map (rule_lines lists) rules) + 1
 length-rules_instructions names literals lists place [] = refl
 length-rules_instructions names literals lists place (rule ∷ rules) =
     let ls = rule_lines lists rule in
     let away = place + length ls in
     let is = instructions_from names literals away place ls in
-    omega (arith, length-append is (rules_instructions names literals lists away rules), length-instructions_from names literals away place ls, length-rules_instructions names literals lists away rules, length-append ls (flat_map (rule_lines lists) rules))
+    omega (
+      arith,
+      length-append is (rules_instructions names literals lists away rules),
+      length-instructions_from names literals away place ls,
+      length-rules_instructions names literals lists away rules,
+      length-append ls (flat_map (rule_lines lists) rules),
+    )
 
 pub code_length : (rules : RuleSet) → length (code_of rules).instrs ≡ length (flat_map (rule_lines rules.lists) rules.rules) + 1
 code_length rules = length-map _ spelling ∙ length-rules_instructions _ _ rules.lists 0 rules.rules
@@ -44,7 +52,8 @@ code_length rules = length-map _ spelling ∙ length-rules_instructions _ _ rule
 -- ---- form
 
 module _ (c : Code) (version : ℕ) (lists : List Text) where
-  rules_clean : (rules : List Rule) (place : ℕ) → AreFormed version lists rules → RulesLie c lists place rules → body_at c place ≡ None → place + length (flat_map (rule_lines lists) rules) + 1 ≡ length c.instrs → HasNoFault c place (length c.instrs)
+  rules_clean : (rules : List Rule) (place : ℕ) → AreFormed version lists rules → RulesLie c lists place rules → body_at c place ≡ None
+      → place + length (flat_map (rule_lines lists) rules) + 1 ≡ length c.instrs → HasNoFault c place (length c.instrs)
   rules_clean [] place f h at eq = clean_one c place (length c.instrs) (omega (arith, eq)) (last_good c place instruction.Fail h refl)
   rules_clean (rule ∷ rules) place f h at eq =
       let block = rule_block lists rule in
@@ -52,11 +61,13 @@ module _ (c : Code) (version : ℕ) (lists : List Text) where
       let away = place + length (rule_lines lists rule) in
       let both = lie_both c away place (lines block) (Halts ∷ []) h.0 in
       let next : last + 1 ≡ away = omega (arith, length-append (lines block) (Halts ∷ [])) in
-      let whole : away + length (flat_map (rule_lines lists) rules) + 1 ≡ length c.instrs = omega (arith, eq, length-append (rule_lines lists rule) (flat_map (rule_lines lists) rules)) in
+      let whole : away + length (flat_map (rule_lines lists) rules) + 1 ≡ length c.instrs =
+      omega (arith, eq, length-append (rule_lines lists rule) (flat_map (rule_lines lists) rules)) in
       let at_last = body_behind c block version away place last None f.0 both.0 refl (omega (arith, next, whole)) tt at in
       let at_away : body_at c away ≡ None = subst (λ n. body_at c n ≡ None) next (body_next c last instruction.Halt both.1.0.reads refl None at_last tt) in
       clean_both c place last (length c.instrs)
-      (block_clean c block version away place last None f.0 both.0 refl (omega (arith, next, whole)) tt (λ e. (omega (arith, next), omega (arith, whole), at_away)) at)
+      (block_clean c block version away place last None f.0 both.0 refl (omega (arith, next, whole)) tt
+      (λ e. (omega (arith, next), omega (arith, whole), at_away)) at)
       (clean_both c last away (length c.instrs)
       (clean_one c last away next (last_good c last instruction.Halt both.1.0.reads refl))
       (rules_clean rules away f.1 h.1 at_away whole))
@@ -123,7 +134,8 @@ module _ (trees : TreesAreSound) (rules : RuleSet) (sound : IsSound rules) where
   pub code_good : HasGoodForm (code_of rules)
   code_good =
       let c = code_of rules in
-      let clean = rules_clean c c.version rules.lists rules.rules 0 (code_formed trees rules sound) (code_lies trees rules sound) (no_body_first c) (omega (arith, code_length rules)) in
+      let clean = rules_clean c c.version rules.lists rules.rules 0 (code_formed trees rules sound) (code_lies trees rules sound) (no_body_first c)
+      (omega (arith, code_length rules)) in
       record { at = λ place. ⊎_elim (λ lt. clean place (omega arith) lt) (past_clean c place) (cases_lt place (length c.instrs)) }
 
   pub code_is_file : IsFileCode (code_of rules)
@@ -131,5 +143,6 @@ module _ (trees : TreesAreSound) (rules : RuleSet) (sound : IsSound rules) where
       let c = code_of rules in
       record {
         some = omega (arith, code_length rules);
-        links = link_at c.literals (firsts_keep LinksUri is_same_literal _ (used_uri c.version (all_lines rules) (formed_lines c (all_lines rules) (founded trees rules sound))));
+        links = link_at c.literals
+            (firsts_keep LinksUri is_same_literal _ (used_uri c.version (all_lines rules) (formed_lines c (all_lines rules) (founded trees rules sound))));
       }

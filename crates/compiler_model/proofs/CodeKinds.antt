@@ -1,9 +1,9 @@
 -- A code in which typed blocks lie has a table of kinds: the code of rules is typable.
+
 use Rattle.std.proofs.Common.{◌≡◌, ℕ, suc, ◌+◌, ◌<◌, ◌≤◌, List, [], ◌∷◌, ◌++◌, length, Option, Some, None, refl, sym, ap, ◌∙◌, subst, arith, ⊎_elim}
 use Rattle.std.specs.Prelude.{slice_get}
-use Rattle.std.specs.List.{AllByRecursion, flat_map}
+use Rattle.std.specs.List.{AllByRecursion}
 use Rattle.std.proofs.lemmas.Bool.{cases_lt}
-use Rattle.std.proofs.lemmas.Option.{slice_get_within}
 use Rattle.std.proofs.lemmas.List.{length-append}
 use Rattle.text_model.specs.Texts.{Text}
 use Rattle.code_model.specs.Code.{Code, reading_at}
@@ -15,41 +15,36 @@ use Rattle.machine_model.specs.Operands.{Reads}
 use Rattle.machine_model.specs.States.{put}
 use Rattle.machine_model.specs.Form.{is_in_body, body_at}
 use Rattle.machine_model.specs.Kinds.{Kinds, any_kinds, IsBelow, edge, edges, needs, for_instruction, needs_at, edges_at}
-use Rattle.machine_model.specs.Typable.{Table, Holds, IsMet, IsTypable}
+use Rattle.machine_model.specs.Typable.{Table, Holds, IsMet}
 use Rattle.machine_model.proofs.Moves.{some_one}
-use Rattle.machine_model.proofs.Orders.{kind_le_refl, below_trans, below_antisym}
+use Rattle.machine_model.proofs.Orders.{kind_le_refl, below_trans}
 use Rattle.machine_model.proofs.Readings.{Reads-reading_at}
-use Rattle.rule_parser.specs.declared.rule.Rule.{Rule}
-use Rattle.rule_parser.specs.Rules.{RuleSet, IsSound}
 use Rattle.compiler_model.specs.declared.lines.Action.{Action}
 use Rattle.compiler_model.specs.declared.lines.Action.TheVariants.{LoadText, LoadList, LoadConst, CountMembers, Emits, Separates, Puts, Cuts}
 use Rattle.compiler_model.specs.declared.lines.Test.{Test}
 use Rattle.compiler_model.specs.declared.lines.Test.TheVariants.{IsUndefined, IsEmpty, HasNoMember, HasNoNumber, Differs, IsLess}
 use Rattle.compiler_model.specs.declared.lines.Target.TheVariants.{Ahead}
-use Rattle.compiler_model.specs.declared.lines.Line.TheVariants.{Acts, Jumps, Turns, Halts}
+use Rattle.compiler_model.specs.declared.lines.Line.TheVariants.{Acts, Jumps, Turns}
 use Rattle.compiler_model.specs.Blocks.{Block, Nothing, Does, Then, Unless, Either, ForEach, LeaveIf, Leave, lines}
-use Rattle.compiler_model.specs.Shapes.{rule_block}
-use Rattle.compiler_model.specs.Compiled.{rule_lines, test_instruction, code_of}
+use Rattle.compiler_model.specs.Compiled.{test_instruction}
 use Rattle.compiler_model.proofs.Places.{IsPlaced, Lie, lie_both}
-use Rattle.compiler_model.proofs.Formed.{TreesAreSound, IsFormed, AreFormed}
-use Rattle.compiler_model.proofs.Forming.{Room, room_less, body_next, loop_body, body_begins, test_each, each_read, none_outside, body_behind, test_read}
-use Rattle.compiler_model.proofs.RuleRuns.{RulesLie}
-use Rattle.compiler_model.proofs.CodeLies.{code_formed, code_lies}
-use Rattle.compiler_model.proofs.CodeForm.{code_length, no_body_first}
-use Rattle.compiler_model.proofs.Typed.{MeetsAction, after_action, MeetsTest, after_test, Typed, rows, length-rows, below_any, rule_typed}
+use Rattle.compiler_model.proofs.Formed.{IsFormed}
+use Rattle.compiler_model.proofs.Forming.{Room, room_less, body_next, loop_body, body_begins, test_each, each_read, none_outside, body_behind}
+use Rattle.compiler_model.proofs.NoFaults.{test_read}
+use Rattle.compiler_model.proofs.Typed.{MeetsAction, after_action, MeetsTest, after_test, Typed, rows, length-rows, below_any}
 
 -- kinds for places one after another
 abbrev pub RowsLie : Table → ℕ → List Kinds → Type 0
 RowsLie t place [] = Unit {0}
 RowsLie t place (ks ∷ rest) = (t place ≡ Some ks) × RowsLie t (place + 1) rest
 
-rows_lie : (t : Table) (rs : List Kinds) (place : ℕ) → ((n : ℕ) → t (place + n) ≡ slice_get rs n) → RowsLie t place rs
+pub rows_lie : (t : Table) (rs : List Kinds) (place : ℕ) → ((n : ℕ) → t (place + n) ≡ slice_get rs n) → RowsLie t place rs
 rows_lie t [] place h = tt
 rows_lie t (ks ∷ rs) place h =
     let here : place + 0 ≡ place = omega arith in
     (subst (λ n. t n ≡ Some ks) here (h 0), rows_lie t rs (place + 1) (λ n. let next : place + 1 + n ≡ place + suc n = omega arith in ap t next ∙ h (suc n)))
 
-rows_both : (t : Table) (place : ℕ) (a b : List Kinds) → RowsLie t place (a ++ b) → RowsLie t place a × RowsLie t (place + length a) b
+pub rows_both : (t : Table) (place : ℕ) (a b : List Kinds) → RowsLie t place (a ++ b) → RowsLie t place a × RowsLie t (place + length a) b
 rows_both t place [] b h = (tt, let e : place + 0 ≡ place = omega arith in subst (λ p. RowsLie t p b) (sym e) h)
 rows_both t place (x ∷ a) b h =
     let both = rows_both t (place + 1) a b h.1 in
@@ -74,10 +69,12 @@ module _ (c : Code) (t : Table) where
   abbrev pub IsSettled : ℕ → Type 0
   IsSettled place = (ks : Kinds) → t place ≡ Some ks → AllByRecursion (Holds t) (edges_at c place ks) × AllByRecursion (IsMet ks) (needs_at c place)
 
-  settled : (place : ℕ) (i : Instruction) (ks : Kinds) → reading_at c place ≡ Some i → t place ≡ Some ks → AllByRecursion (Holds t) (edges place ks (body_at c place) i) → AllByRecursion (IsMet ks) (needs i) → IsSettled place
+  pub settled : (place : ℕ) (i : Instruction) (ks : Kinds) → reading_at c place ≡ Some i → t place ≡ Some ks
+      → AllByRecursion (Holds t) (edges place ks (body_at c place) i) → AllByRecursion (IsMet ks) (needs i) → IsSettled place
   settled place i ks r e h n ms f =
       let same : ks ≡ ms = some_one (sym e ∙ f) in (
-        subst (λ x. AllByRecursion (Holds t) (edges_at c place x)) same (subst (λ o. AllByRecursion (Holds t) (for_instruction o (edges place ks (body_at c place)))) (sym r) h),
+        subst (λ x. AllByRecursion (Holds t) (edges_at c place x)) same
+            (subst (λ o. AllByRecursion (Holds t) (for_instruction o (edges place ks (body_at c place)))) (sym r) h),
         subst (λ x. AllByRecursion (IsMet x) (needs_at c place)) same (subst (λ o. AllByRecursion (IsMet ks) (for_instruction o needs)) (sym r) n),
       )
 
@@ -85,13 +82,14 @@ module _ (c : Code) (t : Table) where
   abbrev pub Settled : ℕ → ℕ → Type 0
   Settled p q = (x : ℕ) → p ≤ x → x < q → IsSettled x
 
-  settled_one : (p q : ℕ) → p + 1 ≡ q → IsSettled p → Settled p q
+  pub settled_one : (p q : ℕ) → p + 1 ≡ q → IsSettled p → Settled p q
   settled_one p q e h x low high = let same : p ≡ x = omega (arith, low, high, e) in subst IsSettled same h
 
-  settled_both : (p m q : ℕ) → Settled p m → Settled m q → Settled p q
+  pub settled_both : (p m q : ℕ) → Settled p m → Settled m q → Settled p q
   settled_both p m q a b x low high = ⊎_elim (λ lt. a x low lt) (λ le. b x le high) (cases_lt x m)
 
-  action_settled : (a : Action) (away p : ℕ) (ks : Kinds) → IsPlaced c away p (Acts a) → t p ≡ Some ks → MeetsAction a ks → Takes (p + 1) (after_action a ks) → IsSettled p
+  action_settled : (a : Action) (away p : ℕ) (ks : Kinds) → IsPlaced c away p (Acts a) → t p ≡ Some ks → MeetsAction a ks → Takes (p + 1) (after_action a ks)
+      → IsSettled p
   action_settled (LoadText a name) away p ks h e m k = settled p _ ks (Reads-reading_at c p _ h.reads) e (k, tt) tt
   action_settled (LoadList a name) away p ks h e m k = settled p _ ks (Reads-reading_at c p _ h.reads) e (k, tt) tt
   action_settled (LoadConst a text) away p ks h e m k = settled p _ ks (Reads-reading_at c p _ h.reads) e (k, tt) tt
@@ -101,7 +99,8 @@ module _ (c : Code) (t : Table) where
   action_settled (Puts a w) away p ks h e m k = settled p _ ks (Reads-reading_at c p _ h.reads) e (k, tt) (m, tt)
   action_settled (Cuts a n w) away p ks h e m k = settled p _ ks (Reads-reading_at c p _ h.reads) e (k, tt) (m, tt)
 
-  test_settled : (test : Test) (p d : ℕ) (ks : Kinds) → Reads c p (test_instruction test d) → t p ≡ Some ks → MeetsTest test ks → Takes d ks → Takes (p + 1) (after_test test ks) → IsSettled p
+  test_settled : (test : Test) (p d : ℕ) (ks : Kinds) → Reads c p (test_instruction test d) → t p ≡ Some ks → MeetsTest test ks → Takes d ks
+      → Takes (p + 1) (after_test test ks) → IsSettled p
   test_settled (IsUndefined a) p d ks r e m j k = settled p _ ks (Reads-reading_at c p _ r) e (k, (j, tt)) (m, tt)
   test_settled (IsEmpty a) p d ks r e m j k = settled p _ ks (Reads-reading_at c p _ r) e (k, (j, tt)) (m, tt)
   test_settled (HasNoMember a) p d ks r e m j k = settled p _ ks (Reads-reading_at c p _ r) e (k, (j, tt)) (m, tt)
@@ -109,9 +108,11 @@ module _ (c : Code) (t : Table) where
   test_settled (Differs a b) p d ks r e m j k = settled p _ ks (Reads-reading_at c p _ r) e (k, (j, tt)) (m.0, (m.1, tt))
   test_settled (IsLess a b) p d ks r e m j k = settled p _ ks (Reads-reading_at c p _ r) e (k, (j, tt)) (m.0, (m.1, tt))
 
-  next_settled : (p q a : ℕ) (ns : Kinds) → Reads c q instruction.Next → body_at c q ≡ Some (loop_body c p q a) → t q ≡ Some ns → Takes (p + 1) (put ns a kind.Text) → Takes (q + 1) (put ns a kind.Any) → IsSettled q
+  next_settled : (p q a : ℕ) (ns : Kinds) → Reads c q instruction.Next → body_at c q ≡ Some (loop_body c p q a) → t q ≡ Some ns
+      → Takes (p + 1) (put ns a kind.Text) → Takes (q + 1) (put ns a kind.Any) → IsSettled q
   next_settled p q a ns r at e back out =
-      settled q instruction.Next ns (Reads-reading_at c q _ r) e (subst (λ o. AllByRecursion (Holds t) (edges q ns o instruction.Next)) (sym at) (back, (out, tt))) tt
+      settled q instruction.Next ns (Reads-reading_at c q _ r) e
+      (subst (λ o. AllByRecursion (Holds t) (edges q ns o instruction.Next)) (sym at) (back, (out, tt))) tt
 
   -- what a block's kinds say of its places, and that its first place takes the kinds before it
   abbrev Fits : ℕ → ℕ → Kinds → Type 0
@@ -124,13 +125,17 @@ module _ (c : Code) (t : Table) where
   no_way : (b : Body) (away : ℕ) → TakesAll (Some b) away
   no_way b away e = absurd (cc)
 
-  pub block_fits : (b : Block) (version away p q : ℕ) (o : Option Body) → IsFormed version (is_in_body o) b → Lie c away p (lines b) → p + length (lines b) ≡ q → q < length c.instrs → Room c o q → TakesAll o away → body_at c p ≡ o → (ks ms : Kinds) (y : Typed b ks ms) → RowsLie t p (rows b ks ms y) → Takes q ms → Fits p q ks
+  pub block_fits : (b : Block) (version away p q : ℕ) (o : Option Body) → IsFormed version (is_in_body o) b → Lie c away p (lines b) → p + length (lines b) ≡ q
+      → q < length c.instrs → Room c o q → TakesAll o away → body_at c p ≡ o → (ks ms : Kinds) (y : Typed b ks ms) → RowsLie t p (rows b ks ms y) → Takes q ms
+      → Fits p q ks
   block_fits Nothing version away p q o f h eq lt room m at ks ms y r k =
       let same : q ≡ p = omega (arith, eq) in
       (λ x low high. absurd (omega (arith, low, high, eq)), takes_below p ks ms y (subst (λ n. Takes n ms) same k))
   block_fits (Does a) version away p q o f h eq lt room m at ks ms y r k =
-      let same : q ≡ p + 1 = omega (arith, eq) in
-      (settled_one p q eq (action_settled a away p ks h.0 r.0 y.0 (takes_below (p + 1) _ ms y.1 (subst (λ n. Takes n ms) same k))), takes_row p ks r.0 ks (below_itself ks))
+      let same : q ≡ p + 1 = omega (arith, eq) in (
+        settled_one p q eq (action_settled a away p ks h.0 r.0 y.0 (takes_below (p + 1) _ ms y.1 (subst (λ n. Takes n ms) same k))),
+        takes_row p ks r.0 ks (below_itself ks),
+      )
   block_fits (Then x z) version away p q o f h eq lt room m at ks ms y r k =
       let mid = p + length (lines x) in
       let lie = lie_both c away p (lines x) (lines z) h in
@@ -147,7 +152,8 @@ module _ (c : Code) (t : Table) where
       let inner = body_next c p _ h.0.reads (test_each c test _) o at (room_less c o (p + 1) q (omega (arith, eq2)) room) in
       let body = block_fits x version away (p + 1) q o f.1 h.1 eq2 lt room m inner (after_test test ks) ms y.2 r.1 k in (
         settled_both p (p + 1) q
-            (settled_one p (p + 1) refl (test_settled test p q ks (test_read c test _ away p q (omega (arith, eq)) h.0) r.0 y.0 (takes_below q ks ms y.1 k) body.1))
+            (settled_one p (p + 1) refl (test_settled test p q ks (test_read c test _ away p q (omega (arith, eq)) h.0) r.0 y.0 (takes_below q ks ms y.1 k)
+            body.1))
             body.0,
         takes_row p ks r.0 ks (below_itself ks),
       )
@@ -163,12 +169,15 @@ module _ (c : Code) (t : Table) where
       let middle = body_behind c x version away (p + 1) mid o f.1 lie.0 refl (omega (arith, eq2, lt)) room1 inner in
       let other = body_next c mid _ lie.1.0.reads refl o middle (room_less c o (mid + 1) q (omega (arith, eq2)) room) in
       let second = block_fits z version away (mid + 1) q o f.2 lie.1.1 eq2 lt room m other ks ms y.2 later.1 k in
-      let first = block_fits x version away (p + 1) mid o f.1 lie.0 refl (omega (arith, eq2, lt)) room1 m inner (after_test test ks) ms y.1 both.0 (takes_row mid ms later.0 ms (below_itself ms)) in (
+      let first = block_fits x version away (p + 1) mid o f.1 lie.0 refl (omega (arith, eq2, lt)) room1 m inner (after_test test ks) ms y.1 both.0
+      (takes_row mid ms later.0 ms (below_itself ms)) in (
         settled_both p (p + 1) q
             (settled_one p (p + 1) refl (test_settled test p (mid + 1) ks (test_read c test _ away p (mid + 1) (omega arith) h.0) r.0 y.0 second.1 first.1))
             (settled_both (p + 1) mid q first.0
             (settled_both mid (mid + 1) q
-            (settled_one mid (mid + 1) refl (settled mid (instruction.Jump q) ms (Reads-reading_at c mid _ (subst (λ d. Reads c mid (instruction.Jump d)) over lie.1.0.reads)) later.0 (k, tt) tt))
+            (settled_one mid (mid + 1) refl
+            (settled mid (instruction.Jump q) ms (Reads-reading_at c mid _ (subst (λ d. Reads c mid (instruction.Jump d)) over lie.1.0.reads)) later.0
+            (k, tt) tt))
             second.0)),
         takes_row p ks r.0 ks (below_itself ks),
       )
@@ -183,7 +192,8 @@ module _ (c : Code) (t : Table) where
       let inner = body_begins c p last a b here lie.1.0.reads (omega arith) (omega (arith, eq2, lt)) (at ∙ none) in
       let end = body_behind c x version away (p + 1) last (Some (loop_body c p last a)) f.3 lie.0 refl (omega (arith, eq2, lt)) (omega arith) inner in
       let out : Takes (last + 1) ms = subst (λ n. Takes n ms) (sym eq2) k in
-      let turn = block_fits x version away (p + 1) last (Some (loop_body c p last a)) f.3 lie.0 refl (omega (arith, eq2, lt)) (omega arith) (no_way (loop_body c p last a) away) inner y.0 y.1 y.3 both.0 (takes_row last y.1 later.0 y.1 (below_itself y.1)) in (
+      let turn = block_fits x version away (p + 1) last (Some (loop_body c p last a)) f.3 lie.0 refl (omega (arith, eq2, lt)) (omega arith)
+      (no_way (loop_body c p last a) away) inner y.0 y.1 y.3 both.0 (takes_row last y.1 later.0 y.1 (below_itself y.1)) in (
         settled_both p (p + 1) q
             (settled_one p (p + 1) refl (settled p (instruction.Each a b (last + 1)) ks (Reads-reading_at c p _ here) r.0
             (takes_below (p + 1) (put ks a kind.Text) y.0 y.2.enters turn.1, (takes_below (last + 1) (put ks a kind.Any) ms y.2.skips out, tt)) (y.2.list, tt)))
@@ -193,73 +203,14 @@ module _ (c : Code) (t : Table) where
         takes_row p ks r.0 ks (below_itself ks),
       )
   block_fits (LeaveIf test) version away p q o f h eq lt room m at ks ms y r k =
-      let same : q ≡ p + 1 = omega (arith, eq) in
-      (settled_one p q eq (test_settled test p away ks h.0.reads r.0 y.0 (takes_below away ks any_kinds (below_any ks) (m (none_outside c o f.0))) (takes_below (p + 1) _ ms y.1 (subst (λ n. Takes n ms) same k))), takes_row p ks r.0 ks (below_itself ks))
-  block_fits Leave version away p q o f h eq lt room m at ks ms y r k =
-      (settled_one p q eq (settled p (instruction.Jump away) ks (Reads-reading_at c p _ h.0.reads) r.0 (takes_below away ks any_kinds (below_any ks) (m (none_outside c o f)), tt) tt), takes_row p ks r.0 ks (below_itself ks))
-
--- ---- rules
-
--- the kinds at each place of rules: nothing is known where one begins, at HALT, and at FAIL
-rules_rows : List Text → List Rule → List Kinds
-rules_rows lists [] = any_kinds ∷ []
-rules_rows lists (rule ∷ rules) = rows (rule_block lists rule) any_kinds any_kinds (rule_typed lists rule) ++ any_kinds ∷ rules_rows lists rules
-
-length-rules_rows : (lists : List Text) (rules : List Rule) → length (rules_rows lists rules) ≡ length (flat_map (rule_lines lists) rules) + 1
-unfolding rules_rows
-length-rules_rows lists [] = refl
-length-rules_rows lists (rule ∷ rules) =
-    let block = rule_block lists rule in
-    let first = rows block any_kinds any_kinds (rule_typed lists rule) in
-    omega (arith, length-append first (any_kinds ∷ rules_rows lists rules), length-rows block any_kinds any_kinds (rule_typed lists rule), length-rules_rows lists rules, length-append (rule_lines lists rule) (flat_map (rule_lines lists) rules), length-append (lines block) (Halts ∷ []))
-
-module _ (c : Code) (t : Table) (version : ℕ) (lists : List Text) where
-  rules_settled : (rules : List Rule) (place : ℕ) → AreFormed version lists rules → RulesLie c lists place rules → body_at c place ≡ None → place + length (flat_map (rule_lines lists) rules) + 1 ≡ length c.instrs → RowsLie t place (rules_rows lists rules) → Settled c t place (length c.instrs) × Holds t (edge place any_kinds)
-  unfolding rules_rows
-  rules_settled [] place f h at eq r = (
-    settled_one c t place (length c.instrs) (omega (arith, eq)) (settled c t place instruction.Fail any_kinds (Reads-reading_at c place _ h) r.0 tt tt),
-    (any_kinds, r.0, below_any any_kinds),
-  )
-  rules_settled (rule ∷ rules) place f h at eq r =
-      let block = rule_block lists rule in
-      let last = place + length (lines block) in
-      let away = place + length (rule_lines lists rule) in
-      let lie = lie_both c away place (lines block) (Halts ∷ []) h.0 in
-      let next : last + 1 ≡ away = omega (arith, length-append (lines block) (Halts ∷ [])) in
-      let whole : away + length (flat_map (rule_lines lists) rules) + 1 ≡ length c.instrs = omega (arith, eq, length-append (rule_lines lists rule) (flat_map (rule_lines lists) rules)) in
-      let both = rows_both t place (rows block any_kinds any_kinds (rule_typed lists rule)) (any_kinds ∷ rules_rows lists rules) r in
-      let later = subst (λ n. RowsLie t (place + n) (any_kinds ∷ rules_rows lists rules)) (length-rows block any_kinds any_kinds (rule_typed lists rule)) both.1 in
-      let at_last = body_behind c block version away place last None f.0 lie.0 refl (omega (arith, next, whole)) tt at in
-      let at_away : body_at c away ≡ None = subst (λ n. body_at c n ≡ None) next (body_next c last instruction.Halt lie.1.0.reads refl None at_last tt) in
-      let rest = rules_settled rules away f.1 h.1 at_away whole (subst (λ n. RowsLie t n (rules_rows lists rules)) next later.1) in
-      let first = block_fits c t block version away place last None f.0 lie.0 refl (omega (arith, next, whole)) tt (λ e. rest.1) at any_kinds any_kinds (rule_typed lists rule) both.0 (any_kinds, later.0, below_any any_kinds) in (
-        settled_both c t place last (length c.instrs) first.0
-            (settled_both c t last away (length c.instrs)
-            (settled_one c t last away next (settled c t last instruction.Halt any_kinds (Reads-reading_at c last _ lie.1.0.reads) later.0 tt tt))
-            rest.0),
-        first.1,
+      let same : q ≡ p + 1 = omega (arith, eq) in (
+        settled_one p q eq (test_settled test p away ks h.0.reads r.0 y.0 (takes_below away ks any_kinds (below_any ks) (m (none_outside c o f.0)))
+            (takes_below (p + 1) _ ms y.1 (subst (λ n. Takes n ms) same k))),
+        takes_row p ks r.0 ks (below_itself ks),
       )
-
-module _ (trees : TreesAreSound) (rules : RuleSet) (sound : IsSound rules) where
-  -- the kinds of all places
-  table : Table
-  table place = slice_get (rules_rows rules.lists rules.rules) place
-
-  all_settled : Settled (code_of rules) table 0 (length (code_of rules).instrs) × Holds table (edge 0 any_kinds)
-  unfolding table
-  all_settled =
-      let c = code_of rules in
-      rules_settled c table c.version rules.lists rules.rules 0 (code_formed trees rules sound) (code_lies trees rules sound) (no_body_first c) (omega (arith, code_length rules))
-      (rows_lie table (rules_rows rules.lists rules.rules) 0 (λ n. let e : 0 + n ≡ n = omega arith in ap table e))
-
-  settled_at : (place : ℕ) → IsSettled (code_of rules) table place
-  unfolding table
-  settled_at place ks e =
-      let within : place < length (rules_rows rules.lists rules.rules) = slice_get_within (rules_rows rules.lists rules.rules) place ks e in
-      all_settled.0 place (omega arith) (omega (arith, within, length-rules_rows rules.lists rules.rules, code_length rules)) ks e
-
-  pub code_typable : IsTypable (code_of rules)
-  code_typable =
-      let first = all_settled.1 in
-      let any : first.0 ≡ any_kinds = below_antisym first.0 any_kinds (below_any first.0) first.2 in
-      (table, record { first = first.1 ∙ ap Some any; along = λ p ks e. (settled_at p ks e).0 }, record { at = λ p ks e. (settled_at p ks e).1 })
+  block_fits Leave version away p q o f h eq lt room m at ks ms y r k = (
+    settled_one p q eq
+        (settled p (instruction.Jump away) ks (Reads-reading_at c p _ h.0.reads) r.0
+        (takes_below away ks any_kinds (below_any ks) (m (none_outside c o f)), tt) tt),
+    takes_row p ks r.0 ks (below_itself ks),
+  )

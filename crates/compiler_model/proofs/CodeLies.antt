@@ -1,4 +1,4 @@
--- The lines of rules lie in their code, and it comes to what the rules mean.
+-- The lines of rules lie in their code, and it ends with what the rules mean.
 use Rattle.std.proofs.Common.{◌≡◌, ℕ, suc, ◌+◌, List, [], ◌∷◌, ◌++◌, length, map, Option, Some, None, Bool, true, false, refl, sym, ap, ◌∙◌, subst, arith}
 use Rattle.std.specs.Prelude.{slice_get, if◌then◌else◌}
 use Rattle.std.specs.List.{AllByRecursion, list_any, filter_map, cons_option, position_or_len, flat_map}
@@ -42,11 +42,14 @@ abbrev pub Stand : Code → ℕ → List Instruction → Type 0
 Stand c place [] = Unit {0}
 Stand c place (i ∷ is) = (slice_get c.instrs place ≡ Some (spelling i)) × Stand c (place + 1) is
 
-pub instructions_stand : (c : Code) (is : List Instruction) (place : ℕ) → ((n : ℕ) → slice_get c.instrs (place + n) ≡ slice_get (map spelling is) n) → Stand c place is
+pub instructions_stand : (c : Code) (is : List Instruction) (place : ℕ) → ((n : ℕ) → slice_get c.instrs (place + n) ≡ slice_get (map spelling is) n)
+    → Stand c place is
 instructions_stand c [] place h = tt
 instructions_stand c (i ∷ is) place h =
-    let here : place + 0 ≡ place = omega arith in
-    (subst (λ n. slice_get c.instrs n ≡ Some (spelling i)) here (h 0), instructions_stand c is (place + 1) (λ n. let next : place + 1 + n ≡ place + suc n = omega arith in ap (slice_get c.instrs) next ∙ h (suc n)))
+    let here : place + 0 ≡ place = omega arith in (
+      subst (λ n. slice_get c.instrs n ≡ Some (spelling i)) here (h 0),
+      instructions_stand c is (place + 1) (λ n. let next : place + 1 + n ≡ place + suc n = omega arith in ap (slice_get c.instrs) next ∙ h (suc n)),
+    )
 
 pub stand_both : (c : Code) (place : ℕ) (a b : List Instruction) → Stand c place (a ++ b) → Stand c place a × Stand c (place + length a) b
 stand_both c place [] b h = (tt, let e : place + 0 ≡ place = omega arith in subst (λ p. Stand c p b) (sym e) h)
@@ -55,21 +58,24 @@ stand_both c place (x ∷ a) b h =
     let e : place + 1 + length a ≡ place + length (x ∷ a) = omega arith in
     ((h.0, both.0), subst (λ p. Stand c p b) e both.1)
 
-pub length-instructions_from : (names : List Name) (literals : List Literal) (away place : ℕ) (ls : List Line) → length (instructions_from names literals away place ls) ≡ length ls
+pub length-instructions_from : (names : List Name) (literals : List Literal) (away place : ℕ) (ls : List Line)
+    → length (instructions_from names literals away place ls) ≡ length ls
 length-instructions_from names literals away place [] = refl
 length-instructions_from names literals away place (l ∷ ls) = ap suc (length-instructions_from names literals away (place + 1) ls)
 
 module _ (c : Code) where
-  -- what is asked of a line wherever it stands
+  -- what has to hold of a line wherever it is
   pub record IsFounded (line : Line) : Type 0 where
     pub formed : IsFormedLine c.version line
     pub entries : HasEntries c line
 
-  lines_lie : (away place : ℕ) (ls : List Line) → AllByRecursion IsFounded ls → Stand c place (instructions_from c.names c.literals away place ls) → Lie c away place ls
+  lines_lie : (away place : ℕ) (ls : List Line) → AllByRecursion IsFounded ls → Stand c place (instructions_from c.names c.literals away place ls)
+      → Lie c away place ls
   lines_lie away place [] f h = tt
   lines_lie away place (l ∷ ls) f h = (placed c away place l f.0.formed f.0.entries h.0, lines_lie away (place + 1) ls f.1 h.1)
 
-  rules_lie : (lists : List Text) (rules : List Rule) (place : ℕ) → AllByRecursion IsFounded (flat_map (rule_lines lists) rules ++ Fails ∷ []) → Stand c place (rules_instructions c.names c.literals lists place rules) → RulesLie c lists place rules
+  rules_lie : (lists : List Text) (rules : List Rule) (place : ℕ) → AllByRecursion IsFounded (flat_map (rule_lines lists) rules ++ Fails ∷ [])
+      → Stand c place (rules_instructions c.names c.literals lists place rules) → RulesLie c lists place rules
   rules_lie lists [] place f h = (placed c place place Fails f.0.formed f.0.entries h.0).reads
   rules_lie lists (rule ∷ rules) place f h =
       let ls = rule_lines lists rule in
@@ -77,21 +83,30 @@ module _ (c : Code) where
       let both = stand_both c place (instructions_from c.names c.literals away place ls) (rules_instructions c.names c.literals lists away rules) h in
       let f2 = subst (AllByRecursion IsFounded) (append_assoc ls (flat_map (rule_lines lists) rules) (Fails ∷ [])) f in (
         lines_lie away place ls (all_front IsFounded ls _ f2) both.0,
-        rules_lie lists rules away (all_back IsFounded ls _ f2) (subst (λ n. Stand c (place + n) (rules_instructions c.names c.literals lists away rules)) (length-instructions_from c.names c.literals away place ls) both.1),
+        rules_lie lists rules away (all_back IsFounded ls _ f2) (subst (λ n. Stand c (place + n) (rules_instructions c.names c.literals lists away rules))
+            (length-instructions_from c.names c.literals away place ls) both.1),
       )
 
 -- ---- entries
 
-table_has : {X : Type 0} (same : X → X → Bool) (decides : (x y : X) → Decides (same x y) (x ≡ y)) (used : Line → Option X) (pre : List Line) (line : Line) (post : List Line) (x : X) → used line ≡ Some x → slice_get (firsts same (filter_map used (pre ++ line ∷ post))) (position_or_len (same x) (firsts same (filter_map used (pre ++ line ∷ post)))) ≡ Some x
+table_has : {X : Type 0} (same : X → X → Bool) (decides : (x y : X) → Decides (same x y) (x ≡ y)) (used : Line → Option X) (pre : List Line) (line : Line)
+    (post : List Line) (x : X) → used line ≡ Some x
+    → slice_get (firsts same (filter_map used (pre ++ line ∷ post))) (position_or_len (same x) (firsts same (filter_map used (pre ++ line ∷ post)))) ≡ Some x
 table_has {X = X} same decides used pre line post x e =
-    let split : filter_map used (pre ++ line ∷ post) ≡ filter_map used pre ++ x ∷ filter_map used post = filter_map-append used pre (line ∷ post) ∙ ap (λ o. filter_map used pre ++ cons_option o (filter_map used post)) e in
-    at_index same decides x _ (among_firsts same decides x _ (subst (λ xs. list_any (same x) xs ≡ true) (sym split) (among_itself same decides (filter_map used pre) x (filter_map used post))))
+    let split : filter_map used (pre ++ line ∷ post) ≡ filter_map used pre ++ x ∷ filter_map used post = filter_map-append used pre (line ∷ post)
+    ∙ ap (λ o. filter_map used pre ++ cons_option o (filter_map used post)) e in
+    at_index same decides x _
+    (among_firsts same decides x _
+    (subst (λ xs. list_any (same x) xs ≡ true) (sym split) (among_itself same decides (filter_map used pre) x (filter_map used post))))
 
 -- a code with the tables of some lines has the entries of each
-line_has_entries : (c : Code) (pre : List Line) (line : Line) (post : List Line) → c.names ≡ names_of (pre ++ line ∷ post) → c.literals ≡ literals_of (pre ++ line ∷ post) → HasEntries c line
+line_has_entries : (c : Code) (pre : List Line) (line : Line) (post : List Line) → c.names ≡ names_of (pre ++ line ∷ post)
+    → c.literals ≡ literals_of (pre ++ line ∷ post) → HasEntries c line
 line_has_entries c pre line post n l = rw (n, l) (by_line line)
   where
-    by_line : (line : Line) → HasEntries (record { version = c.version; names = names_of (pre ++ line ∷ post); literals = literals_of (pre ++ line ∷ post); instrs = c.instrs }) line
+    by_line : (line : Line)
+        → HasEntries (record { version = c.version; names = names_of (pre ++ line ∷ post); literals = literals_of (pre ++ line ∷ post); instrs = c.instrs })
+        line
     by_line (Acts (LoadText a name)) = table_has is_same_name same_names name_used pre _ post (name_entry false name) refl
     by_line (Acts (LoadList a name)) = table_has is_same_name same_names name_used pre _ post (name_entry true name) refl
     by_line (Acts (LoadConst a t)) = table_has is_same_literal same_literals literal_used pre _ post (literal_entry true t) refl
@@ -107,7 +122,8 @@ line_has_entries c pre line post n l = rw (n, l) (by_line line)
     by_line Halts = tt
     by_line Fails = tt
 
-all_have_entries : (c : Code) (pre post : List Line) → c.names ≡ names_of (pre ++ post) → c.literals ≡ literals_of (pre ++ post) → AllByRecursion (HasEntries c) post
+all_have_entries : (c : Code) (pre post : List Line) → c.names ≡ names_of (pre ++ post) → c.literals ≡ literals_of (pre ++ post)
+    → AllByRecursion (HasEntries c) post
 all_have_entries c pre [] n l = tt
 all_have_entries c pre (line ∷ post) n l =
     let moved : pre ++ line ∷ post ≡ (pre ++ line ∷ []) ++ post = sym (append_assoc pre (line ∷ []) post) in
@@ -115,10 +131,12 @@ all_have_entries c pre (line ∷ post) n l =
 
 -- ---- the code of rules
 
-lines_of_rules_formed : (version : ℕ) (lists : List Text) (rules : List Rule) → AreFormed version lists rules → AllByRecursion (IsFormedLine version) (flat_map (rule_lines lists) rules ++ Fails ∷ [])
+lines_of_rules_formed : (version : ℕ) (lists : List Text) (rules : List Rule) → AreFormed version lists rules
+    → AllByRecursion (IsFormedLine version) (flat_map (rule_lines lists) rules ++ Fails ∷ [])
 lines_of_rules_formed version lists [] h = (tt, tt)
 lines_of_rules_formed version lists (rule ∷ rules) h =
-    let here : AllByRecursion (IsFormedLine version) (rule_lines lists rule) = all_append _ (lines (rule_block lists rule)) (Halts ∷ []) (lines_formed version false (rule_block lists rule) h.0) (tt, tt) in
+    let here : AllByRecursion (IsFormedLine version) (rule_lines lists rule) =
+    all_append _ (lines (rule_block lists rule)) (Halts ∷ []) (lines_formed version false (rule_block lists rule) h.0) (tt, tt) in
     subst (AllByRecursion (IsFormedLine version)) (sym (append_assoc (rule_lines lists rule) (flat_map (rule_lines lists) rules) (Fails ∷ [])))
     (all_append _ (rule_lines lists rule) _ here (lines_of_rules_formed version lists rules h.1))
 

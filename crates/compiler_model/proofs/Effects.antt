@@ -1,4 +1,4 @@
--- What a block does to registers and output, told backwards: what has to hold before it so that something holds after.
+-- What a block does to registers and output, backwards: what has to hold before it so that something holds after it.
 -- No place is spoken of.
 use Rattle.std.proofs.Common.{◌≡◌, ℕ, ◌<◌, ◌≤◌, List, [], ◌∷◌, ◌++◌, length, Option, Some, None, Bool, true, false, ◌⊎◌}
 use Rattle.text_model.specs.Texts.{Text}

@@ -1,4 +1,4 @@
--- Each entry that lines use stands in its table, at its index.
+-- Each entry that lines use is in its table, at its index.
 use Rattle.std.proofs.Common.{◌≡◌, suc, ◌+◌, List, [], ◌∷◌, ◌++◌, Some, Bool, true, false, refl, sym, ap, ◌∙◌, subst, arith}
 use Rattle.std.specs.Prelude.{◌||◌, ◌&&◌, not, if◌then◌else◌, slice_get, filter}
 use Rattle.std.specs.List.{list_any, position_or_len}
@@ -11,14 +11,16 @@ use Rattle.text_model.specs.Texts.{Text}
 use Rattle.code_model.specs.Code.{Name, Literal}
 use Rattle.compiler_model.specs.Tables.{is_same_name, is_same_literal, firsts}
 
--- ---- entries are told apart
+-- ---- entries are distinguished
 
 -- a text and a flag, where these two are all of an entry
-decides_both : {X : Type 0} (text : X → Text) (flag : X → Bool) → ((x y : X) → text x ≡ text y → flag x ≡ flag y → x ≡ y) → (x y : X) → Decides (bytes_eq (text x) (text y) && beq (flag x) (flag y)) (x ≡ y)
+decides_both : {X : Type 0} (text : X → Text) (flag : X → Bool) → ((x y : X) → text x ≡ text y → flag x ≡ flag y → x ≡ y) → (x y : X)
+    → Decides (bytes_eq (text x) (text y) && beq (flag x) (flag y)) (x ≡ y)
 decides_both text flag whole x y = (
   λ h. let both = and_parts (bytes_eq (text x) (text y)) (beq (flag x) (flag y)) h in
       whole x y ((bytes_eq-Decides (text x) (text y)).0 both.0) ((booleans_Decides (flag x) (flag y)).0 both.1),
-  λ e. and_from (bytes_eq (text x) (text y)) (beq (flag x) (flag y)) ((bytes_eq-Decides (text x) (text y)).1 (ap text e)) ((booleans_Decides (flag x) (flag y)).1 (ap flag e)),
+  λ e. and_from (bytes_eq (text x) (text y)) (beq (flag x) (flag y)) ((bytes_eq-Decides (text x) (text y)).1 (ap text e))
+      ((booleans_Decides (flag x) (flag y)).1 (ap flag e)),
 )
 
 pub same_names : (n m : Name) → Decides (is_same_name n m) (n ≡ m)
@@ -44,7 +46,9 @@ module _ {X : Type 0} (same : X → X → Bool) (decides : (x y : X) → Decides
   kept x y [] d h = h
   kept x y (z ∷ ys) d h = by_test (same x z) refl (same y z) refl h (kept x y ys d)
     where
-      by_test : (b : Bool) → same x z ≡ b → (c : Bool) → same y z ≡ c → (b || list_any (same x) ys) ≡ true → (IsAmong x ys → IsAmong x (filter (λ z. not (same y z)) ys)) → list_any (same x) (if not c then (z ∷ filter (λ z. not (same y z)) ys) else filter (λ z. not (same y z)) ys) ≡ true
+      by_test : (b : Bool) → same x z ≡ b → (c : Bool) → same y z ≡ c → (b || list_any (same x) ys) ≡ true
+          → (IsAmong x ys → IsAmong x (filter (λ z. not (same y z)) ys))
+          → list_any (same x) (if not c then (z ∷ filter (λ z. not (same y z)) ys) else filter (λ z. not (same y z)) ys) ≡ true
       by_test true e true f h rest = absurd (false≢true (sym d ∙ subst (λ w. same y w ≡ true) (sym ((decides x z).0 e)) f))
       by_test true e false f h rest = rw e refl
       by_test false e true f h rest = rest h
@@ -54,7 +58,8 @@ module _ {X : Type 0} (same : X → X → Bool) (decides : (x y : X) → Decides
   among_firsts x [] h = h
   among_firsts x (y ∷ xs) h = by_test (same x y) refl h (among_firsts x xs)
     where
-      by_test : (b : Bool) → same x y ≡ b → (b || list_any (same x) xs) ≡ true → (IsAmong x xs → IsAmong x (firsts same xs)) → (same x y || list_any (same x) (filter (λ z. not (same y z)) (firsts same xs))) ≡ true
+      by_test : (b : Bool) → same x y ≡ b → (b || list_any (same x) xs) ≡ true → (IsAmong x xs → IsAmong x (firsts same xs))
+          → (same x y || list_any (same x) (filter (λ z. not (same y z)) (firsts same xs))) ≡ true
       by_test true e h rest = rw e refl
       by_test false e h rest = or_second (same x y) _ (kept x y (firsts same xs) (other (same y x) refl) (rest h))
         where
@@ -62,12 +67,13 @@ module _ {X : Type 0} (same : X → X → Bool) (decides : (x y : X) → Decides
           other true f = absurd (false≢true (sym e ∙ (decides x y).1 (sym ((decides y x).0 f))))
           other false f = f
 
-  -- an entry stands at its index
+  -- an entry is at its index
   pub at_index : (x : X) (xs : List X) → IsAmong x xs → slice_get xs (position_or_len (same x) xs) ≡ Some x
   at_index x [] h = absurd (cc)
   at_index x (y ∷ xs) h = by_test (same x y) refl h (at_index x xs)
     where
-      by_test : (b : Bool) → same x y ≡ b → (b || list_any (same x) xs) ≡ true → (IsAmong x xs → slice_get xs (position_or_len (same x) xs) ≡ Some x) → slice_get (y ∷ xs) (position_or_len (same x) (y ∷ xs)) ≡ Some x
+      by_test : (b : Bool) → same x y ≡ b → (b || list_any (same x) xs) ≡ true → (IsAmong x xs → slice_get xs (position_or_len (same x) xs) ≡ Some x)
+          → slice_get (y ∷ xs) (position_or_len (same x) (y ∷ xs)) ≡ Some x
       by_test true e h rest = rw e (ap Some (sym ((decides x y).0 e)))
       by_test false e h rest =
           let next : 1 + position_or_len (same x) xs ≡ suc (position_or_len (same x) xs) = omega arith in

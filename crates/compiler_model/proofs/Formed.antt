@@ -29,10 +29,11 @@ use Rattle.compiler_model.specs.declared.lines.Action.TheVariants.{LoadText, Loa
 use Rattle.compiler_model.specs.declared.lines.Test.{Test}
 use Rattle.compiler_model.specs.declared.lines.Test.TheVariants.{IsUndefined, IsEmpty, HasNoMember, HasNoNumber, Differs, IsLess}
 use Rattle.compiler_model.specs.Blocks.{Block, Nothing, Does, Then, Unless, Either, ForEach, LeaveIf, Leave}
-use Rattle.compiler_model.specs.Shapes.{loading, is_missing, bound_block, bounds_block, guard_block, guards_block, lead_block, writing_action, named_block, item_block, head_block, members_block, shown_block, specs_block, part_block, parts_block, rule_block}
+use Rattle.compiler_model.specs.Shapes.{loading, is_missing, bound_block, bounds_block, guard_block, guards_block, lead_block, writing_action, named_block}
+use Rattle.compiler_model.specs.Shapes.{item_block, head_block, members_block, shown_block, specs_block, part_block, parts_block, rule_block}
 use Rattle.compiler_model.specs.Compiled.{is_counts}
 
--- ---- what is asked
+-- ---- what has to hold
 
 -- a register of either version
 abbrev pub IsRegister : ℕ → Type 0
@@ -110,8 +111,10 @@ module _ (version : ℕ) where
 
   guards_formed : (lists : List Text) (gs : List Guard) → (list_any is_counts gs ≡ true → version ≡ 2) → IsFormed version false (guards_block lists gs)
   guards_formed lists [] h = tt
-  guards_formed lists (g ∷ gs) h =
-      (guard_formed lists g (λ e. h (first_true (is_counts g) (list_any is_counts gs) e)), guards_formed lists gs (λ e. h (second_true (is_counts g) (list_any is_counts gs) e)))
+  guards_formed lists (g ∷ gs) h = (
+    guard_formed lists g (λ e. h (first_true (is_counts g) (list_any is_counts gs) e)),
+    guards_formed lists gs (λ e. h (second_true (is_counts g) (list_any is_counts gs) e)),
+  )
 
   -- ---- texts of the operators' table
 
@@ -151,11 +154,13 @@ module _ (version : ℕ) where
   writing_formed inside r h w zero le = h
   writing_formed inside r h w (suc n) le = (h, and_from (nat_le 1 (suc n)) (nat_le (suc n) 9999) (le-leb 1 (suc n) (omega arith)) (le-leb (suc n) 9999 le))
 
-  named_formed : (inside : Bool) (ifemp : Text) (r : ℕ) → IsRegister r → (name : Text) → IsUriText name → (value : Action) → IsFormedAction version inside value → IsFormed version inside (named_block ifemp r name value)
+  named_formed : (inside : Bool) (ifemp : Text) (r : ℕ) → IsRegister r → (name : Text) → IsUriText name → (value : Action)
+      → IsFormedAction version inside value → IsFormed version inside (named_block ifemp r name value)
   named_formed inside [] r h name u value f = (u, (h, (equals_uri, f)))
   named_formed inside (b ∷ ifemp) r h name u value f = (named_uri name u, f)
 
-  item_formed : (inside : Bool) (style : Style) (r : ℕ) → IsRegister r → (name : Text) → IsUriText name → (value : Action) → IsFormedAction version inside value → IsFormed version inside (item_block style r name value)
+  item_formed : (inside : Bool) (style : Style) (r : ℕ) → IsRegister r → (name : Text) → IsUriText name → (value : Action)
+      → IsFormedAction version inside value → IsFormed version inside (item_block style r name value)
   item_formed inside style r h name u value f = by_test style.named
     where
       by_test : (b : Bool) → IsFormed version inside (if b then named_block style.ifemp r name value else Does value)
@@ -166,19 +171,27 @@ module _ (version : ℕ) where
   head_formed true name u = named_uri name u
   head_formed false name u = tt
 
-  members_formed : (style : Style) → WritesUri style → (name : Text) → IsUriText name → (explode : Bool) → IsFormed version false (members_block style name explode)
+  members_formed : (style : Style) → WritesUri style → (name : Text) → IsUriText name → (explode : Bool)
+      → IsFormed version false (members_block style name explode)
   members_formed style w name u false = (head_formed style.named name u, (refl, refl, refl, ((refl, comma_uri), refl)))
   members_formed style w name u true = (refl, refl, refl, ((refl, w.sep), item_formed true style 5 refl name u (Puts 5 style.writing) refl))
 
   shown_formed : (list : Bool) (style : Style) → WritesUri style → (spec : Spec) → IsSoundSpec spec → IsFormed version false (shown_block list style spec)
   shown_formed true style w spec h = members_formed style w spec.name h.uri_text spec.explode
-  shown_formed false style w spec h = item_formed false style 0 refl spec.name h.uri_text (writing_action 0 style.writing spec.cut) (writing_formed false 0 refl style.writing spec.cut h.cut)
+  shown_formed false style w spec h = item_formed false style 0 refl spec.name h.uri_text (writing_action 0 style.writing spec.cut)
+      (writing_formed false 0 refl style.writing spec.cut h.cut)
 
-  specs_formed : (lists : List Text) (style : Style) → WritesUri style → (specs : List Spec) → All IsSoundSpec specs → IsFormed version false (specs_block lists style specs)
+  specs_formed : (lists : List Text) (style : Style) → WritesUri style → (specs : List Spec) → All IsSoundSpec specs
+      → IsFormed version false (specs_block lists style specs)
   specs_formed lists style w [] h = tt
   specs_formed lists style w (spec ∷ specs) h =
-      let list = is_list lists spec.name in
-      ((loading_formed false list spec.name, (missing_formed list, (lead_formed style.first style.sep w.first w.sep, shown_formed list style w spec (All-head IsSoundSpec spec specs h)))), specs_formed lists style w specs (All-tail IsSoundSpec spec specs h))
+      let list = is_list lists spec.name in (
+        (
+          loading_formed false list spec.name,
+          (missing_formed list, (lead_formed style.first style.sep w.first w.sep, shown_formed list style w spec (All-head IsSoundSpec spec specs h))),
+        ),
+        specs_formed lists style w specs (All-tail IsSoundSpec spec specs h),
+      )
 
   part_formed : (lists : List Text) (part : Part) → IsSoundPart part → IsFormed version false (part_block lists part)
   part_formed lists (Literal text) h = h
@@ -186,9 +199,11 @@ module _ (version : ℕ) where
 
   parts_formed : (lists : List Text) (parts : List Part) → All IsSoundPart parts → IsFormed version false (parts_block lists parts)
   parts_formed lists [] h = tt
-  parts_formed lists (part ∷ parts) h = (part_formed lists part (All-head IsSoundPart part parts h), parts_formed lists parts (All-tail IsSoundPart part parts h))
+  parts_formed lists (part ∷ parts) h =
+      (part_formed lists part (All-head IsSoundPart part parts h), parts_formed lists parts (All-tail IsSoundPart part parts h))
 
-  pub rule_formed : (lists : List Text) (rule : Rule) → All IsSoundPart rule.template.parts → (list_any is_counts rule.guards ≡ true → version ≡ 2) → IsFormed version false (rule_block lists rule)
+  pub rule_formed : (lists : List Text) (rule : Rule) → All IsSoundPart rule.template.parts → (list_any is_counts rule.guards ≡ true → version ≡ 2)
+      → IsFormed version false (rule_block lists rule)
   rule_formed lists rule h e = (guards_formed lists rule.guards e, parts_formed lists rule.template.parts h)
 
   -- ---- rules
@@ -200,10 +215,12 @@ module _ (version : ℕ) where
   abbrev counts_in : Rule → Bool
   counts_in rule = list_any is_counts rule.guards
 
-  pub rules_formed : TreesAreSound → (lists : List Text) (rules : List Rule) → All (IsSoundRule lists) rules → (list_any counts_in rules ≡ true → version ≡ 2) → AreFormed lists rules
+  pub rules_formed : TreesAreSound → (lists : List Text) (rules : List Rule) → All (IsSoundRule lists) rules → (list_any counts_in rules ≡ true → version ≡ 2)
+      → AreFormed lists rules
   rules_formed trees lists [] h e = tt
   rules_formed trees lists (rule ∷ rules) h e =
       let sound = All-head (IsSoundRule lists) rule rules h in (
-        rule_formed lists rule (trees rule.template.text rule.template.parts sound.template) (λ t. e (first_true (counts_in rule) (list_any counts_in rules) t)),
+        rule_formed lists rule (trees rule.template.text rule.template.parts sound.template)
+            (λ t. e (first_true (counts_in rule) (list_any counts_in rules) t)),
         rules_formed trees lists rules (All-tail (IsSoundRule lists) rule rules h) (λ t. e (second_true (counts_in rule) (list_any counts_in rules) t)),
       )

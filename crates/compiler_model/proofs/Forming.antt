@@ -1,8 +1,10 @@
 -- The code of blocks that are put together rightly has good form.
-use Rattle.std.proofs.Common.{◌≡◌, ℕ, suc, ◌+◌, ◌-◌, ◌<◌, ◌≤◌, List, [], ◌∷◌, length, Option, Some, None, Bool, true, false, refl, sym, ap, ◌∙◌, subst, arith, add-one, ⊎_elim}
+
+use Rattle.std.proofs.Common.{◌≡◌, ℕ, suc, ◌+◌, ◌-◌, ◌<◌, ◌≤◌, List, [], ◌∷◌, length, Option, Some, None, true, false, refl, sym, ap, ◌∙◌, subst, arith}
+use Rattle.std.proofs.Common.{add-one}
 use Rattle.std.specs.Prelude.{nat_lt, ◌||◌, not, ◌&&◌}
 use Rattle.std.specs.List.{list_all, AllByRecursion}
-use Rattle.std.proofs.lemmas.Bool.{and_parts, and_from, lt-ltb, eq-eqb, cases_lt}
+use Rattle.std.proofs.lemmas.Bool.{and_parts, and_from, lt-ltb, eq-eqb}
 use Rattle.std.proofs.lemmas.List.{length-append}
 use Rattle.code_model.specs.Code.{Code, is_same_instr, spelling, reading_at}
 use Rattle.code_model.specs.declared.code.Instruction.{Instruction}
@@ -10,20 +12,20 @@ use Rattle.code_model.specs.declared.code.Instruction.TheVariants as instruction
 use Rattle.code_model.specs.Operands.{Operand, operands, is_in_range}
 use Rattle.machine_model.specs.declared.form.Body.{Body}
 use Rattle.machine_model.specs.Operands.{Reads, is_right, is_register, is_in_table, has_table_kind, has_right_operands}
-use Rattle.machine_model.specs.Form.{is_next, body_at, is_in_body, is_same_body, target, is_each, is_sep, ends_run, Check, checks, first_failing, fault_of, fault_in, fault_at, goes_to, ends_body}
+use Rattle.machine_model.specs.Form.{is_next, body_at, is_in_body, is_same_body, target, is_each, is_sep, ends_run, Check, checks, first_failing, fault_of}
+use Rattle.machine_model.specs.Form.{fault_in, fault_at, goes_to, ends_body}
 use Rattle.machine_model.proofs.Readings.{Reads-reading_at, instr_itself}
 use Rattle.machine_model.proofs.Bodies.{body_suc, body_on, body_off, begun_none}
 use Rattle.compiler_model.specs.declared.lines.Action.{Action}
 use Rattle.compiler_model.specs.declared.lines.Action.TheVariants.{LoadText, LoadList, LoadConst, CountMembers, Emits, Separates, Puts, Cuts}
 use Rattle.compiler_model.specs.declared.lines.Test.{Test}
 use Rattle.compiler_model.specs.declared.lines.Test.TheVariants.{IsUndefined, IsEmpty, HasNoMember, HasNoNumber, Differs, IsLess}
-use Rattle.compiler_model.specs.declared.lines.Target.{Target}
 use Rattle.compiler_model.specs.declared.lines.Target.TheVariants.{Ahead}
-use Rattle.compiler_model.specs.declared.lines.Line.TheVariants.{Acts, Tests, Jumps, Begins, Turns}
+use Rattle.compiler_model.specs.declared.lines.Line.TheVariants.{Acts, Jumps, Begins, Turns}
 use Rattle.compiler_model.specs.Blocks.{Block, Nothing, Does, Then, Unless, Either, ForEach, LeaveIf, Leave, lines}
-use Rattle.compiler_model.specs.Compiled.{place_of, line_instruction, test_instruction}
+use Rattle.compiler_model.specs.Compiled.{line_instruction, test_instruction}
 use Rattle.compiler_model.proofs.Places.{IsPlaced, Lie, lie_both}
-use Rattle.compiler_model.proofs.Formed.{IsFormedAction, IsFormed}
+use Rattle.compiler_model.proofs.Formed.{IsFormed}
 
 module _ (c : Code) where
   -- ---- a place at which every check passes has no fault
@@ -34,7 +36,8 @@ module _ (c : Code) where
 
   -- what is right of each operand, check by check
   abbrev PassFour : List Operand → Type 0
-  PassFour os = (list_all is_in_range os ≡ true) × (list_all (is_register c) os ≡ true) × (list_all (is_in_table c) os ≡ true) × (list_all (has_table_kind c) os ≡ true)
+  PassFour os = (list_all is_in_range os ≡ true) × (list_all (is_register c) os ≡ true) × (list_all (is_in_table c) os ≡ true)
+      × (list_all (has_table_kind c) os ≡ true)
 
   four_from : (os : List Operand) → list_all (is_right c) os ≡ true → PassFour os
   four_from [] h = (refl, refl, refl, refl)
@@ -43,8 +46,12 @@ module _ (c : Code) where
       let rest = four_from os all.1 in
       let a = and_parts (is_in_range o) _ all.0 in
       let b = and_parts (is_register c o) _ a.1 in
-      let d = and_parts (is_in_table c o) (has_table_kind c o) b.1 in
-      (and_from (is_in_range o) _ a.0 rest.0, and_from (is_register c o) _ b.0 rest.1, and_from (is_in_table c o) _ d.0 rest.2, and_from (has_table_kind c o) _ d.1 rest.3)
+      let d = and_parts (is_in_table c o) (has_table_kind c o) b.1 in (
+        and_from (is_in_range o) _ a.0 rest.0,
+        and_from (is_register c o) _ b.0 rest.1,
+        and_from (is_in_table c o) _ d.0 rest.2,
+        and_from (has_table_kind c o) _ d.1 rest.3,
+      )
 
   right_four : (i : Instruction) → has_right_operands c i ≡ true → PassFour (operands i)
   unfolding has_right_operands
@@ -65,11 +72,12 @@ module _ (c : Code) where
       let four = right_four i k.reads.right in
       let spelled_so = and_from (is_same_instr (spelling i) (spelling i)) _ (instr_itself (spelling i)) four.0 in
       ap (fault_in c p) k.reads.spelled ∙ ap (fault_of c p (spelling i)) k.reads.known
-      ∙ none_fails (checks c p (spelling i) i) (spelled_so, (four.1, (four.2, (four.3, (k.aims.0, (k.aims.1, (k.aims.2, (k.loops.0, (k.loops.1, (k.loops.2, (k.loops.3, (k.last, tt))))))))))))
+      ∙ none_fails (checks c p (spelling i) i)
+      (spelled_so, (four.1, (four.2, (four.3, (k.aims.0, (k.aims.1, (k.aims.2, (k.loops.0, (k.loops.1, (k.loops.2, (k.loops.3, (k.last, tt))))))))))))
 
   -- ---- bodies
 
-  same_body : (o : Option Body) → is_same_body o o ≡ true
+  pub same_body : (o : Option Body) → is_same_body o o ≡ true
   same_body None = refl
   same_body (Some b) = eq-eqb b.start b.start refl
 
@@ -82,7 +90,7 @@ module _ (c : Code) where
   room_less None p q le r = tt
   room_less (Some b) p q le r = omega (arith, le, r)
 
-  -- what neither begins nor ends a body goes on in the same one
+  -- what neither begins nor ends a body continues in the same one
   pub body_next : (p : ℕ) (i : Instruction) → Reads c p i → is_each i ≡ false → (o : Option Body) → body_at c p ≡ o → Room o (p + 1) → body_at c (p + 1) ≡ o
   body_next p i r e None h room = rw add-one (rw (body_suc c p, h, Reads-reading_at c p i r) (begun_none c p i e))
   body_next p i r e (Some b) h room = rw add-one (body_on c p b h (omega (arith, room)))
@@ -91,13 +99,21 @@ module _ (c : Code) where
   abbrev pub loop_body : ℕ → ℕ → ℕ → Body
   loop_body p q a = record { start = p + 1; end = q + 1; element = a }
 
-  pub body_begins : (p q a b : ℕ) → Reads c p (instruction.Each a b (q + 1)) → Reads c q instruction.Next → p < q → q + 1 < length c.instrs → body_at c p ≡ None → body_at c (p + 1) ≡ Some (loop_body p q a)
+  pub body_begins : (p q a b : ℕ) → Reads c p (instruction.Each a b (q + 1)) → Reads c q instruction.Next → p < q → q + 1 < length c.instrs
+      → body_at c p ≡ None → body_at c (p + 1) ≡ Some (loop_body p q a)
   body_begins p q a b r n lt within h =
       let last : q + 1 - 1 ≡ q = omega arith in
       let next : is_next (reading_at c (q + 1 - 1)) ≡ true = ap (λ x. is_next (reading_at c x)) last ∙ ap is_next (Reads-reading_at c q instruction.Next n) in
       let after : suc p ≡ p + 1 = omega arith in
       subst (λ n. body_at c n ≡ Some (record { start = n; end = q + 1; element = a })) after
-      (rw (body_suc c p, h, Reads-reading_at c p (instruction.Each a b (q + 1)) r, lt-ltb p (q + 1) (omega (arith, lt)), lt-ltb (q + 1) (length c.instrs) within, next) refl)
+      (rw (
+        body_suc c p,
+        h,
+        Reads-reading_at c p (instruction.Each a b (q + 1)) r,
+        lt-ltb p (q + 1) (omega (arith, lt)),
+        lt-ltb (q + 1) (length c.instrs) within,
+        next,
+      ) refl)
 
   pub body_leaves : (p q a : ℕ) → body_at c q ≡ Some (loop_body p q a) → body_at c (q + 1) ≡ None
   body_leaves p q a h = rw add-one (body_off c q (loop_body p q a) h (omega arith))
@@ -128,8 +144,9 @@ module _ (c : Code) where
   none_outside None h = refl
   none_outside (Some b) h = absurd (cc)
 
-  -- behind a block the body is the same as before it
-  pub body_behind : (b : Block) (version away p q : ℕ) (o : Option Body) → IsFormed version (is_in_body o) b → Lie c away p (lines b) → p + length (lines b) ≡ q → q < length c.instrs → Room o q → body_at c p ≡ o → body_at c q ≡ o
+  -- after a block the body is the same as before it
+  pub body_behind : (b : Block) (version away p q : ℕ) (o : Option Body) → IsFormed version (is_in_body o) b → Lie c away p (lines b)
+      → p + length (lines b) ≡ q → q < length c.instrs → Room o q → body_at c p ≡ o → body_at c q ≡ o
   body_behind Nothing version away p q o f h eq lt room at = let e : q ≡ p = omega (arith, eq) in ap (body_at c) e ∙ at
   body_behind (Does a) version away p q o f h eq lt room at =
       let e : q ≡ p + 1 = omega (arith, eq) in
@@ -138,17 +155,20 @@ module _ (c : Code) where
       let mid = p + length (lines x) in
       let both = lie_both c away p (lines x) (lines y) h in
       let eq2 : mid + length (lines y) ≡ q = omega (arith, eq, length-append (lines x) (lines y)) in
-      body_behind y version away mid q o f.1 both.1 eq2 lt room (body_behind x version away p mid o f.0 both.0 refl (omega (arith, eq2, lt)) (room_less o mid q (omega (arith, eq2)) room) at)
+      body_behind y version away mid q o f.1 both.1 eq2 lt room
+      (body_behind x version away p mid o f.0 both.0 refl (omega (arith, eq2, lt)) (room_less o mid q (omega (arith, eq2)) room) at)
   body_behind (Unless t x) version away p q o f h eq lt room at =
       let eq2 : p + 1 + length (lines x) ≡ q = omega (arith, eq) in
-      body_behind x version away (p + 1) q o f.1 h.1 eq2 lt room (body_next p _ h.0.reads (test_each t _) o at (room_less o (p + 1) q (omega (arith, eq2)) room))
+      body_behind x version away (p + 1) q o f.1 h.1 eq2 lt room
+      (body_next p _ h.0.reads (test_each t _) o at (room_less o (p + 1) q (omega (arith, eq2)) room))
   body_behind (Either t x y) version away p q o f h eq lt room at =
       let mid = p + 1 + length (lines x) in
       let both = lie_both c away (p + 1) (lines x) (Jumps (Ahead (length (lines y) + 1)) ∷ lines y) h.1 in
       let eq2 : mid + 1 + length (lines y) ≡ q = omega (arith, eq, length-append (lines x) (Jumps (Ahead (length (lines y) + 1)) ∷ lines y)) in
       let first = body_next p _ h.0.reads (test_each t _) o at (room_less o (p + 1) q (omega (arith, eq2)) room) in
       let second = body_behind x version away (p + 1) mid o f.1 both.0 refl (omega (arith, eq2, lt)) (room_less o mid q (omega (arith, eq2)) room) first in
-      body_behind y version away (mid + 1) q o f.2 both.1.1 eq2 lt room (body_next mid _ both.1.0.reads refl o second (room_less o (mid + 1) q (omega (arith, eq2)) room))
+      body_behind y version away (mid + 1) q o f.2 both.1.1 eq2 lt room
+      (body_next mid _ both.1.0.reads refl o second (room_less o (mid + 1) q (omega (arith, eq2)) room))
   body_behind (ForEach a b x) version away p q o f h eq lt room at =
       let last = p + 1 + length (lines x) in
       let both = lie_both c away (p + 1) (lines x) (Turns ∷ []) h.1 in
@@ -163,154 +183,5 @@ module _ (c : Code) where
   body_behind Leave version away p q o f h eq lt room at =
       let e : q ≡ p + 1 = omega (arith, eq) in
       ap (body_at c) e ∙ body_next p _ h.0.reads refl o at (room_less o (p + 1) q (omega (arith, eq)) room)
-
   -- ---- no faults
-
   -- no place from p to before q has a fault
-  abbrev pub HasNoFault : ℕ → ℕ → Type 0
-  HasNoFault p q = (x : ℕ) → p ≤ x → x < q → fault_at c x ≡ None
-
-  pub clean_one : (p q : ℕ) → p + 1 ≡ q → fault_at c p ≡ None → HasNoFault p q
-  clean_one p q e h x low high = let same : p ≡ x = omega (arith, low, high, e) in subst (λ n. fault_at c n ≡ None) same h
-
-  pub clean_both : (p m q : ℕ) → HasNoFault p m → HasNoFault m q → HasNoFault p q
-  clean_both p m q a b x low high = ⊎_elim (λ lt. a x low lt) (λ le. b x le high) (cases_lt x m)
-
-  goes_on_to : (p : ℕ) (i : Instruction) → p + 1 < length c.instrs → (nat_lt (p + 1) (length c.instrs) || ends_run i) ≡ true
-  goes_on_to p i lt = rw (lt-ltb (p + 1) (length c.instrs) lt) refl
-
-  -- an instruction that leads to the next place alone
-  plain_good : (p : ℕ) (i : Instruction) → Reads c p i → is_each i ≡ false → is_next (Some i) ≡ false → target i ≡ None → (not (is_sep i) || is_in_body (body_at c p)) ≡ true → p + 1 < length c.instrs → fault_at c p ≡ None
-  plain_good p i r e n t s lt =
-      passes_all p i (record { reads = r; aims = (rw t refl, rw t refl, rw (e, t) refl); loops = (rw e refl, rw e refl, rw n refl, s); last = goes_on_to p i lt })
-
-  -- an instruction that may jump within its body, or where no loop runs
-  jump_good : (p d : ℕ) (i : Instruction) (o : Option Body) → Reads c p i → is_each i ≡ false → is_next (Some i) ≡ false → is_sep i ≡ false → target i ≡ Some d → p < d → d < length c.instrs → body_at c p ≡ o → body_at c d ≡ o → fault_at c p ≡ None
-  jump_good p d i o r e n s t low high at there =
-      passes_all p i (record {
-        reads = r;
-        aims = (rw t (lt-ltb p d low), rw t (lt-ltb d (length c.instrs) high), rw (e, t, at, there) (same_body o));
-        loops = (rw e refl, rw e refl, rw n refl, rw s refl);
-        last = goes_on_to p i (omega (arith, low, high));
-      })
-
-  each_good : (p q a b : ℕ) → Reads c p (instruction.Each a b (q + 1)) → Reads c q instruction.Next → p < q → q + 1 < length c.instrs → body_at c p ≡ None → fault_at c p ≡ None
-  each_good p q a b r n lt within at =
-      let last : q + 1 - 1 ≡ q = omega arith in
-      let next : is_next (reading_at c (q + 1 - 1)) ≡ true = ap (λ x. is_next (reading_at c x)) last ∙ ap is_next (Reads-reading_at c q instruction.Next n) in
-      passes_all p (instruction.Each a b (q + 1)) (record {
-        reads = r;
-        aims = (lt-ltb p (q + 1) (omega (arith, lt)), lt-ltb (q + 1) (length c.instrs) within, refl);
-        loops = (rw at refl, next, refl, refl);
-        last = goes_on_to p (instruction.Each a b (q + 1)) (omega (arith, lt, within));
-      })
-
-  next_good : (p q a : ℕ) → Reads c q instruction.Next → body_at c q ≡ Some (loop_body p q a) → q + 1 < length c.instrs → fault_at c q ≡ None
-  next_good p q a r at lt =
-      passes_all q instruction.Next (record {
-        reads = r;
-        aims = (refl, refl, refl);
-        loops = (refl, refl, rw at (eq-eqb (q + 1) (q + 1) refl), refl);
-        last = goes_on_to q instruction.Next lt;
-      })
-
-  -- HALT and FAIL may stand anywhere
-  pub last_good : (p : ℕ) (i : Instruction) → Reads c p i → ends_run i ≡ true → fault_at c p ≡ None
-  last_good p i r e = by_end i r e
-    where
-      either_end : (b : Bool) → (b || true) ≡ true
-      either_end true = refl
-      either_end false = refl
-
-      by_end : (i : Instruction) → Reads c p i → ends_run i ≡ true → fault_at c p ≡ None
-      by_end instruction.Halt r e = passes_all p instruction.Halt (record { reads = r; aims = (refl, refl, refl); loops = (refl, refl, refl, refl); last = either_end _ })
-      by_end instruction.Fail r e = passes_all p instruction.Fail (record { reads = r; aims = (refl, refl, refl); loops = (refl, refl, refl, refl); last = either_end _ })
-      by_end _ r e = absurd (cc)
-
-  action_good : (a : Action) (version away p : ℕ) (o : Option Body) → IsFormedAction version (is_in_body o) a → body_at c p ≡ o → p + 1 < length c.instrs → IsPlaced c away p (Acts a) → fault_at c p ≡ None
-  action_good (LoadText a name) version away p o f at lt h = plain_good p _ h.reads refl refl refl refl lt
-  action_good (LoadList a name) version away p o f at lt h = plain_good p _ h.reads refl refl refl refl lt
-  action_good (LoadConst a t) version away p o f at lt h = plain_good p _ h.reads refl refl refl refl lt
-  action_good (CountMembers a b) version away p o f at lt h = plain_good p _ h.reads refl refl refl refl lt
-  action_good (Emits t) version away p o f at lt h = plain_good p _ h.reads refl refl refl refl lt
-  action_good (Separates t) version away p o f at lt h = plain_good p _ h.reads refl refl refl (ap is_in_body at ∙ f.0) lt
-  action_good (Puts a w) version away p o f at lt h = plain_good p _ h.reads refl refl refl refl lt
-  action_good (Cuts a n w) version away p o f at lt h = plain_good p _ h.reads refl refl refl refl lt
-
-  test_good : (t : Test) (p d : ℕ) (o : Option Body) → Reads c p (test_instruction t d) → p < d → d < length c.instrs → body_at c p ≡ o → body_at c d ≡ o → fault_at c p ≡ None
-  test_good (IsUndefined a) p d o r low high at there = jump_good p d _ o r refl refl refl refl low high at there
-  test_good (IsEmpty a) p d o r low high at there = jump_good p d _ o r refl refl refl refl low high at there
-  test_good (HasNoMember a) p d o r low high at there = jump_good p d _ o r refl refl refl refl low high at there
-  test_good (HasNoNumber a b) p d o r low high at there = jump_good p d _ o r refl refl refl refl low high at there
-  test_good (Differs a b) p d o r low high at there = jump_good p d _ o r refl refl refl refl low high at there
-  test_good (IsLess a b) p d o r low high at there = jump_good p d _ o r refl refl refl refl low high at there
-
-  -- a test as it is read where its target is
-  pub test_read : (t : Test) (g : Target) (away p d : ℕ) → place_of away p g ≡ d → IsPlaced c away p (Tests t g) → Reads c p (test_instruction t d)
-  test_read t g away p d e h = subst (λ x. Reads c p (test_instruction t x)) e h.reads
-
-  -- outside of loops a block may be left, to a place behind it outside of loops
-  abbrev pub MayLeave : Option Body → ℕ → ℕ → Type 0
-  MayLeave o q away = o ≡ None → (q ≤ away) × (away < length c.instrs) × (body_at c away ≡ None)
-
-  may_less : (o : Option Body) (p q away : ℕ) → p ≤ q → MayLeave o q away → MayLeave o p away
-  may_less o p q away le m e = let x = m e in (omega (arith, le, x.0), x.1, x.2)
-
-  no_way : (b : Body) (q away : ℕ) → MayLeave (Some b) q away
-  no_way b q away e = absurd (cc)
-
-  pub block_clean : (b : Block) (version away p q : ℕ) (o : Option Body) → IsFormed version (is_in_body o) b → Lie c away p (lines b) → p + length (lines b) ≡ q → q < length c.instrs → Room o q → MayLeave o q away → body_at c p ≡ o → HasNoFault p q
-  block_clean Nothing version away p q o f h eq lt room m at = λ x low high. absurd (omega (arith, low, high, eq))
-  block_clean (Does a) version away p q o f h eq lt room m at = clean_one p q eq (action_good a version away p o f at (omega (arith, eq, lt)) h.0)
-  block_clean (Then x y) version away p q o f h eq lt room m at =
-      let mid = p + length (lines x) in
-      let both = lie_both c away p (lines x) (lines y) h in
-      let eq2 : mid + length (lines y) ≡ q = omega (arith, eq, length-append (lines x) (lines y)) in
-      let middle = body_behind x version away p mid o f.0 both.0 refl (omega (arith, eq2, lt)) (room_less o mid q (omega (arith, eq2)) room) at in
-      clean_both p mid q
-      (block_clean x version away p mid o f.0 both.0 refl (omega (arith, eq2, lt)) (room_less o mid q (omega (arith, eq2)) room) (may_less o mid q away (omega (arith, eq2)) m) at)
-      (block_clean y version away mid q o f.1 both.1 eq2 lt room m middle)
-  block_clean (Unless t x) version away p q o f h eq lt room m at =
-      let eq2 : p + 1 + length (lines x) ≡ q = omega (arith, eq) in
-      let first = body_next p _ h.0.reads (test_each t _) o at (room_less o (p + 1) q (omega (arith, eq2)) room) in
-      let behind = body_behind x version away (p + 1) q o f.1 h.1 eq2 lt room first in
-      clean_both p (p + 1) q
-      (clean_one p (p + 1) refl (test_good t p q o (test_read t _ away p q (omega (arith, eq)) h.0) (omega (arith, eq2)) lt at behind))
-      (block_clean x version away (p + 1) q o f.1 h.1 eq2 lt room m first)
-  block_clean (Either t x y) version away p q o f h eq lt room m at =
-      let mid = p + 1 + length (lines x) in
-      let both = lie_both c away (p + 1) (lines x) (Jumps (Ahead (length (lines y) + 1)) ∷ lines y) h.1 in
-      let eq2 : mid + 1 + length (lines y) ≡ q = omega (arith, eq, length-append (lines x) (Jumps (Ahead (length (lines y) + 1)) ∷ lines y)) in
-      let over : mid + (length (lines y) + 1) ≡ q = omega (arith, eq2) in
-      let first = body_next p _ h.0.reads (test_each t _) o at (room_less o (p + 1) q (omega (arith, eq2)) room) in
-      let second = body_behind x version away (p + 1) mid o f.1 both.0 refl (omega (arith, eq2, lt)) (room_less o mid q (omega (arith, eq2)) room) first in
-      let third = body_next mid _ both.1.0.reads refl o second (room_less o (mid + 1) q (omega (arith, eq2)) room) in
-      let behind = body_behind y version away (mid + 1) q o f.2 both.1.1 eq2 lt room third in
-      clean_both p (p + 1) q
-      (clean_one p (p + 1) refl (test_good t p (mid + 1) o (test_read t _ away p (mid + 1) (omega arith) h.0) (omega arith) (omega (arith, eq2, lt)) at third))
-      (clean_both (p + 1) mid q
-      (block_clean x version away (p + 1) mid o f.1 both.0 refl (omega (arith, eq2, lt)) (room_less o mid q (omega (arith, eq2)) room) (may_less o mid q away (omega (arith, eq2)) m) first)
-      (clean_both mid (mid + 1) q
-      (clean_one mid (mid + 1) refl (jump_good mid q (instruction.Jump q) o (subst (λ d. Reads c mid (instruction.Jump d)) over both.1.0.reads) refl refl refl refl (omega (arith, eq2)) lt second behind))
-      (block_clean y version away (mid + 1) q o f.2 both.1.1 eq2 lt room m third)))
-  block_clean (ForEach a b x) version away p q o f h eq lt room m at =
-      let last = p + 1 + length (lines x) in
-      let both = lie_both c away (p + 1) (lines x) (Turns ∷ []) h.1 in
-      let eq2 : last + 1 ≡ q = omega (arith, eq, length-append (lines x) (Turns ∷ [])) in
-      let none = none_outside o f.0 in
-      let here = each_read away p last a b _ (omega arith) h.0 in
-      let inside = body_begins p last a b here both.1.0.reads (omega arith) (omega (arith, eq2, lt)) (at ∙ none) in
-      let end = body_behind x version away (p + 1) last (Some (loop_body p last a)) f.3 both.0 refl (omega (arith, eq2, lt)) (omega arith) inside in
-      clean_both p (p + 1) q
-      (clean_one p (p + 1) refl (each_good p last a b here both.1.0.reads (omega arith) (omega (arith, eq2, lt)) (at ∙ none)))
-      (clean_both (p + 1) last q
-      (block_clean x version away (p + 1) last (Some (loop_body p last a)) f.3 both.0 refl (omega (arith, eq2, lt)) (omega arith) (no_way (loop_body p last a) last away) inside)
-      (clean_one last q eq2 (next_good p last a both.1.0.reads end (omega (arith, eq2, lt)))))
-  block_clean (LeaveIf t) version away p q o f h eq lt room m at =
-      let none = none_outside o f.0 in
-      let out = m none in
-      clean_one p q eq (test_good t p away None h.0.reads (omega (arith, eq, out.0)) out.1 (at ∙ none) out.2)
-  block_clean Leave version away p q o f h eq lt room m at =
-      let none = none_outside o f in
-      let out = m none in
-      clean_one p q eq (jump_good p away (instruction.Jump away) None h.0.reads refl refl refl refl (omega (arith, eq, out.0)) out.1 (at ∙ none) out.2)

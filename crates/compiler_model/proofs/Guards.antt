@@ -1,40 +1,38 @@
--- The block of a guard goes on where the guard holds, and away where it does not.
-use Rattle.std.proofs.Common.{◌≡◌, ℕ, List, [], ◌∷◌, length, Option, Some, None, Bool, true, false, refl, sym, ap, ◌∙◌, subst, ◌⊎◌, inl, inr}
-use Rattle.std.specs.Prelude.{codes, ◌&&◌, ◌||◌, not, nat_le, option_and_then}
-use Rattle.std.specs.List.{list_all, list_any}
+-- The block of a guard continues if the guard holds, and leaves the rule if it does not.
+
+use Rattle.std.proofs.Common.{◌≡◌, ℕ, List, [], ◌∷◌, Option, Some, None, Bool, true, false, refl, sym, ap, ◌∙◌, subst, ◌⊎◌, inl, inr}
+use Rattle.std.specs.Prelude.{◌&&◌, not, nat_le, option_and_then}
 use Rattle.std.specs.Str.{bytes_eq}
 use Rattle.std.proofs.lemmas.Bool.{and_parts, leb-true, leb-false, false≢true}
 use Rattle.std.proofs.lemmas.Slice.Eq.{bytes_eq-Decides}
 use Rattle.text_model.specs.Texts.{Text}
 use Rattle.text_model.specs.Number.{leading_number}
-use Rattle.environment_model.specs.Environment.{Environment, Meaning, Single, Several, look_up, text_in, members_in, text_of, members_of, view}
+use Rattle.environment_model.specs.Environment.{Environment, Meaning, Single, Several, look_up, text_in, members_in, text_of, view}
 use Rattle.environment_model.specs.Lists.{is_list, list_names}
-use Rattle.machine_model.specs.Values.{Value, text_or_undefined}
+use Rattle.machine_model.specs.Values.{text_or_undefined}
 use Rattle.machine_model.specs.Values as value
 use Rattle.rule_parser.specs.declared.rule.Bound.{Bound}
 use Rattle.rule_parser.specs.declared.rule.Bound.TheVariants as bound
-use Rattle.rule_parser.specs.declared.rule.Guard.{Guard}
 use Rattle.rule_parser.specs.declared.rule.Guard.TheVariants as guard
-use Rattle.rule_parser.specs.Rules.{bound_fits, bounds_fit, guard_fits}
-use Rattle.rule_parser.specs.Meaning.{is_defined, is_given, is_text, bound_number, is_at_least, is_at_most, is_within, is_number_within, guard_holds}
-use Rattle.compiler_model.specs.declared.lines.Action.TheVariants.{LoadConst}
+use Rattle.rule_parser.specs.Rules.{bound_fits, bounds_fit}
+use Rattle.rule_parser.specs.Meaning.{is_defined, is_given, is_text, bound_number, is_at_least, is_at_most, is_within, is_number_within}
 use Rattle.compiler_model.specs.declared.lines.Test.{Test}
-use Rattle.compiler_model.specs.declared.lines.Test.TheVariants.{IsUndefined, IsEmpty, HasNoNumber, Differs, IsLess}
-use Rattle.compiler_model.specs.Blocks.{Does, Unless, LeaveIf}
-use Rattle.compiler_model.specs.Shapes.{loading, is_missing, bound_block, bounds_block, guard_block, guards_block}
-use Rattle.compiler_model.proofs.Effects.{Store, keeping, Claim, Acted, Tested, InTurns, Brings}
-use Rattle.compiler_model.proofs.Pieces.{one, seen_as}
+use Rattle.compiler_model.specs.declared.lines.Test.TheVariants.{IsUndefined, HasNoNumber, IsLess}
+use Rattle.compiler_model.specs.Blocks.{Unless, LeaveIf}
+use Rattle.compiler_model.specs.Shapes.{loading, is_missing, bound_block, bounds_block, guard_block}
+use Rattle.compiler_model.proofs.Effects.{Store, keeping, Claim, Acted, Tested, Brings}
+use Rattle.compiler_model.proofs.SpecPieces.{seen_as}
 
 -- the first claim holds where the answer is yes, the second where it is no, whatever the registers are
 abbrev pub Settles : Bool → Text → Claim → Claim → Type 0
 Settles true out Q R = (n : Store) → n.output ≡ out → Q n
 Settles false out Q R = (n : Store) → n.output ≡ out → R n
 
-settles_not : (b : Bool) (out : Text) (Q R : Claim) → Settles (not b) out Q R → Settles b out R Q
+pub settles_not : (b : Bool) (out : Text) (Q R : Claim) → Settles (not b) out Q R → Settles b out R Q
 settles_not true out Q R k = k
 settles_not false out Q R k = k
 
--- the second answer is asked for where the first is yes
+-- the second answer is needed only if the first is yes
 pub settles_and : (a b : Bool) (out : Text) (Q R : Claim) → Settles (a && b) out Q R → Settles a out (λ n. Settles b n.output Q R) R
 settles_and false b out Q R k = k
 settles_and true true out Q R k = λ n e m f. k m (f ∙ e)
@@ -50,24 +48,27 @@ Bounds i false out Q R = (n : Store) → n.output ≡ out → R n
 -- a test between r1 and r3 jumps where the number of a bound does not allow that of r1
 record Compares (i : ℕ) (test : Test) (allows : Option ℕ → Bool) : Type 1 where
   unbounded : allows None ≡ true
-  decides : (m : ℕ) (s : Store) (Q R : Claim) → s.registers 1 ≡ value.Number i → s.registers 3 ≡ value.Number m → Bounds i (allows (Some m)) s.output Q R → Tested test s (R s) Q
+  decides : (m : ℕ) (s : Store) (Q R : Claim) → s.registers 1 ≡ value.Number i → s.registers 3 ≡ value.Number m → Bounds i (allows (Some m)) s.output Q R
+      → Tested test s (R s) Q
 
 low_test : (i : ℕ) → Compares i (IsLess 1 3) (λ low. is_at_least low i)
 low_test i = record { unbounded = refl; decides = λ m s Q R e f k. by_test m s Q R e f (nat_le m i) refl k }
   where
-    by_test : (m : ℕ) (s : Store) (Q R : Claim) → s.registers 1 ≡ value.Number i → s.registers 3 ≡ value.Number m → (b : Bool) → nat_le m i ≡ b → Bounds i b s.output Q R → Tested (IsLess 1 3) s (R s) Q
+    by_test : (m : ℕ) (s : Store) (Q R : Claim) → s.registers 1 ≡ value.Number i → s.registers 3 ≡ value.Number m → (b : Bool) → nat_le m i ≡ b
+        → Bounds i b s.output Q R → Tested (IsLess 1 3) s (R s) Q
     by_test m s Q R e f true h k = (i, m, e, f, inr (leb-true m i h, k s e refl))
     by_test m s Q R e f false h k = (i, m, e, f, inl (leb-false m i h, k s refl))
 
 high_test : (i : ℕ) → Compares i (IsLess 3 1) (λ high. is_at_most high i)
 high_test i = record { unbounded = refl; decides = λ m s Q R e f k. by_test m s Q R e f (nat_le i m) refl k }
   where
-    by_test : (m : ℕ) (s : Store) (Q R : Claim) → s.registers 1 ≡ value.Number i → s.registers 3 ≡ value.Number m → (b : Bool) → nat_le i m ≡ b → Bounds i b s.output Q R → Tested (IsLess 3 1) s (R s) Q
+    by_test : (m : ℕ) (s : Store) (Q R : Claim) → s.registers 1 ≡ value.Number i → s.registers 3 ≡ value.Number m → (b : Bool) → nat_le i m ≡ b
+        → Bounds i b s.output Q R → Tested (IsLess 3 1) s (R s) Q
     by_test m s Q R e f true h k = (m, i, f, e, inr (leb-true i m h, k s e refl))
     by_test m s Q R e f false h k = (m, i, f, e, inl (leb-false i m h, k s refl))
 
 module _ (v : Environment) (lists : List Text) where
-  abbrev look : Text → Option Meaning
+  abbrev pub look : Text → Option Meaning
   look = view (list_names lists) (look_up v)
 
   -- ---- what rules see of a name is what is loaded
@@ -78,25 +79,30 @@ module _ (v : Environment) (lists : List Text) where
   text_seen (Some (Single t)) false e = refl
   text_seen (Some (Several ts)) false e = refl
 
-  members_seen : (m : Option Meaning) (list : Bool) → list ≡ true → members_in (seen_as v list m) ≡ members_in m
+  pub members_seen : (m : Option Meaning) (list : Bool) → list ≡ true → members_in (seen_as v list m) ≡ members_in m
   members_seen m false e = absurd (cc)
   members_seen None true e = refl
   members_seen (Some (Single t)) true e = refl
   members_seen (Some (Several ts)) true e = refl
 
-  text_looked : (name : Text) → not (is_list lists name) ≡ true → text_in (look name) ≡ text_of v name
+  pub text_looked : (name : Text) → not (is_list lists name) ≡ true → text_in (look name) ≡ text_of v name
   text_looked name e = text_seen (look_up v name) (is_list lists name) e
 
   -- ---- bounds
 
-  number_brings : (i r : ℕ) (test : Test) (allows : Option ℕ → Bool) → Compares i test allows → (t : Text) (s : Store) (Q R : Claim) → s.registers 1 ≡ value.Number i → s.registers 2 ≡ value.Text t → Bounds i (allows (leading_number t)) s.output Q R → Brings v None (Unless (HasNoNumber 3 2) (LeaveIf test)) s Q R
+  number_brings : (i r : ℕ) (test : Test) (allows : Option ℕ → Bool) → Compares i test allows → (t : Text) (s : Store) (Q R : Claim)
+      → s.registers 1 ≡ value.Number i → s.registers 2 ≡ value.Text t → Bounds i (allows (leading_number t)) s.output Q R
+      → Brings v None (Unless (HasNoNumber 3 2) (LeaveIf test)) s Q R
   number_brings i r test allows c t s Q R e f k = (t, f, by_number (leading_number t) refl k)
     where
-      by_number : (o : Option ℕ) → leading_number t ≡ o → Bounds i (allows o) s.output Q R → ((leading_number t ≡ None) × Q s) ⊎ ((m : ℕ) × (leading_number t ≡ Some m) × Tested test (keeping 3 (value.Number m) s) (R (keeping 3 (value.Number m) s)) Q)
+      by_number : (o : Option ℕ) → leading_number t ≡ o → Bounds i (allows o) s.output Q R → ((leading_number t ≡ None) × Q s)
+          ⊎ ((m : ℕ) × (leading_number t ≡ Some m) × Tested test (keeping 3 (value.Number m) s) (R (keeping 3 (value.Number m) s)) Q)
       by_number None h k = inl (h, subst (λ b. Bounds i b s.output Q R) c.unbounded k s e refl)
       by_number (Some m) h k = inr (m, h, c.decides m (keeping 3 (value.Number m) s) Q R e refl k)
 
-  bound_brings : (i : ℕ) (test : Test) (allows : Option ℕ → Bool) → Compares i test allows → (b : Bound) → bound_fits lists b ≡ true → (s : Store) (Q R : Claim) → s.registers 1 ≡ value.Number i → Bounds i (allows (bound_number look b)) s.output Q R → Brings v None (bound_block test b) s Q R
+  bound_brings : (i : ℕ) (test : Test) (allows : Option ℕ → Bool) → Compares i test allows → (b : Bound) → bound_fits lists b ≡ true
+      → (s : Store) (Q R : Claim) → s.registers 1 ≡ value.Number i → Bounds i (allows (bound_number look b)) s.output Q R
+      → Brings v None (bound_block test b) s Q R
   bound_brings i test allows c bound.Open z s Q R e k = subst (λ b. Bounds i b s.output Q R) c.unbounded k s e refl
   bound_brings i test allows c (bound.Digits digits) z s Q R e k = number_brings i 2 test allows c digits (keeping 2 (value.Text digits) s) Q R e refl k
   bound_brings i test allows c (bound.Name name) z s Q R e k =
@@ -105,27 +111,32 @@ module _ (v : Environment) (lists : List Text) where
       loaded : Store
       loaded = keeping 2 (text_or_undefined (text_of v name)) s
 
-      by_text : (o : Option Text) → text_of v name ≡ o → Bounds i (allows (option_and_then leading_number o)) s.output Q R → Tested (IsUndefined 2) loaded (Q loaded) (λ n. Brings v None (Unless (HasNoNumber 3 2) (LeaveIf test)) n Q R)
+      by_text : (o : Option Text) → text_of v name ≡ o → Bounds i (allows (option_and_then leading_number o)) s.output Q R
+          → Tested (IsUndefined 2) loaded (Q loaded) (λ n. Brings v None (Unless (HasNoNumber 3 2) (LeaveIf test)) n Q R)
       by_text None h k = inl (ap text_or_undefined h, subst (λ b. Bounds i b s.output Q R) c.unbounded k loaded e refl)
       by_text (Some t) h k = inr (t, ap text_or_undefined h, number_brings i 2 test allows c t loaded Q R e (ap text_or_undefined h) k)
 
-  bounds_bring : (low high : Bound) → bounds_fit lists low high ≡ true → (i : ℕ) (s : Store) (Q R : Claim) → s.registers 1 ≡ value.Number i → Settles (is_within (bound_number look low) (bound_number look high) i) s.output Q R → Brings v None (bounds_block low high) s Q R
+  pub bounds_bring : (low high : Bound) → bounds_fit lists low high ≡ true → (i : ℕ) (s : Store) (Q R : Claim) → s.registers 1 ≡ value.Number i
+      → Settles (is_within (bound_number look low) (bound_number look high) i) s.output Q R → Brings v None (bounds_block low high) s Q R
   bounds_bring low high z i s Q R e k =
       let both = and_parts (bound_fits lists low) (bound_fits lists high) z in
       bound_brings i (IsLess 1 3) _ (low_test i) low both.0 s _ R e
-      (by_low (is_at_least (bound_number look low) i) (settles_and (is_at_least (bound_number look low) i) (is_at_most (bound_number look high) i) s.output Q R k) both.1)
+      (by_low (is_at_least (bound_number look low) i) (settles_and (is_at_least (bound_number look low) i) (is_at_most (bound_number look high) i) s.output Q R
+      k) both.1)
     where
       by_high : (b : Bool) (n : Store) → Settles b n.output Q R → Bounds i b n.output Q R
       by_high true n k = λ m f g. k m g
       by_high false n k = k
 
-      by_low : (b : Bool) → Settles b s.output (λ n. Settles (is_at_most (bound_number look high) i) n.output Q R) R → bound_fits lists high ≡ true → Bounds i b s.output (λ n. Brings v None (bound_block (IsLess 3 1) high) n Q R) R
+      by_low : (b : Bool) → Settles b s.output (λ n. Settles (is_at_most (bound_number look high) i) n.output Q R) R → bound_fits lists high ≡ true
+          → Bounds i b s.output (λ n. Brings v None (bound_block (IsLess 3 1) high) n Q R) R
       by_low true k y = λ n f g. bound_brings i (IsLess 3 1) _ (high_test i) high y n Q R f (by_high (is_at_most (bound_number look high) i) n (k n g))
       by_low false k y = k
 
   -- ---- whether a name is defined
 
-  loaded_tested : (list : Bool) (name : Text) (m : Option Meaning) → look_up v name ≡ m → (s : Store) (Q R : Claim) → Settles (is_defined (seen_as v list m)) s.output Q R → Acted v None (loading list name) s (λ n. Tested (is_missing list) n (R n) Q)
+  pub loaded_tested : (list : Bool) (name : Text) (m : Option Meaning) → look_up v name ≡ m → (s : Store) (Q R : Claim)
+      → Settles (is_defined (seen_as v list m)) s.output Q R → Acted v None (loading list name) s (λ n. Tested (is_missing list) n (R n) Q)
   loaded_tested false name None e s Q R k = inl (ap (λ m. text_or_undefined (text_in m)) e, k _ refl)
   loaded_tested false name (Some (Several ts)) e s Q R k = inl (ap (λ m. text_or_undefined (text_in m)) e, k _ refl)
   loaded_tested false name (Some (Single t)) e s Q R k = inr (t, ap (λ m. text_or_undefined (text_in m)) e, k _ refl)
@@ -136,12 +147,14 @@ module _ (v : Environment) (lists : List Text) where
 
   -- ---- texts
 
-  given_brings : (name : Text) (o : Option Text) → text_of v name ≡ o → (s : Store) (Q R : Claim) → Settles (is_given o) s.output Q R → Brings v None (guard_block lists (guard.Given name)) s Q R
+  pub given_brings : (name : Text) (o : Option Text) → text_of v name ≡ o → (s : Store) (Q R : Claim) → Settles (is_given o) s.output Q R
+      → Brings v None (guard_block lists (guard.Given name)) s Q R
   given_brings name None e s Q R k = inl (ap text_or_undefined e, k _ refl)
   given_brings name (Some []) e s Q R k = inr ([], ap text_or_undefined e, inl (ap text_or_undefined e, k _ refl))
   given_brings name (Some (b ∷ t)) e s Q R k = inr (b ∷ t, ap text_or_undefined e, inr (b, t, ap text_or_undefined e, k _ refl))
 
-  same_brings : (name text : Text) (o : Option Text) → text_of v name ≡ o → (s : Store) (Q R : Claim) → Settles (is_text text o) s.output Q R → Brings v None (guard_block lists (guard.Same name text)) s Q R
+  pub same_brings : (name text : Text) (o : Option Text) → text_of v name ≡ o → (s : Store) (Q R : Claim) → Settles (is_text text o) s.output Q R
+      → Brings v None (guard_block lists (guard.Same name text)) s Q R
   same_brings name text None e s Q R k = inl (ap text_or_undefined e, k _ refl)
   same_brings name text (Some t) e s Q R k = inr (t, ap text_or_undefined e, (t, text, ap text_or_undefined e, refl, by_test (bytes_eq t text) refl k))
     where
@@ -152,88 +165,17 @@ module _ (v : Environment) (lists : List Text) where
       by_test true h k = inr ((bytes_eq-Decides t text).0 h, k _ refl)
       by_test false h k = inl (λ same. false≢true (sym h ∙ (bytes_eq-Decides t text).1 same), k _ refl)
 
-  between_brings : (name : Text) (low high : Bound) → bounds_fit lists low high ≡ true → (o : Option Text) → text_of v name ≡ o → (s : Store) (Q R : Claim) → Settles (is_number_within (bound_number look low) (bound_number look high) (option_and_then leading_number o)) s.output Q R → Brings v None (guard_block lists (guard.Between name low high)) s Q R
+  pub between_brings : (name : Text) (low high : Bound) → bounds_fit lists low high ≡ true → (o : Option Text) → text_of v name ≡ o → (s : Store) (Q R : Claim)
+      → Settles (is_number_within (bound_number look low) (bound_number look high) (option_and_then leading_number o)) s.output Q R
+      → Brings v None (guard_block lists (guard.Between name low high)) s Q R
   between_brings name low high z None e s Q R k = inl (ap text_or_undefined e, k _ refl)
   between_brings name low high z (Some t) e s Q R k = inr (t, ap text_or_undefined e, (t, ap text_or_undefined e, by_number (leading_number t) refl k))
     where
       loaded : Store
       loaded = keeping 0 (text_or_undefined (text_of v name)) s
 
-      by_number : (o : Option ℕ) → leading_number t ≡ o → Settles (is_number_within (bound_number look low) (bound_number look high) o) s.output Q R → ((leading_number t ≡ None) × R loaded) ⊎ ((i : ℕ) × (leading_number t ≡ Some i) × Brings v None (bounds_block low high) (keeping 1 (value.Number i) loaded) Q R)
+      by_number : (o : Option ℕ) → leading_number t ≡ o → Settles (is_number_within (bound_number look low) (bound_number look high) o) s.output Q R
+          → ((leading_number t ≡ None) × R loaded)
+          ⊎ ((i : ℕ) × (leading_number t ≡ Some i) × Brings v None (bounds_block low high) (keeping 1 (value.Number i) loaded) Q R)
       by_number None h k = inl (h, k _ refl)
       by_number (Some i) h k = inr (i, h, bounds_bring low high z i (keeping 1 (value.Number i) loaded) Q R refl k)
-
-  -- ---- lists
-
-  -- r2 is empty until the member is found
-  abbrev mark : Bool → Text
-  mark true = one
-  mark false = []
-
-  abbrev found : Text → List Text → Bool
-  found text ts = list_any (λ t. bytes_eq t text) ts
-
-  -- whatever earlier turns found, the text is found by now
-  found_now : (earlier : Bool) → (earlier || true) ≡ true
-  found_now true = refl
-  found_now false = refl
-
-  -- the turns of the loop of `holds`, of which earlier ones found the text or not
-  turns_find : (text : Text) (ts : List Text) (first before : Bool) (s : Store) (Q : Claim) → s.registers 1 ≡ value.Text text → s.registers 2 ≡ value.Text (mark before) → ((n : Store) → n.registers 2 ≡ value.Text (mark (before || found text ts)) → n.output ≡ s.output → Q n) → InTurns (λ turn next Claimed. Brings v (Some turn) (Unless (Differs 3 1) (Does (LoadConst 2 (codes "1")))) next Claimed (λ never. ⊥)) 3 ts first s Q
-  turns_find text [] first true s Q e f k = k s f refl
-  turns_find text [] first false s Q e f k = k s f refl
-  turns_find text (t ∷ ts) first before s Q e f k =
-      (t, text, refl, e, by_test (bytes_eq t text) refl k (turns_find text ts false true (keeping 2 (value.Text one) (keeping 3 (value.Text t) s)) Q e refl) (turns_find text ts false before (keeping 3 (value.Text t) s) Q e f))
-    where
-      entered : Store
-      entered = keeping 3 (value.Text t) s
-
-      Later : Store → Type 0
-      Later n = InTurns (λ turn next Claimed. Brings v (Some turn) (Unless (Differs 3 1) (Does (LoadConst 2 (codes "1")))) next Claimed (λ never. ⊥)) 3 ts false n Q
-
-      Found : Bool → Type 0
-      Found b = (n : Store) → n.registers 2 ≡ value.Text (mark b) → n.output ≡ s.output → Q n
-
-      by_test : (b : Bool) → bytes_eq t text ≡ b → Found (before || (b || found text ts)) → (Found true → Later (keeping 2 (value.Text one) entered)) → (Found (before || found text ts) → Later entered) → ((t ≡ text → ⊥) × Later entered) ⊎ ((t ≡ text) × Later (keeping 2 (value.Text one) entered))
-      by_test true h k there missing = inr ((bytes_eq-Decides t text).0 h, there (subst Found (found_now before) k))
-      by_test false h k there missing = inl (λ same. false≢true (sym h ∙ (bytes_eq-Decides t text).1 same), missing k)
-
-  holds_brings : (name text : Text) (s : Store) (Q R : Claim) → Settles (found text (members_of v name)) s.output Q R → Brings v None (guard_block lists (guard.Holds name text)) s Q R
-  holds_brings name text s Q R k = (refl, members_of v name, refl, turns_find text (members_of v name) true false _ _ refl refl (λ n g o. by_mark n (found text (members_of v name)) g o k))
-    where
-      by_mark : (n : Store) (b : Bool) → n.registers 2 ≡ value.Text (mark b) → n.output ≡ s.output → Settles b s.output Q R → Tested (IsEmpty 2) n (R n) Q
-      by_mark n true g o k = inr (0x31, [], g, k n o)
-      by_mark n false g o k = inl (g, k n o)
-
-  -- ---- every guard
-
-  pub guard_brings : (g : Guard) → guard_fits lists g ≡ true → (s : Store) (Q R : Claim) → Settles (guard_holds look g) s.output Q R → Brings v None (guard_block lists g) s Q R
-  guard_brings (guard.Has name) z s Q R k = loaded_tested (is_list lists name) name (look_up v name) refl s Q R k
-  guard_brings (guard.Lacks name) z s Q R k = loaded_tested (is_list lists name) name (look_up v name) refl s R Q (settles_not _ s.output Q R k)
-  guard_brings (guard.Given name) z s Q R k =
-      given_brings name (text_of v name) refl s Q R (subst (λ o. Settles (is_given o) s.output Q R) (text_looked name z) k)
-  guard_brings (guard.Same name text) z s Q R k =
-      same_brings name text (text_of v name) refl s Q R (subst (λ o. Settles (is_text text o) s.output Q R) (text_looked name z) k)
-  guard_brings (guard.Holds name text) z s Q R k =
-      holds_brings name text s Q R (subst (λ ts. Settles (found text ts) s.output Q R) (members_seen (look_up v name) (is_list lists name) z) k)
-  guard_brings (guard.Between name low high) z s Q R k =
-      let both = and_parts (not (is_list lists name)) (bounds_fit lists low high) z in
-      between_brings name low high both.1 (text_of v name) refl s Q R (subst (λ o. Settles (is_number_within (bound_number look low) (bound_number look high) (option_and_then leading_number o)) s.output Q R) (text_looked name both.0) k)
-  guard_brings (guard.Counts name low high) z s Q R k =
-      let both = and_parts (is_list lists name) (bounds_fit lists low high) z in (
-        members_of v name,
-        refl,
-        bounds_bring low high both.1 (length (members_of v name)) (keeping 1 (value.Number (length (members_of v name))) (keeping 0 (value.List (members_of v name)) s)) Q R refl
-            (subst (λ (ts : List Text). Settles (is_within (bound_number look low) (bound_number look high) (length ts)) s.output Q R) (members_seen (look_up v name) (is_list lists name) both.0) k),
-      )
-
-  pub guards_bring : (gs : List Guard) → list_all (guard_fits lists) gs ≡ true → (s : Store) (Q R : Claim) → Settles (list_all (guard_holds look) gs) s.output Q R → Brings v None (guards_block lists gs) s Q R
-  guards_bring [] z s Q R k = k s refl
-  guards_bring (g ∷ gs) z s Q R k =
-      let both = and_parts (guard_fits lists g) (list_all (guard_fits lists) gs) z in
-      guard_brings g both.0 s (λ n. Brings v None (guards_block lists gs) n Q R) R
-      (by_first (guard_holds look g) (settles_and (guard_holds look g) (list_all (guard_holds look) gs) s.output Q R k) (λ n. guards_bring gs both.1 n Q R))
-    where
-      by_first : (b : Bool) → Settles b s.output (λ n. Settles (list_all (guard_holds look) gs) n.output Q R) R → ((n : Store) → Settles (list_all (guard_holds look) gs) n.output Q R → Brings v None (guards_block lists gs) n Q R) → Settles b s.output (λ n. Brings v None (guards_block lists gs) n Q R) R
-      by_first true k rest = λ n e. rest n (k n e)
-      by_first false k rest = k

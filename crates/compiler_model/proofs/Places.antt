@@ -24,7 +24,7 @@ HasText c (Acts (Emits t)) = literal_at c (literal_index c.literals false t) ≡
 HasText c (Acts (Separates t)) = literal_at c (literal_index c.literals false t) ≡ t
 HasText c line = Unit {0}
 
--- a line's instruction stands at a place
+-- a line's instruction is at a place
 pub record IsPlaced (c : Code) (away place : ℕ) (line : Line) : Type 0 where
   pub reads : Reads c place (line_instruction c.names c.literals away place line)
   pub text : HasText c line
@@ -41,7 +41,7 @@ lie_both c away place (x ∷ a) b h =
     let e : place + 1 + length a ≡ place + length (x ∷ a) = omega arith in
     ((h.0, both.0), subst (λ p. Lie c away p b) e both.1)
 
--- the machine goes on from a frame to an end
+-- the machine runs from a frame to an end
 pub data Finishes (c : Code) (v : Environment) (e : End) : Frame → Type 0 where
   ends : (s : Frame) → Step c v (Running s) (Ended e) → Finishes c v e s
   goes : (s t : Frame) → Step c v (Running s) (Running t) → Finishes c v e t → Finishes c v e s
@@ -57,7 +57,7 @@ one_more : (c : Code) (v : Environment) (k : ℕ) (old new : State) → After c 
 unfolding After
 one_more c v k old new h st = (old, h, st)
 
--- whoever comes to such a frame comes to the end
+-- what reaches such a frame reaches the end
 pub finishes_after : (c : Code) (v : Environment) (e : End) (s : Frame) → Finishes c v e s → (k : ℕ) → After c v k (Running s) → (j : ℕ) × After c v j (Ended e)
 finishes_after c v e _ (ends s st) k h = (suc k, one_more c v k (Running s) (Ended e) h st)
 finishes_after c v e _ (goes s t st f) k h = finishes_after c v e t f (suc k) (one_more c v k (Running s) (Running t) h st)
@@ -67,7 +67,8 @@ abbrev pub at_place : ℕ → Option Loop → Store → Frame
 at_place p l s = record { place = p; registers = s.registers; loop = l; output = s.output }
 
 module _ (c : Code) (v : Environment) (e : End) where
-  pub onward : (s t : Frame) (i : Instruction) → Reads c s.place i → Does c v s i (Goes t) → s.place < t.place → IsInside t.loop t.place → Finishes c v e t → Finishes c v e s
+  pub onward : (s t : Frame) (i : Instruction) → Reads c s.place i → Does c v s i (Goes t) → s.place < t.place → IsInside t.loop t.place → Finishes c v e t
+      → Finishes c v e s
   onward s t i r d lt inside f = goes s t (i, r, Goes t, d, (record { forward = lt; within = finishes_within c v e t f; inside = inside }, refl)) f
 
   pub again : (s t : Frame) (i : Instruction) → Reads c s.place i → Does c v s i (Returns t) → Finishes c v e t → Finishes c v e s

@@ -25,10 +25,11 @@ use Rattle.compiler_model.specs.Compiled.{rule_lines}
 use Rattle.compiler_model.proofs.Effects.{Store, Claim, Brings}
 use Rattle.compiler_model.proofs.Places.{Lie, lie_both, Finishes, at_place, at_end}
 use Rattle.compiler_model.proofs.Simulation.{goes}
-use Rattle.compiler_model.proofs.Pieces.{parts_bring}
-use Rattle.compiler_model.proofs.Guards.{Settles, guards_bring}
+use Rattle.compiler_model.proofs.SpecPieces.{parts_bring}
+use Rattle.compiler_model.proofs.Guards.{Settles}
+use Rattle.compiler_model.proofs.ListGuards.{guards_bring}
 
--- the rules' lines lie from a place on, and FAIL behind them
+-- the lines of the rules lie from a place on, and FAIL after them
 abbrev pub RulesLie : Code → List Text → ℕ → List Rule → Type 0
 RulesLie c lists p [] = Reads c p instruction.Fail
 RulesLie c lists p (rule ∷ rules) =
@@ -52,14 +53,19 @@ module _ (c : Code) (v : Environment) (lists : List Text) where
   first_link rules = option_map (λ (rule : Rule). expansion look rule.template.parts) (find (guards_hold look) rules)
 
   -- where its guards hold a rule appends its link, and otherwise it is left
-  rule_brings : (rule : Rule) → IsSoundRule lists rule → (s : Store) (Q R : Claim) → Settles (guards_hold look rule) s.output (λ n. Brings v None (parts_block lists rule.template.parts) n Q R) R → Brings v None (rule_block lists rule) s Q R
+  rule_brings : (rule : Rule) → IsSoundRule lists rule → (s : Store) (Q R : Claim)
+      → Settles (guards_hold look rule) s.output (λ n. Brings v None (parts_block lists rule.template.parts) n Q R) R
+      → Brings v None (rule_block lists rule) s Q R
   rule_brings rule sound s Q R k = guards_bring v lists rule.guards (guards_fit lists rule.guards sound.guards) s _ R k
 
   abbrev Answers : Option Text → ℕ → Store → Type 0
   Answers link p s = Finishes c v (end_of link) (at_place p None s)
 
-  -- a rule ends with its link, or leads to the place behind it
-  rule_finishes : (rule : Rule) → IsSoundRule lists rule → (link : Option Text) (p : ℕ) (s : Store) → s.output ≡ [] → Lie c (p + length (rule_lines lists rule)) p (rule_lines lists rule) → (b : Bool) → guards_hold look rule ≡ b → (b ≡ true → link ≡ Some (expansion look rule.template.parts)) → (b ≡ false → (n : Store) → n.output ≡ [] → Answers link (p + length (rule_lines lists rule)) n) → Answers link p s
+  -- a rule ends with its link, or leads to the place after it
+  rule_finishes : (rule : Rule) → IsSoundRule lists rule → (link : Option Text) (p : ℕ) (s : Store) → s.output ≡ []
+      → Lie c (p + length (rule_lines lists rule)) p (rule_lines lists rule) → (b : Bool) → guards_hold look rule ≡ b
+      → (b ≡ true → link ≡ Some (expansion look rule.template.parts))
+      → (b ≡ false → (n : Store) → n.output ≡ [] → Answers link (p + length (rule_lines lists rule)) n) → Answers link p s
   rule_finishes rule sound link p s empty h b holds e rest =
       let away = p + length (rule_lines lists rule) in
       let last = p + length (lines (rule_block lists rule)) in
@@ -74,16 +80,25 @@ module _ (c : Code) (v : Environment) (lists : List Text) where
       halts : (last : ℕ) (n : Store) → Reads c last instruction.Halt → link ≡ Some n.output → Finishes c v (end_of link) (at_place last None n)
       halts last n r eq = rw eq (at_end c v (Link n.output) (at_place last None n) instruction.Halt r step.halt)
 
-      by_test : (b : Bool) → Settles b s.output (λ n. Brings v None (parts_block lists rule.template.parts) n (λ n. (b ≡ true) × (n.output ≡ expansion look rule.template.parts)) (λ n. (b ≡ false) × (n.output ≡ []))) (λ n. (b ≡ false) × (n.output ≡ []))
-      by_test true = λ n same. parts_bring v lists rule.template.parts sound.kinds n _ _ (λ m added. (refl, added ∙ ap (λ x. x ++ expansion look rule.template.parts) (same ∙ empty)))
+      by_test : (b : Bool)
+          → Settles b s.output
+          (λ n. Brings v None (parts_block lists rule.template.parts) n (λ n. (b ≡ true) × (n.output ≡ expansion look rule.template.parts))
+          (λ n. (b ≡ false) × (n.output ≡ []))) (λ n. (b ≡ false) × (n.output ≡ []))
+      by_test true = λ n same. parts_bring v lists rule.template.parts sound.kinds n _ _
+          (λ m added. (refl, added ∙ ap (λ x. x ++ expansion look rule.template.parts) (same ∙ empty)))
       by_test false = λ n same. (refl, same ∙ empty)
 
-  pub rules_finish : (rules : List Rule) → All (IsSoundRule lists) rules → (p : ℕ) (s : Store) → s.output ≡ [] → RulesLie c lists p rules → Finishes c v (end_of (first_link rules)) (at_place p None s)
+  pub rules_finish : (rules : List Rule) → All (IsSoundRule lists) rules → (p : ℕ) (s : Store) → s.output ≡ [] → RulesLie c lists p rules
+      → Finishes c v (end_of (first_link rules)) (at_place p None s)
   rules_finish [] sound p s empty h = at_end c v NoLink (at_place p None s) instruction.Fail h step.fail
   rules_finish (rule ∷ rules) sound p s empty h =
       let away = p + length (rule_lines lists rule) in
       by_test (guards_hold look rule) refl (λ n e. rules_finish rules (All-tail (IsSoundRule lists) rule rules sound) away n e h.1)
     where
-      by_test : (b : Bool) → guards_hold look rule ≡ b → ((n : Store) → n.output ≡ [] → Finishes c v (end_of (first_link rules)) (at_place (p + length (rule_lines lists rule)) None n)) → Finishes c v (end_of (option_map (λ (r : Rule). expansion look r.template.parts) (if b then Some rule else find (guards_hold look) rules))) (at_place p None s)
+      by_test : (b : Bool) → guards_hold look rule ≡ b
+          → ((n : Store) → n.output ≡ [] → Finishes c v (end_of (first_link rules)) (at_place (p + length (rule_lines lists rule)) None n))
+          → Finishes c v (end_of (option_map (λ (r : Rule). expansion look r.template.parts) (if b then Some rule else find (guards_hold look) rules)))
+          (at_place p None s)
       by_test true holds rest = rule_finishes rule (All-head (IsSoundRule lists) rule rules sound) _ p s empty h.0 true holds (λ t. refl) (λ f. absurd (cc (f)))
-      by_test false holds rest = rule_finishes rule (All-head (IsSoundRule lists) rule rules sound) _ p s empty h.0 false holds (λ f. absurd (cc (f))) (λ f n e. rest n e)
+      by_test false holds rest = rule_finishes rule (All-head (IsSoundRule lists) rule rules sound) _ p s empty h.0 false holds (λ f. absurd (cc (f)))
+          (λ f n e. rest n e)

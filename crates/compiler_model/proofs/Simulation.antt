@@ -1,5 +1,6 @@
--- A block that lies in a code does what it brings: the machine goes from its first place to the place behind it, or away.
-use Rattle.std.proofs.Common.{◌≡◌, ℕ, ◌+◌, ◌<◌, ◌≤◌, List, [], ◌∷◌, length, Option, Some, None, Bool, true, false, refl, sym, ap, ◌∙◌, subst, arith, ◌⊎◌, inl, inr}
+-- A block that lies in a code does what it brings: the machine goes from its first place to the place after it, or away.
+use Rattle.std.proofs.Common.{◌≡◌, ℕ, ◌+◌, ◌<◌, ◌≤◌, List, [], ◌∷◌, length, Option, Some, None, Bool, true, false, refl, sym, ap, ◌∙◌, subst, arith, ◌⊎◌, inl}
+use Rattle.std.proofs.Common.{inr}
 use Rattle.std.proofs.lemmas.List.{length-append}
 use Rattle.text_model.specs.Texts.{Text}
 use Rattle.text_model.specs.Writing.{written}
@@ -36,7 +37,7 @@ abbrev pub turn_of : Option Loop → Option Bool
 turn_of None = None
 turn_of (Some l) = Some l.first
 
--- the places behind p up to q lie in the loop's body, if a loop runs
+-- the places after p up to q lie in the loop's body, if a loop runs
 abbrev pub Around : Option Loop → ℕ → ℕ → Type 0
 Around l p q = (x : ℕ) → p < x → x ≤ q → IsInside l x
 
@@ -46,7 +47,8 @@ module _ (c : Code) (v : Environment) (e : End) where
 
   -- ---- one line
 
-  acts : (a : Action) (away p : ℕ) (l : Option Loop) (s : Store) (Q : Claim) → IsPlaced c away p (Acts a) → IsInside l (p + 1) → Acted v (turn_of l) a s Q → ((t : Store) → Q t → Ends (p + 1) l t) → Ends p l s
+  acts : (a : Action) (away p : ℕ) (l : Option Loop) (s : Store) (Q : Claim) → IsPlaced c away p (Acts a) → IsInside l (p + 1) → Acted v (turn_of l) a s Q
+      → ((t : Store) → Q t → Ends (p + 1) l t) → Ends p l s
   acts (LoadText a name) away p l s Q h i b k =
       onward c v e (at_place p l s) _ _ h.reads (step.text a _) (omega arith) i
       (subst (λ n. Finishes c v e (at_place (p + 1) l (keeping a (text_or_undefined (text_of v n)) s))) (sym h.text) (k _ b))
@@ -77,7 +79,8 @@ module _ (c : Code) (v : Environment) (e : End) where
       (subst (λ x. Finishes c v e (at_place (p + 1) l (saying (written x (cut x b.0 n)) s))) (sym (writing_of-mode_of w)) (k _ b.2))
 
   -- a test leads to the place d, or on
-  tests : (t : Test) (g : Target) (away p d : ℕ) (l : Option Loop) (s : Store) (J : Type 0) (Q : Claim) → IsPlaced c away p (Tests t g) → place_of away p g ≡ d → p < d → IsInside l (p + 1) → Tested t s J Q → (J → IsInside l d × Ends d l s) → ((n : Store) → Q n → Ends (p + 1) l n) → Ends p l s
+  tests : (t : Test) (g : Target) (away p d : ℕ) (l : Option Loop) (s : Store) (J : Type 0) (Q : Claim) → IsPlaced c away p (Tests t g) → place_of away p g ≡ d
+      → p < d → IsInside l (p + 1) → Tested t s J Q → (J → IsInside l d × Ends d l s) → ((n : Store) → Q n → Ends (p + 1) l n) → Ends p l s
   tests (IsUndefined a) g away p d l s J Q h eq lt i (inl b) j k =
       let at = j b.1 in
       onward c v e (at_place p l s) _ _ h.reads (step.undefined a _ b.0) (rw eq lt) (rw eq at.0) (rw eq at.1)
@@ -95,7 +98,8 @@ module _ (c : Code) (v : Environment) (e : End) where
       onward c v e (at_place p l s) _ _ h.reads (step.a_member a _ b.0 b.1 b.2) (omega arith) i (k s b.3)
   tests (HasNoNumber a x) g away p d l s J Q h eq lt i b j k = by_number b.2
     where
-      by_number : ((leading_number b.0 ≡ None) × J) ⊎ ((n : ℕ) × (leading_number b.0 ≡ Some n) × Q (keeping a (value.Number n) s)) → Finishes c v e (at_place p l s)
+      by_number : ((leading_number b.0 ≡ None) × J) ⊎ ((n : ℕ) × (leading_number b.0 ≡ Some n) × Q (keeping a (value.Number n) s))
+          → Finishes c v e (at_place p l s)
       by_number (inl n) =
           let at = j n.1 in
           onward c v e (at_place p l s) _ _ h.reads (step.no_number a x _ b.0 b.1 n.0) (rw eq lt) (rw eq at.0) (rw eq at.1)
@@ -116,7 +120,7 @@ module _ (c : Code) (v : Environment) (e : End) where
           onward c v e (at_place p l s) _ _ h.reads (step.less a x _ b.0 b.1 b.2 b.3 n.0) (rw eq lt) (rw eq at.0) (rw eq at.1)
       by_numbers (inr n) = onward c v e (at_place p l s) _ _ h.reads (step.not_less a x _ b.0 b.1 b.2 b.3 n.0) (omega arith) i (k s n.1)
 
-  -- ---- loops: the body stands from p + 1 to before q, where NEXT is
+  -- ---- loops: the body lies from p + 1 to before q, where NEXT is
 
   abbrev loop_at : ℕ → ℕ → ℕ → List Text → Bool → Loop
   loop_at p q a ts first = record { start = p + 1; end = q + 1; element = a; left = ts; first = first }
@@ -128,14 +132,18 @@ module _ (c : Code) (v : Environment) (e : End) where
       → Ends (p + 1) (Some (loop_at p q a ts first)) s
 
   -- from NEXT on, with these members left
-  turns : (away p q a : ℕ) (turn : Bool → Store → Claim → Type 0) → RunsBody p q a turn → IsPlaced c away q Turns → (ts : List Text) (first : Bool) (s : Store) (Q : Claim) → InTurns turn a ts false s Q → ((n : Store) → Q n → Ends (q + 1) None n) → Ends q (Some (loop_at p q a ts first)) s
+  turns : (away p q a : ℕ) (turn : Bool → Store → Claim → Type 0) → RunsBody p q a turn → IsPlaced c away q Turns
+      → (ts : List Text) (first : Bool) (s : Store) (Q : Claim) → InTurns turn a ts false s Q → ((n : Store) → Q n → Ends (q + 1) None n)
+      → Ends q (Some (loop_at p q a ts first)) s
   turns away p q a turn body next [] first s Q b k =
       onward c v e (at_place q (Some (loop_at p q a [] first)) s) _ _ next.reads (step.leave _ refl refl refl) (omega arith) tt (k s b)
   turns away p q a turn body next (t ∷ ts) first s Q b k =
       again c v e (at_place q (Some (loop_at p q a (t ∷ ts) first)) s) _ _ next.reads (step.next_member _ t ts refl refl refl)
       (body ts false (keeping a (value.Text t) s) _ b (λ n later. turns away p q a turn body next ts false n Q later k))
 
-  each : (away p q a b : ℕ) (turn : Bool → Store → Claim → Type 0) → RunsBody p q a turn → p < q → (places : ℕ) → p + places ≡ q + 1 → IsPlaced c away p (Begins a b places) → IsPlaced c away q Turns → (ts : List Text) (s : Store) (Q : Claim) → s.registers b ≡ value.List ts → InTurns turn a ts true s Q → ((n : Store) → Q n → Ends (q + 1) None n) → Ends p None s
+  each : (away p q a b : ℕ) (turn : Bool → Store → Claim → Type 0) → RunsBody p q a turn → p < q → (places : ℕ) → p + places ≡ q + 1
+      → IsPlaced c away p (Begins a b places) → IsPlaced c away q Turns → (ts : List Text) (s : Store) (Q : Claim) → s.registers b ≡ value.List ts
+      → InTurns turn a ts true s Q → ((n : Store) → Q n → Ends (q + 1) None n) → Ends p None s
   each away p q a b turn body lt places eq here next [] s Q r h k =
       onward c v e (at_place p None s) _ _ here.reads (step.no_turn a b _ refl (omega (arith, eq, lt)) r) (omega (arith, eq, lt)) tt (rw eq (k s h))
   each away p q a b turn body lt places eq here next (t ∷ ts) s Q r h k =
@@ -173,18 +181,27 @@ module _ (c : Code) (v : Environment) (e : End) where
   goes (Either t x y) away p q l h eq le i s Q R b k m =
       let mid = p + 1 + length (lines x) in
       let both = lie_both c away (p + 1) (lines x) (Jumps (Ahead (length (lines y) + 1)) ∷ lines y) h.1 in
-      let whole : p + 1 + length (lines x) + 1 + length (lines y) ≡ q = omega (arith, eq, length-append (lines x) (Jumps (Ahead (length (lines y) + 1)) ∷ lines y)) in
+      let whole : p + 1 + length (lines x) + 1 + length (lines y) ≡ q =
+      omega (arith, eq, length-append (lines x) (Jumps (Ahead (length (lines y) + 1)) ∷ lines y)) in
       let over : mid + (length (lines y) + 1) ≡ q = omega (arith, whole) in
       tests t _ away p (mid + 1) l s _ _ h.0 (omega arith) (omega arith) (i (p + 1) (omega arith) (omega (arith, whole))) b
-      (λ done. (i (mid + 1) (omega arith) (omega (arith, whole)), goes y away (mid + 1) q l both.1.1 whole le (λ z low high. i z (omega (arith, low)) high) s Q R done k m))
-      (λ n later. goes x away (p + 1) mid l both.0 refl (omega (arith, whole, le)) (λ z low high. i z (omega (arith, low)) (omega (arith, high, whole))) n Q R later
-      (λ o done. onward c v e (at_place mid l o) _ _ both.1.0.reads (step.jump _) (omega arith) (rw over (i q (omega (arith, whole)) (omega arith))) (rw over (k o done))) m)
+      (λ done. (
+        i (mid + 1) (omega arith) (omega (arith, whole)),
+        goes y away (mid + 1) q l both.1.1 whole le (λ z low high. i z (omega (arith, low)) high) s Q
+            R done k m,
+      ))
+      (λ n later. goes x away (p + 1) mid l both.0 refl (omega (arith, whole, le)) (λ z low high. i z (omega (arith, low)) (omega (arith, high, whole))) n Q R
+      later
+      (λ o done. onward c v e (at_place mid l o) _ _ both.1.0.reads (step.jump _) (omega arith) (rw over (i q (omega (arith, whole)) (omega arith)))
+      (rw over (k o done))) m)
   goes (ForEach a x body) away p q l h eq le i s Q R b k m =
       let last = p + 1 + length (lines body) in
       let both = lie_both c away (p + 1) (lines body) (Turns ∷ []) h.1 in
       let whole : last + 1 ≡ q = omega (arith, eq, length-append (lines body) (Turns ∷ [])) in
       let none = none_of l b.0 in
-      rw none (each away p last a x _ (λ ts first n Claimed now rest. goes body away (p + 1) last (Some (loop_at p last a ts first)) both.0 refl (omega (arith, whole, le)) (around p last a ts first) n Claimed (λ never. ⊥) now rest (λ o never. absurd never)) (omega arith) _ (omega arith) h.0 both.1.0 b.1 s Q b.2 b.3
+      rw none (each away p last a x _ (λ ts first n Claimed now rest. goes body away (p + 1) last (Some (loop_at p last a ts first)) both.0 refl
+      (omega (arith, whole, le)) (around p last a ts first) n Claimed (λ never. ⊥) now rest (λ o never. absurd never)) (omega arith) _ (omega arith)
+      h.0 both.1.0 b.1 s Q b.2 b.3
       (λ n done. same_place c v e (last + 1) q None n whole (subst (λ o. Finishes c v e (at_place q o n)) none (k n done))))
     where
       around : (p last a : ℕ) (ts : List Text) (first : Bool) → Around (Some (loop_at p last a ts first)) (p + 1) last

@@ -22,7 +22,7 @@ use Rattle.compiler_model.proofs.Formed.{IsRegister, IsFormedAction, IsFormedTes
 
 -- ---- lines of blocks that are put together rightly
 
--- an action's line, wherever it stands
+-- an action's line, wherever it is
 abbrev pub IsFormedLine : ℕ → Line → Type 0
 IsFormedLine version (Acts action) = IsFormedAction version true action
 IsFormedLine version (Tests test target) = IsFormedTest test
@@ -120,7 +120,8 @@ module _ (c : Code) where
   operands_right away place Halts f h = refl
   operands_right away place Fails f h = refl
 
-  version_knows : (away place : ℕ) (line : Line) → IsFormedLine c.version line → reading c.version (spelling (said away place line)) ≡ Some (said away place line)
+  version_knows : (away place : ℕ) (line : Line) → IsFormedLine c.version line → reading c.version (spelling (said away place line))
+      ≡ Some (said away place line)
   unfolding reading
   version_knows away place (Acts (LoadText a name)) f = refl
   version_knows away place (Acts (LoadList a name)) f = refl
@@ -142,8 +143,9 @@ module _ (c : Code) where
   version_knows away place Halts f = refl
   version_knows away place Fails f = refl
 
-  -- a line whose instruction stands at its place
-  pub placed : (away place : ℕ) (line : Line) → IsFormedLine c.version line → HasEntries c line → slice_get c.instrs place ≡ Some (spelling (said away place line)) → IsPlaced c away place line
+  -- a line whose instruction is at its place
+  pub placed : (away place : ℕ) (line : Line) → IsFormedLine c.version line → HasEntries c line
+      → slice_get c.instrs place ≡ Some (spelling (said away place line)) → IsPlaced c away place line
   placed away place line f h at = record {
     reads = record { spelled = at; known = version_knows away place line f; right = operands_right away place line f h };
     text = text_meant line h;

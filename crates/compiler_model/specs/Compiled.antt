@@ -29,7 +29,7 @@ use Rattle.compiler_model.specs.Tables.{names_of, literals_of, name_index, liter
 abbrev pub rule_lines : List Text → Rule → List Line
 rule_lines lists rule = lines (rule_block lists rule) ++ Halts ∷ []
 
--- the lines of all rules, and FAIL behind them
+-- the lines of all rules, and FAIL after them
 abbrev pub all_lines : RuleSet → List Line
 all_lines rules = flat_map (rule_lines rules.lists) rules.rules ++ Fails ∷ []
 

@@ -18,7 +18,7 @@ use Rattle.compiler_model.specs.declared.lines.Test.{Test}
 use Rattle.compiler_model.specs.declared.lines.Test.TheVariants.{IsUndefined, IsEmpty, HasNoMember, HasNoNumber, Differs, IsLess}
 use Rattle.compiler_model.specs.Blocks.{Block, Nothing, Does, Then, Unless, Either, ForEach, LeaveIf, Leave}
 
--- ---- what a name stands for, in r0
+-- ---- the value of a name, in r0
 
 -- a name is loaded as what it is declared
 abbrev pub loading : Bool → Text → Action
@@ -65,7 +65,7 @@ guards_block lists (g ∷ gs) = Then (guard_block lists g) (guards_block lists g
 
 -- ---- expressions: r4 is empty until the first piece
 
--- what stands before a piece
+-- what comes before a piece
 abbrev pub lead_block : Text → Text → Block
 lead_block [] sep = Then (Unless (IsEmpty 4) (Does (Emits sep))) (Does (LoadConst 4 (codes "1")))
 lead_block (b ∷ first) sep = Then (Either (IsEmpty 4) (Does (Emits sep)) (Does (Emits (b ∷ first)))) (Does (LoadConst 4 (codes "1")))
@@ -84,7 +84,7 @@ named_block (b ∷ ifemp) register name value = Then (Does (Emits (name ++ codes
 abbrev pub item_block : Style → ℕ → Text → Action → Block
 item_block style register name value = if style.named then named_block style.ifemp register name value else Does value
 
--- the name in front of members that are joined by commas
+-- the name before members that are joined by commas
 abbrev pub head_block : Bool → Text → Block
 head_block true name = Does (Emits (name ++ codes "="))
 head_block false name = Nothing

@@ -1,7 +1,8 @@
-//! What holds of the code of rules, each law as the contract of a function that does nothing.
+//! Laws of the code of rules. These functions have empty bodies; each contract is a theorem.
 
 ghost use Rattle.std.specs.Prelude.{◌≡◌, ◌↔◌, All};
 ghost use Rattle.environment_model.specs.Environment.{Environment};
+ghost use Rattle.environment_model.specs.Lists.{is_list};
 ghost use Rattle.code_model.specs.Code.{Name};
 ghost use Rattle.machine_model.specs.Form.{HasGoodForm};
 ghost use Rattle.machine_model.specs.Runs.{Outcome, HasOutcome};
@@ -16,8 +17,8 @@ ghost use Rattle.compiler_model.specs.Answer.{answer};
 use machine_laws::{course_is_decided, typable_code_is_safe};
 use uri_grammar::laws::trees_are_sound;
 
-/// On every environment the code of rules comes to the link of the first rule whose guards all hold, and to no
-/// link exactly where there is none; it is never stuck, and comes to nothing else.
+/// On every environment the code of rules ends with the link of the first rule whose guards all hold, or with no link
+/// if there is no such rule. It ends with nothing else, and is never stuck.
 pub fn code_comes_to_what_rules_mean()
     ensures { (rules : RuleSet) → IsSound rules → (v : Environment) (o : Outcome) →
         HasOutcome (code_of rules) v o ↔ (answer (meaning rules v) ≡ o) }
@@ -27,9 +28,12 @@ pub fn code_comes_to_what_rules_mean()
 }
 
 /// The code of rules is what a code file may have: it has an instruction, its names are names of the grammar, and its
-/// link texts are URI text. It has good form, and there is a table of kinds for it. So it is accepted, and safe.
+/// link texts are URI text. Each name has the kind that the rules declare. The code has good form, and there is a table
+/// of kinds for it. So it is accepted, and safe.
 pub fn compiled_code_is_accepted()
     ensures names { (rules : RuleSet) → IsSound rules → All (λ (name : Name). IsName name.text) (code_of rules).names }
+    ensures declared { (rules : RuleSet) → IsSound rules
+        → All (λ (name : Name). is_list rules.lists name.text ≡ name.list) (code_of rules).names }
     ensures file { (rules : RuleSet) → IsSound rules → IsFileCode (code_of rules) }
     ensures form { (rules : RuleSet) → IsSound rules → HasGoodForm (code_of rules) }
     ensures kinds { (rules : RuleSet) → IsSound rules → IsTypable (code_of rules) }

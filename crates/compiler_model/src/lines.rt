@@ -1,7 +1,9 @@
+//! Lines of code whose names, texts and places have no numbers yet.
+
 use text_model::Writing;
 use uri_grammar::Text;
 
-/// What goes on to the next place.
+/// What continues with the next place.
 #[derive(Drop)]
 pub enum Action {
     /// TEXT: the text of a name into a register.
@@ -22,7 +24,7 @@ pub enum Action {
     Cuts(u8, u16, Writing),
 }
 
-/// What jumps where it holds, and otherwise goes on to the next place.
+/// What jumps if it holds, and otherwise continues with the next place.
 #[derive(Clone, Copy)]
 pub enum Test {
     /// UNDEF: the register is Undefined.
@@ -42,7 +44,7 @@ pub enum Test {
 /// Where a jump leads.
 #[derive(Clone, Copy)]
 pub enum Target {
-    /// So many places after its own.
+    /// That many places after its own.
     Ahead(usize),
     /// The place after the rule.
     Away,

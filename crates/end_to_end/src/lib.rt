@@ -4,6 +4,8 @@
 mod compiled;
 mod error;
 pub mod laws;
+#[cfg(test)]
+mod limits;
 
 pub use compiled::{run_rule_file, run_rules};
 pub use error::{RuleFileError, RulesError};

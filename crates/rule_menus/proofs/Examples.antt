@@ -1,5 +1,5 @@
 -- One menu computed twice: by the code of rules and by what the rules mean.
-use Rattle.std.proofs.Common.{◌≡◌, List, [], ◌∷◌, false, refl, codes}
+use Rattle.std.proofs.Common.{◌≡◌, ℕ, List, [], ◌∷◌, false, refl, codes}
 use Rattle.std.specs.Char.{encode_utf8}
 use Rattle.std.specs.Hash.DefaultHasher.{initial}
 use Rattle.std.specs.Prelude.{map}
@@ -63,21 +63,25 @@ abbrev request : List KeyValue
 request =
     pair (codes "rft.issn") (codes "1234567x") ∷ pair (codes "code") (codes "z") ∷ pair (codes "tags") (codes "red") ∷ pair (codes "tags") (codes "green") ∷ []
 
+-- the row that has a link
+abbrev linked_row : ℕ
+linked_row = 2
+
 -- ---- the environments differ: `tags` is a text for the code, and a list for the rules
 
-members_by_code : member_count (environment_by_code alpha request 2) ≡ 0
+members_by_code : member_count (environment_by_code alpha request linked_row) ≡ 0
 unfolding look_up with_member
 members_by_code = refl
 
-members_by_rules : member_count (environment_by_rules alpha request 2) ≡ 2
+members_by_rules : member_count (environment_by_rules alpha request linked_row) ≡ 2
 unfolding look_up with_member
 members_by_rules = refl
 
-bytes_by_code : byte_count (environment_by_code alpha request 2) ≡ 22
+bytes_by_code : byte_count (environment_by_code alpha request linked_row) ≡ 22
 unfolding look_up with_member
 bytes_by_code = refl
 
-bytes_by_rules : byte_count (environment_by_rules alpha request 2) ≡ 27
+bytes_by_rules : byte_count (environment_by_rules alpha request linked_row) ≡ 27
 unfolding look_up with_member
 bytes_by_rules = refl
 
@@ -85,7 +89,7 @@ bytes_by_rules = refl
 
 -- the cell of the row hides the request's code
 abbrev expected : List MenuEntry
-expected = record { name = codes "alpha"; resolution = resolution.Link 2 (codes "http://e.org/b") } ∷ []
+expected = record { name = codes "alpha"; resolution = resolution.Link linked_row (codes "http://e.org/b") } ∷ []
 
 menu_computed_by_code : menu_of (map coded (alpha ∷ [])) request ≡ expected
 unfolding fate_in course_from reading has_right_operands look_up with_member is_unreserved written_u chars encode_utf8 longest_compared total body_at

@@ -17,8 +17,9 @@ use Rattle.verified_runs.specs.declared.run.TheConstants.{MAX_LINK_BYTES}
 use Rattle.menu.specs.declared.entry.Resolution.TheVariants.{NoRow}
 use Rattle.registry.specs.Fates.{OverBudget, ended, fate_in}
 use Rattle.registry.specs.Entries.{chosen, entry_of, menu_of, resolution_by, resolution_of, resolution_of_row}
-use Rattle.rule_menus.specs.RuleMenus.{RuleTarget, HasSoundRules, coded, environment_by_code, environment_by_rules, most_bytes_of_row, fate_of_meaning, fate_by_rules, resolution_of_row_by_rules, resolution_by_rules, entry_by_rules, menu_by_rules}
-use Rattle.rule_menus.proofs.SameMeaning.{LawsBelow, same_meaning}
+use Rattle.rule_menus.specs.RuleMenus.{RuleTarget, HasSoundRules, coded, environment_by_code, environment_by_rules, most_bytes_of_row}
+use Rattle.rule_menus.specs.RuleMenus.{fate_of_meaning, fate_by_rules, resolution_of_row_by_rules, resolution_by_rules, entry_by_rules, menu_by_rules}
+use Rattle.rule_menus.proofs.SameMeaning.{CodeMeansRules}
 
 -- how a run ends is computed
 abbrev pub OutcomesAreDecided : Type 0
@@ -35,7 +36,12 @@ answer_ends : (m : Option Text) → ended (answer m) ≡ fate_of_meaning m
 answer_ends None = refl
 answer_ends (Some link) = refl
 
-module _ (laws : LawsBelow) (decided : OutcomesAreDecided) where
+-- a list that rules declare and do not use changes nothing that they mean
+abbrev pub UnusedListsChangeNothing : Type 0
+UnusedListsChangeNothing = (target : RuleTarget) (pairs : List KeyValue) (row : ℕ) → HasSoundRules target
+    → meaning target.rules (environment_by_code target pairs row) ≡ meaning target.rules (environment_by_rules target pairs row)
+
+module _ (means : CodeMeansRules) (decided : OutcomesAreDecided) (unused : UnusedListsChangeNothing) where
   same_fate : (target : RuleTarget) (pairs : List KeyValue) (row : ℕ) → IsSound target.rules
       → fate_in (code_of target.rules) (environment_by_code target pairs row) ≡ fate_by_rules target pairs row
   unfolding fate_in
@@ -48,10 +54,10 @@ module _ (laws : LawsBelow) (decided : OutcomesAreDecided) where
       by_test false =
           let env = environment_by_code target pairs row in
           let result = answer (meaning target.rules env) in
-          let has = (laws.means target.rules sound env result).1 refl in
+          let has = (means target.rules sound env result).1 refl in
           ap ended ((decided (code_of target.rules) env result).0 has)
           ∙ answer_ends (meaning target.rules env)
-          ∙ ap fate_of_meaning (same_meaning laws target sound pairs row)
+          ∙ ap fate_of_meaning (unused target pairs row sound)
 
   pub same_resolution : (target : RuleTarget) (pairs : List KeyValue) → HasSoundRules target
       → resolution_of (coded target) pairs ≡ resolution_by_rules target pairs
@@ -60,11 +66,18 @@ module _ (laws : LawsBelow) (decided : OutcomesAreDecided) where
       (same_map (resolution_of_row (coded target) pairs) (resolution_of_row_by_rules target pairs) (matching_rows target.table (ids_of pairs))
       (λ row. ap (resolution_by row) (same_fate target pairs row sound)))
 
+-- ---- all targets, if each has one resolution
+
+abbrev pub ResolutionsAreSame : Type 0
+ResolutionsAreSame = (target : RuleTarget) (pairs : List KeyValue) → HasSoundRules target → resolution_of (coded target) pairs
+    ≡ resolution_by_rules target pairs
+
+module _ (same : ResolutionsAreSame) where
   pub same_menu : (targets : List RuleTarget) (pairs : List KeyValue) → All HasSoundRules targets
       → menu_of (map coded targets) pairs ≡ menu_by_rules targets pairs
   same_menu [] pairs sound = refl
   same_menu (target ∷ targets) pairs sound =
       let first : entry_of (coded target) pairs ≡ entry_by_rules target pairs =
-      ap (λ resolution. record { name = target.name; resolution = resolution }) (same_resolution target pairs (All-head HasSoundRules target targets sound)) in
+      ap (λ resolution. record { name = target.name; resolution = resolution }) (same target pairs (All-head HasSoundRules target targets sound)) in
       let others = same_menu targets pairs (All-tail HasSoundRules target targets sound) in
       cc

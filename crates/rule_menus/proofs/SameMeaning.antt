@@ -1,8 +1,9 @@
--- Rules mean the same in the environment by the code's lists as in the one by their own.
+-- Rules mean the same in the environment by the lists of their code as in the one by their own.
 use Rattle.std.proofs.Common.{◌≡◌, ℕ, List, [], Option, Some, None, Bool, true, false, refl, sym, ap, ◌∙◌}
-use Rattle.std.specs.Prelude.{◌↔◌, if◌then◌else◌}
+use Rattle.std.specs.Prelude.{◌↔◌, All, if◌then◌else◌}
+use Rattle.std.proofs.lemmas.List.Elements.{recursion_from_All}
 use Rattle.text_model.specs.Texts.{Text}
-use Rattle.environment_model.specs.Environment.{Environment, look_up, is_there, text_in, members_in, text_of, members_of}
+use Rattle.environment_model.specs.Environment.{Environment, Meaning, look_up, is_there, text_in, members_in, text_of, members_of}
 use Rattle.environment_model.specs.Lists.{is_list}
 use Rattle.code_model.specs.Code.{Code}
 use Rattle.machine_model.specs.Runs.{HasOutcome, Outcome}
@@ -16,11 +17,14 @@ use Rattle.rule_parser.specs.Meaning.{meaning}
 use Rattle.compiler_model.specs.Answer.{answer}
 use Rattle.compiler_model.specs.Compiled.{code_of}
 use Rattle.rule_menus.specs.RuleMenus.{RuleTarget, environment_by_code, environment_by_rules}
-use Rattle.rule_menus.proofs.DeclaredNames.{names_declared}
-use Rattle.rule_menus.proofs.SameNames.{same_kind}
+use Rattle.rule_menus.proofs.SameNames.{IsDeclared, same_kind}
 use Rattle.rule_menus.proofs.SameRuns.{AgreeOn, same_states}
 
 -- ---- what lower crates say
+
+-- the code of rules ends with what they mean
+abbrev pub CodeMeansRules : Type 0
+CodeMeansRules = (rules : RuleSet) → IsSound rules → (v : Environment) (o : Outcome) → HasOutcome (code_of rules) v o ↔ (answer (meaning rules v) ≡ o)
 
 pub record LawsBelow : Type 0 where
   -- a cell hides the request's value of its name
@@ -32,8 +36,9 @@ pub record LawsBelow : Type 0 where
       → text_of (asked lists pairs) key ≡ (if is_list lists key then None else first_of pairs key)
   pub members : (lists : List Text) (pairs : List KeyValue) (key : Text)
       → members_of (asked lists pairs) key ≡ (if is_list lists key then all_of pairs key else [])
-  -- the code of rules ends with what they mean
-  pub means : (rules : RuleSet) → IsSound rules → (v : Environment) (o : Outcome) → HasOutcome (code_of rules) v o ↔ (answer (meaning rules v) ≡ o)
+  pub means : CodeMeansRules
+  -- each name of their code has the kind that they declare
+  pub declared : (rules : RuleSet) → IsSound rules → All (IsDeclared rules.lists) (code_of rules).names
 
 module _ (laws : LawsBelow) where
   -- ---- look-ups
@@ -42,25 +47,29 @@ module _ (laws : LawsBelow) where
     abbrev entries : Environment
     entries = row_of cells
 
+    -- what is read of a name, if it depends on the request by the kind of the name alone
+    agrees : {X : Type 0} (read : Option Meaning → X) (by_kind : Bool → X) (name : Text)
+        → read (look_up (asked lists pairs) name) ≡ by_kind (is_list lists name)
+        → read (look_up (asked others pairs) name) ≡ by_kind (is_list others name)
+        → is_list lists name ≡ is_list others name
+        → read (look_up (filled lists entries pairs) name) ≡ read (look_up (filled others entries pairs) name)
+    agrees read by_kind name here there same =
+        ap read (laws.shadow lists cells pairs name) ∙ by_row (is_there entries name) ∙ ap read (sym (laws.shadow others cells pairs name))
+      where
+        by_row : (b : Bool) → read (if b then look_up entries name else look_up (asked lists pairs) name)
+            ≡ read (if b then look_up entries name else look_up (asked others pairs) name)
+        by_row true = refl
+        by_row false = here ∙ ap by_kind same ∙ sym there
+
     text_agrees : (name : Text) → is_list lists name ≡ is_list others name
         → text_of (filled lists entries pairs) name ≡ text_of (filled others entries pairs) name
     text_agrees name same =
-        ap text_in (laws.shadow lists cells pairs name) ∙ by_row (is_there entries name) ∙ ap text_in (sym (laws.shadow others cells pairs name))
-      where
-        by_row : (b : Bool) → text_in (if b then look_up entries name else look_up (asked lists pairs) name)
-            ≡ text_in (if b then look_up entries name else look_up (asked others pairs) name)
-        by_row true = refl
-        by_row false = laws.texts lists pairs name ∙ ap (λ b. if b then None else first_of pairs name) same ∙ sym (laws.texts others pairs name)
+        agrees text_in (λ (list : Bool). if list then None else first_of pairs name) name (laws.texts lists pairs name) (laws.texts others pairs name) same
 
     members_agree : (name : Text) → is_list lists name ≡ is_list others name
         → members_of (filled lists entries pairs) name ≡ members_of (filled others entries pairs) name
     members_agree name same =
-        ap members_in (laws.shadow lists cells pairs name) ∙ by_row (is_there entries name) ∙ ap members_in (sym (laws.shadow others cells pairs name))
-      where
-        by_row : (b : Bool) → members_in (if b then look_up entries name else look_up (asked lists pairs) name)
-            ≡ members_in (if b then look_up entries name else look_up (asked others pairs) name)
-        by_row true = refl
-        by_row false = laws.members lists pairs name ∙ ap (λ b. if b then all_of pairs name else []) same ∙ sym (laws.members others pairs name)
+        agrees members_in (λ (list : Bool). if list then all_of pairs name else []) name (laws.members lists pairs name) (laws.members others pairs name) same
 
   -- ---- runs
 
@@ -79,7 +88,7 @@ module _ (laws : LawsBelow) where
         let lists = lists_of code in
         let own = target.rules.lists in
         let cells = named_cells target.table.header (cells_of_row target.table row) in
-        let same = same_kind own code.names k name (names_declared target.rules sound) at in
+        let same = same_kind own code.names k name (recursion_from_All (IsDeclared own) code.names (laws.declared target.rules sound)) at in
         (text_agrees lists own cells pairs name.text same, members_agree lists own cells pairs name.text same)
 
     same_ending : (m : Option Text) → HasOutcome code by_code (answer m) → HasOutcome code by_rules (answer m)

@@ -10,7 +10,10 @@ use Rattle.text_model.specs.Texts.{Text}
 use Rattle.environment_model.specs.Environment.{is_among}
 use Rattle.environment_model.specs.Lists.{is_list, standard_lists}
 use Rattle.code_model.specs.Code.{Name}
-use Rattle.rule_menus.proofs.DeclaredNames.{IsDeclared}
+
+-- an entry of the table is of a list exactly if the rules declare its name as one
+abbrev pub IsDeclared : List Text → Name → Type 0
+IsDeclared lists name = is_list lists name.text ≡ name.list
 
 -- the names that a table has as lists
 abbrev list_texts : List Name → List Text

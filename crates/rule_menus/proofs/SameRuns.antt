@@ -11,7 +11,9 @@ use Rattle.machine_model.specs.Operands.{has_right_operands, is_right, is_in_tab
 use Rattle.machine_model.specs.Values as value
 use Rattle.machine_model.specs.Values.{text_or_undefined}
 use Rattle.machine_model.specs.States.{Frame, State, Running, Ended, on, holding}
-use Rattle.machine_model.specs.Step.{Move, Goes, Does, halt, fail, jump, text, list, const, number, no_number, undefined, defined, empty, not_empty, no_member, a_member, equal, different, less, not_less, emit, put_text, cut_text, no_turn, enter, first_turn, later_turn, next_member, leave, count, Step}
+use Rattle.machine_model.specs.Step.{Move, Goes, Does, halt, fail, jump, text, list, const, number, no_number, undefined, defined, empty, not_empty, no_member}
+use Rattle.machine_model.specs.Step.{a_member, equal, different, less, not_less, emit, put_text, cut_text, no_turn, enter, first_turn, later_turn, next_member}
+use Rattle.machine_model.specs.Step.{leave, count, Step}
 use Rattle.machine_model.specs.Runs.{After}
 
 -- each name of the table stands for the same text and the same members

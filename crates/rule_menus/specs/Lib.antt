@@ -1,3 +1,5 @@
 pub mod RuleMenus
 pub mod FirstLinks
 pub mod RuleFiles
+pub mod CodeFiles
+pub mod Replies

@@ -1,17 +1,33 @@
 //! What a menu is by the rules of its targets, each law as the contract of a function with an empty body.
 
-ghost use Rattle.std.specs.Prelude.{◌≡◌, ◌↔◌, ℕ, List, All, map};
+ghost use Rattle.std.specs.Prelude.{◌≡◌, ◌↔◌, ℕ, Bool, List, None, All, map};
 ghost use Rattle.text_model.specs.Texts.{Text};
-ghost use Rattle.kev_read.specs.Pairs.{KeyValue};
+ghost use Rattle.code_model.specs.Code.{Code};
+ghost use Rattle.code_file.specs.Grammar.{IsCodeFile};
+ghost use Rattle.kev_read.specs.Pairs.{KeyValue, pairs_of};
+ghost use Rattle.kev_read.specs.Refusal.{refusal};
 ghost use Rattle.menu.specs.Printed.{html, report, text};
 ghost use Rattle.menu.specs.declared.entry.Resolution.TheVariants.{Link};
 ghost use Rattle.registry.specs.Entries.{menu_of, resolution_of};
+ghost use Rattle.registry.specs.Targets.{TargetValue};
+ghost use Rattle.http_request.specs.declared.route.Page.{Page};
+ghost use Rattle.http_request.specs.Routes.{IsRouted, Menu};
+ghost use Rattle.http_front.specs.Replies.{printed};
+ghost use Rattle.http_front.specs.RouteReplies.{page_text};
+ghost use Rattle.rule_parser.specs.Rules.{RuleSet};
+ghost use Rattle.rule_parser.specs.Grammar.{IsRuleText};
 ghost use Rattle.rule_parser.specs.Meaning.{meaning};
-ghost use Rattle.rule_menus.specs.RuleMenus.{RuleTarget, HasSoundRules, coded, environment_by_code, environment_by_rules, menu_by_rules, resolution_by_rules};
+ghost use Rattle.compiler_model.specs.Compiled.{code_of};
+ghost use Rattle.rule_menus.specs.RuleMenus.{RuleTarget, HasSoundRules, coded, menu_by_rules, resolution_by_rules};
+ghost use Rattle.rule_menus.specs.RuleMenus.{environment_by_code, environment_by_rules};
 ghost use Rattle.rule_menus.specs.FirstLinks.{IsFirstWebLink};
 ghost use Rattle.rule_menus.specs.RuleFiles.{TargetFiles, AreOfFiles};
+ghost use Rattle.rule_menus.specs.CodeFiles.{IsCodeFileOf, AreReadFrom};
+ghost use Rattle.rule_menus.specs.Replies.{HasReply, page_by_rules};
 
-use compiler_model::laws::code_comes_to_what_rules_mean;
+use code_file::laws::{code_has_one_file, file_has_one_code};
+use compiler_model::laws::{code_comes_to_what_rules_mean, compiled_code_is_accepted};
+use http_request::laws::one_route;
 use machine_laws::course_is_decided;
 use row_laws::{requests_by_keys, rows_shadow_requests};
 use rule_parser::laws::one_rule_set;
@@ -30,10 +46,9 @@ pub fn menus_are_what_rules_mean()
     ensures html { (targets : List RuleTarget) (pairs : List KeyValue) → All HasSoundRules targets
         → html (menu_of (map coded targets) pairs) ≡ html (menu_by_rules targets pairs) }
 {
+    unused_lists_change_no_link();
     code_comes_to_what_rules_mean();
     course_is_decided();
-    rows_shadow_requests();
-    requests_by_keys();
 }
 
 /// A target of such a registry has a link exactly where its rules mean a web link on a matching row, and then it has
@@ -53,6 +68,7 @@ pub fn unused_lists_change_no_link()
         ≡ meaning target.rules (environment_by_rules target pairs row) }
 {
     code_comes_to_what_rules_mean();
+    compiled_code_is_accepted();
     rows_shadow_requests();
     requests_by_keys();
 }
@@ -65,7 +81,57 @@ pub fn files_have_one_menu()
         → menu_of (map coded targets) pairs ≡ menu_of (map coded others) pairs }
     ensures meant { (files : List TargetFiles) (targets : List RuleTarget) (pairs : List KeyValue)
         → AreOfFiles files targets → menu_of (map coded targets) pairs ≡ menu_by_rules targets pairs }
+    ensures pages { (files : List TargetFiles) (targets others : List RuleTarget) (pairs : List KeyValue) (page : Page)
+        → AreOfFiles files targets → AreOfFiles files others
+        → page_text page (menu_of (map coded targets) pairs) ≡ page_text page (menu_of (map coded others) pairs) }
 {
     menus_are_what_rules_mean();
     one_rule_set();
+}
+
+/// A rule text has at most one code file, and what is read from this file is the code of the rules of the text.
+pub fn rule_text_has_one_code()
+    ensures file { (text file other : Text) → IsCodeFileOf text file → IsCodeFileOf text other → file ≡ other }
+    ensures read { (text file : Text) (rules : RuleSet) (code : Code)
+        → IsRuleText text rules → IsCodeFileOf text file → IsCodeFile file code → code ≡ code_of rules }
+{
+    one_rule_set();
+    file_has_one_code();
+    code_has_one_file();
+}
+
+/// Of targets whose codes are read from compiled rule texts too, a menu is a function of bytes: of the rule texts and
+/// the tables. It is the one that the rules give, and so are its page of HTML, its plain text and its report.
+pub fn compiled_files_have_one_menu()
+    ensures one { (files : List TargetFiles) (targets others : List TargetValue) (pairs : List KeyValue)
+        → AreReadFrom files targets → AreReadFrom files others → menu_of targets pairs ≡ menu_of others pairs }
+    ensures meant { (files : List TargetFiles) (targets : List TargetValue)
+        (by_rules : List RuleTarget) (pairs : List KeyValue)
+        → AreReadFrom files targets → AreOfFiles files by_rules → menu_of targets pairs ≡ menu_by_rules by_rules pairs }
+    ensures pages { (files : List TargetFiles) (targets : List TargetValue)
+        (by_rules : List RuleTarget) (pairs : List KeyValue) (page : Page)
+        → AreReadFrom files targets → AreOfFiles files by_rules
+        → page_text page (menu_of targets pairs) ≡ page_text page (menu_by_rules by_rules pairs) }
+{
+    files_have_one_menu();
+    file_has_one_code();
+}
+
+/// The reply of the HTTP front is a function of bytes: of the rule texts, the tables and the request. The status, the
+/// head and the body are the same whenever no allocation fails. A request for a page gets that page of the menu that
+/// the rules give.
+pub fn compiled_files_have_one_reply()
+    ensures one { (files : List TargetFiles) (targets others : List TargetValue)
+        (request : List ℕ) (status other : ℕ) (reply another : List ℕ)
+        → AreReadFrom files targets → AreReadFrom files others
+        → HasReply targets request status reply → HasReply others request other another
+        → (status ≡ other) × (reply ≡ another) }
+    ensures page { (files : List TargetFiles) (targets : List TargetValue) (by_rules : List RuleTarget)
+        (request query : List ℕ) (page : Page) (without_body : Bool) (status : ℕ) (reply : List ℕ)
+        → AreReadFrom files targets → AreOfFiles files by_rules
+        → IsRouted request (Menu page query) without_body → refusal query ≡ None → HasReply targets request status reply
+        → (status ≡ 200) × (reply ≡ printed (page_by_rules by_rules page (pairs_of query)) without_body) }
+{
+    compiled_files_have_one_menu();
+    one_route();
 }

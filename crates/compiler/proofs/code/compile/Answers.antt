@@ -37,7 +37,8 @@ returns-clause-err c =
     let rules = c.args.rules.now in
     let tables = c.in_ok-tables.tables in
     let made = c.in_ok-tables.ensures in
-    let few = within rules tables.names.items tables.literals.items tables.lines made.names made.literals made.lines c.in_ok-check.ensures.names c.in_ok-check.ensures.literals c.in_ok-check.ensures.lines in
+    let few = within rules tables.names.items tables.literals.items tables.lines made.names made.literals made.lines c.in_ok-check.ensures.names
+    c.in_ok-check.ensures.literals c.in_ok-check.ensures.lines in
     IfErr-weaker c.finish.result _ _ (λ e h. inr (file_passed _ _ _ _ few.names few.literals few.instrs h.1 ∙ ap Some (sym h.0))) c.finish.ensures.err
 
 pub returns-clause-accepted : goal.returns-clause-accepted
@@ -45,10 +46,12 @@ returns-clause-accepted c =
     let rules = c.args.rules.now in
     let laws = c.compiled_code_is_accepted.ensures in
     let sound = c.finish.ensures.sound in
-    IfOk-weaker c.finish.result _ _ (λ code h. subst (λ (x : Code). HasGoodForm x × IsTypable x) (sym h.0) (laws.form rules sound, laws.kinds rules sound)) c.finish.ensures.ok
+    IfOk-weaker c.finish.result _ _ (λ code h. subst (λ (x : Code). HasGoodForm x × IsTypable x) (sym h.0) (laws.form rules sound, laws.kinds rules sound))
+    c.finish.ensures.ok
 
 pub returns-clause-means : goal.returns-clause-means
 returns-clause-means c =
     let rules = c.args.rules.now in
     let sound = c.finish.ensures.sound in
-    IfOk-weaker c.finish.result _ _ (λ code h v o. subst (λ (x : Code). HasOutcome x v o ↔ (answer (meaning rules v) ≡ o)) (sym h.0) (c.code_comes_to_what_rules_mean.ensures rules sound v o)) c.finish.ensures.ok
+    IfOk-weaker c.finish.result _ _ (λ code h v o. subst (λ (x : Code). HasOutcome x v o ↔ (answer (meaning rules v) ≡ o)) (sym h.0)
+    (c.code_comes_to_what_rules_mean.ensures rules sound v o)) c.finish.ensures.ok

@@ -9,7 +9,8 @@ use Rattle.compiler.proofs.code.instructions.Goals as goal
 
 pub push_rule-requires-clause-within : goal.push_rule-requires-clause-within
 push_rule-requires-clause-within c =
-    subst (StayWithin 0) (sym (c.deref-in-loop-rule-2.ensures.value ∙ c.in_ok-lines.ensures)) (rule_within (rule_block c.args.rules.now.lists c.rule-item.result))
+    subst (StayWithin 0) (sym (c.deref-in-loop-rule-2.ensures.value ∙ c.in_ok-lines.ensures))
+    (rule_within (rule_block c.args.rules.now.lists c.rule-item.result))
 
 pub loop-rule-preserved : goal.loop-rule-preserved
 loop-rule-preserved c =
@@ -27,8 +28,10 @@ loop-rule-preserved c =
     let longer = length_step lists all i rule ls c.loop-rule-test.true c.rule-item.is made in
     let built : new ≡ old ++ map spelling (instructions_from names literals (length old + length ls) (length old) ls) =
     pushed
-    ∙ ap (λ (ns : List Name). old ++ map spelling (instructions_from ns c.deref-in-loop-rule.result.now (length old + length ls) (length old) ls)) c.deref.ensures.value
-    ∙ ap (λ (xs : List Literal). old ++ map spelling (instructions_from names xs (length old + length ls) (length old) ls)) c.deref-in-loop-rule.ensures.value in
+    ∙ ap (λ (ns : List Name). old ++ map spelling (instructions_from ns c.deref-in-loop-rule.result.now (length old + length ls) (length old) ls))
+    c.deref.ensures.value
+    ∙ ap (λ (xs : List Literal). old ++ map spelling (instructions_from names xs (length old + length ls) (length old) ls))
+    c.deref-in-loop-rule.ensures.value in
     let count = length-instructions names literals old new (length old + length ls) ls built in
     record {
       whole = instructions_step names literals lists all i rule old new ls _ c.loop-rule-test.true c.rule-item.is made built c.loop-rule.invariant.whole;

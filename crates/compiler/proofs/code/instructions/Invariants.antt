@@ -8,7 +8,8 @@ use Rattle.compiler.proofs.code.instructions.Given as goal
 -- what is pushed with the rules that are left is the whole, and there is room for it
 abbrev pub invariant-loop-rule : goal.invariant-loop-rule
 invariant-loop-rule l = record {
-  whole : l.instrs.items ++ map spelling (rules_instructions l.tables.names.items l.tables.literals.items l.rules.lists (length l.instrs.items) (drop l.rule-index l.all))
+  whole : l.instrs.items ++ map spelling (rules_instructions l.tables.names.items l.tables.literals.items l.rules.lists (length l.instrs.items)
+      (drop l.rule-index l.all))
       ≡ map spelling (rules_instructions l.tables.names.items l.tables.literals.items l.rules.lists 0 l.rules.rules);
   room : length l.instrs.items + length (flat_map (rule_lines l.rules.lists) (drop l.rule-index l.all)) + 1 ≤ 4096;
   fields : All IsInstr l.instrs.items;

@@ -7,5 +7,6 @@ use Rattle.compiler.proofs.tables.add_literals.Given as goal
 -- what is gathered with the lines that are left is the whole; all that is gathered is UTF-8
 abbrev pub invariant-loop-line : goal.invariant-loop-line
 invariant-loop-line l =
-    (gathered is_same_literal l.literals.items (filter_map literal_used (drop l.line-index l.lines)) ≡ gathered is_same_literal l.fn.literals.items (filter_map literal_used l.lines))
+    (gathered is_same_literal l.literals.items (filter_map literal_used (drop l.line-index l.lines)) ≡ gathered is_same_literal l.fn.literals.items
+    (filter_map literal_used l.lines))
     × All IsUtf8Literal l.literals.items

@@ -1,28 +1,15 @@
 use Rattle.std.proofs.Common.{ap}
 use Rattle.menu.specs.Printed.{html, report, text}
 use Rattle.rule_menus.proofs.Menus.{same_menu, same_resolution}
-use Rattle.rule_menus.proofs.SameMeaning.{LawsBelow}
 use Rattle.rule_menus.proofs.laws.menus_are_what_rules_mean.Goals as goal
 
 pub returns-clause-resolution : goal.returns-clause-resolution
 returns-clause-resolution c =
-    let laws : LawsBelow = record {
-      shadow = c.rows_shadow_requests.ensures.look_up;
-      texts = c.requests_by_keys.ensures.text;
-      members = c.requests_by_keys.ensures.members;
-      means = c.code_comes_to_what_rules_mean.ensures;
-    } in
-    same_resolution laws c.course_is_decided.ensures.outcome
+    same_resolution c.code_comes_to_what_rules_mean.ensures c.course_is_decided.ensures.outcome
+    (λ target pairs row sound. c.unused_lists_change_no_link.ensures target pairs row sound)
 
 pub returns-clause-menu : goal.returns-clause-menu
-returns-clause-menu c =
-    let laws : LawsBelow = record {
-      shadow = c.rows_shadow_requests.ensures.look_up;
-      texts = c.requests_by_keys.ensures.text;
-      members = c.requests_by_keys.ensures.members;
-      means = c.code_comes_to_what_rules_mean.ensures;
-    } in
-    same_menu laws c.course_is_decided.ensures.outcome
+returns-clause-menu c = same_menu (returns-clause-resolution c)
 
 pub returns-clause-text : goal.returns-clause-text
 returns-clause-text c = λ targets pairs sound. ap text (returns-clause-menu c targets pairs sound)

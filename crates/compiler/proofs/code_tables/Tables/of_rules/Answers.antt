@@ -21,8 +21,10 @@ loop-rule-preserved c =
     let made : ls ≡ rule_lines lists rule = c.deref.ensures.value ∙ c.in_ok-lines.ensures in
     let longer = length_step lists all i rule ls c.loop-rule-test.true c.rule-item.is made in
     record {
-      names = gather_step is_same_name name_used lists all i rule old.names.items new.names.items ls _ c.loop-rule-test.true c.rule-item.is made grown.names c.loop-rule.invariant.names;
-      literals = gather_step is_same_literal literal_used lists all i rule old.literals.items new.literals.items ls _ c.loop-rule-test.true c.rule-item.is made grown.literals c.loop-rule.invariant.literals;
+      names = gather_step is_same_name name_used lists all i rule old.names.items new.names.items ls _ c.loop-rule-test.true c.rule-item.is made grown.names
+          c.loop-rule.invariant.names;
+      literals = gather_step is_same_literal literal_used lists all i rule old.literals.items new.literals.items ls _ c.loop-rule-test.true c.rule-item.is made
+          grown.literals c.loop-rule.invariant.literals;
       utf8 = grown.utf8;
       lines = omega (arith, longer, grown.lines, c.loop-rule.invariant.lines);
       small = omega (arith, grown.lines);
@@ -31,9 +33,11 @@ loop-rule-preserved c =
 pub returns-clause-names : goal.returns-clause-names
 returns-clause-names c =
     let none : drop c.loop-rule.rule-index c.rules-all.result.now ≡ [] = drop_all c.loop-rule.rule-index c.rules-all.result.now c.loop-rule-test.false in
-    sym (ap (λ rs. gathered is_same_name c.loop-rule.tables.names.items (filter_map name_used (flat_map (rule_lines c.args.rules.now.lists) rs))) none) ∙ c.loop-rule.invariant.names ∙ all_names c.args.rules.now
+    sym (ap (λ rs. gathered is_same_name c.loop-rule.tables.names.items (filter_map name_used (flat_map (rule_lines c.args.rules.now.lists) rs))) none)
+    ∙ c.loop-rule.invariant.names ∙ all_names c.args.rules.now
 
 pub returns-clause-literals : goal.returns-clause-literals
 returns-clause-literals c =
     let none : drop c.loop-rule.rule-index c.rules-all.result.now ≡ [] = drop_all c.loop-rule.rule-index c.rules-all.result.now c.loop-rule-test.false in
-    sym (ap (λ rs. gathered is_same_literal c.loop-rule.tables.literals.items (filter_map literal_used (flat_map (rule_lines c.args.rules.now.lists) rs))) none) ∙ c.loop-rule.invariant.literals ∙ all_literals c.args.rules.now
+    sym (ap (λ rs. gathered is_same_literal c.loop-rule.tables.literals.items (filter_map literal_used (flat_map (rule_lines c.args.rules.now.lists) rs)))
+    none) ∙ c.loop-rule.invariant.literals ∙ all_literals c.args.rules.now

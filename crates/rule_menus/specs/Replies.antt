@@ -1,0 +1,19 @@
+-- The reply of the HTTP front with a page of the menu that rules give.
+use Rattle.std.specs.Prelude.{◌≢◌, ℕ, List}
+use Rattle.kev_read.specs.Pairs.{KeyValue}
+use Rattle.registry.specs.Targets.{TargetValue}
+use Rattle.http_request.specs.declared.route.Page.{Page}
+use Rattle.http_front.specs.Exchange.{IsReply}
+use Rattle.http_front.specs.Replies.{ReplyValue, unavailable}
+use Rattle.http_front.specs.RouteReplies.{is_html, page_text}
+use Rattle.rule_menus.specs.RuleMenus.{RuleTarget, menu_by_rules}
+
+-- a registry has the reply for the bytes of a request, and it does not say that an allocation failed
+pub record HasReply (targets : List TargetValue) (request : List ℕ) (status : ℕ) (reply : List ℕ) : Type 0 where
+  pub replies : IsReply targets request status reply
+  pub no_failure : status ≢ unavailable.status
+
+-- the page of the menu that the rules of targets give for a request
+abbrev pub page_by_rules : List RuleTarget → Page → List KeyValue → ReplyValue
+page_by_rules targets page pairs =
+    record { status = 200; html = is_html page; body = page_text page (menu_by_rules targets pairs) }
