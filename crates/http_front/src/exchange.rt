@@ -85,7 +85,8 @@ pub fn serve_one<I: Input, O: Output>(
     output: &mut O,
     registry: &Registry,
 ) -> Result<Served, ServeError>
-    ensures exchange { spec.IsExchange registry.now (I.heard input.old) (O.said output.old) result (I.heard input.new) (O.said output.new) }
+    ensures exchange { spec.IsExchange registry.now (I.heard input.old) (O.said output.old) result (I.heard input.new)
+        (O.said output.new) }
     ensures limit { MAX_HEAD_BYTES ≡ 16384 }
 {
     match read_head(alloc, input) {

@@ -12,3 +12,4 @@ mod menu_page;
 mod reply;
 
 pub use exchange::{ServeError, Served, serve_one};
+pub use http_streams::{Failed, Input, Output, TimedWire, Wire};

@@ -68,7 +68,8 @@ ends_by_entries : (codes : List Code) (envs : List EnvValue) → ends_of (runs_o
 ends_by_entries [] envs = refl
 ends_by_entries (code ∷ codes) [] = refl
 ends_by_entries (code ∷ codes) (env ∷ envs) =
-    one_end (is_over_budget code env) (new_run code env) (runs_of (zip codes envs)) (filter_map steps_at (zip codes (map entries_of envs))) (ends_by_entries codes envs)
+    one_end (is_over_budget code env) (new_run code env) (runs_of (zip codes envs)) (filter_map steps_at (zip codes (map entries_of envs)))
+    (ends_by_entries codes envs)
 
 ends_side_by_side : (searches : List SearchValue)
     → filter_map steps_at (zip (filter_map code_next searches) (filter_map env_next searches)) ≡ ends_next searches

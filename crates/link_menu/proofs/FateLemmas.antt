@@ -29,7 +29,8 @@ first_fate false bytes run over_budget runs fates rest = ap (λ fs. ended (outco
 pub all_fates : (pairs : List (Code × EnvValue)) → fates_in (map excess_of pairs) (outcomes_in_the_end (runs_of pairs)) ≡ map fate_of pairs
 unfolding fate_in
 all_fates [] = refl
-all_fates (p ∷ pairs) = first_fate (is_over_budget p.0 p.1) (most_bytes p.0 p.1) (new_run p.0 p.1) (map excess_of pairs) (runs_of pairs) (map fate_of pairs) (all_fates pairs)
+all_fates (p ∷ pairs) = first_fate (is_over_budget p.0 p.1) (most_bytes p.0 p.1) (new_run p.0 p.1) (map excess_of pairs) (runs_of pairs) (map fate_of pairs)
+    (all_fates pairs)
 
 first_count : (over : Bool) (bytes : ℕ) (run : RunValue) (over_budget : List (Option ℕ)) (runs : List RunValue) → count_by is_none over_budget ≡ length runs
     → count_by is_none ((if over then Some bytes else None) ∷ over_budget) ≡ length (cons_option (if over then None else Some run) runs)
@@ -42,7 +43,8 @@ first_count false bytes run over_budget runs rest =
 
 pub as_many_runs : (pairs : List (Code × EnvValue)) → count_by is_none (map excess_of pairs) ≡ length (runs_of pairs)
 as_many_runs [] = refl
-as_many_runs (p ∷ pairs) = first_count (is_over_budget p.0 p.1) (most_bytes p.0 p.1) (new_run p.0 p.1) (map excess_of pairs) (runs_of pairs) (as_many_runs pairs)
+as_many_runs (p ∷ pairs) = first_count (is_over_budget p.0 p.1) (most_bytes p.0 p.1) (new_run p.0 p.1) (map excess_of pairs) (runs_of pairs)
+    (as_many_runs pairs)
 
 -- ---- runs of the same come to the same
 
@@ -59,7 +61,8 @@ as_many old new same = sym (length-map new same_but_steps) ∙ ap length same �
 after_turns : (new old : List RunValue) (len : ℕ) → length old ≡ len → AreOfTheSame old new → take len (new ++ drop (length new) old) ≡ new
 after_turns new old len long same =
     let many : length new ≡ length old = as_many old new same in
-    ap (λ rest. take len (new ++ rest)) (drop_all (length new) old (omega (arith, many))) ∙ ap (take len) (append-nil new) ∙ take_all len new (omega (arith, many, long))
+    ap (λ rest. take len (new ++ rest)) (drop_all (length new) old (omega (arith, many))) ∙ ap (take len) (append-nil new)
+    ∙ take_all len new (omega (arith, many, long))
 
 module _ (pairs : List (Code × EnvValue)) (over_budget : List (Option ℕ)) (old new : List RunValue) (len : ℕ)
     (excess : over_budget ≡ map excess_of pairs) (runs : old ≡ runs_of pairs) (long : length old ≡ len) (same : AreOfTheSame old new) where

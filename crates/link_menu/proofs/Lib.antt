@@ -1,5 +1,6 @@
 pub mod RunSetLemmas
 pub mod RoundLemmas
+pub mod RoundProgress
 pub mod FateLemmas
 pub mod TurnLemmas
 pub mod SearchLemmas

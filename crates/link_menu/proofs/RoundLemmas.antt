@@ -1,5 +1,7 @@
 -- Searches after some rounds: the rows that are left to them, and what was shown.
-use Rattle.std.proofs.Common.{◌≡◌, ℕ, zero, suc, ◌+◌, ◌-◌, ◌<◌, ◌≤◌, List, [], ◌∷◌, ◌++◌, Option, Some, None, Bool, true, false, refl, sym, ap, ◌∙◌, arith, length, map, nat_le, filter, drop, append_assoc}
+
+use Rattle.std.proofs.Common.{◌≡◌, ℕ, zero, suc, ◌+◌, ◌-◌, ◌<◌, List, [], ◌∷◌, Option, Some, None, Bool, true, false, refl, sym, ap, ◌∙◌, arith, length, map}
+use Rattle.std.proofs.Common.{nat_le, filter, drop}
 use Rattle.std.specs.Prelude.{◌||◌, if◌then◌else◌, is_some, max, option_and_then, slice_get}
 use Rattle.std.specs.List.{cons_option, filter_map, list_any}
 use Rattle.std.proofs.lemmas.Bool.{false≢true}
@@ -10,10 +12,8 @@ use Rattle.menu.specs.Links.{is_link}
 use Rattle.row_scope.specs.RequestValues.{RequestValue}
 use Rattle.registry.specs.Targets.{TargetValue}
 use Rattle.registry.specs.Entries.{matching_rows_of, resolution_of_row}
-use Rattle.link_menu.specs.StepLists.{HasSeenAll, HasSeenSome, step_lists_to_end, with_lists}
-use Rattle.link_menu.specs.RowsByRound.{ends_in_round, longest, rounds_of, step_lists_in_all_rounds, step_lists_in_rounds, steps_of_row, tried_rows, up_to_link}
+use Rattle.link_menu.specs.RowsByRound.{ends_in_round, longest, rounds_of, steps_of_row, tried_rows, up_to_link}
 use Rattle.link_menu.specs.Private.Searches.{SearchValue, ends_next, is_open, started, after_next_row, after_row_at}
-use Rattle.link_menu.proofs.StepListLemmas.{first_of, rest_of, with_more, with_none}
 use Rattle.link_menu.proofs.TurnsOfAll.{max_less}
 
 -- ---- the rows that are left to a search
@@ -55,7 +55,8 @@ add_one : (k : ℕ) → k + 1 ≡ suc k
 add_one k = omega arith
 
 -- one more round
-drop_one : (k : ℕ) (pairs : List KeyValue) (targets : List TargetValue) → map one_less (map (left_after k pairs) targets) ≡ map (left_after (suc k) pairs) targets
+pub drop_one : (k : ℕ) (pairs : List KeyValue) (targets : List TargetValue) → map one_less (map (left_after k pairs) targets)
+    ≡ map (left_after (suc k) pairs) targets
 drop_one k pairs [] = refl
 drop_one k pairs (target ∷ targets) =
     let rows = tried_rows target pairs in
@@ -64,7 +65,8 @@ drop_one k pairs (target ∷ targets) =
 
 module _ (all_from_start : AllFromStart) (none_from : NoneFrom) (first_and_rest : FirstAndRest) where
   from_row : (pairs : List KeyValue) (target : TargetValue) (from : ℕ)
-      → rows_left_at pairs target (first_from from (matching_rows_of target pairs)) ≡ up_to_link target pairs (filter (nat_le from) (matching_rows_of target pairs))
+      → rows_left_at pairs target (first_from from (matching_rows_of target pairs))
+      ≡ up_to_link target pairs (filter (nat_le from) (matching_rows_of target pairs))
   from_row pairs target from = by_next (first_from from (matching_rows_of target pairs)) refl
     where
       by_next : (next : Option ℕ) → first_from from (matching_rows_of target pairs) ≡ next
@@ -72,7 +74,7 @@ module _ (all_from_start : AllFromStart) (none_from : NoneFrom) (first_and_rest 
       by_next None is = ap (up_to_link target pairs) (sym (none_from target pairs from is))
       by_next (Some row) is = ap (up_to_link target pairs) (sym (first_and_rest target pairs from row is))
 
-  left_at_start : (asked : RequestValue) (targets : List TargetValue) → map left_of (map (started asked) targets) ≡ map (left_after 0 asked.pairs) targets
+  pub left_at_start : (asked : RequestValue) (targets : List TargetValue) → map left_of (map (started asked) targets) ≡ map (left_after 0 asked.pairs) targets
   left_at_start asked [] = refl
   left_at_start asked (target ∷ targets) =
       let pairs = asked.pairs in
@@ -93,7 +95,7 @@ module _ (all_from_start : AllFromStart) (none_from : NoneFrom) (first_and_rest 
       by_next None is = ap (λ next. (s.asked.pairs, s.target, rows_left_at s.asked.pairs s.target next)) is
       by_next (Some row) is = ap (λ rows. (s.asked.pairs, s.target, rows)) (by_link row (is_link (resolution_of_row s.target s.asked.pairs row)))
 
-  all_tried : (searches : List SearchValue) → map left_of (map after_next_row searches) ≡ map one_less (map left_of searches)
+  pub all_tried : (searches : List SearchValue) → map left_of (map after_next_row searches) ≡ map one_less (map left_of searches)
   all_tried [] = refl
   all_tried (s ∷ searches) =
       ap (λ left. left ∷ map left_of (map after_next_row searches)) (one_tried s)
@@ -106,7 +108,7 @@ first_left zero rows = refl
 first_left (suc k) [] = refl
 first_left (suc k) (row ∷ rows) = first_left k rows
 
-abbrev end_at : Left → Option ℕ
+abbrev pub end_at : Left → Option ℕ
 end_at left = option_and_then (steps_of_row left.1 left.0) (slice_get left.2 0)
 
 end_of_search : (pairs : List KeyValue) (target : TargetValue) (next : Option ℕ)
@@ -114,16 +116,18 @@ end_of_search : (pairs : List KeyValue) (target : TargetValue) (next : Option �
 end_of_search pairs target None = refl
 end_of_search pairs target (Some row) = refl
 
-ends_of_searches : (searches : List SearchValue) → ends_next searches ≡ filter_map end_at (map left_of searches)
+pub ends_of_searches : (searches : List SearchValue) → ends_next searches ≡ filter_map end_at (map left_of searches)
 ends_of_searches [] = refl
 ends_of_searches (s ∷ searches) =
     ap (λ end. cons_option end (ends_next searches)) (end_of_search s.asked.pairs s.target s.next)
     ∙ ap (cons_option (end_at (left_of s))) (ends_of_searches searches)
 
-ends_after : (pairs : List KeyValue) (k : ℕ) (targets : List TargetValue) → filter_map end_at (map (left_after k pairs) targets) ≡ ends_in_round k targets pairs
+pub ends_after : (pairs : List KeyValue) (k : ℕ) (targets : List TargetValue) → filter_map end_at (map (left_after k pairs) targets)
+    ≡ ends_in_round k targets pairs
 ends_after pairs k [] = refl
 ends_after pairs k (target ∷ targets) =
-    ap (λ row. cons_option (option_and_then (steps_of_row target pairs) row) (filter_map end_at (map (left_after k pairs) targets))) (first_left k (tried_rows target pairs))
+    ap (λ row. cons_option (option_and_then (steps_of_row target pairs) row) (filter_map end_at (map (left_after k pairs) targets)))
+    (first_left k (tried_rows target pairs))
     ∙ ap (cons_option (option_and_then (steps_of_row target pairs) (slice_get (tried_rows target pairs) k))) (ends_after pairs k targets)
 
 -- ---- how many rounds are left
@@ -140,15 +144,16 @@ others_left rest more = omega (arith, more)
 none_left : (rest : ℕ) → rest ≡ 0 → max 0 rest ≡ 0
 none_left rest none = omega (arith, none)
 
-longest_after : (pairs : List KeyValue) (k : ℕ) (targets : List TargetValue)
+pub longest_after : (pairs : List KeyValue) (k : ℕ) (targets : List TargetValue)
     → longest (map (λ left. left.2) (map (left_after k pairs) targets)) ≡ rounds_of targets pairs - k
 unfolding longest
 longest_after pairs k [] = none_less k
 longest_after pairs k (target ∷ targets) =
     let rows = tried_rows target pairs in
-    max_less (length (drop k rows)) (longest (map (λ left. left.2) (map (left_after k pairs) targets))) (length rows) (rounds_of targets pairs) k (length-drop k rows) (longest_after pairs k targets)
+    max_less (length (drop k rows)) (longest (map (λ left. left.2) (map (left_after k pairs) targets))) (length rows) (rounds_of targets pairs) k
+    (length-drop k rows) (longest_after pairs k targets)
 
-while_open : (searches : List SearchValue) → list_any is_open searches ≡ true → 0 < rounds_left searches
+pub while_open : (searches : List SearchValue) → list_any is_open searches ≡ true → 0 < rounds_left searches
 unfolding longest
 while_open [] some = absurd (false≢true some)
 while_open (s ∷ searches) some = by_next s.next (while_open searches) some
@@ -158,9 +163,10 @@ while_open (s ∷ searches) some = by_next s.next (while_open searches) some
     by_next None rest some = others_left (rounds_left searches) (rest some)
     by_next (Some row) rest some =
         let pairs = s.asked.pairs in
-        some_left (length (if is_link (resolution_of_row s.target pairs row) then [] else up_to_link s.target pairs (filter (nat_le (row + 1)) (matching_rows_of s.target pairs)))) (rounds_left searches)
+        some_left (length (if is_link (resolution_of_row s.target pairs row) then []
+        else up_to_link s.target pairs (filter (nat_le (row + 1)) (matching_rows_of s.target pairs)))) (rounds_left searches)
 
-none_open : (searches : List SearchValue) → list_any is_open searches ≡ false → rounds_left searches ≡ 0
+pub none_open : (searches : List SearchValue) → list_any is_open searches ≡ false → rounds_left searches ≡ 0
 unfolding longest
 none_open [] none = refl
 none_open (s ∷ searches) none = by_next s.next (none_open searches) none
@@ -169,89 +175,3 @@ none_open (s ∷ searches) none = by_next s.next (none_open searches) none
         → max (length (rows_left_at s.asked.pairs s.target next)) (rounds_left searches) ≡ 0
     by_next None rest none = none_left (rounds_left searches) (rest none)
     by_next (Some row) rest none = absurd (false≢true (sym none))
-
--- ---- after some rounds
-
--- k rounds were carried out, and all that they show was shown
-abbrev pub AfterRounds : List KeyValue → List TargetValue → List SearchValue → Option (List (List ℕ)) → Option (List (List ℕ)) → Type 0
-AfterRounds pairs targets searches told now =
-    (k : ℕ) × (map left_of searches ≡ map (left_after k pairs) targets) × (k ≤ rounds_of targets pairs)
-    × (now ≡ with_lists told (step_lists_in_rounds k targets pairs))
-
-round_more : (rounds k left : ℕ) → left ≡ rounds - k → 0 < left → suc k ≤ rounds
-round_more rounds k left is some = omega (arith, is, some)
-
-round_less : (rounds k old new : ℕ) → old ≡ rounds - k → new ≡ rounds - suc k → 0 < old → new < old
-round_less rounds k old new was is some = omega (arith, was, is, some)
-
-no_round : (rounds k left : ℕ) → left ≡ rounds - k → left ≡ 0 → k ≤ rounds → k ≡ rounds
-no_round rounds k left is none le = omega (arith, is, none, le)
-
-module _ (pairs : List KeyValue) (targets : List TargetValue) (searches : List SearchValue) (told now : Option (List (List ℕ)))
-    (after : AfterRounds pairs targets searches told now) where
-  left_then : rounds_left searches ≡ rounds_of targets pairs - after.0
-  left_then = ap (λ lefts. longest (map (λ left. left.2) lefts)) after.1 ∙ longest_after pairs after.0 targets
-
-  next_within : list_any is_open searches ≡ true → suc after.0 ≤ rounds_of targets pairs
-  next_within some = round_more (rounds_of targets pairs) after.0 (rounds_left searches) left_then (while_open searches some)
-
-  next_ends : ends_next searches ≡ ends_in_round after.0 targets pairs
-  next_ends = ends_of_searches searches ∙ ap (filter_map end_at) after.1 ∙ ends_after pairs after.0 targets
-
-  pub all_rounds : list_any is_open searches ≡ false → HasSeenAll (step_lists_in_all_rounds targets pairs) told now
-  all_rounds none =
-      let all = no_round (rounds_of targets pairs) after.0 (rounds_left searches) left_then (none_open searches none) after.2 in
-      after.3 ∙ ap (λ k. with_lists told (step_lists_in_rounds k targets pairs)) all
-
-  pub some_rounds : HasSeenSome (step_lists_in_all_rounds targets pairs) told now
-  unfolding step_lists_in_rounds
-  some_rounds =
-      first_of (λ k. step_lists_in_rounds k targets pairs) (λ k. step_lists_to_end (ends_in_round k targets pairs)) (λ k. refl) after.0 (rounds_of targets pairs) told now after.2 after.3
-
-  pub part_of_round : (ends : List ℕ) (new : Option (List (List ℕ))) → list_any is_open searches ≡ true → ends ≡ ends_next searches
-      → HasSeenSome (step_lists_to_end ends) now new → HasSeenSome (step_lists_in_all_rounds targets pairs) told new
-  unfolding step_lists_in_rounds
-  part_of_round ends new opened are seen =
-      let before = step_lists_in_rounds after.0 targets pairs in
-      let later =
-      rest_of (λ k. step_lists_in_rounds k targets pairs) (λ k. step_lists_to_end (ends_in_round k targets pairs)) (λ k. refl) (suc after.0) (rounds_of targets pairs) (next_within opened) in
-      let round : step_lists_to_end (ends_in_round after.0 targets pairs) ≡ seen.0 ++ seen.1 = ap step_lists_to_end (sym (are ∙ next_ends)) ∙ seen.2 in (
-        before ++ seen.0,
-        seen.1 ++ later.0,
-        later.1 ∙ ap (λ lists. (before ++ lists) ++ later.0) round ∙ apart before seen.0 seen.1 later.0,
-        seen.3 ∙ ap (λ lists. with_lists lists seen.0) after.3 ∙ with_more told before seen.0,
-      )
-    where
-      apart : (a b c d : List (List ℕ)) → (a ++ (b ++ c)) ++ d ≡ (a ++ b) ++ (c ++ d)
-      apart a b c d = simp append_assoc
-
-module _ (all_from_start : AllFromStart) (none_from : NoneFrom) (first_and_rest : FirstAndRest) (pairs : List KeyValue) (targets : List TargetValue) where
-  pub at_first : (asked : RequestValue) (told : Option (List (List ℕ))) → asked.pairs ≡ pairs
-      → AfterRounds pairs targets (map (started asked) targets) told told
-  unfolding step_lists_in_rounds
-  at_first asked told same =
-      (0, left_at_start all_from_start none_from first_and_rest asked targets ∙ ap (λ ps. map (left_after 0 ps) targets) same, omega arith, with_none told)
-
-  pub one_round : (searches : List SearchValue) (told now new : Option (List (List ℕ))) (ends : List ℕ) → AfterRounds pairs targets searches told now
-      → list_any is_open searches ≡ true → ends ≡ ends_next searches → HasSeenAll (step_lists_to_end ends) now new
-      → AfterRounds pairs targets (map after_next_row searches) told new
-  unfolding step_lists_in_rounds
-  one_round searches told now new ends after opened are seen =
-      let k = after.0 in
-      let before = step_lists_in_rounds k targets pairs in
-      let round = step_lists_to_end (ends_in_round k targets pairs) in (
-        suc k,
-        all_tried all_from_start none_from first_and_rest searches ∙ ap (map one_less) after.1 ∙ drop_one k pairs targets,
-        next_within pairs targets searches told now after opened,
-        seen ∙ ap (λ es. with_lists now (step_lists_to_end es)) (are ∙ next_ends pairs targets searches told now after)
-            ∙ ap (λ lists. with_lists lists round) after.3 ∙ with_more told before round,
-      )
-
-  pub fewer_rounds : (searches : List SearchValue) (told now : Option (List (List ℕ))) → AfterRounds pairs targets searches told now
-      → list_any is_open searches ≡ true → rounds_left (map after_next_row searches) < rounds_left searches
-  fewer_rounds searches told now after opened =
-      let k = after.0 in
-      let left = left_then pairs targets searches told now after in
-      let next = all_tried all_from_start none_from first_and_rest searches ∙ ap (map one_less) after.1 ∙ drop_one k pairs targets in
-      let left_next = ap (λ lefts. longest (map (λ l. l.2) lefts)) next ∙ longest_after pairs (suc k) targets in
-      round_less (rounds_of targets pairs) k (rounds_left searches) (rounds_left (map after_next_row searches)) left left_next (while_open searches opened)

@@ -1,5 +1,6 @@
 -- Searches of targets, from the first row to the last.
-use Rattle.std.proofs.Common.{◌≡◌, ℕ, ◌+◌, List, [], ◌∷◌, ◌++◌, Option, Some, None, Bool, true, false, refl, sym, ap, ◌∙◌, arith, length, map, append-nil, take, drop}
+use Rattle.std.proofs.Common.{◌≡◌, ℕ, ◌+◌, List, [], ◌∷◌, ◌++◌, Option, Some, None, Bool, true, false, refl, sym, ap, ◌∙◌, arith, length, map, append-nil, take}
+use Rattle.std.proofs.Common.{drop}
 use Rattle.std.specs.Prelude.{◌||◌, is_some, if◌then◌else◌}
 use Rattle.std.specs.List.{list_any}
 use Rattle.std.proofs.lemmas.List.{drop_all, length-map, take_all}
@@ -55,11 +56,13 @@ module _ (begins : Begins) (no_more : NoMore) (at_link : AtLink) (past_no_link :
   from_next pairs target from so_far = by_next (first_from from (matching_rows_of target pairs)) refl
     where
       by_link : (row : ℕ) (b : Bool) → first_from from (matching_rows_of target pairs) ≡ Some row → is_link (resolution_of_row target pairs row) ≡ b
-          → (if b then resolution_of_row target pairs row else resolution_from target pairs (row + 1) (resolution_of_row target pairs row)) ≡ resolution_from target pairs from so_far
+          → (if b then resolution_of_row target pairs row else resolution_from target pairs (row + 1) (resolution_of_row target pairs row))
+          ≡ resolution_from target pairs from so_far
       by_link row true next is = sym (at_link target pairs from row so_far next is)
       by_link row false next is = sym (past_no_link target pairs from row so_far next is)
 
-      by_next : (next : Option ℕ) → first_from from (matching_rows_of target pairs) ≡ next → resolution_at pairs target so_far next ≡ resolution_from target pairs from so_far
+      by_next : (next : Option ℕ) → first_from from (matching_rows_of target pairs) ≡ next → resolution_at pairs target so_far next
+          ≡ resolution_from target pairs from so_far
       by_next None is = sym (no_more target pairs from so_far is)
       by_next (Some row) is = by_link row (is_link (resolution_of_row target pairs row)) is refl
 
@@ -109,7 +112,8 @@ menu_at_end (s ∷ searches) none = by_next s.next (menu_at_end searches) none
 
 written_back : {X : Type 0} (new old : List X) (len : ℕ) → length old ≡ len → length new ≡ length old → take len (new ++ drop (length new) old) ≡ new
 written_back new old len long same =
-    ap (λ rest. take len (new ++ rest)) (drop_all (length new) old (omega (arith, same))) ∙ ap (take len) (append-nil new) ∙ take_all len new (omega (arith, same, long))
+    ap (λ rest. take len (new ++ rest)) (drop_all (length new) old (omega (arith, same))) ∙ ap (take len) (append-nil new)
+    ∙ take_all len new (omega (arith, same, long))
 
 pub all_written_back : (old slice new : List SearchValue) (len : ℕ) → slice ≡ old → length slice ≡ len
     → new ≡ map after_next_row slice → take len (new ++ drop (length new) old) ≡ map after_next_row old

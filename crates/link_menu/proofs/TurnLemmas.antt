@@ -1,5 +1,6 @@
 -- Runs that move on, turn after turn.
-use Rattle.std.proofs.Common.{◌≡◌, ◌≢◌, ℕ, ◌+◌, ◌<◌, ◌≤◌, List, [], ◌∷◌, ◌++◌, Option, Some, None, Bool, true, false, cond, refl, sym, ap, ◌∙◌, subst, arith, rules, count_by, get_or, take, length, ⊎_elim, append-nil, get_or-set_same, get_or-set_other, tests}
+use Rattle.std.proofs.Common.{◌≡◌, ◌≢◌, ℕ, ◌+◌, ◌<◌, ◌≤◌, List, [], ◌∷◌, ◌++◌, Option, Some, None, Bool, true, false, cond, refl, sym, ap, ◌∙◌, subst, arith}
+use Rattle.std.proofs.Common.{rules, count_by, get_or, take, length, ⊎_elim, append-nil, get_or-set_same, get_or-set_other, tests}
 use Rattle.std.proofs.Math.ListN.{set}
 use Rattle.std.specs.Prelude.{min, ◌↔◌, ◌==◌, if◌then◌else◌}
 use Rattle.std.specs.List.{sum}
@@ -29,12 +30,14 @@ unless_ended (Some (Running f)) never = refl
 unless_ended (Some (Ended e)) never = absurd (never e refl)
 
 pub others_go_on : AreDecided → (r : RunValue) → (HasEnded r → ⊥) → is_live r ≡ true
-others_go_on decided r never = unless_ended (state_after r.code r.env.entries r.steps) (λ e is. never (e, (decided r.code r.env.entries r.steps (Ended e)).1 is))
+others_go_on decided r never =
+    unless_ended (state_after r.code r.env.entries r.steps) (λ e is. never (e, (decided r.code r.env.entries r.steps (Ended e)).1 is))
 
 -- ---- one move after another
 
 -- the same code on the same environment ends after as many steps
-pub ends_alike : (old new : RunValue) (k : ℕ) → new.code ≡ old.code → new.env ≡ old.env → EndsAfter old.code old.env.entries k → EndsAfter new.code new.env.entries k
+pub ends_alike : (old new : RunValue) (k : ℕ) → new.code ≡ old.code → new.env ≡ old.env → EndsAfter old.code old.env.entries k
+    → EndsAfter new.code new.env.entries k
 ends_alike old new k code env h = subst (λ x. EndsAfter x new.env.entries k) (sym code) (subst (λ x. EndsAfter old.code x.entries k) (sym env) h)
 
 steps_join : (from m n mid to k : ℕ) → mid ≡ min (from + m) k → to ≡ min (mid + n) k → to ≡ min (from + (m + n)) k
@@ -65,11 +68,13 @@ own_one_more i [] turn = refl
 own_one_more i (t ∷ ts) turn = by_first (t.0 == i) (own_one_more i ts turn)
   where
     by_first : (own : Bool) → own_turns i (ts ++ turn ∷ []) ≡ own_turns i ts ++ own_turns i (turn ∷ [])
-        → (if own then t.1 ∷ own_turns i (ts ++ turn ∷ []) else own_turns i (ts ++ turn ∷ [])) ≡ (if own then t.1 ∷ own_turns i ts else own_turns i ts) ++ own_turns i (turn ∷ [])
+        → (if own then t.1 ∷ own_turns i (ts ++ turn ∷ []) else own_turns i (ts ++ turn ∷ [])) ≡ (if own then t.1 ∷ own_turns i ts else own_turns i ts)
+        ++ own_turns i (turn ∷ [])
     by_first true rest = ap (λ ns. t.1 ∷ ns) rest
     by_first false rest = rest
 
-pub own_next : (i : ℕ) (turns : List (ℕ × ℕ)) (at : ℕ) (d : ℕ × ℕ) → at < length turns → own_turns i (take (at + 1) turns) ≡ own_turns i (take at turns) ++ own_turns i (get_or turns at d ∷ [])
+pub own_next : (i : ℕ) (turns : List (ℕ × ℕ)) (at : ℕ) (d : ℕ × ℕ) → at < length turns → own_turns i (take (at + 1) turns) ≡ own_turns i (take at turns)
+    ++ own_turns i (get_or turns at d ∷ [])
 own_next i turns at d inside = ap (own_turns i) (take_more turns at d inside) ∙ own_one_more i (take at turns) (get_or turns at d)
 
 own_yes : (i : ℕ) (turn : ℕ × ℕ) → i ≡ turn.0 → own_turns i (turn ∷ []) ≡ turn.1 ∷ []
@@ -101,7 +106,8 @@ module _ (old runs : List RunValue) (p n : ℕ) (new : RunValue) where
       → (i : ℕ) (d : RunValue) → p + 1 ≤ i → get_or (set runs p new) i d ≡ get_or old i d
   others_next others i d le = let isnt : i ≢ p = omega arith in get_or-set_other runs p i new d isnt ∙ others i d (omega arith)
 
-  pub live_next : (live : Bool) → p < length runs → is_live new ≡ live → count_by is_live (take (p + 1) (set runs p new)) ≡ count_by is_live (take p runs) + cond live 1 0
+  pub live_next : (live : Bool) → p < length runs → is_live new ≡ live → count_by is_live (take (p + 1) (set runs p new)) ≡ count_by is_live (take p runs)
+      + cond live 1 0
   live_next live inside is =
       ap (count_by is_live) (take_more_set runs p new inside)
       ∙ sum_by_push (λ r. cond (is_live r) 1 0) (take p runs) new
@@ -119,7 +125,8 @@ module _ (old runs : List RunValue) (p n : ℕ) (new : RunValue) where
 
       at_it : i ≡ p → IsPlayed (get_or old i d) (own_turns i (take (at + 1) turns)) (get_or (set runs p new) i d)
       at_it is =
-          let own : own_turns i (take (at + 1) turns) ≡ own_turns i (take at turns) ++ n ∷ [] = next ∙ ap (λ ns. own_turns i (take at turns) ++ ns) (own_yes i (p, n) is) in
+          let own : own_turns i (take (at + 1) turns) ≡ own_turns i (take at turns) ++ n ∷ [] =
+          next ∙ ap (λ ns. own_turns i (take at turns) ++ ns) (own_yes i (p, n) is) in
           let written : get_or (set runs p new) i d ≡ new = ap (λ m. get_or (set runs p new) m d) is ∙ get_or-set_same runs p new d inside in
           let moved : IsMoved (get_or runs i d) n new = subst (λ m. IsMoved (get_or runs m d) n new) (sym is) (here d) in
           subst (λ ns. IsPlayed (get_or old i d) ns (get_or (set runs p new) i d)) (sym own)
@@ -128,6 +135,7 @@ module _ (old runs : List RunValue) (p n : ℕ) (new : RunValue) where
 
       elsewhere : i ≢ p → IsPlayed (get_or old i d) (own_turns i (take (at + 1) turns)) (get_or (set runs p new) i d)
       elsewhere isnt =
-          let own : own_turns i (take (at + 1) turns) ≡ own_turns i (take at turns) = next ∙ ap (λ ns. own_turns i (take at turns) ++ ns) (own_no i (p, n) isnt) ∙ append-nil (own_turns i (take at turns)) in
+          let own : own_turns i (take (at + 1) turns) ≡ own_turns i (take at turns) =
+          next ∙ ap (λ ns. own_turns i (take at turns) ++ ns) (own_no i (p, n) isnt) ∙ append-nil (own_turns i (take at turns)) in
           subst (λ ns. IsPlayed (get_or old i d) ns (get_or (set runs p new) i d)) (sym own)
           (subst (λ r. IsPlayed (get_or old i d) (own_turns i (take at turns)) r) (sym (get_or-set_other runs p i new d isnt)) (before i d lt))

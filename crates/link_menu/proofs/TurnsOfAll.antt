@@ -1,5 +1,6 @@
 -- All runs, turn after turn of all.
-use Rattle.std.proofs.Common.{◌≡◌, ℕ, suc, ◌+◌, ◌-◌, ◌*◌, ◌<◌, ◌≤◌, List, [], ◌∷◌, Option, Bool, true, false, cond, refl, sym, ap, ◌∙◌, subst, arith, count_by, get_or, length, map, ⊎_elim, inl, inr}
+use Rattle.std.proofs.Common.{◌≡◌, ℕ, suc, ◌+◌, ◌-◌, ◌*◌, ◌<◌, ◌≤◌, List, [], ◌∷◌, Option, Bool, true, false, cond, refl, sym, ap, ◌∙◌, subst, arith, count_by}
+use Rattle.std.proofs.Common.{get_or, length, map, ⊎_elim, inl, inr}
 use Rattle.std.specs.Prelude.{min, max, ◌/◌, ◌⊎◌}
 use Rattle.std.proofs.lemmas.List.Sums.{sum_by-cons}
 use Rattle.std.proofs.lemmas.Bool.{cases_lt}
@@ -9,7 +10,8 @@ use Rattle.machine_model.specs.Next.{state_after}
 use Rattle.machine_model.specs.Runs.{EndsAfter}
 use Rattle.verified_runs.specs.RunValue.{RunValue}
 use Rattle.link_menu.specs.Turns.{is_live, IsMoved}
-use Rattle.link_menu.specs.StepLists.{steps_of, with_list, with_lists, end_of, ends_of, steps_after, HasSeenSome, step_lists_in, step_lists_to_end, turns_left, turns_to_end}
+use Rattle.link_menu.specs.StepLists.{steps_of, with_list, with_lists, end_of, ends_of, steps_after, HasSeenSome, step_lists_in, step_lists_to_end, turns_left}
+use Rattle.link_menu.specs.StepLists.{turns_to_end}
 use Rattle.link_menu.specs.Private.Rounds.{IsFresh, AreFresh, same_but_steps, AreOfTheSame, run_after}
 use Rattle.link_menu.proofs.StepListLemmas.{first_of, with_more, with_none}
 use Rattle.link_menu.proofs.TurnLemmas.{AreDecided, ended_is_over, others_go_on}
@@ -33,7 +35,8 @@ more_steps : (m n end to : ℕ) → to ≡ min (min m end + n) end → to ≡ mi
 more_steps m n end to is = omega (arith, is)
 
 run_moved : (m n : ℕ) (run new : RunValue) → IsFresh run → IsMoved (run_after m run) n new → new ≡ run_after (m + n) run
-run_moved m n run new fresh moved = same_run new (run_after (m + n) run) moved.code moved.env (more_steps m n (end_of run) new.steps (moved.steps (end_of run) fresh.ends))
+run_moved m n run new fresh moved =
+    same_run new (run_after (m + n) run) moved.code moved.env (more_steps m n (end_of run) new.steps (moved.steps (end_of run) fresh.ends))
 
 no_steps : (steps end : ℕ) → steps ≡ 0 → steps ≡ min 0 end
 no_steps steps end is = omega (arith, is)
@@ -60,7 +63,9 @@ over_at_end decided m run fresh le =
 
 live_before_end : AreDecided → EndsOnce → (m : ℕ) (run : RunValue) → IsFresh run → m < end_of run → is_live (run_after m run) ≡ true
 live_before_end decided once m run fresh lt =
-    others_go_on decided (run_after m run) (λ ended. before_end m (end_of run) (run_after m run).steps lt refl (once run.code run.env.entries (run_after m run).steps (end_of run) ended fresh.ends))
+    others_go_on decided (run_after m run)
+    (λ ended. before_end m (end_of run) (run_after m run).steps lt refl
+    (once run.code run.env.entries (run_after m run).steps (end_of run) ended fresh.ends))
 
 -- ---- all runs
 
@@ -124,7 +129,8 @@ turns_after t [] fresh = omega arith
 turns_after t (run ∷ runs) fresh =
     let here : turns_left (end_of run - min (64 * t) (end_of run)) ≡ turns_left (end_of run - run.steps) - t =
     turns_less t (end_of run) ∙ ap (λ k. turns_left (end_of run - k) - t) (sym fresh.0.start) in
-    max_less (turns_left (end_of run - min (64 * t) (end_of run))) (turns_of (all_after (64 * t) runs)) (turns_left (end_of run - run.steps)) (turns_of runs) t here (turns_after t runs fresh.1)
+    max_less (turns_left (end_of run - min (64 * t) (end_of run))) (turns_of (all_after (64 * t) runs)) (turns_left (end_of run - run.steps)) (turns_of runs) t
+    here (turns_after t runs fresh.1)
 
 -- either all have ended, or one has not
 abbrev pub DoneOrLeft : ℕ → ℕ → ℕ → Type 0
@@ -137,35 +143,45 @@ turns_short : (t end k : ℕ) → k ≡ 0 → 64 * t < end → t < (end - k + 63
 turns_short t end k start lt = omega (arith, start, lt)
 
 join_done : (live here rest t turn turns : ℕ) → live ≡ here + rest → here ≡ 0 → turn ≤ t → DoneOrLeft rest t turns → DoneOrLeft live t (max turn turns)
-join_done live here rest t turn turns sum none le = ⊎_elim (λ done. inl (omega (arith, sum, none, done.0), omega (arith, le, done.1))) (λ left. inr (omega (arith, sum, left.0), omega (arith, left.1)))
+join_done live here rest t turn turns sum none le =
+    ⊎_elim (λ done. inl (omega (arith, sum, none, done.0), omega (arith, le, done.1))) (λ left. inr (omega (arith, sum, left.0), omega (arith, left.1)))
 
 join_left : (live here rest t turn turns : ℕ) → live ≡ here + rest → here ≡ 1 → t < turn → DoneOrLeft live t (max turn turns)
 join_left live here rest t turn turns sum one lt = inr (omega (arith, sum, one), omega (arith, lt))
 
-pub done_or_left : AreDecided → EndsOnce → (t : ℕ) (runs : List RunValue) → AreFresh runs → DoneOrLeft (count_by is_live (all_after (64 * t) runs)) t (turns_of runs)
+pub done_or_left : AreDecided → EndsOnce → (t : ℕ) (runs : List RunValue) → AreFresh runs
+    → DoneOrLeft (count_by is_live (all_after (64 * t) runs)) t (turns_of runs)
 unfolding turns_to_end
 done_or_left decided once t [] fresh = inl (refl, omega arith)
 done_or_left decided once t (run ∷ runs) fresh =
     let m = 64 * t in
     let live = λ (r : RunValue). one_if (is_live r) in
-    let all : count_by is_live (all_after m (run ∷ runs)) ≡ one_if (is_live (run_after m run)) + count_by is_live (all_after m runs) = sum_by-cons live (run_after m run) (all_after m runs) in
+    let all : count_by is_live (all_after m (run ∷ runs)) ≡ one_if (is_live (run_after m run)) + count_by is_live (all_after m runs) =
+    sum_by-cons live (run_after m run) (all_after m runs) in
     let rest = done_or_left decided once t runs fresh.1 in
     ⊎_elim
-    (λ lt. join_left (count_by is_live (all_after m (run ∷ runs))) (one_if (is_live (run_after m run))) (count_by is_live (all_after m runs)) t (turns_left (end_of run - run.steps)) (turns_of runs) all
+    (λ lt. join_left (count_by is_live (all_after m (run ∷ runs))) (one_if (is_live (run_after m run))) (count_by is_live (all_after m runs)) t
+    (turns_left (end_of run - run.steps)) (turns_of runs) all
     (ap one_if (live_before_end decided once m run fresh.0 lt)) (turns_short t (end_of run) run.steps fresh.0.start lt))
-    (λ le. join_done (count_by is_live (all_after m (run ∷ runs))) (one_if (is_live (run_after m run))) (count_by is_live (all_after m runs)) t (turns_left (end_of run - run.steps)) (turns_of runs) all
+    (λ le. join_done (count_by is_live (all_after m (run ∷ runs))) (one_if (is_live (run_after m run))) (count_by is_live (all_after m runs)) t
+    (turns_left (end_of run - run.steps)) (turns_of runs) all
     (ap one_if (over_at_end decided m run fresh.0 le)) (turns_enough t (end_of run) run.steps fresh.0.start le) rest)
     (cases_lt m (end_of run))
 
-still_or_done : AreDecided → EndsOnce → (t : ℕ) (runs now : List RunValue) (live : ℕ) → AreFresh runs → now ≡ all_after (64 * t) runs → live ≡ count_by is_live now → DoneOrLeft live t (turns_of runs)
+still_or_done : AreDecided → EndsOnce → (t : ℕ) (runs now : List RunValue) (live : ℕ) → AreFresh runs → now ≡ all_after (64 * t) runs
+    → live ≡ count_by is_live now → DoneOrLeft live t (turns_of runs)
 still_or_done decided once t runs now live fresh is counted =
     subst (λ n. DoneOrLeft n t (turns_of runs)) (sym (counted ∙ ap (count_by is_live) is)) (done_or_left decided once t runs fresh)
 
-pub still_left : AreDecided → EndsOnce → (t : ℕ) (runs now : List RunValue) (live : ℕ) → AreFresh runs → now ≡ all_after (64 * t) runs → live ≡ count_by is_live now → 0 < live → t < turns_of runs
-still_left decided once t runs now live fresh is counted lt = ⊎_elim (λ done. absurd (omega (arith, done.0, lt))) (λ left. left.1) (still_or_done decided once t runs now live fresh is counted)
+pub still_left : AreDecided → EndsOnce → (t : ℕ) (runs now : List RunValue) (live : ℕ) → AreFresh runs → now ≡ all_after (64 * t) runs
+    → live ≡ count_by is_live now → 0 < live → t < turns_of runs
+still_left decided once t runs now live fresh is counted lt =
+    ⊎_elim (λ done. absurd (omega (arith, done.0, lt))) (λ left. left.1) (still_or_done decided once t runs now live fresh is counted)
 
-pub all_done : AreDecided → EndsOnce → (t : ℕ) (runs now : List RunValue) (live : ℕ) → AreFresh runs → now ≡ all_after (64 * t) runs → live ≡ count_by is_live now → live ≤ 0 → t ≤ turns_of runs → t ≡ turns_of runs
-all_done decided once t runs now live fresh is counted none le = ⊎_elim (λ done. omega (arith, done.1, le)) (λ left. absurd (omega (arith, left.0, none))) (still_or_done decided once t runs now live fresh is counted)
+pub all_done : AreDecided → EndsOnce → (t : ℕ) (runs now : List RunValue) (live : ℕ) → AreFresh runs → now ≡ all_after (64 * t) runs
+    → live ≡ count_by is_live now → live ≤ 0 → t ≤ turns_of runs → t ≡ turns_of runs
+all_done decided once t runs now live fresh is counted none le = ⊎_elim (λ done. omega (arith, done.1, le)) (λ left. absurd (omega (arith, left.0, none)))
+    (still_or_done decided once t runs now live fresh is counted)
 
 turn_more : (t : ℕ) → 64 * t + 64 ≡ 64 * suc t
 turn_more t = omega arith
@@ -180,7 +196,8 @@ next_turn t runs now new fresh is count moved =
 one_fewer : (t turns old new : ℕ) → old ≡ turns - t → new ≡ turns - suc t → t < turns → new < old
 one_fewer t turns old new before after lt = omega (arith, before, after, lt)
 
-pub fewer_left : (t : ℕ) (runs now new : List RunValue) → AreFresh runs → now ≡ all_after (64 * t) runs → new ≡ all_after (64 * suc t) runs → t < turns_of runs → turns_of new < turns_of now
+pub fewer_left : (t : ℕ) (runs now new : List RunValue) → AreFresh runs → now ≡ all_after (64 * t) runs → new ≡ all_after (64 * suc t) runs → t < turns_of runs
+    → turns_of new < turns_of now
 fewer_left t runs now new fresh was is lt =
     one_fewer t (turns_of runs) (turns_of now) (turns_of new) (ap turns_of was ∙ turns_after t runs fresh) (ap turns_of is ∙ turns_after (suc t) runs fresh) lt
 

@@ -28,8 +28,8 @@ impl<'t, 'a> Batch<'t, 'a> {
         ensures { IfOk result (IsBatchOf searches.now) }
     {
         let mut batch = Batch {
-            codes: Vec::new(alloc),
-            rows: Vec::new(alloc),
+            codes: Vec::with_capacity(alloc, searches.len())?,
+            rows: Vec::with_capacity(alloc, searches.len())?,
         };
         for search in searches {
             batch.add(alloc, search)?;

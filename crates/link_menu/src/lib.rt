@@ -31,7 +31,9 @@ mod watch;
 
 pub use blind::Blind;
 pub use fate::Fate;
+pub use menu::{Menu, MenuEntry, Resolution, Text, is_web_link};
 pub use recorder::Shown;
+pub use registry::{AddError, AddErrorKind, MAX_TARGETS, Registry, Target};
 pub use resolver::{resolve, resolve_watched};
 pub use rounds::{round, round_over};
 pub use turns::{play, turn_all};

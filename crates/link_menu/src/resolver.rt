@@ -20,6 +20,7 @@ use kev_read::Request;
 use menu::Menu;
 use registry::laws::{matching_rows_rise, rows_are_tried_in_order};
 use registry::{Registry, Target};
+use row_scope::{KnownValues, NameNumbers};
 use std::alloc::{AllocError, Global};
 
 /// The menu of a request: what each target of the registry gives for it, in their order. The matching rows of a target
@@ -44,13 +45,17 @@ pub fn resolve_watched<W: Watch>(
     watch: &mut W,
 ) -> Result<Menu, AllocError>
     ensures menu { IfOk result (λ menu. menu ≡ menu_of registry.now request.now.pairs) }
-    ensures shown { OnOk result (HasSeenAll (step_lists_in_all_rounds registry.now request.now.pairs) (W.lists watch.old) (W.lists watch.new)) }
-    ensures err { OnErr result (HasSeenSome (step_lists_in_all_rounds registry.now request.now.pairs) (W.lists watch.old) (W.lists watch.new)) }
+    ensures shown { OnOk result
+        (HasSeenAll (step_lists_in_all_rounds registry.now request.now.pairs) (W.lists watch.old)
+        (W.lists watch.new)) }
+    ensures err { OnErr result
+        (HasSeenSome (step_lists_in_all_rounds registry.now request.now.pairs) (W.lists watch.old)
+        (W.lists watch.new)) }
 {
     rows_are_tried_in_order();
     matching_rows_rise();
     let citation = Citation::new(alloc, request, registry.columns())?;
-    let mut searches = begin_all(alloc, registry.targets(), &citation)?;
+    let mut searches = begin_all(alloc, registry.targets(), registry.numbers(), &citation)?;
     while is_any_open(&searches) {
         try_next_rows(alloc, searches.as_mut_slice(), watch)?;
     }
@@ -63,14 +68,16 @@ pub fn resolve_watched<W: Watch>(
 fn begin_all<'a>(
     alloc: Global,
     targets: &'a [Target],
+    numbers: &NameNumbers,
     citation: &'a Citation<'a>,
 ) -> Result<Vec<TargetSearch<'a>>, AllocError>
     requires { All (λ target. IsApartFrom citation.now target.table.header) targets.now }
     ensures { IfOk result (λ searches. searches.items ≡ map (spec.started citation.now) targets.now) }
 {
+    let mut known = KnownValues::new(alloc, &citation.values, numbers)?;
     let mut searches = Vec::with_capacity(alloc, targets.len())?;
     for target in targets {
-        searches.push(TargetSearch::begin(alloc, target, citation)?)?;
+        searches.push(TargetSearch::begin(alloc, target, citation, &mut known)?)?;
     }
     Ok(searches)
 }
@@ -90,8 +97,10 @@ fn try_next_rows<W: Watch>(
     watch: &mut W,
 ) -> Result<(), AllocError>
     ensures ok { OnOk result (searches.new ≡ map spec.after_next_row searches.old) }
-    ensures shown { OnOk result (HasSeenAll (step_lists_to_end (spec.ends_next searches.old)) (W.lists watch.old) (W.lists watch.new)) }
-    ensures err { OnErr result (HasSeenSome (step_lists_to_end (spec.ends_next searches.old)) (W.lists watch.old) (W.lists watch.new)) }
+    ensures shown { OnOk result
+        (HasSeenAll (step_lists_to_end (spec.ends_next searches.old)) (W.lists watch.old) (W.lists watch.new)) }
+    ensures err { OnErr result
+        (HasSeenSome (step_lists_to_end (spec.ends_next searches.old)) (W.lists watch.old) (W.lists watch.new)) }
 {
     let fates = run_next_rows(alloc, searches, watch)?;
     take_over_all(searches, fates);
@@ -107,8 +116,10 @@ fn run_next_rows<W: Watch>(
     watch: &mut W,
 ) -> Result<Vec<Fate>, AllocError>
     ensures fates { IfOk result (λ fates. map said fates.items ≡ spec.fates_next searches.now) }
-    ensures shown { OnOk result (HasSeenAll (step_lists_to_end (spec.ends_next searches.now)) (W.lists watch.old) (W.lists watch.new)) }
-    ensures err { OnErr result (HasSeenSome (step_lists_to_end (spec.ends_next searches.now)) (W.lists watch.old) (W.lists watch.new)) }
+    ensures shown { OnOk result
+        (HasSeenAll (step_lists_to_end (spec.ends_next searches.now)) (W.lists watch.old) (W.lists watch.new)) }
+    ensures err { OnErr result
+        (HasSeenSome (step_lists_to_end (spec.ends_next searches.now)) (W.lists watch.old) (W.lists watch.new)) }
 {
     let batch = Batch::of(alloc, searches)?;
     round_over(alloc, &batch.codes, &batch.rows, watch)

@@ -22,8 +22,8 @@ use verifier::Verified;
 pub(crate) const TURN: u64 = 64;
 
 /// Runs each code on its environment, all side by side, until each has ended, and answers their fates in order. What is
-/// over budget is not run. After each turn of all, of up to 64 steps of each run, the runs are shown to the watch; where
-/// there is no run, nothing is shown.
+/// over budget is not run. After each turn of all, of up to 64 steps of each run, the runs are shown to the watch;
+/// where there is no run, nothing is shown.
 ///
 /// `AllocError` where a growth was refused; the watch then has seen what was shown until then.
 pub fn round<W: Watch>(
@@ -33,9 +33,14 @@ pub fn round<W: Watch>(
     watch: &mut W,
 ) -> Result<Vec<Fate>, AllocError>
     requires { length codes.now ≡ length envs.now }
-    ensures fates { IfOk result (λ fates. map said fates.items ≡ map fate_of (zip (map (λ code. code.now) codes.now) envs.now)) }
-    ensures shown { OnOk result (HasSeenAll (step_lists_of (zip (map (λ code. code.now) codes.now) envs.now)) (W.lists watch.old) (W.lists watch.new)) }
-    ensures err { OnErr result (HasSeenSome (step_lists_of (zip (map (λ code. code.now) codes.now) envs.now)) (W.lists watch.old) (W.lists watch.new)) }
+    ensures fates { IfOk result
+        (λ fates. map said fates.items ≡ map fate_of (zip (map (λ code. code.now) codes.now) envs.now)) }
+    ensures shown { OnOk result
+        (HasSeenAll (step_lists_of (zip (map (λ code. code.now) codes.now) envs.now)) (W.lists watch.old)
+        (W.lists watch.new)) }
+    ensures err { OnErr result
+        (HasSeenSome (step_lists_of (zip (map (λ code. code.now) codes.now) envs.now)) (W.lists watch.old)
+        (W.lists watch.new)) }
     ensures turn { TURN ≡ 64 }
     ensures limit { MAX_LINK_BYTES ≡ 1048576 }
 {
@@ -53,9 +58,15 @@ pub fn round_over<E: Scope, W: Watch>(
 ) -> Result<Vec<Fate>, AllocError>
     requires equal { length codes.now ≡ length envs.now }
     requires names { All (λ p. AreNumbered (E.is_number p.1) p.0) (zip (map (λ code. code.now) codes.now) envs.now) }
-    ensures fates { IfOk result (λ fates. map said fates.items ≡ map fate_of (zip (map (λ code. code.now) codes.now) (map E.environment envs.now))) }
-    ensures shown { OnOk result (HasSeenAll (step_lists_of (zip (map (λ code. code.now) codes.now) (map E.environment envs.now))) (W.lists watch.old) (W.lists watch.new)) }
-    ensures err { OnErr result (HasSeenSome (step_lists_of (zip (map (λ code. code.now) codes.now) (map E.environment envs.now))) (W.lists watch.old) (W.lists watch.new)) }
+    ensures fates { IfOk result
+        (λ fates. map said fates.items
+        ≡ map fate_of (zip (map (λ code. code.now) codes.now) (map E.environment envs.now))) }
+    ensures shown { OnOk result
+        (HasSeenAll (step_lists_of (zip (map (λ code. code.now) codes.now) (map E.environment envs.now)))
+        (W.lists watch.old) (W.lists watch.new)) }
+    ensures err { OnErr result
+        (HasSeenSome (step_lists_of (zip (map (λ code. code.now) codes.now) (map E.environment envs.now)))
+        (W.lists watch.old) (W.lists watch.new)) }
 {
     let mut run_set = RunSet::begin_all(alloc, codes, envs)?;
     turn_until_ended(run_set.runs.as_mut_slice(), watch)?;
@@ -72,8 +83,10 @@ pub(crate) fn turn_until_ended<E: Scope, W: Watch>(
 ) -> Result<(), AllocError>
     requires { AreFresh runs.old }
     ensures same { AreOfTheSame runs.old runs.new }
-    ensures ok { OnOk result (HasSeenAll (step_lists_to_end (ends_of runs.old)) (W.lists watch.old) (W.lists watch.new)) }
-    ensures err { OnErr result (HasSeenSome (step_lists_to_end (ends_of runs.old)) (W.lists watch.old) (W.lists watch.new)) }
+    ensures ok { OnOk result
+        (HasSeenAll (step_lists_to_end (ends_of runs.old)) (W.lists watch.old) (W.lists watch.new)) }
+    ensures err { OnErr result
+        (HasSeenSome (step_lists_to_end (ends_of runs.old)) (W.lists watch.old) (W.lists watch.new)) }
 {
     states_after_steps_are_decided();
     run_ends_once();

@@ -33,11 +33,12 @@ impl<'a, E: Scope> RunSet<'a, E> {
     ) -> Result<RunSet<'a, E>, AllocError>
         requires equal { length codes.now ≡ length envs.now }
         requires names { All (λ p. AreNumbered (E.is_number p.1) p.0) (zip (map (λ c. c.now) codes.now) envs.now) }
-        ensures { IfOk result (λ run_set. IsRunSetOf (zip (map (λ c. c.now) codes.now) (map E.environment envs.now)) run_set.over_budget.items run_set.runs.items) }
+        ensures { IfOk result (λ run_set. IsRunSetOf (zip (map (λ c. c.now) codes.now) (map E.environment envs.now))
+            run_set.over_budget.items run_set.runs.items) }
     {
         let mut run_set = RunSet {
-            over_budget: Vec::new(alloc),
-            runs: Vec::new(alloc),
+            over_budget: Vec::with_capacity(alloc, codes.len())?,
+            runs: Vec::with_capacity(alloc, codes.len())?,
         };
         for (code, env) in codes.iter().zip(envs.iter()) {
             run_set.begin(alloc, code, env)?;
@@ -47,8 +48,10 @@ impl<'a, E: Scope> RunSet<'a, E> {
 
     fn begin(&mut self, alloc: Global, code: &'a Verified, env: &'a E) -> Result<(), AllocError>
         requires { AreNumbered (E.is_number env.now) code.now }
-        ensures over_budget { OnOk result (self.new.over_budget.items ≡ self.old.over_budget.items ++ excess_of (code.now, E.environment env.now) ∷ []) }
-        ensures runs { OnOk result (self.new.runs.items ≡ self.old.runs.items ++ runs_of ((code.now, E.environment env.now) ∷ [])) }
+        ensures over_budget { OnOk result (self.new.over_budget.items ≡ self.old.over_budget.items
+            ++ excess_of (code.now, E.environment env.now) ∷ []) }
+        ensures runs { OnOk result
+            (self.new.runs.items ≡ self.old.runs.items ++ runs_of ((code.now, E.environment env.now) ∷ [])) }
         ensures fresh { OnOk result (AreFresh (runs_of ((code.now, E.environment env.now) ∷ []))) }
     {
         course_is_decided();
@@ -69,7 +72,9 @@ impl<'a, E: Scope> RunSet<'a, E> {
     /// `AllocError` where a growth was refused.
     pub(crate) fn finish_all(self, alloc: Global) -> Result<Vec<Fate>, AllocError>
         requires { count_by is_none self.over_budget.items ≡ length self.runs.items }
-        ensures { IfOk result (λ fates. map said fates.items ≡ fates_in self.entry.over_budget.items (map outcome_in_the_end self.entry.runs.items)) }
+        ensures { IfOk result
+            (λ fates. map said fates.items ≡ fates_in self.entry.over_budget.items
+            (map outcome_in_the_end self.entry.runs.items)) }
     {
         course_is_decided();
         let RunSet { over_budget, runs } = self;

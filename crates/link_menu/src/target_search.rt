@@ -10,7 +10,7 @@ use crate::citation::Citation;
 use crate::fate::Fate;
 use menu::{MenuEntry, Resolution, Text};
 use registry::Target;
-use row_scope::TargetRequest;
+use row_scope::{KnownValues, TargetRequest};
 use std::alloc::{AllocError, Global};
 use std::marker::Model;
 
@@ -50,13 +50,16 @@ impl<'a> TargetSearch<'a> {
         alloc: Global,
         target: &'a Target,
         citation: &'a Citation<'a>,
+        known: &mut KnownValues<'a>,
     ) -> Result<TargetSearch<'a>, AllocError>
-        requires { IsApartFrom citation.now target.now.table.header }
-        ensures { IfOk result (λ search. search ≡ spec.started citation.now target.now) }
+        requires apart { IsApartFrom citation.now target.now.table.header }
+        requires known { known.old ≡ citation.now }
+        ensures ok { IfOk result (λ search. search ≡ spec.started citation.now target.now) }
+        ensures same { known.new ≡ known.old }
     {
         let next = citation.next_row(target, 0);
         let request = match next {
-            Some(_) => Some(target.request(alloc, &citation.values)?),
+            Some(_) => Some(target.request(alloc, known)?),
             None => None,
         };
         Ok(TargetSearch {

@@ -11,7 +11,8 @@ use verified_runs::Run;
 /// Carries out up to `n` steps of each run, in their order, and answers how many have not ended. It takes no memory.
 pub fn turn_all<E: Scope>(runs: &mut [Run<'_, E>], n: u64) -> usize
     ensures count { length runs.new ≡ length runs.old }
-    ensures moved { (i : ℕ) (d : RunValue) → i < length runs.old → IsMoved (get_or runs.old i d) n (get_or runs.new i d) }
+    ensures moved { (i : ℕ) (d : RunValue) → i < length runs.old
+        → IsMoved (get_or runs.old i d) n (get_or runs.new i d) }
     ensures live { result ≡ count_by is_live runs.new }
 {
     states_after_steps_are_decided();
@@ -30,7 +31,8 @@ pub fn turn_all<E: Scope>(runs: &mut [Run<'_, E>], n: u64) -> usize
 pub fn play<E: Scope>(runs: &mut [Run<'_, E>], turns: &[(usize, u64)])
     requires { All (λ turn. turn.0 < length runs.old) turns.now }
     ensures count { length runs.new ≡ length runs.old }
-    ensures played { (i : ℕ) (d : RunValue) → i < length runs.old → IsPlayed (get_or runs.old i d) (own_turns i turns.now) (get_or runs.new i d) }
+    ensures played { (i : ℕ) (d : RunValue) → i < length runs.old
+        → IsPlayed (get_or runs.old i d) (own_turns i turns.now) (get_or runs.new i d) }
 {
     for turn in turns {
         runs[turn.0].advance(turn.1);

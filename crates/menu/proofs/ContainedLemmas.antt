@@ -115,10 +115,12 @@ references_only (b ∷ t) = by_tests (b == ampersand) (b == apostrophe) refl (re
         → are_references ((if x then ampersand_reference else (if y then apostrophe_reference else (b ∷ []))) ++ escaped t)
     by_tests true y e h =
         behind_ampersand _ (inl (escaped t, refl))
-        (behind_other _ _ (λ q. omega (arith, q)) (behind_other _ _ (λ q. omega (arith, q)) (behind_other _ _ (λ q. omega (arith, q)) (behind_other _ _ (λ q. omega (arith, q)) h))))
+        (behind_other _ _ (λ q. omega (arith, q))
+        (behind_other _ _ (λ q. omega (arith, q)) (behind_other _ _ (λ q. omega (arith, q)) (behind_other _ _ (λ q. omega (arith, q)) h))))
     by_tests false true e h =
         behind_ampersand _ (inr (escaped t, refl))
-        (behind_other _ _ (λ q. omega (arith, q)) (behind_other _ _ (λ q. omega (arith, q)) (behind_other _ _ (λ q. omega (arith, q)) (behind_other _ _ (λ q. omega (arith, q)) h))))
+        (behind_other _ _ (λ q. omega (arith, q))
+        (behind_other _ _ (λ q. omega (arith, q)) (behind_other _ _ (λ q. omega (arith, q)) (behind_other _ _ (λ q. omega (arith, q)) h))))
     by_tests false false e h = behind_other b _ (eqb-false b ampersand e) h
 
 pub escaped-contained : (link : Text) → IsUriText link → IsContained (escaped link)

@@ -17,7 +17,10 @@ pub escaped_character : (c : ℕ) → c ≢ ampersand → c ≢ apostrophe → e
 unfolding encode_utf8
 escaped_character c h k = by_length (nat_lt c 128) (nat_lt c 2048) (nat_lt c 65536)
   where
-    by_length : (x y z : Bool) → let bytes = cond x (c ∷ []) (cond y ((192 + c / 64) ∷ (128 + c % 64) ∷ []) (cond z ((224 + c / 4096) ∷ (128 + c / 64 % 64) ∷ (128 + c % 64) ∷ []) ((240 + c / 262144) ∷ (128 + c / 4096 % 64) ∷ (128 + c / 64 % 64) ∷ (128 + c % 64) ∷ []))) in escaped bytes ≡ bytes
+    by_length : (x y z : Bool) → let bytes =
+        cond x (c ∷ []) (cond y ((192 + c / 64) ∷ (128 + c % 64) ∷ [])
+        (cond z ((224 + c / 4096) ∷ (128 + c / 64 % 64) ∷ (128 + c % 64) ∷ [])
+        ((240 + c / 262144) ∷ (128 + c / 4096 % 64) ∷ (128 + c / 64 % 64) ∷ (128 + c % 64) ∷ []))) in escaped bytes ≡ bytes
     by_length true y z = ap (λ x. x ++ []) (other_stays c h k)
     by_length false true z = past_ascii _ _ (omega arith) (past_ascii _ _ (omega arith) refl)
     by_length false false true = past_ascii _ _ (omega arith) (past_ascii _ _ (omega arith) (past_ascii _ _ (omega arith) refl))

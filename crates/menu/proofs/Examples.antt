@@ -8,7 +8,7 @@ use Rattle.text_model.specs.Texts.{Text}
 use Rattle.menu.specs.declared.entry.MenuEntry.{MenuEntry}
 use Rattle.menu.specs.declared.entry.Resolution.{Resolution}
 use Rattle.menu.specs.declared.entry.Resolution.TheVariants as resolution
-use Rattle.menu.specs.Links.{links, is_empty}
+use Rattle.menu.specs.Links.{links, is_link, is_empty}
 use Rattle.menu.specs.Escaping.{escaped}
 use Rattle.menu.specs.Printed.{text, report, html}
 use Rattle.menu.specs.WebLink.{is_web_link}
@@ -68,8 +68,11 @@ html_of_one = refl
 bytes_of_one : length (html one_link) ≡ 92
 bytes_of_one = refl
 
-texts_of_none : text no_link ++ report no_link ≡ codes "alpha\tno row\nbeta\tno row\n"
-texts_of_none = refl
+text_of_none : text no_link ≡ []
+text_of_none = refl
+
+report_of_none : report no_link ≡ codes "alpha\tno row\nbeta\tno row\n"
+report_of_none = refl
 
 html_of_none : html no_link ≡ codes "<!DOCTYPE html>\n<title>Links</title>\n<p>No links</p>\n"
 html_of_none = refl
@@ -77,16 +80,32 @@ html_of_none = refl
 bytes_of_none : length (html no_link) ≡ 53
 bytes_of_none = refl
 
-other_resolutions : report (entry (codes "delta") (resolution.OverBudget 1202100) ∷ entry (codes "gamma") resolution.NoLink ∷ []) ≡ codes "delta\tover budget 1202100\ngamma\tno link\n"
+-- a registry without targets
+texts_without_targets : map (λ print. print []) (text ∷ report ∷ html ∷ []) ≡ [] ∷ [] ∷ codes "<!DOCTYPE html>\n<title>Links</title>\n<p>No links</p>\n" ∷ []
+texts_without_targets = refl
+
+other_resolutions : report (entry (codes "delta") (resolution.OverBudget 1202100) ∷ entry (codes "gamma") resolution.NoLink ∷ [])
+    ≡ codes "delta\tover budget 1202100\ngamma\tno link\n"
 unfolding digits
 other_resolutions = refl
 
 empty_menus : map is_empty (one_link ∷ no_link ∷ (entry (codes "delta") (resolution.OverBudget 1202100) ∷ []) ∷ [] ∷ []) ≡ false ∷ true ∷ true ∷ true ∷ []
 empty_menus = refl
 
+-- a resolution of each kind
+abbrev each_resolution : List Resolution
+each_resolution = resolution.Link 0 (codes "http://e.org") ∷ resolution.NoRow ∷ resolution.NoLink ∷ resolution.NotAWebLink ∷ resolution.OverBudget 1202100 ∷ []
+
+resolutions_with_links : map is_link each_resolution ≡ true ∷ false ∷ false ∷ false ∷ false ∷ []
+resolutions_with_links = refl
+
+menus_without_links : map (λ resolution. is_empty (entry (codes "a") resolution ∷ [])) each_resolution ≡ false ∷ true ∷ true ∷ true ∷ true ∷ []
+menus_without_links = refl
+
 -- ---- links
 
-written_links : map escaped (codes "http://e.org/?a=1&b='c'" ∷ codes "&amp;" ∷ [] ∷ []) ≡ codes "http://e.org/?a=1&amp;b=&#39;c&#39;" ∷ codes "&amp;amp;" ∷ [] ∷ []
+written_links : map escaped (codes "http://e.org/?a=1&b='c'" ∷ codes "&amp;" ∷ [] ∷ []) ≡ codes "http://e.org/?a=1&amp;b=&#39;c&#39;" ∷ codes
+    "&amp;amp;" ∷ [] ∷ []
 written_links = refl
 
 -- the bytes that are written as something else

@@ -6,7 +6,9 @@ use Rattle.std.proofs.lemmas.Bool.Decides.{nat_tests}
 use Rattle.std.proofs.lemmas.List.Elements.{All-head, All-tail}
 use Rattle.text_model.specs.Texts.{Text}
 use Rattle.menu.specs.Escaping.{IsReadAs}
-use Rattle.menu.specs.PageReading.{less_than, quotation_mark, is_in_text, is_in_value, ends_text, Tag, doctype, list_start, list_end, item_start, item_end, paragraph_start, paragraph_end, link_end, written_tag, Token, tag, title, link, text, BeginsWithToken, with_tag, with_title, with_link, with_text, IsReadAsTokens, read_end, read_token}
+use Rattle.menu.specs.PageReading.{less_than, quotation_mark, is_in_text, is_in_value, ends_text, Tag, doctype, list_start, list_end, item_start, item_end}
+use Rattle.menu.specs.PageReading.{paragraph_start, paragraph_end, link_end, written_tag, Token, tag, title, link, text, BeginsWithToken, with_tag, with_title}
+use Rattle.menu.specs.PageReading.{with_link, with_text, IsReadAsTokens, read_end, read_token}
 use Rattle.menu.proofs.ReadingLemmas.{head_of, rest_of, one_reading}
 
 -- ---- the end of a text or a value

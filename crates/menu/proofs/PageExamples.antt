@@ -8,7 +8,9 @@ use Rattle.text_model.proofs.UriTexts.{written_ur-uri}
 use Rattle.menu.specs.Printed.{html}
 use Rattle.menu.specs.Escaping.{read_nothing, read_ampersand, read_character}
 use Rattle.menu.specs.Contained.{is_name_character}
-use Rattle.menu.specs.PageReading.{is_in_text, is_in_value, doctype, list_start, list_end, item_start, item_end, paragraph_start, paragraph_end, link_end, Token, tag, title, link, text, with_tag, with_link, with_text, IsReadAsTokens, read_end, read_token, links_in, IsSoundLink, HasSoundLinks, page_tokens}
+use Rattle.menu.specs.PageReading.{is_in_text, is_in_value, doctype, list_start, list_end, item_start, item_end, paragraph_start, paragraph_end, link_end}
+use Rattle.menu.specs.PageReading.{Token, tag, title, link, text, with_tag, with_link, with_text, IsReadAsTokens, read_end, read_token, links_in, IsSoundLink}
+use Rattle.menu.specs.PageReading.{HasSoundLinks, page_tokens}
 use Rattle.menu.proofs.ContainedLemmas.{All-from_test}
 use Rattle.menu.proofs.Examples.{one_link, no_link}
 use Rattle.menu.proofs.OneReading.{front, none_at_unknown, after_value, one_reading_of_page}

@@ -1,5 +1,6 @@
 -- The page of a menu is read as its links.
-use Rattle.std.proofs.Common.{◌≡◌, ◌≢◌, ◌↔◌, ℕ, Bool, true, false, not, ◌&&◌, List, [], ◌∷◌, ◌++◌, length, refl, sym, ap, ◌∙◌, subst, arith, codes, append_assoc}
+use Rattle.std.proofs.Common.{◌≡◌, ◌≢◌, ◌↔◌, ℕ, Bool, true, false, not, ◌&&◌, List, [], ◌∷◌, ◌++◌, length, refl, sym, ap, ◌∙◌, subst, arith, codes}
+use Rattle.std.proofs.Common.{append_assoc}
 use Rattle.std.specs.Prelude.{◌==◌, if◌then◌else◌, All}
 use Rattle.std.specs.List.{flat_map}
 use Rattle.std.proofs.lemmas.Bool.{eqb-true}
@@ -12,7 +13,9 @@ use Rattle.menu.specs.Contained.{is_name_character, IsTargetName}
 use Rattle.menu.specs.Escaping.{ampersand, apostrophe, ampersand_reference, apostrophe_reference, escaped, IsReadAs, read_nothing, read_character}
 use Rattle.menu.specs.Links.{NamedLink, links, is_empty}
 use Rattle.menu.specs.Printed.{html_item, html_list, html}
-use Rattle.menu.specs.PageReading.{is_in_text, is_in_value, ends_text, Tag, doctype, list_start, list_end, item_start, item_end, paragraph_start, paragraph_end, link_end, written_tag, Token, tag, title, link, text, with_tag, with_title, with_link, with_text, IsReadAsTokens, read_end, read_token, links_in, IsSoundLink, HasSoundLinks, item_tokens, page_tokens}
+use Rattle.menu.specs.PageReading.{is_in_text, is_in_value, ends_text, Tag, doctype, list_start, list_end, item_start, item_end, paragraph_start, paragraph_end}
+use Rattle.menu.specs.PageReading.{link_end, written_tag, Token, tag, title, link, text, with_tag, with_title, with_link, with_text, IsReadAsTokens, read_end}
+use Rattle.menu.specs.PageReading.{read_token, links_in, IsSoundLink, HasSoundLinks, item_tokens, page_tokens}
 use Rattle.menu.proofs.ContainedLemmas.{is_uri_byte, All-escaped, All-from_test}
 use Rattle.menu.proofs.ReadingLemmas.{escaped-read_back}
 use Rattle.menu.proofs.OneReading.{one_reading_of_page}

@@ -3,7 +3,8 @@ use Rattle.std.proofs.Common.{◌≡◌, ℕ, Bool, true, false, [], ◌∷◌, 
 use Rattle.std.specs.Prelude.{◌==◌, if◌then◌else◌}
 use Rattle.std.proofs.lemmas.Bool.{eqb-true, eqb-false}
 use Rattle.text_model.specs.Texts.{Text}
-use Rattle.menu.specs.Escaping.{ampersand, apostrophe, ampersand_reference, apostrophe_reference, escaped, IsReadAs, read_nothing, read_ampersand, read_apostrophe, read_character}
+use Rattle.menu.specs.Escaping.{ampersand, apostrophe, ampersand_reference, apostrophe_reference, escaped, IsReadAs, read_nothing, read_ampersand}
+use Rattle.menu.specs.Escaping.{read_apostrophe, read_character}
 
 read_back : (link : Text) → IsReadAs (escaped link) link
 read_back [] = read_nothing

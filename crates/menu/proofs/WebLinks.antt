@@ -23,5 +23,12 @@ short_differs text beginning short = by_test (begins_in_any_case text beginning)
     by_test : (x : Bool) → Decides x (map to_ascii_lowercase (take (length beginning) text) ≡ map to_ascii_lowercase beginning) → x ≡ false
     by_test true d =
         let same = ap length (d.0 refl) in
-        absurd (omega (arith, same, short, length-map (take (length beginning) text) to_ascii_lowercase, length-map beginning to_ascii_lowercase, ap length (take_all (length beginning) text (omega (arith, short)))))
+        absurd (omega (
+          arith,
+          same,
+          short,
+          length-map (take (length beginning) text) to_ascii_lowercase,
+          length-map beginning to_ascii_lowercase,
+          ap length (take_all (length beginning) text (omega (arith, short))),
+        ))
     by_test false d = refl

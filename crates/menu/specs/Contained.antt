@@ -16,7 +16,8 @@ BeginsWith front text = (rest : Text) × (text ≡ front ++ rest)
 -- no delimiter, and no ampersand but as the front of one of the two references
 pub record IsContained (text : Text) : Type 0 where
   pub no_delimiter : All (λ b. is_delimiter b ≡ false) text
-  pub references : (before behind : Text) → text ≡ before ++ (ampersand ∷ behind) → BeginsWith ampersand_reference (ampersand ∷ behind) ⊎ BeginsWith apostrophe_reference (ampersand ∷ behind)
+  pub references : (before behind : Text) → text ≡ before ++ (ampersand ∷ behind) → BeginsWith ampersand_reference (ampersand ∷ behind)
+      ⊎ BeginsWith apostrophe_reference (ampersand ∷ behind)
 
 -- ---- names of targets
 

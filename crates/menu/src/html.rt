@@ -31,7 +31,8 @@ fn push_escaped(out: &mut String, link: &str) -> Result<(), AllocError>
 
 // Appends the item of a link and the name of its target.
 fn push_link_item(out: &mut String, name: &str, link: &str) -> Result<(), AllocError>
-    ensures { OnOk result (string_bytes out.new ≡ string_bytes out.old ++ html_item (record { name = name.now; link = link.now })) }
+    ensures { OnOk result
+        (string_bytes out.new ≡ string_bytes out.old ++ html_item (record { name = name.now; link = link.now })) }
 {
     out.push_str("<li><a href=\"")?;
     push_escaped(out, link)?;

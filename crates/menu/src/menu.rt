@@ -1,3 +1,5 @@
+//! A menu.
+
 ghost use Rattle.std.specs.Prelude.{◌≡◌, IfOk, string_bytes};
 ghost use Rattle.std.specs.List.{list_any};
 ghost use Rattle.menu.specs.Links.{has_link, is_empty};

@@ -1,3 +1,5 @@
+//! Which links are web links.
+
 ghost use Rattle.std.specs.Prelude.{◌≡◌};
 ghost use Rattle.menu.specs.WebLink.{begins_in_any_case, is_web_link};
 

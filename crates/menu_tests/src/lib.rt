@@ -1,5 +1,5 @@
-//! What no contract says of menus, registries, the runs of a request, files, and registry files, and no command shows: what
-//! is given back, what is printed of values, what a watch is shown, and files and random numbers that fail.
+//! What no contract says of menus, registries, the runs of a request, files, and registry files, and no command shows:
+//! what is given back, what is printed of values, what a watch is shown, and files and random numbers that fail.
 #![tactic(auto)]
 
 #[cfg(test)]

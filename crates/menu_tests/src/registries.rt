@@ -1,10 +1,13 @@
 //! What is given back of a target that is not added, and what a row over a request counts.
 
+ghost use Rattle.std.specs.Prelude.{◌<◌, length};
+ghost use Rattle.row_scope.specs.RequestValues.{IsApartFrom};
+
 use crate::add;
 use crate::codes::{FAIL_CODE, LIST_CODE};
 use kev_read::read_kev;
-use registry::{AddError, AddErrorKind, Registry};
-use row_scope::RequestValues;
+use registry::{AddError, AddErrorKind, Registry, Target};
+use row_scope::{KnownValues, NameNumbers, RequestValues};
 use std::alloc::{AllocError, Global};
 use std::test::Fail;
 use target_vars::Scope;
@@ -15,8 +18,8 @@ fn refused(alloc: Global) -> Result<Option<AddError>, Fail> {
     Ok(add(alloc, &mut registry, "a b", LIST_CODE)?.err())
 }
 
-/// The code and the table that were given back make a target of another name: how many instructions it has, and how many
-/// rows.
+/// The code and the table that were given back make a target of another name: how many instructions it has, and how
+/// many rows.
 fn added_again(alloc: Global, error: AddError) -> Result<Option<(usize, usize)>, Fail> {
     let mut registry = Registry::new(alloc);
     let name = String::from_str(alloc, "alpha")?;
@@ -40,8 +43,46 @@ fn gives_the_parts_back(rt: HostRuntime) -> Result<(), Fail> {
     Ok(())
 }
 
+/// Whether the registry has the one target alpha, with the instructions of its code and the rows of its table.
+fn has_alpha_alone(registry: &Registry) -> bool {
+    let [target] = registry.targets() else {
+        return false;
+    };
+    target.name() == "alpha" && target.code().code().len() == 6 && target.table().rows() == 2
+}
+
+/// If memory runs out, nothing is added, and a second call takes the parts.
+#[test]
+fn a_second_call_takes_the_parts(rt: HostRuntime) -> Result<(), Fail> {
+    let mut registry = Registry::new(rt.alloc());
+    if let Err(error) = add(rt.alloc(), &mut registry, "alpha", LIST_CODE)? {
+        assert_eq!(rt; Some(error.kind), Some(AddErrorKind::NoMemory));
+        assert!(rt; registry.targets().is_empty());
+        if let Err(error) = registry.add(error.name, error.code, error.table) {
+            return Err(Fail::from(error.kind));
+        }
+    }
+    assert!(rt; has_alpha_alone(&registry));
+    Ok(())
+}
+
 const QUERY: &[u8] = b"rft.issn=1234567x&title_url=http%3A%2F%2Fevil.example&list=a&x=1&list=b&x=2\
         &date_last_issue_online=2005";
+
+/// How many bytes the second row of a target has over a request.
+fn second_row_bytes<'a>(
+    alloc: Global,
+    target: &'a Target,
+    values: &'a RequestValues<'a>,
+    numbers: &NameNumbers,
+) -> Result<usize, AllocError>
+    requires apart { IsApartFrom values.now target.now.table.header }
+    requires row { 1 < length target.now.table.rows }
+{
+    let mut known = KnownValues::new(alloc, values, numbers)?;
+    let request = target.request(alloc, &mut known)?;
+    Ok(request.row(alloc, 1)?.bytes())
+}
 
 /// How many bytes the second row over the request has, if there is such a row.
 fn bytes_of_second(alloc: Global) -> Result<Option<usize>, Fail> {
@@ -57,8 +98,8 @@ fn bytes_of_second(alloc: Global) -> Result<Option<usize>, Fail> {
     }
     let request = read_kev(alloc, QUERY)?;
     let values = RequestValues::new(alloc, &request, registry.columns())?;
-    let request = target.request(alloc, &values)?;
-    Ok(Some(request.row(alloc, 1)?.bytes()))
+    let bytes = second_row_bytes(alloc, target, &values, registry.numbers())?;
+    Ok(Some(bytes))
 }
 
 /// The cells of the row are counted, and of the request what the row has no cell for.

@@ -1,6 +1,6 @@
 //! The menu of a small registry, and what a watch is shown until it is there.
 
-use crate::codes::{ISSN_CODE, LIST_CODE};
+use crate::codes::{ISSN_CODE, LIST_CODE, twenty_texts};
 use crate::{add, lists};
 use kev_read::read_kev;
 use link_menu::{Shown, resolve, resolve_watched};
@@ -49,5 +49,41 @@ fn rounds(rt: HostRuntime) -> Result<(), Fail> {
     assert_eq!(rt; lists.as_str(), "[[64, 8], [123, 8], [64], [123]]");
     let text = resolved(rt.alloc(), query.as_str())?;
     assert_eq!(rt; text.as_str(), "q\thttp://e.org/1234567x\n");
+    Ok(())
+}
+
+/// The report of the menu of one target for the query, and whether the menu is empty.
+fn reported(alloc: Global, name: &str, code: &[u8], query: &str) -> Result<(String, bool), Fail> {
+    let mut registry = Registry::new(alloc);
+    if let Err(error) = add(alloc, &mut registry, name, code)? {
+        return Err(Fail::from(error.kind));
+    }
+    let request = read_kev(alloc, query.as_bytes())?;
+    let menu = resolve(alloc, &registry, &request)?;
+    Ok((menu.report(alloc)?, menu.is_empty()))
+}
+
+/// By its last row, the text of 20,000 bytes, the cells and the ISSN: 60 times 20,035 bytes.
+#[test]
+fn over_budget(rt: HostRuntime) -> Result<(), Fail> {
+    let text = "a".repeat(rt.alloc(), 20_000)?;
+    let query = format!(in rt.alloc(); "rft.issn=1234567x&x={text}")?;
+    let code = twenty_texts(rt.alloc())?;
+    let (report, empty) = reported(rt.alloc(), "delta", &code, query.as_str())?;
+    assert_eq!(rt; report.as_str(), "delta\tover budget 1202100\n");
+    assert!(rt; empty);
+    Ok(())
+}
+
+/// The link is written, and is none of the web.
+#[test]
+fn twenty_long_members(rt: HostRuntime) -> Result<(), Fail> {
+    let member = "a".repeat(rt.alloc(), 1_000)?;
+    let member = format!(in rt.alloc(); "&list={member}")?;
+    let members = member.as_str().repeat(rt.alloc(), 20)?;
+    let query = format!(in rt.alloc(); "rft.issn=1234567x{members}")?;
+    let (report, empty) = reported(rt.alloc(), "gamma", LIST_CODE, query.as_str())?;
+    assert_eq!(rt; report.as_str(), "gamma\tnot a web link\n");
+    assert!(rt; empty);
     Ok(())
 }

@@ -143,8 +143,8 @@ fn fates(alloc: Global, given: &[Given], shown: &mut Shown) -> Result<String, Fa
     Ok(said(alloc, &fates)?)
 }
 
-/// What is given, what the fates of the runs say at first, and what the watch is shown. A run that has ended waits for the others;
-/// what is over budget is not run.
+/// What is given, what the fates of the runs say at first, and what the watch is shown. A run that has ended waits for
+/// the others; what is over budget is not run.
 const ROUNDS: [(&[Given], &str, &str); 3] = [
     (&[], "", "[]"),
     (

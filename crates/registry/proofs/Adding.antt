@@ -24,7 +24,8 @@ others_differ targets target new k d within same =
     let found = list_any_at (λ other. bytes_eq other.name target.name) targets k d within ((bytes_eq-Decides (get_or targets k d).name target.name).1 same) in
     false≢true (sym new ∙ found)
 
-with_one_more : (targets : List TargetValue) (target : TargetValue) → IsRegistry targets → IsSafe target.code → MayBeAdded targets target.name → IsRegistry (targets ++ target ∷ [])
+with_one_more : (targets : List TargetValue) (target : TargetValue) → IsRegistry targets → IsSafe target.code → MayBeAdded targets target.name
+    → IsRegistry (targets ++ target ∷ [])
 with_one_more targets target known safe may =
     let room = may.0 in
     let free = may.1 in
@@ -37,7 +38,8 @@ with_one_more targets target known safe may =
     }
 
 -- a registry after a target came, or did not
-pub after_adding : (targets : List TargetValue) (target : TargetValue) (came : Bool) (now : List TargetValue) → IsRegistry targets → IsSafe target.code → MayBeAdded targets target.name
+pub after_adding : (targets : List TargetValue) (target : TargetValue) (came : Bool) (now : List TargetValue) → IsRegistry targets → IsSafe target.code
+    → MayBeAdded targets target.name
     → now ≡ (if came then targets ++ target ∷ [] else targets) → IsRegistry now
 after_adding targets target true now known safe may is = subst IsRegistry (sym is) (with_one_more targets target known safe may)
 after_adding targets target false now known safe may is = subst IsRegistry (sym is) known
@@ -60,4 +62,5 @@ with_its_columns targets target false now columns others its is = subst (AreAllA
 pub among_after_adding : (targets : List TargetValue) (target : TargetValue) (came : Bool) (now : List TargetValue) (old new : ColumnNames) (is_first : Bool)
     → AreAllAmong old targets → is_first ≡ (length targets == 0) → (is_first ≡ false → (name : Text) → has old name ≡ true → has new name ≡ true)
     → AreAmong new target.table.header → now ≡ (if came then targets ++ target ∷ [] else targets) → AreAllAmong new now
-among_after_adding targets target came now old new is_first among is kept its = with_its_columns targets target came now new (all_stay targets old new is_first is kept among) its
+among_after_adding targets target came now old new is_first among is kept its =
+    with_its_columns targets target came now new (all_stay targets old new is_first is kept among) its

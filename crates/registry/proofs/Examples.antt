@@ -1,5 +1,6 @@
 -- The definitions computed: small targets and requests are written out here, and the checker compares.
-use Rattle.std.proofs.Common.{ℕ, ◌≡◌, true, false, List, [], ◌∷◌, Some, refl, codes}
+use Rattle.std.proofs.Common.{ℕ, ◌≡◌, true, false, List, [], ◌∷◌, Some, refl, codes, length, arith, lit<}
+use Rattle.std.specs.Prelude.{map}
 use Rattle.std.specs.Hash.DefaultHasher.{initial}
 use Rattle.text_model.specs.Texts.{Text}
 use Rattle.environment_model.specs.Environment.{byte_count, look_up, members_of, text_of, with_member}
@@ -8,24 +9,34 @@ use Rattle.kev_read.specs.Pairs.{KeyValue}
 use Rattle.kbart_rows.specs.Cells.{Holdings}
 use Rattle.menu.specs.declared.entry.Resolution.{Resolution}
 use Rattle.menu.specs.declared.entry.Resolution.TheVariants as resolution
-use Rattle.registry.specs.Targets.{TargetValue}
+use Rattle.registry.specs.Targets.{TargetValue, has_name}
+use Rattle.registry.specs.Refusals.{IsRefusal}
+use Rattle.registry.specs.declared.error.AddErrorKind.TheVariants.{BadTargetName, NoMemory}
 use Rattle.registry.specs.RowEnvironments.{row_entries, row_environment}
 use Rattle.registry.specs.Fates.{OverBudget, Link, NoLink}
 use Rattle.registry.specs.Entries.{chosen, resolution_by}
 
 -- ---- what is chosen
 
-second_row_has_a_link : chosen resolution.NoRow (resolution.NoLink ∷ resolution.Link 1 (codes "http://a") ∷ resolution.Link 2 (codes "http://b") ∷ []) ≡ resolution.Link 1 (codes "http://a")
+second_row_has_a_link : chosen resolution.NoRow (resolution.NoLink ∷ resolution.Link 1 (codes "http://a") ∷ resolution.Link 2 (codes "http://b") ∷ [])
+    ≡ resolution.Link 1 (codes "http://a")
 second_row_has_a_link = refl
 
 no_row_has_a_link : chosen resolution.NoRow (resolution.NoLink ∷ resolution.NotAWebLink ∷ []) ≡ resolution.NotAWebLink
 no_row_has_a_link = refl
 
+-- a row without a web link does not end the search
+last_row_has_a_link : chosen resolution.NoRow (resolution.NotAWebLink ∷ resolution.OverBudget 1202100 ∷ resolution.NoLink ∷ resolution.Link 3
+    (codes "http://a") ∷ [])
+    ≡ resolution.Link 3 (codes "http://a")
+last_row_has_a_link = refl
+
 no_row_matches : chosen resolution.NoRow [] ≡ resolution.NoRow
 no_row_matches = refl
 
 resolutions : List Resolution
-resolutions = resolution_by 3 (Link (codes "HTTPS://e.org")) ∷ resolution_by 3 (Link (codes "javascript:x")) ∷ resolution_by 3 NoLink ∷ resolution_by 3 (OverBudget 1202100) ∷ []
+resolutions = resolution_by 3 (Link (codes "HTTPS://e.org")) ∷ resolution_by 3 (Link (codes "javascript:x")) ∷ resolution_by 3 NoLink ∷ resolution_by 3
+    (OverBudget 1202100) ∷ []
 
 resolutions_of_fates : resolutions ≡ resolution.Link 3 (codes "HTTPS://e.org") ∷ resolution.NotAWebLink ∷ resolution.NoLink ∷ resolution.OverBudget 1202100 ∷ []
 unfolding resolutions
@@ -37,7 +48,8 @@ abbrev table : Holdings
 table =
     record {
       header = codes "print_identifier" ∷ codes "title_url" ∷ codes "date_first_issue_online" ∷ codes "date_last_issue_online" ∷ [];
-      rows = (codes "1234-567X" ∷ codes "http://e.org/a" ∷ codes "1990" ∷ codes "1995" ∷ []) ∷ (codes "1234-567X" ∷ codes "http://e.org/b" ∷ codes "2000" ∷ [] ∷ []) ∷ [];
+      rows = (codes "1234-567X" ∷ codes "http://e.org/a" ∷ codes "1990" ∷ codes "1995" ∷ []) ∷ (codes "1234-567X" ∷ codes "http://e.org/b" ∷ codes
+          "2000" ∷ [] ∷ []) ∷ [];
       keys = record { begun = initial };
     }
 
@@ -61,7 +73,8 @@ abbrev pair : Text → Text → KeyValue
 pair key value = record { key = key; value = value }
 
 abbrev request : List KeyValue
-request = pair (codes "rft.issn") (codes "1234567x") ∷ pair (codes "title_url") (codes "http://evil.example") ∷ pair (codes "list") (codes "a") ∷ pair (codes "list") (codes "b") ∷ []
+request = pair (codes "rft.issn") (codes "1234567x") ∷ pair (codes "title_url") (codes "http://evil.example") ∷ pair (codes "list") (codes "a") ∷ pair
+    (codes "list") (codes "b") ∷ []
 
 -- the row of the example, the one behind the first
 abbrev later_row : ℕ
@@ -78,3 +91,17 @@ row_before_request = refl
 list_of_the_request : members_of (row_environment alpha request later_row) (codes "list") ≡ codes "a" ∷ codes "b" ∷ []
 unfolding look_up with_member
 list_of_the_request = refl
+
+-- ---- names of targets
+
+-- two names are the same only if all their bytes are
+names_of_alpha : map (has_name (alpha ∷ [])) (codes "alpha" ∷ codes "Alpha" ∷ codes "alph" ∷ codes "alphabet" ∷ [] ∷ [])
+    ≡ true ∷ false ∷ false ∷ false ∷ false ∷ []
+names_of_alpha = refl
+
+-- a full registry is full, whatever the name
+full_before_names : (targets : List TargetValue) → length targets ≡ 256 → IsRefusal targets (codes "a b") BadTargetName → ⊥
+full_before_names targets many refused = omega (arith, many, refused.0)
+
+names_before_memory : IsRefusal [] (codes "a b") NoMemory → ⊥
+names_before_memory may = absurd (cc (may.1.is_name.characters 1 0 (lit< tt)))

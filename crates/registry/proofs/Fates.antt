@@ -14,7 +14,8 @@ over_budget code env over =
     let test : nat_lt MAX_LINK_BYTES (most_bytes_in code env) ≡ true = grind (arith, nat_tests) in
     rw test refl
 
-pub within_budget : (code : Code) (env : Environment) (outcome : Outcome) → most_bytes_in code env ≤ MAX_LINK_BYTES → outcome_of code env ≡ outcome → fate_in code env ≡ ended outcome
+pub within_budget : (code : Code) (env : Environment) (outcome : Outcome) → most_bytes_in code env ≤ MAX_LINK_BYTES → outcome_of code env ≡ outcome
+    → fate_in code env ≡ ended outcome
 unfolding fate_in
 within_budget code env outcome within is =
     let test : nat_lt MAX_LINK_BYTES (most_bytes_in code env) ≡ false = grind (arith, nat_tests) in

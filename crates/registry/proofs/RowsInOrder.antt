@@ -1,5 +1,6 @@
 -- Matching rows one after another, and what is chosen of their reasons.
-use Rattle.std.proofs.Common.{◌≡◌, ℕ, ◌+◌, ◌≤◌, ◌<◌, Bool, true, false, cond, suc, List, [], ◌∷◌, All, Some, None, filter, refl, sym, ap, ◌∙◌, arith, nat_le, get_or, length}
+use Rattle.std.proofs.Common.{◌≡◌, ℕ, ◌+◌, ◌≤◌, ◌<◌, Bool, true, false, cond, suc, List, [], ◌∷◌, All, Some, None, filter, refl, sym, ap, ◌∙◌, arith, nat_le}
+use Rattle.std.proofs.Common.{get_or, length}
 use Rattle.std.proofs.lemmas.Bool.Decides.{nat_tests}
 use Rattle.std.proofs.lemmas.List.FromFn.{length-range_with_len, get_or-range_with_len}
 use Rattle.std.proofs.lemmas.List.Kept.{AllPairs-filter}
@@ -61,7 +62,8 @@ first_is_from : (from row : ℕ) (rows : List ℕ) → first_from from rows ≡ 
 first_is_from from row [] found = absurd (none-some row found)
 first_is_from from row (next ∷ rows) found = by_test (nat_le from next) refl (first_is_from from row rows) found
   where
-    by_test : (b : Bool) → nat_le from next ≡ b → (first_from from rows ≡ Some row → from ≤ row) → cond b (Some next) (first_from from rows) ≡ Some row → from ≤ row
+    by_test : (b : Bool) → nat_le from next ≡ b → (first_from from rows ≡ Some row → from ≤ row) → cond b (Some next) (first_from from rows) ≡ Some row
+        → from ≤ row
     by_test true passes rest here =
         let same : next ≡ row = same_Some next row here in
         let low : from ≤ next = grind (arith, nat_tests) in
@@ -69,7 +71,8 @@ first_is_from from row (next ∷ rows) found = by_test (nat_le from next) refl (
     by_test false fails rest later = rest later
 
 -- the first one, and those behind it
-pub first_and_rest : (from row : ℕ) (rows : List ℕ) → Rise rows → first_from from rows ≡ Some row → filter (nat_le from) rows ≡ row ∷ filter (nat_le (row + 1)) rows
+pub first_and_rest : (from row : ℕ) (rows : List ℕ) → Rise rows → first_from from rows ≡ Some row
+    → filter (nat_le from) rows ≡ row ∷ filter (nat_le (row + 1)) rows
 first_and_rest from row [] rise found = absurd (none-some row found)
 first_and_rest from row (next ∷ rows) rise found = by_test (nat_le from next) refl (first_and_rest from row rows (rest_rises next rows rise)) found
   where
@@ -92,8 +95,10 @@ first_and_rest from row (next ∷ rows) rise found = by_test (nat_le from next) 
 
 -- ---- what is chosen
 
-pub link_first : (so_far resolution : Resolution) (resolutions : List Resolution) → is_link resolution ≡ true → chosen so_far (resolution ∷ resolutions) ≡ resolution
+pub link_first : (so_far resolution : Resolution) (resolutions : List Resolution) → is_link resolution ≡ true → chosen so_far (resolution ∷ resolutions)
+    ≡ resolution
 link_first so_far resolution resolutions link = rw link refl
 
-pub no_link_first : (so_far resolution : Resolution) (resolutions : List Resolution) → is_link resolution ≡ false → chosen so_far (resolution ∷ resolutions) ≡ chosen resolution resolutions
+pub no_link_first : (so_far resolution : Resolution) (resolutions : List Resolution) → is_link resolution ≡ false → chosen so_far (resolution ∷ resolutions)
+    ≡ chosen resolution resolutions
 no_link_first so_far resolution resolutions no_link = rw no_link refl

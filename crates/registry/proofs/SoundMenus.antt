@@ -72,16 +72,20 @@ sound_resolution_by row (Link link) uri = by_test (is_web_link link) refl
     by_test true is = (is, uri)
     by_test false is = tt
 
-sound_last : (before : Resolution) (resolutions : List Resolution) → IsSoundResolution before → All IsSoundResolution resolutions → IsSoundResolution (last_resolution before resolutions)
+sound_last : (before : Resolution) (resolutions : List Resolution) → IsSoundResolution before → All IsSoundResolution resolutions
+    → IsSoundResolution (last_resolution before resolutions)
 sound_last before [] sound all = sound
-sound_last before (next ∷ resolutions) sound all = sound_last next resolutions (All-head IsSoundResolution next resolutions all) (All-tail IsSoundResolution next resolutions all)
+sound_last before (next ∷ resolutions) sound all =
+    sound_last next resolutions (All-head IsSoundResolution next resolutions all) (All-tail IsSoundResolution next resolutions all)
 
-sound_choice : (other : Resolution) (resolutions : List Resolution) → IsSoundResolution other → All IsSoundResolution resolutions → IsSoundResolution (unwrap_or (find is_link resolutions) other)
+sound_choice : (other : Resolution) (resolutions : List Resolution) → IsSoundResolution other → All IsSoundResolution resolutions
+    → IsSoundResolution (unwrap_or (find is_link resolutions) other)
 sound_choice other [] sound all = sound
 sound_choice other (next ∷ resolutions) sound all =
     by_test (is_link next) (sound_choice other resolutions sound (All-tail IsSoundResolution next resolutions all))
   where
-    by_test : (b : Bool) → IsSoundResolution (unwrap_or (find is_link resolutions) other) → IsSoundResolution (unwrap_or (cond b (Some next) (find is_link resolutions)) other)
+    by_test : (b : Bool) → IsSoundResolution (unwrap_or (find is_link resolutions) other)
+        → IsSoundResolution (unwrap_or (cond b (Some next) (find is_link resolutions)) other)
     by_test true rest = All-head IsSoundResolution next resolutions all
     by_test false rest = rest
 
@@ -90,14 +94,17 @@ sound_resolution decided target pairs safe =
     let rows = matching_rows_of target pairs in
     let each : All IsSoundResolution (map (resolution_of_row target pairs) rows) =
     All-map IsSoundResolution (resolution_of_row target pairs) rows (λ k d within. all_rows (get_or rows k d)) in
-    sound_choice (last_resolution resolution.NoRow (map (resolution_of_row target pairs) rows)) (map (resolution_of_row target pairs) rows) (sound_last resolution.NoRow (map (resolution_of_row target pairs) rows) tt each) each
+    sound_choice (last_resolution resolution.NoRow (map (resolution_of_row target pairs) rows)) (map (resolution_of_row target pairs) rows)
+    (sound_last resolution.NoRow (map (resolution_of_row target pairs) rows) tt each) each
   where
     all_rows : (row : ℕ) → IsSoundResolution (resolution_of_row target pairs row)
-    all_rows row = sound_resolution_by row (fate_in target.code (row_environment target pairs row)) (uri_fate decided target.code (row_environment target pairs row) safe)
+    all_rows row = sound_resolution_by row (fate_in target.code (row_environment target pairs row))
+        (uri_fate decided target.code (row_environment target pairs row) safe)
 
 -- ---- menus
 
-one_more_link : (name : Text) (why : Resolution) (others : List NamedLink) → IsTargetName name → IsSoundResolution why → All IsMenuLink others → All IsMenuLink (cons_option (link_under name why) others)
+one_more_link : (name : Text) (why : Resolution) (others : List NamedLink) → IsTargetName name → IsSoundResolution why → All IsMenuLink others
+    → All IsMenuLink (cons_option (link_under name why) others)
 one_more_link name (resolution.Link row link) others named sound all =
     All-cons IsMenuLink (record { name = name; link = link }) others (record { name = named; web = sound.0; uri = sound.1 }) all
 one_more_link name resolution.NoRow others named sound all = all
@@ -105,7 +112,8 @@ one_more_link name resolution.NoLink others named sound all = all
 one_more_link name resolution.NotAWebLink others named sound all = all
 one_more_link name (resolution.OverBudget bytes) others named sound all = all
 
-sound_links : OutcomesAreDecided → (targets : List TargetValue) (pairs : List KeyValue) → All (λ target. IsTargetName target.name) targets → All (λ target. IsSafe target.code) targets
+sound_links : OutcomesAreDecided → (targets : List TargetValue) (pairs : List KeyValue) → All (λ target. IsTargetName target.name) targets
+    → All (λ target. IsSafe target.code) targets
     → All IsMenuLink (links (menu_of targets pairs))
 sound_links decided [] pairs named safe = All-nil IsMenuLink
 sound_links decided (target ∷ targets) pairs named safe =

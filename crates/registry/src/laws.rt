@@ -21,32 +21,39 @@ use verified_runs::MAX_LINK_BYTES;
 /// it is the reason so far. Otherwise it is that of the next matching row, where that is a link; and where it is
 /// none, it is found from behind that row, with its reason so far.
 pub fn rows_are_tried_in_order()
-    ensures start { (target : TargetValue) (pairs : List KeyValue) → resolution_of target pairs ≡ resolution_from target pairs 0 NoRow }
+    ensures start { (target : TargetValue) (pairs : List KeyValue)
+        → resolution_of target pairs ≡ resolution_from target pairs 0 NoRow }
     ensures no_more { (target : TargetValue) (pairs : List KeyValue) (from : ℕ) (so_far : Resolution) →
         first_from from (matching_rows_of target pairs) ≡ None → resolution_from target pairs from so_far ≡ so_far }
     ensures link { (target : TargetValue) (pairs : List KeyValue) (from row : ℕ) (so_far : Resolution) →
         first_from from (matching_rows_of target pairs) ≡ Some row → is_link (resolution_of_row target pairs row) ≡ true
         → resolution_from target pairs from so_far ≡ resolution_of_row target pairs row }
     ensures no_link { (target : TargetValue) (pairs : List KeyValue) (from row : ℕ) (so_far : Resolution) →
-        first_from from (matching_rows_of target pairs) ≡ Some row → is_link (resolution_of_row target pairs row) ≡ false
-        → resolution_from target pairs from so_far ≡ resolution_from target pairs (row + 1) (resolution_of_row target pairs row) }
+        first_from from (matching_rows_of target pairs) ≡ Some row → is_link (resolution_of_row target pairs row)
+        ≡ false
+        → resolution_from target pairs from so_far ≡ resolution_from target pairs (row + 1)
+        (resolution_of_row target pairs row) }
 {}
 
 /// The matching rows of a target stand in rising order: those at or after row 0 are all of them. Where none is at or
 /// after a row, there are none there; otherwise they are the first one, and those behind it.
 pub fn matching_rows_rise()
-    ensures start { (target : TargetValue) (pairs : List KeyValue) → filter (nat_le 0) (matching_rows_of target pairs) ≡ matching_rows_of target pairs }
+    ensures start { (target : TargetValue) (pairs : List KeyValue) → filter (nat_le 0) (matching_rows_of target pairs)
+        ≡ matching_rows_of target pairs }
     ensures no_more { (target : TargetValue) (pairs : List KeyValue) (from : ℕ) →
-        first_from from (matching_rows_of target pairs) ≡ None → filter (nat_le from) (matching_rows_of target pairs) ≡ [] }
+        first_from from (matching_rows_of target pairs) ≡ None → filter (nat_le from) (matching_rows_of target pairs)
+        ≡ [] }
     ensures next { (target : TargetValue) (pairs : List KeyValue) (from row : ℕ) →
         first_from from (matching_rows_of target pairs) ≡ Some row
-        → filter (nat_le from) (matching_rows_of target pairs) ≡ row ∷ filter (nat_le (row + 1)) (matching_rows_of target pairs) }
+        → filter (nat_le from) (matching_rows_of target pairs)
+        ≡ row ∷ filter (nat_le (row + 1)) (matching_rows_of target pairs) }
 {}
 
 /// The fate of code in an environment: over budget exactly where its bound on bytes passes the limit; and otherwise
 /// what the machine comes to, whatever it comes to.
 pub fn fates_are_decided()
-    ensures over { (code : Code) (env : Environment) → MAX_LINK_BYTES < most_bytes_in code env → fate_in code env ≡ OverBudget (most_bytes_in code env) }
+    ensures over { (code : Code) (env : Environment) → MAX_LINK_BYTES < most_bytes_in code env
+        → fate_in code env ≡ OverBudget (most_bytes_in code env) }
     ensures ran { (code : Code) (env : Environment) (outcome : Outcome) →
         most_bytes_in code env ≤ MAX_LINK_BYTES → HasOutcome code env outcome → fate_in code env ≡ ended outcome }
 {
@@ -56,7 +63,8 @@ pub fn fates_are_decided()
 /// A menu of a registry has the names of targets alone, and only links of the web that are URI text, whatever is asked:
 /// so what the laws of [`menu`] say of such names and links holds of all of its entries.
 pub fn menus_are_sound()
-    ensures { (targets : List TargetValue) (pairs : List KeyValue) → IsRegistry targets → IsSoundMenu (menu_of targets pairs) }
+    ensures { (targets : List TargetValue) (pairs : List KeyValue) → IsRegistry targets
+        → IsSoundMenu (menu_of targets pairs) }
 {
     course_is_decided();
 }

@@ -1,6 +1,7 @@
 //! The registry of all targets.
 
-ghost use Rattle.std.specs.Prelude.{◌≡◌, ◌++◌, ◌∷◌, [], IfErr, IfOk, MatchOption, OnErr, OnOk, false, string_bytes, true};
+ghost use Rattle.std.specs.Prelude.{◌≡◌, ◌++◌, ◌∷◌, [], IfErr, IfOk, MatchOption, OnErr, OnOk, false, string_bytes};
+ghost use Rattle.std.specs.Prelude.{true};
 ghost use Rattle.registry.specs.Targets as spec;
 ghost use Rattle.text_model.specs.Texts.{Text};
 ghost use Rattle.kbart_rows.specs.ColumnNames.{has};
@@ -14,7 +15,7 @@ use crate::name::is_target_name;
 use crate::target::Target;
 use code_file::Code;
 use kbart_rows::{ColumnNames, Keys, Table};
-use row_scope::NameColumns;
+use row_scope::{NameColumns, NameNumbers};
 use std::alloc::{AllocError, Global};
 use std::marker::Model;
 use verifier::Verified;
@@ -28,6 +29,8 @@ pub struct Registry {
     alloc: Global,
     // The names of the columns of all tables.
     columns: ColumnNames,
+    // The numbers of the names of all codes.
+    numbers: NameNumbers,
     targets: Vec<Target>,
 }
 
@@ -39,7 +42,8 @@ impl Model for Registry {
 
     ghost view = { λ registry. registry.targets.items };
 
-    ghost invariant = { λ registry. IsRegistry registry.targets.items × AreAllAmong registry.columns registry.targets.items };
+    ghost invariant = { λ registry. IsRegistry registry.targets.items
+        × AreAllAmong registry.columns registry.targets.items };
 }
 
 impl Registry {
@@ -51,6 +55,7 @@ impl Registry {
         Registry {
             alloc,
             columns: ColumnNames::new(alloc, Keys::new(0, 0)),
+            numbers: NameNumbers::new(alloc, Keys::new(0, 0)),
             targets: Vec::new(alloc),
         }
     }
@@ -70,15 +75,22 @@ impl Registry {
         &self.columns
     }
 
+    /// The numbers of the names of all codes, and perhaps of codes that were refused. It takes no memory.
+    pub fn numbers(&self) -> &NameNumbers {
+        &self.numbers
+    }
+
     /// Adds a target behind the others.
     ///
     /// Refuses it by the first of the reasons of [`AddErrorKind`], and gives its parts back; nothing has changed then.
     pub fn add(&mut self, name: String, code: Verified, table: Table) -> Result<(), AddError>
-        ensures ok { OnOk result (self.new ≡ self.old ++ record { name = string_bytes name; code = code; table = table } ∷ []) }
+        ensures ok { OnOk result
+            (self.new ≡ self.old ++ record { name = string_bytes name; code = code; table = table } ∷ []) }
         ensures accepted { IfOk result (λ _. MayBeAdded self.old (string_bytes name)) }
         ensures err { OnErr result (self.new ≡ self.old) }
         ensures refused { IfErr result (λ e. IsRefusal self.old (string_bytes name) e.kind) }
-        ensures parts { IfErr result (λ e. (string_bytes e.name ≡ string_bytes name) × (e.code ≡ code) × (e.table ≡ table)) }
+        ensures parts { IfErr result (λ e. (string_bytes e.name ≡ string_bytes name) × (e.code ≡ code)
+            × (e.table ≡ table)) }
     {
         if let Some(kind) = self.refusal(name.as_str()) {
             return Err(AddError {
@@ -89,8 +101,14 @@ impl Registry {
             });
         }
         let is_first = self.targets().is_empty();
-        let Ok(names) = names_of(self.alloc, &mut self.columns, is_first, code.code(), &table)
-        else {
+        let Ok(names) = names_of(
+            self.alloc,
+            &mut self.columns,
+            &mut self.numbers,
+            is_first,
+            code.code(),
+            &table,
+        ) else {
             return Err(AddError {
                 kind: AddErrorKind::NoMemory,
                 name,
@@ -119,11 +137,12 @@ impl Registry {
     }
 }
 
-/// The columns of a table that have the names of a code. The names of all its columns are added to `columns`, which has the
-/// keys of the first table.
+/// The columns of a table that have the names of a code. The names of all its columns are added to `columns`, which has
+/// the keys of the first table.
 fn names_of(
     alloc: Global,
     columns: &mut ColumnNames,
+    numbers: &mut NameNumbers,
     is_first: bool,
     code: &Code,
     table: &Table,
@@ -134,9 +153,10 @@ fn names_of(
 {
     if is_first {
         *columns = ColumnNames::new(alloc, table.keys());
+        *numbers = NameNumbers::new(alloc, table.keys());
     }
     columns.add(alloc, table)?;
-    NameColumns::new(alloc, code, table)
+    NameColumns::new(alloc, code, table, numbers)
 }
 
 /// Whether one of the targets has the name.

@@ -5,7 +5,7 @@ ghost use Rattle.row_scope.specs.NameColumns.{AreNameColumns};
 ghost use Rattle.row_scope.specs.RequestValues.{IsApartFrom};
 
 use kbart_rows::Table;
-use row_scope::{NameColumns, RequestValues, TargetRequest};
+use row_scope::{KnownValues, NameColumns, TargetRequest};
 use std::alloc::{AllocError, Global};
 use std::marker::Model;
 use verifier::Verified;
@@ -71,11 +71,13 @@ impl Target {
     pub fn request<'a>(
         &'a self,
         alloc: Global,
-        request: &'a RequestValues<'a>,
+        known: &mut KnownValues<'a>,
     ) -> Result<TargetRequest<'a>, AllocError>
-        requires { IsApartFrom request.now self.now.table.header }
-        ensures { IfOk result (λ t. (t.code ≡ self.now.code) × (t.table ≡ self.now.table) × (t.request ≡ request.now)) }
+        requires { IsApartFrom known.old self.now.table.header }
+        ensures ok { IfOk result (λ t. (t.code ≡ self.now.code) × (t.table ≡ self.now.table)
+            × (t.request ≡ known.old)) }
+        ensures same { known.new ≡ known.old }
     {
-        TargetRequest::new(alloc, self.code.code(), &self.table, &self.names, request)
+        TargetRequest::new(alloc, self.code.code(), &self.table, &self.names, known)
     }
 }

@@ -6,7 +6,8 @@ use Rattle.link_menu.specs.RowsByRound.{step_lists_in_all_rounds}
 use Rattle.registry.specs.Entries.{menu_of}
 use Rattle.registry.specs.Targets.{AreAllAmong}
 use Rattle.link_menu.specs.Private.Searches.{ends_next, is_open, started}
-use Rattle.link_menu.proofs.RoundLemmas.{AfterRounds, all_rounds, at_first, fewer_rounds, one_round, part_of_round, rounds_left, some_rounds}
+use Rattle.link_menu.proofs.RoundLemmas.{rounds_left}
+use Rattle.link_menu.proofs.RoundProgress.{AfterRounds, all_rounds, at_first, fewer_rounds, one_round, part_of_round, some_rounds}
 use Rattle.link_menu.proofs.SearchLemmas.{all_written_back, entry_in_the_end, menu_after_round, menu_at_end, menu_at_start}
 use Rattle.link_menu.proofs.StepListLemmas.{nothing_seen, on_err, on_ok}
 use Rattle.link_menu.proofs.resolver.resolve_watched.Goals as goal

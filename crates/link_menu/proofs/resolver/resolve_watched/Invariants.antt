@@ -1,6 +1,7 @@
 use Rattle.std.proofs.Common.{◌≡◌, map}
 use Rattle.registry.specs.Entries.{menu_of}
-use Rattle.link_menu.proofs.RoundLemmas.{AfterRounds, rounds_left}
+use Rattle.link_menu.proofs.RoundLemmas.{rounds_left}
+use Rattle.link_menu.proofs.RoundProgress.{AfterRounds}
 use Rattle.link_menu.proofs.SearchLemmas.{entry_in_the_end}
 use Rattle.link_menu.proofs.resolver.resolve_watched.Given as goal
 

@@ -1,7 +1,8 @@
 use Rattle.std.proofs.Common.{◌≡◌, suc, ◌*◌, ◌<◌, ◌≤◌, subst, sym, ap, ◌∙◌, arith}
 use Rattle.link_menu.specs.StepLists.{ends_of, HasSeenSome, step_lists_in, step_lists_to_end, steps_of, with_list, with_lists}
 use Rattle.link_menu.specs.Private.Rounds.{AreOfTheSame}
-use Rattle.link_menu.proofs.TurnsOfAll.{all_after, at_start, all_live, next_turn, still_left, all_done, fewer_left, same_runs, nothing_shown, shown_at_first, shown_next, turns_at_start, turns_of}
+use Rattle.link_menu.proofs.TurnsOfAll.{all_after, at_start, all_live, next_turn, still_left, all_done, fewer_left, same_runs, nothing_shown, shown_at_first}
+use Rattle.link_menu.proofs.TurnsOfAll.{shown_next, turns_at_start, turns_of}
 use Rattle.link_menu.proofs.StepListLemmas.{on_err}
 use Rattle.link_menu.proofs.rounds.turn_until_ended.Goals as goal
 
@@ -14,7 +15,8 @@ pub loop-live-smaller : goal.loop-live-smaller
 loop-live-smaller g c =
     let inv = c.loop-live.invariant in
     let runs = c.args.runs.now in
-    let more : inv.0 < turns_of runs = still_left c.states_after_steps_are_decided.ensures c.run_ends_once.ensures inv.0 runs c.loop-live.runs c.loop-live.live c.requires inv.1 inv.3 c.loop-live-test.true in
+    let more : inv.0 < turns_of runs = still_left c.states_after_steps_are_decided.ensures c.run_ends_once.ensures inv.0 runs c.loop-live.runs c.loop-live.live
+    c.requires inv.1 inv.3 c.loop-live-test.true in
     let is = next_turn inv.0 runs c.loop-live.runs c.turn_all-live.new.runs c.requires inv.1 c.turn_all-live.ensures.count c.turn_all-live.ensures.moved in
     fewer_left inv.0 runs c.loop-live.runs c.turn_all-live.new.runs c.requires inv.1 is more
 
@@ -25,7 +27,8 @@ loop-live-preserved g c =
     let told = g.W.Watch.lists c.args.watch.now in
     let before = g.W.Watch.lists c.loop-live.watch in
     let after = g.W.Watch.lists c.seen.new.self in
-    let more : inv.0 < turns_of runs = still_left c.states_after_steps_are_decided.ensures c.run_ends_once.ensures inv.0 runs c.loop-live.runs c.loop-live.live c.requires inv.1 inv.3 c.loop-live-test.true in
+    let more : inv.0 < turns_of runs = still_left c.states_after_steps_are_decided.ensures c.run_ends_once.ensures inv.0 runs c.loop-live.runs c.loop-live.live
+    c.requires inv.1 inv.3 c.loop-live-test.true in
     let is = next_turn inv.0 runs c.loop-live.runs c.turn_all-live.new.runs c.requires inv.1 c.turn_all-live.ensures.count c.turn_all-live.ensures.moved in
     let seen : after ≡ with_list before (steps_of (all_after (64 * suc inv.0) runs)) = c.in_ok-seen.ensures.ok ∙ ap (λ rs. with_list before (steps_of rs)) is in
     (suc inv.0, is, omega (arith, more), c.turn_all-live.ensures.live, shown_next told before after inv.0 runs inv.4 seen)
@@ -58,5 +61,6 @@ returns-clause-ok g c =
     let inv = c.loop-live.invariant in
     let runs = c.args.runs.now in
     let told = g.W.Watch.lists c.args.watch.now in
-    let all : inv.0 ≡ turns_of runs = all_done c.states_after_steps_are_decided.ensures c.run_ends_once.ensures inv.0 runs c.loop-live.runs c.loop-live.live c.requires inv.1 inv.3 c.loop-live-test.false inv.2 in
+    let all : inv.0 ≡ turns_of runs = all_done c.states_after_steps_are_decided.ensures c.run_ends_once.ensures inv.0 runs c.loop-live.runs c.loop-live.live
+    c.requires inv.1 inv.3 c.loop-live-test.false inv.2 in
     inv.4 ∙ ap (λ t. with_lists told (step_lists_in t (ends_of runs))) (all ∙ turns_at_start runs c.requires)

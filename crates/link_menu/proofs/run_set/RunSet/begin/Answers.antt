@@ -3,7 +3,8 @@ use Rattle.link_menu.proofs.RunSetLemmas.{an_excess, no_run, fresh_alone}
 use Rattle.link_menu.proofs.run_set.RunSet.begin.Goals as goal
 
 pub returns-in_ok-push-in-Ok-2-clause-fresh : goal.returns-in_ok-push-in-Ok-2-clause-fresh
-returns-in_ok-push-in-Ok-2-clause-fresh g c = fresh_alone c.course_is_decided.ensures.course c.args.code.now (g.E.Scope.environment c.args.env.now) c.code-accepted.ensures.safe
+returns-in_ok-push-in-Ok-2-clause-fresh g c = fresh_alone c.course_is_decided.ensures.course c.args.code.now (g.E.Scope.environment c.args.env.now)
+    c.code-accepted.ensures.safe
 
 pub returns-in_ok-push-in-Err-OverBudget-clause-over_budget : goal.returns-in_ok-push-in-Err-OverBudget-clause-over_budget
 returns-in_ok-push-in-Err-OverBudget-clause-over_budget g c =
@@ -20,4 +21,5 @@ returns-in_ok-push-in-Err-OverBudget-clause-runs g c =
     sym (append-nil runs) ∙ ap (λ rs. runs ++ rs) (sym (no_run c.args.code.now (g.E.Scope.environment c.args.env.now) arm.bytes over.0 over.1))
 
 pub returns-in_ok-push-in-Err-OverBudget-clause-fresh : goal.returns-in_ok-push-in-Err-OverBudget-clause-fresh
-returns-in_ok-push-in-Err-OverBudget-clause-fresh g c = fresh_alone c.course_is_decided.ensures.course c.args.code.now (g.E.Scope.environment c.args.env.now) c.code-accepted.ensures.safe
+returns-in_ok-push-in-Err-OverBudget-clause-fresh g c = fresh_alone c.course_is_decided.ensures.course c.args.code.now (g.E.Scope.environment c.args.env.now)
+    c.code-accepted.ensures.safe

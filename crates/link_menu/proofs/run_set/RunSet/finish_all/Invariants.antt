@@ -7,6 +7,7 @@ use Rattle.link_menu.proofs.run_set.RunSet.finish_all.Given as goal
 
 abbrev pub invariant-loop-excess : goal.invariant-loop-excess
 invariant-loop-excess g l = record {
-  fates : AddUp l.fates.items (drop l.excess-index l.excess-items) (into_iter_items l.runs) (fates_in l.excess-items (outcomes_in_the_end (into_iter_items l.initial.runs)));
+  fates : AddUp l.fates.items (drop l.excess-index l.excess-items) (into_iter_items l.runs)
+      (fates_in l.excess-items (outcomes_in_the_end (into_iter_items l.initial.runs)));
   left : count_by is_none (drop l.excess-index l.excess-items) ≡ into_iter_len l.runs;
 }
