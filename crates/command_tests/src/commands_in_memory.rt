@@ -1,3 +1,5 @@
+//! Commands over files in memory, with each call that they make failing in turn.
+
 use crate::outside::{bytes, gives, outside};
 use std::test::Fail;
 use streams_in_memory::Peers;
@@ -9,11 +11,17 @@ const CODE: &[u8] = b"OLK1\0\0\0\x01\0\x02\0\0\rhttp://e.org/\r\0\0\0\0\0\0\0\x0
 
 const TABLE: &[u8] = b"print_identifier\n1\n";
 
-const FILES: [(&str, &[u8]); 6] = [
+/// A table whose identifiers are those of online editions.
+const ONLINE_TABLE: &[u8] = b"online_identifier\n1\n";
+
+const FILES: [(&str, &[u8]); 9] = [
     ("a.rules", RULES),
+    ("bad.rules", b"rule\n"),
     ("a.olk", CODE),
     ("a.tsv", TABLE),
+    ("online.tsv", ONLINE_TABLE),
     ("registry", b"alpha\ta.olk\ta.tsv\n"),
+    ("online", b"beta\ta.olk\tonline.tsv"),
     ("empty", b""),
     ("new", b"the old file"),
 ];
@@ -85,6 +93,65 @@ fn resolves(rt: HostRuntime) -> Result<(), Fail> {
     gives(&rt, &mut outside, &resolve, 0, "alpha\thttp://e.org/\n", "")
 }
 
+/// A query, and whether it finds the row of a print edition and that of an online edition.
+const IDENTIFIERS: [(&str, bool); 9] = [
+    ("rft.issn=1", true),
+    ("rft.eissn=1", true),
+    ("rft.isbn=1", true),
+    ("issn=1", false),
+    ("eissn=1", false),
+    ("isbn=1", false),
+    ("rft.issn=2", false),
+    ("rft.ISSN=1", false),
+    ("rft_id=urn:ISSN:1", false),
+];
+
+#[test]
+fn three_keys_find_rows(rt: HostRuntime) -> Result<(), Fail> {
+    let mut outside = outside(rt.alloc(), &FILES)?;
+    for (query, found) in IDENTIFIERS {
+        for (registry, link) in [
+            ("registry", "alpha\thttp://e.org/\n"),
+            ("online", "beta\thttp://e.org/\n"),
+        ] {
+            let (status, printed) = if found { (0, link) } else { (1, "") };
+            let resolve = ["resolve", registry, query];
+            gives(&rt, &mut outside, &resolve, status, printed, "")?;
+        }
+    }
+    Ok(())
+}
+
+/// Commands whose first error is that of a file, the status and the error.
+const FILES_FIRST: [(&[&str], u8, &str); 5] = [
+    (
+        &["link", "bad.rules", "url_ver=1"],
+        3,
+        "rules: line 1: NoLink",
+    ),
+    (
+        &["link", "no/such.rules", "url_ver=1"],
+        4,
+        "device: no/such.rules",
+    ),
+    (&["run", "a.rules", "url_ver=1"], 3, "load: BadMagic at 0"),
+    (
+        &["resolve", "no/such.tsv", "url_ver=1"],
+        4,
+        "device: no/such.tsv",
+    ),
+    (&["serve", "none.txt", "65535", "1"], 4, "device: none.txt"),
+];
+
+#[test]
+fn files_come_before_queries_and_ports(rt: HostRuntime) -> Result<(), Fail> {
+    let mut outside = outside(rt.alloc(), &FILES)?;
+    for (arguments, status, error) in FILES_FIRST {
+        gives(&rt, &mut outside, arguments, status, "", error)?;
+    }
+    Ok(())
+}
+
 #[test]
 fn serves(rt: HostRuntime) -> Result<(), Fail> {
     let mut outside = outside(rt.alloc(), &FILES)?;
@@ -133,8 +200,11 @@ fn serves(rt: HostRuntime) -> Result<(), Fail> {
 #[test]
 fn refuses_other_arguments(rt: HostRuntime) -> Result<(), Fail> {
     let mut outside = outside(rt.alloc(), &FILES)?;
-    let cases: [&[&str]; 6] = [
+    let cases: [&[&str]; 9] = [
         &[],
+        &["expand", "{x}", "--list", "a", "x=1"],
+        &["serve", "registry", "+80", "1"],
+        &["serve", "registry", "80", "1000001"],
         &["link", "a.rules"],
         &["compile", "a.rules", "new", "x"],
         &["serve", "registry", "65536", "1"],

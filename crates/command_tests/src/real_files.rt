@@ -1,3 +1,5 @@
+//! A command over real files.
+
 use crate::outside::{KnownKeys, OnePort};
 use commands::{System, command};
 use files::SystemFiles;

@@ -34,7 +34,8 @@ named (argument ∷ arguments) name rest e = cc (e)
 counted : (arguments : List (Bor Text)) (texts : List Text) → texts_of arguments ≡ texts → length arguments ≡ length texts
 counted arguments texts e = sym (length-map arguments (λ argument. argument.now)) ∙ ap length e
 
-begins : (arguments : List (Bor Text)) (command : Command) → AreArgumentsOf (texts_of arguments) command → Begins (argument_at arguments 0) (length arguments) command
+begins : (arguments : List (Bor Text)) (command : Command) → AreArgumentsOf (texts_of arguments) command
+    → Begins (argument_at arguments 0) (length arguments) command
 begins arguments (Expand e) h = named arguments _ _ h.named
 begins arguments (Link rules query) h = (named arguments _ _ h, counted arguments _ h)
 begins arguments (Compile rules code) h = (named arguments _ _ h, counted arguments _ h)
@@ -55,7 +56,8 @@ none : (first : Text) (count : ℕ) → (count < 1) ⊎ (4 < count) → first �
 none first count few expand (Expand e) h = expand h
 none first count few expand other h = omega (arith, few, h.1)
 
-of_one : (first : Text) (count : ℕ) → count < 2 → first ≢ codes "expand" → first ≢ codes "--help" → first ≢ codes "-h" → first ≢ codes "help" → first ≢ codes "--version"
+of_one : (first : Text) (count : ℕ) → count < 2 → first ≢ codes "expand" → first ≢ codes "--help" → first ≢ codes "-h" → first ≢ codes "help"
+    → first ≢ codes "--version"
     → (command : Command) → Begins first count command → ⊥
 of_one first count few expand long short help version (Expand e) h = expand h
 of_one first count few expand long short help version Help (inl h, n) = long h
@@ -64,13 +66,15 @@ of_one first count few expand long short help version Help (inr (inr h), n) = he
 of_one first count few expand long short help version Version h = version h.0
 of_one first count few expand long short help version other h = omega (arith, few, h.1)
 
-of_two : (first : Text) (count : ℕ) → 2 ≤ count → count < 3 → first ≢ codes "expand" → first ≢ codes "verify" → first ≢ codes "show" → (command : Command) → Begins first count command → ⊥
+of_two : (first : Text) (count : ℕ) → 2 ≤ count → count < 3 → first ≢ codes "expand" → first ≢ codes "verify" → first ≢ codes "show" → (command : Command)
+    → Begins first count command → ⊥
 of_two first count some few expand verify show (Expand e) h = expand h
 of_two first count some few expand verify show (Verify code) h = verify h.0
 of_two first count some few expand verify show (Show code) h = show h.0
 of_two first count some few expand verify show other h = omega (arith, some, few, h.1)
 
-of_three : (first : Text) (count : ℕ) → 3 ≤ count → count < 4 → first ≢ codes "expand" → first ≢ codes "link" → first ≢ codes "compile" → first ≢ codes "upgrade" → first ≢ codes "run"
+of_three : (first : Text) (count : ℕ) → 3 ≤ count → count < 4 → first ≢ codes "expand" → first ≢ codes "link" → first ≢ codes "compile"
+    → first ≢ codes "upgrade" → first ≢ codes "run"
     → first ≢ codes "resolve" → (command : Command) → Begins first count command → ⊥
 of_three first count some few expand link compile upgrade run resolve (Expand e) h = expand h
 of_three first count some few expand link compile upgrade run resolve (Link rules query) h = link h.0
@@ -95,12 +99,15 @@ pub none_of_one : (arguments : List (Bor Text)) → length arguments < 2 → arg
     → (command : Command) → AreArgumentsOf (texts_of arguments) command → ⊥
 none_of_one arguments few expand long short help version command h = of_one _ _ few expand long short help version command (begins arguments command h)
 
-pub none_of_two : (arguments : List (Bor Text)) → 2 ≤ length arguments → length arguments < 3 → argument_at arguments 0 ≢ codes "expand" → argument_at arguments 0 ≢ codes "verify"
+pub none_of_two : (arguments : List (Bor Text)) → 2 ≤ length arguments → length arguments < 3 → argument_at arguments 0 ≢ codes "expand"
+    → argument_at arguments 0 ≢ codes "verify"
     → argument_at arguments 0 ≢ codes "show" → (command : Command) → AreArgumentsOf (texts_of arguments) command → ⊥
 none_of_two arguments some few expand verify show command h = of_two _ _ some few expand verify show command (begins arguments command h)
 
-pub none_of_three : (arguments : List (Bor Text)) → 3 ≤ length arguments → length arguments < 4 → argument_at arguments 0 ≢ codes "expand" → argument_at arguments 0 ≢ codes "link"
-    → argument_at arguments 0 ≢ codes "compile" → argument_at arguments 0 ≢ codes "upgrade" → argument_at arguments 0 ≢ codes "run" → argument_at arguments 0 ≢ codes "resolve"
+pub none_of_three : (arguments : List (Bor Text)) → 3 ≤ length arguments → length arguments < 4 → argument_at arguments 0 ≢ codes "expand"
+    → argument_at arguments 0 ≢ codes "link"
+    → argument_at arguments 0 ≢ codes "compile" → argument_at arguments 0 ≢ codes "upgrade" → argument_at arguments 0 ≢ codes "run"
+    → argument_at arguments 0 ≢ codes "resolve"
     → (command : Command) → AreArgumentsOf (texts_of arguments) command → ⊥
 none_of_three arguments some few expand link compile upgrade run resolve command h =
     of_three _ _ some few expand link compile upgrade run resolve command (begins arguments command h)
@@ -109,7 +116,8 @@ pub none_of_four : (arguments : List (Bor Text)) → 4 ≤ length arguments → 
     → (command : Command) → AreArgumentsOf (texts_of arguments) command → ⊥
 none_of_four arguments some expand serve command h = of_four _ _ some expand serve command (begins arguments command h)
 
-pub none_of_more : (arguments : List (Bor Text)) → 5 ≤ length arguments → argument_at arguments 0 ≢ codes "expand" → (command : Command) → AreArgumentsOf (texts_of arguments) command → ⊥
+pub none_of_more : (arguments : List (Bor Text)) → 5 ≤ length arguments → argument_at arguments 0 ≢ codes "expand" → (command : Command)
+    → AreArgumentsOf (texts_of arguments) command → ⊥
 none_of_more arguments some expand command h = none _ _ (inr some) expand command (begins arguments command h)
 
 -- ---- `serve` with other arguments
@@ -124,7 +132,8 @@ pub no_service : (arguments : List (Bor Text)) → 4 ≤ length arguments → ar
 no_service arguments four is_serve wrong (Expand e) h = omega (arith, ap first_byte (sym is_serve ∙ begins arguments (Expand e) h))
 no_service arguments four is_serve wrong (Serve s) h = refuted arguments wrong h
   where
-    refuted : (arguments : List (Bor Text)) → ((service : Service) → IsServiceOf (argument_at arguments 1) (argument_at arguments 2) (argument_at arguments 3) service → ⊥)
+    refuted : (arguments : List (Bor Text))
+        → ((service : Service) → IsServiceOf (argument_at arguments 1) (argument_at arguments 2) (argument_at arguments 3) service → ⊥)
         → AreArgumentsOfServe (texts_of arguments) s → ⊥
     refuted (a ∷ b ∷ c ∷ d ∷ []) wrong h =
         let one : b.now ≡ h.registry = cc (h.named) in

@@ -21,8 +21,10 @@ pub(crate) fn answer<'a, F: Files, K: KeySource>(
     command: Command<'a>,
 ) -> Result<String, Fault<'a>>
     requires { PrintsAtEnd command }
-    ensures ok { IfOk result (λ text. Does K.draws (F.at files.old) keys.old (F.at files.new) keys.new command.entry (string_bytes text)) }
-    ensures err { IfErr result (Fails F.at F.fails K.draws K.fails files.old keys.old files.new keys.new command.entry) }
+    ensures ok { IfOk result (λ text. Does K.draws (F.at files.old) keys.old (F.at files.new) keys.new command.entry
+        (string_bytes text)) }
+    ensures err { IfErr result
+        (Fails F.at F.fails K.draws K.fails files.old keys.old files.new keys.new command.entry) }
     ensures left { OnErr result (Leaves F.fails (F.at files.old) (F.at files.new) command.entry) }
 {
     match command {

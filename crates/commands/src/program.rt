@@ -19,7 +19,8 @@ use registry_file::KeySource;
 use std::io::Write;
 
 /// Runs the command that the arguments name, prints its result on `output`, or one line with its error on `errors`, and
-/// returns the exit status: 0 done, 1 no link or an empty menu (and nothing is printed), 2 unknown command or wrong arguments,
+/// returns the exit status: 0 done, 1 no link or an empty menu (and nothing is printed), 2 unknown command or wrong
+/// arguments,
 /// 3 an argument or a file is rejected, 4 memory or a device.
 pub fn command<F: Files, K: KeySource, P: Ports, O: Write, E: Write>(
     rt: &mut System<F, K, P>,
@@ -28,17 +29,21 @@ pub fn command<F: Files, K: KeySource, P: Ports, O: Write, E: Write>(
     errors: &mut E,
 ) -> u8
     ensures done { result ≡ 0 → (text : Text)
-        × Succeeds F.at F.fails K.draws K.fails P.binds P.fails P.Bound.gives P.Bound.closes P.Bound.fails P.Bound.In.heard P.Bound.Out.said
+        × Succeeds F.at F.fails K.draws K.fails P.binds P.fails P.Bound.gives P.Bound.closes P.Bound.fails
+        P.Bound.In.heard P.Bound.Out.said
         (texts_of arguments.now) rt.old.files rt.old.keys rt.old.ports rt.new.files rt.new.keys rt.new.ports text
         × Appends (O.contents output.old) (O.contents output.new) text }
     ensures not_done { result ≢ 0 → (fault : Fault) × (result ≡ status_of fault)
-        × ((Refuses F.at F.fails K.draws K.fails P.binds P.fails P.Bound.gives P.Bound.closes P.Bound.fails P.Bound.In.heard P.Bound.Out.said
+        × ((Refuses F.at F.fails K.draws K.fails P.binds P.fails P.Bound.gives P.Bound.closes P.Bound.fails
+        P.Bound.In.heard P.Bound.Out.said
         (texts_of arguments.now) rt.old.files rt.old.keys rt.old.ports rt.new.files rt.new.keys rt.new.ports fault
         × (output.new ≡ output.old))
-        ⊎ OutputFails F.at F.fails K.draws K.fails P.binds P.fails P.Bound.gives P.Bound.closes P.Bound.fails P.Bound.In.heard P.Bound.Out.said
+        ⊎ OutputFails F.at F.fails K.draws K.fails P.binds P.fails P.Bound.gives P.Bound.closes P.Bound.fails
+        P.Bound.In.heard P.Bound.Out.said
         (texts_of arguments.now) rt.old.files rt.old.keys rt.old.ports rt.new.files rt.new.keys rt.new.ports fault
         ⊎ ((line : Text)
-        × Stops F.at F.fails K.draws K.fails P.binds P.fails P.Bound.gives P.Bound.closes P.Bound.fails P.Bound.In.heard P.Bound.Out.said
+        × Stops F.at F.fails K.draws K.fails P.binds P.fails P.Bound.gives P.Bound.closes P.Bound.fails
+        P.Bound.In.heard P.Bound.Out.said
         (texts_of arguments.now) rt.old.files rt.old.keys rt.old.ports rt.new.files rt.new.keys rt.new.ports line fault
         × Appends (O.contents output.old) (O.contents output.new) line)) }
     ensures no_line { (result ≡ 0) ⊎ (result ≡ 1) → errors.new ≡ errors.old }
@@ -69,17 +74,21 @@ fn run<'a, F: Files, K: KeySource, P: Ports, O: Write>(
     output: &mut O,
 ) -> Result<(), Fault<'a>>
     ensures done { OnOk result ((text : Text)
-        × Succeeds F.at F.fails K.draws K.fails P.binds P.fails P.Bound.gives P.Bound.closes P.Bound.fails P.Bound.In.heard P.Bound.Out.said
+        × Succeeds F.at F.fails K.draws K.fails P.binds P.fails P.Bound.gives P.Bound.closes P.Bound.fails
+        P.Bound.In.heard P.Bound.Out.said
         (texts_of arguments.now) rt.old.files rt.old.keys rt.old.ports rt.new.files rt.new.keys rt.new.ports text
         × Appends (O.contents output.old) (O.contents output.new) text) }
     ensures failed { IfErr result (λ fault.
-        (Refuses F.at F.fails K.draws K.fails P.binds P.fails P.Bound.gives P.Bound.closes P.Bound.fails P.Bound.In.heard P.Bound.Out.said
+        (Refuses F.at F.fails K.draws K.fails P.binds P.fails P.Bound.gives P.Bound.closes P.Bound.fails
+        P.Bound.In.heard P.Bound.Out.said
         (texts_of arguments.now) rt.old.files rt.old.keys rt.old.ports rt.new.files rt.new.keys rt.new.ports fault
         × (output.new ≡ output.old))
-        ⊎ OutputFails F.at F.fails K.draws K.fails P.binds P.fails P.Bound.gives P.Bound.closes P.Bound.fails P.Bound.In.heard P.Bound.Out.said
+        ⊎ OutputFails F.at F.fails K.draws K.fails P.binds P.fails P.Bound.gives P.Bound.closes P.Bound.fails
+        P.Bound.In.heard P.Bound.Out.said
         (texts_of arguments.now) rt.old.files rt.old.keys rt.old.ports rt.new.files rt.new.keys rt.new.ports fault
         ⊎ ((line : Text)
-        × Stops F.at F.fails K.draws K.fails P.binds P.fails P.Bound.gives P.Bound.closes P.Bound.fails P.Bound.In.heard P.Bound.Out.said
+        × Stops F.at F.fails K.draws K.fails P.binds P.fails P.Bound.gives P.Bound.closes P.Bound.fails
+        P.Bound.In.heard P.Bound.Out.said
         (texts_of arguments.now) rt.old.files rt.old.keys rt.old.ports rt.new.files rt.new.keys rt.new.ports line fault
         × Appends (O.contents output.old) (O.contents output.new) line)) }
 {

@@ -52,23 +52,29 @@ pub trait Files {
 
     /// Appends all of the bytes to a new file.
     fn write(&mut self, draft: &mut Self::Draft, bytes: &[u8]) -> Result<(), FileError>
-        ensures written { OnOk result ((path before : List ℕ) → drafted draft.old path before → drafted draft.new path (before ++ bytes.now)) }
+        ensures written { OnOk result ((path before : List ℕ) → drafted draft.old path before
+            → drafted draft.new path (before ++ bytes.now)) }
         ensures same { Unchanged (at self.old) (at self.new) }
-        ensures failed { result ≡ Err Failed → (path before : List ℕ) → drafted draft.old path before → fails self.old Write path self.new };
+        ensures failed { result ≡ Err Failed → (path before : List ℕ) → drafted draft.old path before
+            → fails self.old Write path self.new };
 
     /// Finishes a new file: the system stores what was written, and then the file counts as one of these bytes.
     fn keep(&mut self, draft: Self::Draft) -> Result<(), FileError>
-        ensures here { OnOk result ((path bytes : List ℕ) → drafted draft path bytes → at self.new path ≡ kept bytes (at self.old path)) }
-        ensures others { OnOk result ((path bytes : List ℕ) → drafted draft path bytes → ChangesOnly path (at self.old) (at self.new)) }
+        ensures here { OnOk result ((path bytes : List ℕ) → drafted draft path bytes
+            → at self.new path ≡ kept bytes (at self.old path)) }
+        ensures others { OnOk result ((path bytes : List ℕ) → drafted draft path bytes
+            → ChangesOnly path (at self.old) (at self.new)) }
         ensures err { OnErr result (Unchanged (at self.old) (at self.new)) }
-        ensures failed { result ≡ Err Failed → (path bytes : List ℕ) → drafted draft path bytes → fails self.old Keep path self.new };
+        ensures failed { result ≡ Err Failed → (path bytes : List ℕ) → drafted draft path bytes
+            → fails self.old Keep path self.new };
 
     /// Moves what is at the first path to the second, in one step. What was at the second path is gone.
     fn rename(&mut self, from: &str, to: &str) -> Result<(), FileError>
         requires { from.now ≢ to.now }
         ensures there { OnOk result (at self.new to.now ≡ at self.old from.now) }
         ensures gone { OnOk result (at self.new from.now ≡ removed (at self.old from.now)) }
-        ensures others { OnOk result ((other : List ℕ) → other ≢ from.now → other ≢ to.now → at self.new other ≡ at self.old other) }
+        ensures others { OnOk result ((other : List ℕ) → other ≢ from.now → other ≢ to.now
+            → at self.new other ≡ at self.old other) }
         ensures err { OnErr result (Unchanged (at self.old) (at self.new)) }
         ensures failed { result ≡ Err Failed → fails self.old Rename from.now self.new };
 

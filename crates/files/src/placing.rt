@@ -13,8 +13,8 @@ use std::alloc::{AllocError, Global};
 
 /// Places a file of these bytes at the path, or leaves the path as it was.
 ///
-/// The bytes are written to a new file, `PATH.new`. Once the system has stored it, it is renamed to `PATH`, so that a crash
-/// leaves the old file or the new one whole. After a failure `PATH.new` is removed.
+/// The bytes are written to a new file, `PATH.new`. Once the system has stored it, it is renamed to `PATH`, so that a
+/// crash leaves the old file or the new one whole. After a failure `PATH.new` is removed.
 ///
 /// Fails if `PATH.new` exists, which then stays as it is, or if there is something at the path that is no regular file.
 /// A symbolic link counts as what it leads to, and the link itself is replaced.

@@ -23,11 +23,13 @@ Puts old path content new = UpdatesBy string_cmp (λ key. slice_cmp nat_cmp path
 module _ (old : Contents) (path : Text) (content : Option Content) (new : Contents) (puts : Puts old path content new) where
   pub found_here : found_of (get_by_text new path) ≡ found_of content
   found_here =
-      ap found_of (btree_map_updates_text path old new content puts path ∙ update_same bytes_eq (get_by_text old) path content path ((bytes_eq-Decides path path).1 refl))
+      ap found_of (btree_map_updates_text path old new content puts path ∙ update_same bytes_eq (get_by_text old) path content path
+      ((bytes_eq-Decides path path).1 refl))
 
   pub found_elsewhere : (other : Text) → other ≢ path → found_of (get_by_text new other) ≡ found_of (get_by_text old other)
   found_elsewhere other apart =
       ap found_of (
       btree_map_updates_text path old new content puts other
-      ∙ update_other bytes_eq (get_by_text old) path content other (false_from_ne_true (bytes_eq path other) (λ same. apart (sym ((bytes_eq-Decides path other).0 same))))
+      ∙ update_other bytes_eq (get_by_text old) path content other
+      (false_from_ne_true (bytes_eq path other) (λ same. apart (sym ((bytes_eq-Decides path other).0 same))))
       )

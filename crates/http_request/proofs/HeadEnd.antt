@@ -5,7 +5,8 @@ use Rattle.std.specs.List.{flat_map}
 use Rattle.std.proofs.lemmas.Bool.{false≢true, ne_eqb}
 use Rattle.std.proofs.lemmas.List.{take-append-le, take_all}
 use Rattle.std.proofs.lemmas.List.Elements.{All-head, All-tail}
-use Rattle.httparse.specs.Grammar.{AllPass, Field, IsField, IsRequestHead, IsToken, LineEnd, ReadsRequest, RequestHead, crlf, is_token_byte, is_uri_byte, is_value_byte, lf, print_blank, print_end, print_field, print_request, print_section, print_version}
+use Rattle.httparse.specs.Grammar.{AllPass, Field, IsField, IsRequestHead, IsToken, LineEnd, ReadsRequest, RequestHead, crlf, is_token_byte, is_uri_byte}
+use Rattle.httparse.specs.Grammar.{is_value_byte, lf, print_blank, print_end, print_field, print_request, print_section, print_version}
 use Rattle.httparse.proofs.GrammarLemmas.{cons-append}
 use Rattle.http_streams.specs.Closing.{begins_with_empty_line, begins_with_lf, has_empty_line, is_closed}
 use Rattle.http_request.specs.HeadEnd.{IsFirstClosedAt}

@@ -4,3 +4,5 @@ pub mod Schemes
 pub mod Answers
 pub mod Unique
 pub mod HeadEnd
+pub mod TargetExamples
+pub mod RouteExamples

@@ -19,5 +19,12 @@ short_differs target scheme short = by_test (begins_with scheme target) (bytes_e
     by_test : (test : Bool) → Decides test (map to_ascii_lowercase (take (length scheme) target) ≡ map to_ascii_lowercase scheme) → test ≡ false
     by_test true d =
         let same = ap length (d.0 refl) in
-        absurd (omega (arith, same, short, length-map (take (length scheme) target) to_ascii_lowercase, length-map scheme to_ascii_lowercase, ap length (take_all (length scheme) target (omega (arith, short)))))
+        absurd (omega (
+          arith,
+          same,
+          short,
+          length-map (take (length scheme) target) to_ascii_lowercase,
+          length-map scheme to_ascii_lowercase,
+          ap length (take_all (length scheme) target (omega (arith, short))),
+        ))
     by_test false d = refl

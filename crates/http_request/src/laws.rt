@@ -8,7 +8,8 @@ ghost use Rattle.http_request.specs.HeadEnd.{IsFirstClosedAt};
 /// Bytes have one route, and their reply has a body or none.
 pub fn one_route()
     ensures { (bytes : List ℕ) (route other : RouteValue) (without_body other_only : Bool) →
-        IsRouted bytes route without_body → IsRouted bytes other other_only → (route ≡ other) × (without_body ≡ other_only) }
+        IsRouted bytes route without_body → IsRouted bytes other other_only → (route ≡ other)
+        × (without_body ≡ other_only) }
 {}
 
 /// Bytes that begin with a head still begin with it when more bytes follow, so nothing after a head changes the route.
@@ -19,5 +20,6 @@ pub fn what_follows_a_head_is_ignored()
 /// A head of the grammar ends exactly where the bytes are first closed: at the empty line with which the reading of a
 /// head stops. So the head has been read whole when reading stops there.
 pub fn a_head_ends_where_it_is_closed()
-    ensures { (bytes rest : List ℕ) (head : RequestHead) → ReadsRequest bytes head rest → IsFirstClosedAt bytes (length (print_request head)) }
+    ensures { (bytes rest : List ℕ) (head : RequestHead) → ReadsRequest bytes head rest
+        → IsFirstClosedAt bytes (length (print_request head)) }
 {}

@@ -16,9 +16,11 @@ pub const MAX_FIELDS: usize = 128;
 
 // The spans of the head that the bytes begin with, if there is one with so few fields.
 fn find_head(bytes: &[u8], fields: &mut [HeaderSpan]) -> Option<RequestSpans>
-    ensures found { IfSome result (λ spans. (head : RequestHead) × IsRequestAt bytes.now fields.new spans head × (length head.fields ≤ length fields.old)) }
+    ensures found { IfSome result (λ spans. (head : RequestHead) × IsRequestAt bytes.now fields.new spans head
+        × (length head.fields ≤ length fields.old)) }
     ensures within { IfSome result (IsRequestWithin bytes.now fields.new) }
-    ensures none { IfNone result ((head : RequestHead) (rest : List ℕ) → ReadsRequest bytes.now head rest → length fields.old < length head.fields) }
+    ensures none { IfNone result ((head : RequestHead) (rest : List ℕ) → ReadsRequest bytes.now head rest
+        → length fields.old < length head.fields) }
 {
     match parse_request(bytes, fields) {
         Ok(Status::Complete(spans)) => Some(spans),

@@ -19,17 +19,21 @@ pub fn serve_on<L: Listener>(
     count: u32,
     registry: &Registry,
 ) -> io::Result<Counts>
-    ensures served { IfOk result (ServesAll registry.now L.gives L.closes L.In.heard L.Out.said 2_000_000_000 count listener.old listener.new) }
-    ensures stopped { OnErr result (StopsEarly registry.now L.gives L.closes L.fails L.In.heard L.Out.said 2_000_000_000 count listener.old listener.new) }
+    ensures served { IfOk result
+        (ServesAll registry.now L.gives L.closes L.In.heard L.Out.said 2_000_000_000 count listener.old
+        listener.new) }
+    ensures stopped { OnErr result
+        (StopsEarly registry.now L.gives L.closes L.fails L.In.heard L.Out.said 2_000_000_000 count listener.old
+        listener.new) }
 {
     serve_within(alloc, listener, count, registry, Duration::from_secs(2))
 }
 
 /// Serves `count` connections of the listener, one after the other: each has one exchange, as
 /// [`serve_one`](http_front::serve_one) has it, and is closed before the next is accepted. A read or a write that takes
-/// longer than `wait` has failed. So a peer that sends nothing holds the service for one wait, and one that sends a byte
-/// within each wait for up to 16,384 of them. A connection that does not take the time-out, as for a wait of 0, is not
-/// read, and counts with the faults.
+/// longer than `wait` has failed. So a peer that sends nothing holds the service for one wait, and one that sends a
+/// byte within each wait for up to 16,384 of them. A connection that does not take the time-out, as for a wait of 0, is
+/// not read, and counts with the faults.
 ///
 /// The error is that of the listener, if it cannot accept a connection; no more are served then.
 pub fn serve_within<L: Listener>(
@@ -39,8 +43,12 @@ pub fn serve_within<L: Listener>(
     registry: &Registry,
     wait: Duration,
 ) -> io::Result<Counts>
-    ensures served { IfOk result (ServesAll registry.now L.gives L.closes L.In.heard L.Out.said (as_nanos wait) count listener.old listener.new) }
-    ensures stopped { OnErr result (StopsEarly registry.now L.gives L.closes L.fails L.In.heard L.Out.said (as_nanos wait) count listener.old listener.new) }
+    ensures served { IfOk result
+        (ServesAll registry.now L.gives L.closes L.In.heard L.Out.said (as_nanos wait) count listener.old
+        listener.new) }
+    ensures stopped { OnErr result
+        (StopsEarly registry.now L.gives L.closes L.fails L.In.heard L.Out.said (as_nanos wait) count listener.old
+        listener.new) }
 {
     let mut counts = Counts::new();
     for _served in 0..count {
@@ -56,7 +64,8 @@ fn serve_next<L: Listener>(
     registry: &Registry,
     wait: Duration,
 ) -> io::Result<Result<Served, ServeError>>
-    ensures served { IfOk result (λ exchange. (c : Connection L.In L.Out) × IsAccepted L.gives L.closes listener.old c listener.new
+    ensures served { IfOk result (λ exchange. (c : Connection L.In L.Out)
+        × IsAccepted L.gives L.closes listener.old c listener.new
         × IsServed registry.now L.In.heard L.Out.said (as_nanos wait) c × (exchange ≡ outcome c)) }
     ensures stopped { OnErr result (L.fails listener.old listener.new) }
 {

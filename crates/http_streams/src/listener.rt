@@ -34,7 +34,9 @@ pub trait Listener {
     /// connection does not take that time-out.
     fn accept(&mut self, wait: Duration) -> io::Result<Option<(Self::In, Self::Out)>>
         ensures gives { IfOk result (λ streams. gives self.old streams self.new) }
-        ensures fresh { IfOk result (λ streams. IfSome streams (λ pair. AreFresh (as_nanos wait) (Self.In.heard pair.0) (Self.Out.said pair.1))) }
+        ensures fresh { IfOk result
+            (λ streams. IfSome streams
+            (λ pair. AreFresh (as_nanos wait) (Self.In.heard pair.0) (Self.Out.said pair.1))) }
         ensures fails { OnErr result (fails self.old self.new) };
 
     /// Ends a connection.

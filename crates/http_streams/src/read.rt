@@ -29,8 +29,10 @@ fn read_more<I: Input>(input: &mut I, room: &mut [u8], filled: usize) -> Result<
 // returns how many bytes came.
 fn fill<I: Input>(input: &mut I, room: &mut [u8]) -> Result<usize, Failed>
     ensures within { IfOk result (λ n. n ≤ length room.new) }
-    ensures whole { IfOk result (λ n. IsReadWhole (length room.old) (I.heard input.old) (take n room.new) (I.heard input.new)) }
-    ensures in_part { OnErr result ((bytes : List ℕ) × IsReadInPart (length room.old) (I.heard input.old) bytes (I.heard input.new)) }
+    ensures whole { IfOk result
+        (λ n. IsReadWhole (length room.old) (I.heard input.old) (take n room.new) (I.heard input.new)) }
+    ensures in_part { OnErr result
+        ((bytes : List ℕ) × IsReadInPart (length room.old) (I.heard input.old) bytes (I.heard input.new)) }
 {
     let mut filled: usize = 0;
     let mut progress = Progress::BeforeText;
@@ -48,7 +50,8 @@ fn fill<I: Input>(input: &mut I, room: &mut [u8]) -> Result<usize, Failed>
 // The same into room of its own, for at most that many bytes.
 fn read_up_to<I: Input>(alloc: Global, input: &mut I, most: usize) -> Result<Vec<u8>, HeadError>
     ensures whole { IfOk result (λ head. IsReadWhole most (I.heard input.old) head.items (I.heard input.new)) }
-    ensures in_part { result ≡ Err head_error.Failed → ((bytes : List ℕ) × IsReadInPart most (I.heard input.old) bytes (I.heard input.new)) }
+    ensures in_part { result ≡ Err head_error.Failed
+        → ((bytes : List ℕ) × IsReadInPart most (I.heard input.old) bytes (I.heard input.new)) }
     ensures no_memory { result ≡ Err head_error.NoMemory → I.heard input.new ≡ I.heard input.old }
 {
     let mut room = vec![in alloc; 0; most]?;
@@ -62,10 +65,12 @@ fn read_up_to<I: Input>(alloc: Global, input: &mut I, most: usize) -> Result<Vec
 ///
 /// The error is `NoMemory` before anything is read, or `Failed` if a read fails.
 pub fn read_head<I: Input>(alloc: Global, input: &mut I) -> Result<Vec<u8>, HeadError>
-    ensures whole { IfOk result (λ head. IsReadWhole MAX_HEAD_BYTES (I.heard input.old) head.items (I.heard input.new)) }
+    ensures whole { IfOk result
+        (λ head. IsReadWhole MAX_HEAD_BYTES (I.heard input.old) head.items (I.heard input.new)) }
 
     // A read failed, and more was to be read.
-    ensures in_part { result ≡ Err head_error.Failed → ((bytes : List ℕ) × IsReadInPart MAX_HEAD_BYTES (I.heard input.old) bytes (I.heard input.new)) }
+    ensures in_part { result ≡ Err head_error.Failed
+        → ((bytes : List ℕ) × IsReadInPart MAX_HEAD_BYTES (I.heard input.old) bytes (I.heard input.new)) }
 
     ensures no_memory { result ≡ Err head_error.NoMemory → I.heard input.new ≡ I.heard input.old }
     ensures limit { MAX_HEAD_BYTES ≡ 16384 }

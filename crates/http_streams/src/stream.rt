@@ -12,8 +12,8 @@ pub struct Failed;
 
 /// Bytes that come in.
 pub trait Input {
-    /// What the implementer tells: always how many bytes were read and how many reads have failed. [`Tally`](crate::Tally)
-    /// counts both.
+    /// What the implementer tells: always how many bytes were read and how many reads have failed.
+    /// [`Tally`](crate::Tally) counts both.
     ghost heard: { Self → Heard };
 
     /// Puts some of the bytes that are left, the first ones, at the beginning of the room, and returns how many;

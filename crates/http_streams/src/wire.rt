@@ -105,7 +105,8 @@ impl Model for TimedWire {
 impl TimedWire {
     /// A stream over the socket, each of whose calls may take `wait`. `None` if the socket does not take that time-out.
     pub(crate) fn new(stream: TcpStream, wait: Duration) -> Option<TimedWire>
-        ensures { IfSome result (λ wire. wire ≡ record { tally = record { moved = 0; failures = 0 }; wait = Some (as_nanos wait) }) }
+        ensures { IfSome result
+            (λ wire. wire ≡ record { tally = record { moved = 0; failures = 0 }; wait = Some (as_nanos wait) }) }
     {
         stream.set_read_timeout(Some(wait)).ok()?;
         stream.set_write_timeout(Some(wait)).ok()?;

@@ -24,8 +24,10 @@ pub fn write_all<O: Output>(output: &mut O, bytes: &[u8]) -> Result<(), usize>
 
 /// Writes all of `first` and then all of `second`, as [`write_all`] writes them joined, and joins them nowhere.
 pub fn write_both<O: Output>(output: &mut O, first: &[u8], second: &[u8]) -> Result<(), usize>
-    ensures all { OnOk result (Says (O.said output.old) (first.now ++ second.now) (length (first.now ++ second.now)) (O.said output.new)) }
-    ensures front { IfErr result (λ n. SaysInPart (O.said output.old) (take n (first.now ++ second.now)) n (O.said output.new)) }
+    ensures all { OnOk result (Says (O.said output.old) (first.now ++ second.now) (length (first.now ++ second.now))
+        (O.said output.new)) }
+    ensures front { IfErr result
+        (λ n. SaysInPart (O.said output.old) (take n (first.now ++ second.now)) n (O.said output.new)) }
     ensures in_part { IfErr result (λ n. n < length (first.now ++ second.now)) }
 {
     write_all(output, first)?;

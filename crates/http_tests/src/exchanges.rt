@@ -7,8 +7,8 @@ use std::process::Abort;
 use std::test::Fail;
 use streams_in_memory::{PieceIn, PieceOut};
 
-/// The request's input gives and its output takes `piece` bytes at a time, and they fail so: how the exchange goes then,
-/// and what is written.
+/// The request's input gives and its output takes `piece` bytes at a time, and they fail so: how the exchange goes
+/// then, and what is written.
 fn exchanges<R: Abort + AllocGlobal>(
     rt: &R,
     request: &[u8],
@@ -77,6 +77,41 @@ const EXCHANGES: [(&[u8], Served, &[u8]); 2] = [
 fn nothing_and_a_page(rt: HostRuntime) -> Result<(), Fail> {
     for (request, served, written) in EXCHANGES {
         exchanges(&rt, request, 28, (None, None), Ok(served), written)?;
+    }
+    Ok(())
+}
+
+/// The reply if an allocation fails, and its head.
+const UNAVAILABLE: &[u8] =
+    b"HTTP/1.1 503 Service Unavailable\r\nContent-Type: text/plain; charset=utf-8\r\nContent-Length: 14\r\n\
+    Connection: close\r\n\r\nout of memory\n";
+
+/// How many bytes of that reply go before its body.
+const HEAD: usize = UNAVAILABLE.len() - 14;
+
+/// Requests, and how many bytes the reply has if an allocation fails while the reply is made.
+const FAILING: [(&[u8], usize); 2] = [
+    (b"GET /openurl HTTP/1.0\r\n\r\n", HEAD + 14),
+    (b"HEAD /openurl HTTP/1.0\r\n\r\n", HEAD),
+];
+
+/// Where an allocation of the exchange fails, the reply has the status 503, or the output ends it. No reply has another
+/// status than 200 or 503.
+#[test]
+fn without_memory(rt: HostRuntime) -> Result<(), Fail> {
+    let registry = Registry::new(rt.alloc());
+    for (request, length) in FAILING {
+        let mut input = PieceIn::new(rt.alloc(), request, 28, None)?;
+        let mut output = PieceOut::new(rt.alloc(), 1000, None)?;
+        match serve_one(rt.alloc(), &mut input, &mut output, &registry) {
+            Ok(Served::Replied(503)) => {
+                let written = output.written();
+                // If there was no room to read, the method is not known.
+                assert!(rt; written == &UNAVAILABLE[..length] || written == UNAVAILABLE);
+            }
+            Err(ServeError::WriteFault(sent)) => assert_eq!(rt; output.written().len(), sent),
+            served => assert_eq!(rt; served, Ok(Served::Replied(200))),
+        }
     }
     Ok(())
 }

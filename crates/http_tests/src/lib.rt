@@ -1,5 +1,5 @@
-//! What no contract says of the front over HTTP, and no request to the program shows: the queries of requests, peers that
-//! send and take little at a time, or fail, and how connections are counted.
+//! What no contract says of the front over HTTP, and no request to the program shows: the routes of requests, peers
+//! that send and take little at a time, or fail, and how connections are counted.
 #![tactic(auto)]
 
 #[cfg(test)]

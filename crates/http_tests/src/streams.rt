@@ -88,8 +88,8 @@ const DIGITS: &[u8; 10] = b"0123456789";
 /// The digits in two parts.
 const PARTS: (&[u8], &[u8]) = (b"0123", b"456789");
 
-/// The digits go out so, in two parts and at most a piece at a time, where write number `fail_at` fails, and this is written. The call after
-/// the one that fails is done.
+/// The digits go out so, in two parts and at most a piece at a time, where write number `fail_at` fails, and this is
+/// written. The call after the one that fails is done.
 fn go_out(
     alloc: Global,
     piece: usize,

@@ -12,7 +12,8 @@ use thiserror::Error;
 /// Why a command on a registry ends without its result.
 #[derive(Debug, Drop, Error)]
 pub enum MenuFault<'a> {
-    /// A line of the registry file, counted from 1 without blank ones, is not that of a target; 0: the file is too long.
+    /// A line of the registry file, counted from 1 without blank ones, is not that of a target; 0: the file is too
+    /// long.
     #[error("registry: line {0}")]
     Registry(usize),
     /// A target of the registry is rejected.

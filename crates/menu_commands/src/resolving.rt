@@ -23,8 +23,10 @@ pub fn resolve<'a, F: Files, K: KeySource>(
     path: &'a str,
     query: &str,
 ) -> Result<String, MenuFault<'a>>
-    ensures ok { IfOk result (λ text. TellsMenu K.draws (F.at files.old) keys.old path.now query.now keys.new (string_bytes text)) }
-    ensures err { IfErr result (IsResolveFault F.fails K.draws K.fails (F.at files.old) keys.old path.entry query.now keys.new) }
+    ensures ok { IfOk result
+        (λ text. TellsMenu K.draws (F.at files.old) keys.old path.now query.now keys.new (string_bytes text)) }
+    ensures err { IfErr result (IsResolveFault F.fails K.draws K.fails (F.at files.old) keys.old path.entry query.now
+        keys.new) }
     ensures same { Unchanged (F.at files.old) (F.at files.new) }
 {
     let registry = open_registry(alloc, files, keys, path)?;

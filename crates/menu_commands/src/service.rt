@@ -26,11 +26,12 @@ pub struct Service<'a> {
 }
 
 impl<'a> Service<'a> {
-    /// The service of these three arguments, of which the last two are numbers of ASCII digits alone: a port up to 65,535, and
-    /// a count from 1 to 1,000,000.
+    /// The service of these three arguments, of which the last two are numbers of ASCII digits alone: a port up to
+    /// 65,535, and a count from 1 to 1,000,000.
     pub fn parse(registry: &'a str, port_text: &'a str, count_text: &'a str) -> Option<Service<'a>>
         ensures some { IfSome result (IsServiceOf registry.now port_text.now count_text.now) }
-        ensures none { IfNone result ((service : Service) → ¬ (IsServiceOf registry.now port_text.now count_text.now service)) }
+        ensures none { IfNone result ((service : Service)
+            → ¬ (IsServiceOf registry.now port_text.now count_text.now service)) }
     {
         let port = number(port_text, MAX_PORT)?;
         let count = number(count_text, MAX_COUNT)?;

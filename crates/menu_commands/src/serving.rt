@@ -20,8 +20,8 @@ use registry_file::KeySource;
 use std::alloc::{AllocError, Global};
 use std::io::Write;
 
-/// Serves the menus of the registry at the port, for as many connections as the service says, and returns how they went.
-/// Before the first it prints on `output` where it listens.
+/// Serves the menus of the registry at the port, for as many connections as the service says, and returns how they
+/// went. Before the first it prints on `output` where it listens.
 pub fn serve<'a, F: Files, K: KeySource, P: Ports, O: Write>(
     alloc: Global,
     files: &mut F,
@@ -35,10 +35,12 @@ pub fn serve<'a, F: Files, K: KeySource, P: Ports, O: Write>(
         (F.at files.old) keys.old ports.old service.entry keys.new ports.new line counts
         × Appends (O.contents output.old) (O.contents output.new) line) }
     ensures failed { IfErr result (λ fault.
-        (RefusesToServe F.fails K.draws K.fails P.fails (F.at files.old) keys.old ports.old service.entry keys.new ports.new fault
+        (RefusesToServe F.fails K.draws K.fails P.fails (F.at files.old) keys.old ports.old service.entry keys.new
+        ports.new fault
         × (output.new ≡ output.old))
         ⊎ ((targets : List TargetValue) × (listener : P.Bound) × (line : Text)
-        × IsListening K.draws P.binds (F.at files.old) keys.old ports.old service.entry keys.new ports.new targets listener line
+        × IsListening K.draws P.binds (F.at files.old) keys.old ports.old service.entry keys.new ports.new targets
+        listener line
         × IsOutputFault fault)
         ⊎ ((line : Text)
         × StopsServing K.draws P.binds P.Bound.gives P.Bound.closes P.Bound.In.heard P.Bound.Out.said
@@ -65,8 +67,11 @@ fn listen<'a, F: Files, K: KeySource, P: Ports>(
     service: Service<'a>,
 ) -> Result<(Registry, P::Bound, String), MenuFault<'a>>
     ensures ok { IfOk result (λ parts.
-        IsListening K.draws P.binds (F.at files.old) keys.old ports.old service.entry keys.new ports.new parts.0 parts.1 (string_bytes parts.2)) }
-    ensures err { IfErr result (RefusesToServe F.fails K.draws K.fails P.fails (F.at files.old) keys.old ports.old service.entry keys.new ports.new) }
+        IsListening K.draws P.binds (F.at files.old) keys.old ports.old service.entry keys.new ports.new parts.0 parts.1
+        (string_bytes parts.2)) }
+    ensures err { IfErr result
+        (RefusesToServe F.fails K.draws K.fails P.fails (F.at files.old) keys.old ports.old service.entry keys.new
+        ports.new) }
     ensures same { Unchanged (F.at files.old) (F.at files.new) }
 {
     let registry = open_registry(alloc, files, keys, service.registry)?;

@@ -5,7 +5,8 @@ use Rattle.text_model.specs.Texts.{Text}
 use Rattle.kbart_rows.specs.Cells.{Row}
 use Rattle.registry_file.specs.Lines.{IsTargetLine, IsNoTargetLine}
 
-pub target_of_cells : (row : Row) (name code table : Text) → length row ≡ 3 → field_at row 0 ≡ Some name → field_at row 1 ≡ Some code → field_at row 2 ≡ Some table
+pub target_of_cells : (row : Row) (name code table : Text) → length row ≡ 3 → field_at row 0 ≡ Some name → field_at row 1 ≡ Some code
+    → field_at row 2 ≡ Some table
     → IsUtf8 name → IsUtf8 code → IsUtf8 table → IsTargetLine row name code table
 unfolding field_at
 target_of_cells (a ∷ b ∷ c ∷ []) name code table three first second third is_name is_code is_table =

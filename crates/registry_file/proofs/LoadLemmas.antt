@@ -16,7 +16,8 @@ use Rattle.registry_file.specs.declared.error.RegistryError.{RegistryError}
 use Rattle.registry_file.specs.declared.error.RegistryError.TheVariants.{Device, Line, Target, NoMemory}
 
 module _ (disk : Disk) (keys : Keys) where
-  last_target : (rows : List Row) (row : Row) (targets : List TargetValue) (target : TargetValue) → AreTargets disk keys rows targets → IsTargetAt disk keys row target
+  last_target : (rows : List Row) (row : Row) (targets : List TargetValue) (target : TargetValue) → AreTargets disk keys rows targets
+      → IsTargetAt disk keys row target
       → AreTargets disk keys (rows ++ row ∷ []) (targets ++ target ∷ [])
   last_target [] row [] target held last = (last, tt)
   last_target [] row (t ∷ targets) target held last = absurd held
@@ -30,16 +31,19 @@ module _ (disk : Disk) (keys : Keys) where
     pub held : AreTargets disk keys (map cells (take n lines)) targets
 
   pub one_more : {X : Type 0} (cells : X → Row) (lines : List X) (n : ℕ) (targets : List TargetValue) (line : X) (target : TargetValue)
-      → IsNext cells lines n targets line → IsTargetAt disk keys (cells line) target → AreTargets disk keys (map cells (take (n + 1) lines)) (targets ++ target ∷ [])
+      → IsNext cells lines n targets line → IsTargetAt disk keys (cells line) target
+      → AreTargets disk keys (map cells (take (n + 1) lines)) (targets ++ target ∷ [])
   one_more cells lines n targets line target next last =
       let at : take (n + 1) lines ≡ take n lines ++ line ∷ [] = take_more lines n line next.few ∙ ap (λ l. take n lines ++ l ∷ []) (sym next.is) in
       rw (at, map-append cells (take n lines) (line ∷ [])) (last_target _ _ targets target next.held last)
 
   module _ {F : Type 0} (fails : F → FileCall → Text → F → Type 0) where
-    stops : {X : Type 0} (cells : X → Row) (lines : List X) (n : ℕ) (targets : List TargetValue) (line : X) (e : RegistryError) → IsNext cells lines n targets line
+    stops : {X : Type 0} (cells : X → Row) (lines : List X) (n : ℕ) (targets : List TargetValue) (line : X) (e : RegistryError)
+        → IsNext cells lines n targets line
         → IsRefusedLine fails disk targets (n + 1) (cells line) e → StopsAtLine fails disk keys (map cells lines) e
     stops cells lines n targets line e next refused =
-        let cut : lines ≡ take n lines ++ line ∷ drop (suc n) lines = split_at lines n line next.few ∙ ap (λ l. take n lines ++ l ∷ drop (suc n) lines) (sym next.is) in
+        let cut : lines ≡ take n lines ++ line ∷ drop (suc n) lines =
+        split_at lines n line next.few ∙ ap (λ l. take n lines ++ l ∷ drop (suc n) lines) (sym next.is) in
         let count : n ≡ length (map cells (take n lines)) = omega (arith, length-map (take n lines) cells, length-take n lines, next.few) in
         record {
           before = map cells (take n lines);
@@ -68,7 +72,8 @@ pub record IsRead {K : Type 0} (draws : K → ℕ → ℕ → K → Type 0) (dis
   pub file : Gives (disk path) bytes
   pub drawn : IsDrawn draws old keys new
 
-pub not_loaded : {F K : Type 0} (fails : F → FileCall → Text → F → Type 0) (draws : K → ℕ → ℕ → K → Type 0) (no_keys : K → K → Type 0) (disk : Disk) (old : K) (path : Text) (new : K)
+pub not_loaded : {F K : Type 0} (fails : F → FileCall → Text → F → Type 0) (draws : K → ℕ → ℕ → K → Type 0) (no_keys : K → K → Type 0) (disk : Disk) (old : K)
+    (path : Text) (new : K)
     (bytes : Text) (keys : Keys) (e : RegistryError) → IsRead draws disk old path new bytes keys → IsRegistryFault fails disk keys bytes e
     → IsNotLoaded fails draws no_keys disk old path new e
 not_loaded fails draws no_keys disk old path new bytes keys (Line n) read (inl long) = absurd (omega (arith, long.1, read.short))

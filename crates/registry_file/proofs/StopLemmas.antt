@@ -24,14 +24,16 @@ module _ {F : Type 0} (fails : F → FileCall → Text → F → Type 0) (disk :
   no_code (Add kind) why = absurd why
   no_code NoMemory why = tt
 
-  pub no_table : (stop : Stop) → HasCode (disk code_path) → IsNoTable fails (disk table_path) table_path stop → IsStop fails disk targets name code_path table_path stop
+  pub no_table : (stop : Stop) → HasCode (disk code_path) → IsNoTable fails (disk table_path) table_path stop
+      → IsStop fails disk targets name code_path table_path stop
   no_table (Device named) code why = inr (code, why.0, why.1)
   no_table (Load e) code why = absurd why
   no_table (Table e) code why = (why.0, code, why.1)
   no_table (Add kind) code why = absurd why
   no_table NoMemory code why = tt
 
-  pub not_taken : (kind : AddErrorKind) (stop : Stop) → HasCode (disk code_path) → HasTable (disk table_path) → IsRefusal targets name kind → IsAddStop kind stop
+  pub not_taken : (kind : AddErrorKind) (stop : Stop) → HasCode (disk code_path) → HasTable (disk table_path) → IsRefusal targets name kind
+      → IsAddStop kind stop
       → IsStop fails disk targets name code_path table_path stop
   not_taken kind (Device named) code table why is = absurd is
   not_taken kind (Load e) code table why is = absurd is

@@ -36,7 +36,8 @@ pub(crate) struct TargetLine<'a> {
 
 /// The cells of a line, if it has three, and each is UTF-8.
 pub(crate) fn target_line(line: &ByteRecord) -> Option<TargetLine<'_>>
-    ensures line { IfSome result (λ cells. IsTargetLine (fields_of line.now) cells.name.now cells.code.now cells.table.now) }
+    ensures line { IfSome result
+        (λ cells. IsTargetLine (fields_of line.now) cells.name.now cells.code.now cells.table.now) }
     ensures none { IfNone result (IsNoTargetLine (fields_of line.now)) }
 {
     if line.len() != 3 {

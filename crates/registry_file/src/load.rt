@@ -5,7 +5,8 @@ ghost use Rattle.csv.specs.Records.{fields_of};
 ghost use Rattle.files.specs.Changes.{Unchanged};
 ghost use Rattle.files.specs.Found.{Absent};
 ghost use Rattle.registry.specs.Targets.{TargetValue};
-ghost use Rattle.registry_file.specs.Loading.{AreTargetsOf, IsLoaded, IsNotLoaded, IsRefusedLine, IsRegistryFault, IsTargetAt};
+ghost use Rattle.registry_file.specs.Loading.{AreTargetsOf, IsLoaded, IsNotLoaded, IsRefusedLine, IsRegistryFault};
+ghost use Rattle.registry_file.specs.Loading.{IsTargetAt};
 ghost use Rattle.registry_file.specs.declared.error.RegistryError.TheVariants.{Device, Line};
 ghost use Rattle.registry_file.specs.declared.lines.TheConstants.{MAX_REGISTRY_BYTES};
 

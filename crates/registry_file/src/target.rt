@@ -26,9 +26,12 @@ pub(crate) fn add_target<'a, F: Files>(
     line: &TargetLine<'a>,
     keys: Keys,
 ) -> Result<(), Stop<'a>>
-    ensures ok { OnOk result ((target : TargetValue) × IsTargetOf (F.at files.old) keys line.now.name.now line.now.code.now line.now.table.now target
+    ensures ok { OnOk result
+        ((target : TargetValue) × IsTargetOf (F.at files.old) keys line.now.name.now line.now.code.now
+        line.now.table.now target
         × (registry.new ≡ registry.old ++ target ∷ [])) }
-    ensures err { IfErr result (IsStop F.fails (F.at files.old) registry.old line.now.name.now line.now.code.now line.now.table.now) }
+    ensures err { IfErr result
+        (IsStop F.fails (F.at files.old) registry.old line.now.name.now line.now.code.now line.now.table.now) }
     ensures same { Unchanged (F.at files.old) (F.at files.new) }
 {
     let code = load_code(alloc, files, line.code)?;

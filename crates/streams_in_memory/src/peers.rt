@@ -28,7 +28,10 @@ impl Model for Peers {
 
     ghost Value = { PeersValue };
 
-    ghost view = { λ peers. record { to_come = map (λ v. v.items) peers.to_come.items; replies = map (λ v. v.items) peers.replies.items } };
+    ghost view = { λ peers. record {
+      to_come = map (λ v. v.items) peers.to_come.items;
+      replies = map (λ v. v.items) peers.replies.items;
+    } };
 }
 
 impl Peers {

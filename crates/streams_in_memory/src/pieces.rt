@@ -52,7 +52,14 @@ impl PieceIn {
         fail_at: Option<usize>,
     ) -> Result<PieceIn, AllocError>
         requires { 0 < piece }
-        ensures { IfOk result (λ stream. stream ≡ record { left = bytes.now; piece = piece; fails_after = fail_at; tally = nothing_yet; wait = None }) }
+        ensures { IfOk result
+            (λ stream. stream ≡ record {
+              left = bytes.now;
+              piece = piece;
+              fails_after = fail_at;
+              tally = nothing_yet;
+              wait = None;
+            }) }
     {
         Ok(PieceIn {
             input: Vec::from_slice(alloc, bytes)?,
@@ -66,7 +73,13 @@ impl PieceIn {
 
     // An input of a connection, which gives these bytes at once.
     pub(crate) fn of(input: Vec<u8>, wait: Duration) -> PieceIn
-        ensures { result ≡ record { left = input.items; piece = usize.MAX; fails_after = None; tally = nothing_yet; wait = Some (as_nanos wait) } }
+        ensures { result ≡ record {
+          left = input.items;
+          piece = usize.MAX;
+          fails_after = None;
+          tally = nothing_yet;
+          wait = Some (as_nanos wait);
+        } }
     {
         PieceIn {
             input,
@@ -86,7 +99,8 @@ impl Input for PieceIn {
     fn read(&mut self, room: &mut [u8]) -> Result<usize, Failed>
         requires { 0 < length room.old }
         ensures within { IfOk result (λ n. n ≤ length room.new) }
-        ensures read { IfOk result (λ n. Hears (heard_in_pieces self.old) (take n room.new) n (heard_in_pieces self.new)) }
+        ensures read { IfOk result
+            (λ n. Hears (heard_in_pieces self.old) (take n room.new) n (heard_in_pieces self.new)) }
         ensures end { IfOk result (λ n. n ≡ 0 → IsAtEnd (Some self.old.left)) }
         ensures failed { OnErr result (heard_in_pieces self.new ≡ after_failed_read (heard_in_pieces self.old)) }
 
@@ -144,7 +158,14 @@ impl PieceOut {
     /// one whose allocation fails. The error is a failed allocation for the first bytes.
     pub fn new(alloc: Global, piece: usize, fail_at: Option<usize>) -> Result<PieceOut, AllocError>
         requires { 0 < piece }
-        ensures { IfOk result (λ stream. stream ≡ record { written = []; piece = piece; fails_after = fail_at; tally = nothing_yet; wait = None }) }
+        ensures { IfOk result
+            (λ stream. stream ≡ record {
+              written = [];
+              piece = piece;
+              fails_after = fail_at;
+              tally = nothing_yet;
+              wait = None;
+            }) }
     {
         Ok(PieceOut {
             output: Vec::with_capacity(alloc, FIRST_ROOM)?,
@@ -157,7 +178,13 @@ impl PieceOut {
 
     // An output of a connection, which takes all bytes at once.
     pub(crate) fn of(alloc: Global, wait: Duration) -> PieceOut
-        ensures { result ≡ record { written = []; piece = usize.MAX; fails_after = None; tally = nothing_yet; wait = Some (as_nanos wait) } }
+        ensures { result ≡ record {
+          written = [];
+          piece = usize.MAX;
+          fails_after = None;
+          tally = nothing_yet;
+          wait = Some (as_nanos wait);
+        } }
     {
         PieceOut {
             output: Vec::new(alloc),
@@ -190,7 +217,8 @@ impl Output for PieceOut {
     fn write(&mut self, bytes: &[u8]) -> Result<usize, Failed>
         ensures within { IfOk result (λ n. n ≤ length bytes.now) }
         ensures some { IfOk result (λ n. 0 < length bytes.now → 0 < n) }
-        ensures written { IfOk result (λ n. Says (said_in_pieces self.old) (take n bytes.now) n (said_in_pieces self.new)) }
+        ensures written { IfOk result
+            (λ n. Says (said_in_pieces self.old) (take n bytes.now) n (said_in_pieces self.new)) }
         ensures failed { OnErr result (said_in_pieces self.new ≡ after_failed_write (said_in_pieces self.old)) }
 
         ensures count { IfOk result (λ n. n ≡ min self.old.piece (length bytes.now)) }

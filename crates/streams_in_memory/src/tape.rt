@@ -26,7 +26,12 @@ impl Model for Tape {
 
     ghost Value = { TapeValue };
 
-    ghost view = { λ tape. record { left = drop tape.read tape.input.items; written = tape.output.items; reads = tape.reads; writes = tape.writes } };
+    ghost view = { λ tape. record {
+      left = drop tape.read tape.input.items;
+      written = tape.output.items;
+      reads = tape.reads;
+      writes = tape.writes;
+    } };
 
     ghost invariant = { λ tape. tape.read ≤ vec_len tape.input };
 }
@@ -34,7 +39,8 @@ impl Model for Tape {
 impl Tape {
     /// A tape with these bytes to read, and nothing written. The error is a failed allocation.
     pub fn new(alloc: Global, bytes: &[u8]) -> Result<Tape, AllocError>
-        ensures { IfOk result (λ tape. tape ≡ record { left = bytes.now; written = []; reads = nothing_yet; writes = nothing_yet }) }
+        ensures { IfOk result
+            (λ tape. tape ≡ record { left = bytes.now; written = []; reads = nothing_yet; writes = nothing_yet }) }
     {
         Ok(Tape {
             input: Vec::from_slice(alloc, bytes)?,

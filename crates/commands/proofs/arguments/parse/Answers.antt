@@ -1,11 +1,16 @@
 use Rattle.std.proofs.Common.{rules}
 use Rattle.commands.proofs.ArgumentLemmas.{no_service, none_of_four, none_of_more, none_of_none, none_of_one, none_of_three, none_of_two}
 use Rattle.commands.proofs.arguments.parse.Goals as goal
-use Rattle.commands.proofs.arguments.parse.Goals.{in_default-via-then-arguments-lt1, in_default-via-else-arguments-lt1+then-arguments-lt2+in_default, in_default-via-else-arguments-lt1+else-arguments-lt2+then-arguments-lt3+in_default, in_default-via-else-arguments-lt1+else-arguments-lt2+else-arguments-lt3+then-arguments-lt4+in_default, in_default-via-else-arguments-lt1+else-arguments-lt2+else-arguments-lt3+else-arguments-lt4+then-arguments-lt5+in_default, in_default-via-else-arguments-lt1+else-arguments-lt2+else-arguments-lt3+else-arguments-lt4+else-arguments-lt5+in_default}
+use Rattle.commands.proofs.arguments.parse.Goals.{in_default-via-then-arguments-lt1, in_default-via-else-arguments-lt1+then-arguments-lt2+in_default}
+use Rattle.commands.proofs.arguments.parse.Goals.{in_default-via-else-arguments-lt1+else-arguments-lt2+then-arguments-lt3+in_default}
+use Rattle.commands.proofs.arguments.parse.Goals.{in_default-via-else-arguments-lt1+else-arguments-lt2+else-arguments-lt3+then-arguments-lt4+in_default}
+use Rattle.commands.proofs.arguments.parse.Goals.{in_default-via-else-arguments-lt1+else-arguments-lt2+else-arguments-lt3+else-arguments-lt4+then-arguments-lt5+in_default}
+use Rattle.commands.proofs.arguments.parse.Goals.{in_default-via-else-arguments-lt1+else-arguments-lt2+else-arguments-lt3+else-arguments-lt4+else-arguments-lt5+in_default}
 
 pub returns-in_err-parse-in-serve-clause-none : goal.returns-in_err-parse-in-serve-clause-none
 returns-in_err-parse-in-serve-clause-none c =
-    rw c.from_residual-in_err-parse-in-serve.ensures (no_service c.args.arguments.now c.in-serve.len_at_least c.in-serve.is-serve c.in_err-parse-in-serve.ensures.none)
+    rw c.from_residual-in_err-parse-in-serve.ensures
+    (no_service c.args.arguments.now c.in-serve.len_at_least c.in-serve.is-serve c.in_err-parse-in-serve.ensures.none)
 
 -- by the number of the arguments, none of the names is the first of them
 pub returns-in_default-clause-none : goal.returns-in_default-clause-none

@@ -30,13 +30,20 @@ returns-in_err-text-in-Some g c =
     let made = err_from_is_err_and c.from_residual-in_err-text-in-Some.result c.from_residual-in_err-text-in-Some.ensures.1 in
     record {
       done = rw made.1 tt;
-      failed = rw (made.1, made.2) (inl (no_text _ _ c.in-Some.ensures.some c.in_err-text-in-Some.ensures.err c.in_err-text-in-Some.ensures.left, refl {a = c.args.output.now}));
+      failed = rw (made.1, made.2) (inl (
+        no_text _ _ c.in-Some.ensures.some c.in_err-text-in-Some.ensures.err c.in_err-text-in-Some.ensures.left,
+        refl {a = c.args.output.now},
+      ));
     }
 
 pub returns-in-Ok : goal.returns-in-Ok
 returns-in-Ok g c =
     record {
-      done = (string_bytes c.in_ok-text-in-Some.text, prints _ _ c.in-Some.ensures.some c.in_ok-text-in-Some.ensures.ok, rw c.as_bytes.ensures.value at c.in-Ok.ensures.bytes);
+      done = (
+        string_bytes c.in_ok-text-in-Some.text,
+        prints _ _ c.in-Some.ensures.some c.in_ok-text-in-Some.ensures.ok,
+        rw c.as_bytes.ensures.value at c.in-Ok.ensures.bytes,
+      );
       failed = tt;
     }
 

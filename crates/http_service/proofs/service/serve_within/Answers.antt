@@ -18,7 +18,8 @@ loop-served-preserved g c =
         served-one_more c.args.registry.now g.L.Listener.gives g.L.Listener.closes g.L.In.Input.heard g.L.Out.Output.said (as_nanos c.args.wait)
             c.args.listener.now c.loop-served.listener c.serve_next.new.listener so_far.0 next.0 so_far.1 next.1 next.2,
         omega (arith, length-append so_far.0 (next.0 ∷ []), so_far.2),
-        c.add.ensures ∙ ap (λ counts. counted counts c.in_ok-serve_next.field-0) so_far.3 ∙ ap (counted (counts_of so_far.0)) next.3 ∙ sym (counts-one_more so_far.0 next.0),
+        c.add.ensures ∙ ap (λ counts. counted counts c.in_ok-serve_next.field-0) so_far.3 ∙ ap (counted (counts_of so_far.0)) next.3
+            ∙ sym (counts-one_more so_far.0 next.0),
       ),
       omega (arith, c.loop-served-test.true),
     )

@@ -13,11 +13,13 @@ returns-in_err-add_line-clause-err g c =
     let read = subst (λ items. AreLines c.args.bytes.now (map fields_of items)) (sym c.deref-line-items.ensures.value) c.in_ok-lines.ensures in
     let next : IsNext disk c.args.keys fields_of c.deref-line-items.result.now c.loop-before.before c.loop-before.registry c.line-item.result =
     record { few = c.loop-before-test.true; is = c.line-item.is; held = c.loop-before.invariant.held } in
-    let refused = subst (λ disk. IsRefusedLine g.F.Files.fails disk c.loop-before.registry (c.loop-before.before + 1) (fields_of c.line-item.result) c.in_err-add_line.field-0.0)
+    let refused = subst (λ disk. IsRefusedLine g.F.Files.fails disk c.loop-before.registry (c.loop-before.before + 1) (fields_of c.line-item.result)
+    c.in_err-add_line.field-0.0)
     (fun_ext c.loop-before.invariant.same) c.in_err-add_line.ensures.err in
     let made = err_from_is_err_and c.from_residual-in_err-add_line.result c.from_residual-in_err-add_line.ensures.1 in
     rw (made.1, made.2) (
-    line_fault disk c.args.keys g.F.Files.fails fields_of c.args.bytes.now c.deref-line-items.result.now c.loop-before.before c.loop-before.registry c.line-item.result
+    line_fault disk c.args.keys g.F.Files.fails fields_of c.args.bytes.now c.deref-line-items.result.now c.loop-before.before c.loop-before.registry
+    c.line-item.result
     c.in_err-add_line.field-0.0 c.requires read next refused
     )
 
@@ -30,6 +32,7 @@ loop-before-preserved g c =
     let target = subst (λ disk. IsTargetAt disk c.args.keys (fields_of c.line-item.result) added.0) (fun_ext c.loop-before.invariant.same) added.1 in
     record {
       held = subst (AreTargets disk c.args.keys (map fields_of (take (c.loop-before.before + 1) c.deref-line-items.result.now))) (sym added.2)
-          (one_more disk c.args.keys fields_of c.deref-line-items.result.now c.loop-before.before c.loop-before.registry c.line-item.result added.0 next target);
+          (one_more disk c.args.keys fields_of c.deref-line-items.result.now c.loop-before.before c.loop-before.registry c.line-item.result added.0 next
+          target);
       same = λ path. c.add_line.ensures.same path ∙ c.loop-before.invariant.same path;
     }

@@ -14,5 +14,6 @@ returns-clause-there c =
 pub returns-clause-others : goal.returns-clause-others
 returns-clause-others c other not_from not_to =
     found_elsewhere c.insert.new.self c.args.from.now _ c.remove.new.self c.remove.ensures.updates other not_from
-    ∙ found_elsewhere c.call.new.self.files (string_bytes c.in_ok-to.to) _ c.insert.new.self c.in_ok-insert.ensures.updates other (λ same. not_to (same ∙ c.in_ok-to.ensures.ok))
+    ∙ found_elsewhere c.call.new.self.files (string_bytes c.in_ok-to.to) _ c.insert.new.self c.in_ok-insert.ensures.updates other
+    (λ same. not_to (same ∙ c.in_ok-to.ensures.ok))
     ∙ ap (λ files. found_of (get_by_text files other)) c.in_ok-call.ensures.files

@@ -1,0 +1,195 @@
+//! The line of each error: every word that an error is printed with, once.
+
+use code_commands::CodeFault;
+use code_file::{CodeError, CodeErrorKind};
+use command_base::BaseFault;
+use commands::Fault;
+use compiler::CompileError;
+use kbart_rows::TableError;
+use kev_read::KevError;
+use menu_commands::MenuFault;
+use registry::AddErrorKind;
+use registry_file::{TargetError, TargetFault};
+use rule_commands::RuleFault;
+use rule_parser::{RuleError, RuleErrorKind};
+use std::process::Abort;
+use std::test::Fail;
+use uri_grammar::{TemplateError, TemplateErrorKind};
+use verifier::LoadError;
+
+/// The error is printed so.
+fn prints<R: Abort + AllocGlobal>(rt: &R, fault: Fault<'_>, line: &str) -> Result<(), Fail> {
+    let printed = format!(in rt.alloc(); "{fault}")?;
+    assert_eq!(rt; printed.as_str(), line);
+    Ok(())
+}
+
+/// The kinds of errors of templates, and the words that are printed of them.
+const TEMPLATES: [(TemplateErrorKind, &str); 7] = [
+    (TemplateErrorKind::TooLong, "TooLong"),
+    (TemplateErrorKind::Unclosed, "Unclosed"),
+    (TemplateErrorKind::EmptyExpression, "EmptyExpression"),
+    (TemplateErrorKind::ReservedOperator, "ReservedOperator"),
+    (TemplateErrorKind::BadName, "BadName"),
+    (TemplateErrorKind::BadModifier, "BadModifier"),
+    (TemplateErrorKind::BadLiteral, "BadLiteral"),
+];
+
+#[test]
+fn errors_of_templates(rt: HostRuntime) -> Result<(), Fail> {
+    for (kind, word) in TEMPLATES {
+        let fault = RuleFault::Template(TemplateError { kind, at: 7 });
+        let line = format!(in rt.alloc(); "template: {word} at 7")?;
+        prints(&rt, Fault::Rule(fault), line.as_str())?;
+        let kind = RuleErrorKind::Template(kind);
+        let fault = RuleFault::Rules(RuleError { kind, line: 2 });
+        let line = format!(in rt.alloc(); "rules: line 2: Template {word}")?;
+        prints(&rt, Fault::Rule(fault), line.as_str())?;
+    }
+    Ok(())
+}
+
+/// The same of rule files.
+const RULES: [(RuleErrorKind, &str); 5] = [
+    (RuleErrorKind::TooLong, "rules: line 0: TooLong"),
+    (RuleErrorKind::NotUtf8, "rules: line 0: NotUtf8"),
+    (RuleErrorKind::BadLine, "rules: line 0: BadLine"),
+    (RuleErrorKind::NoLink, "rules: line 0: NoLink"),
+    (RuleErrorKind::KindMismatch, "rules: line 0: KindMismatch"),
+];
+
+/// The same of rules that are compiled.
+const COMPILED: [(CompileError, &str); 4] = [
+    (CompileError::TooManyNames, "compile: TooManyNames"),
+    (CompileError::TooManyLiterals, "compile: TooManyLiterals"),
+    (
+        CompileError::TooManyInstructions,
+        "compile: TooManyInstructions",
+    ),
+    (CompileError::FileTooLong, "compile: FileTooLong"),
+];
+
+#[test]
+fn errors_of_rules(rt: HostRuntime) -> Result<(), Fail> {
+    for (kind, line) in RULES {
+        let fault = RuleFault::Rules(RuleError { kind, line: 0 });
+        prints(&rt, Fault::Rule(fault), line)?;
+    }
+    for (error, line) in COMPILED {
+        prints(&rt, Fault::Rule(RuleFault::Compile(error)), line)?;
+    }
+    Ok(())
+}
+
+/// The same of code files.
+const CODES: [(CodeErrorKind, &str); 9] = [
+    (CodeErrorKind::TooLong, "TooLong"),
+    (CodeErrorKind::BadMagic, "BadMagic"),
+    (CodeErrorKind::Truncated, "Truncated"),
+    (CodeErrorKind::TooMany, "TooMany"),
+    (CodeErrorKind::NoCode, "NoCode"),
+    (CodeErrorKind::BadName, "BadName"),
+    (CodeErrorKind::BadKind, "BadKind"),
+    (CodeErrorKind::BadLiteral, "BadLiteral"),
+    (CodeErrorKind::Trailing, "Trailing"),
+];
+
+#[test]
+fn errors_of_code_files(rt: HostRuntime) -> Result<(), Fail> {
+    for (kind, word) in CODES {
+        let fault = CodeFault::Code(CodeError { kind, at: 10 });
+        let line = format!(in rt.alloc(); "code: {word} at 10")?;
+        prints(&rt, Fault::Code(fault), line.as_str())?;
+        let fault = CodeFault::Load(LoadError::Code(kind, 10));
+        let line = format!(in rt.alloc(); "load: {word} at 10")?;
+        prints(&rt, Fault::Code(fault), line.as_str())?;
+    }
+    Ok(())
+}
+
+/// The same of code that is loaded.
+const LOADED: [(LoadError, &str); 14] = [
+    (LoadError::UnknownOp(0), "load: UnknownOp at 0"),
+    (LoadError::BadField(1), "load: BadField at 1"),
+    (LoadError::BadRegister(2), "load: BadRegister at 2"),
+    (LoadError::BadIndex(3), "load: BadIndex at 3"),
+    (LoadError::WrongTableKind(4), "load: WrongTableKind at 4"),
+    (LoadError::JumpNotForward(5), "load: JumpNotForward at 5"),
+    (LoadError::JumpOut(6), "load: JumpOut at 6"),
+    (LoadError::CrossesLoop(7), "load: CrossesLoop at 7"),
+    (LoadError::NestedLoop(8), "load: NestedLoop at 8"),
+    (LoadError::BadLoop(9), "load: BadLoop at 9"),
+    (LoadError::StrayNext(10), "load: StrayNext at 10"),
+    (LoadError::StraySep(11), "load: StraySep at 11"),
+    (LoadError::FallsOff(4095), "load: FallsOff at 4095"),
+    (
+        LoadError::KindMismatch(13, 2),
+        "load: KindMismatch at 13, r2",
+    ),
+];
+
+#[test]
+fn errors_of_code(rt: HostRuntime) -> Result<(), Fail> {
+    for (error, line) in LOADED {
+        prints(&rt, Fault::Code(CodeFault::Load(error)), line)?;
+    }
+    let fault = CodeFault::OverBudget(1_200_000);
+    prints(&rt, Fault::Code(fault), "over budget: 1200000")
+}
+
+/// The same of tables.
+const TABLES: [(TableError, &str); 5] = [
+    (TableError::TooLong, "target a: table: TooLong"),
+    (TableError::NotUtf8, "target a: table: NotUtf8"),
+    (TableError::NoHeader, "target a: table: NoHeader"),
+    (TableError::TooManyRows, "target a: table: TooManyRows"),
+    (TableError::RowTooLong, "target a: table: RowTooLong"),
+];
+
+/// The same of targets that are added to others.
+const ADDED: [(AddErrorKind, &str); 2] = [
+    (AddErrorKind::Full, "target a: Full"),
+    (AddErrorKind::BadTargetName, "target a: BadTargetName"),
+];
+
+/// The error of a target.
+fn of_target<R: Abort + AllocGlobal>(rt: &R, fault: TargetFault, line: &str) -> Result<(), Fail> {
+    let name = String::from_str(rt.alloc(), "a")?;
+    let fault = MenuFault::Target(TargetError { name, fault });
+    prints(rt, Fault::Menu(fault), line)
+}
+
+#[test]
+fn errors_of_targets(rt: HostRuntime) -> Result<(), Fail> {
+    for (error, line) in TABLES {
+        of_target(&rt, TargetFault::Table(error), line)?;
+    }
+    for (kind, line) in ADDED {
+        of_target(&rt, TargetFault::Add(kind), line)?;
+    }
+    let load = TargetFault::Load(LoadError::BadIndex(3));
+    of_target(&rt, load, "target a: load: BadIndex at 3")?;
+    let path = String::from_str(rt.alloc(), "a.olk")?;
+    of_target(&rt, TargetFault::Device(path), "target a: device: a.olk")
+}
+
+/// The same of queries.
+const QUERIES: [(KevError, &str); 3] = [
+    (KevError::TooLong, "query: TooLong"),
+    (KevError::TooManyPairs, "query: TooManyPairs"),
+    (KevError::WrongVersion, "query: WrongVersion"),
+];
+
+#[test]
+fn errors_of_all_commands(rt: HostRuntime) -> Result<(), Fail> {
+    for (error, line) in QUERIES {
+        prints(&rt, Fault::Base(BaseFault::Query(error)), line)?;
+    }
+    prints(&rt, Fault::Base(BaseFault::Device("-")), "device: -")?;
+    prints(&rt, Fault::Base(BaseFault::Memory), "out of memory")?;
+    prints(&rt, Fault::Usage, "usage")?;
+    let port = MenuFault::Port("080");
+    prints(&rt, Fault::Menu(port), "device: 127.0.0.1:080")?;
+    let line = MenuFault::Registry(2);
+    prints(&rt, Fault::Menu(line), "registry: line 2")
+}
