@@ -24,7 +24,7 @@ fn prints<R: Abort + AllocGlobal>(rt: &R, fault: Fault<'_>, line: &str) -> Resul
     Ok(())
 }
 
-/// The kinds of errors of templates, and the words that are printed of them.
+/// The kinds of errors of templates, and their printed names.
 const TEMPLATES: [(TemplateErrorKind, &str); 7] = [
     (TemplateErrorKind::TooLong, "TooLong"),
     (TemplateErrorKind::Unclosed, "Unclosed"),

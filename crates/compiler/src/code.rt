@@ -118,7 +118,7 @@ fn finish(rules: &Rules, tables: Tables, instrs: Vec<Instr>) -> Result<Code, Com
 /// none.
 ///
 /// Code has at most 256 names, 1,024 literals, 4,096 instructions and 65,536 bytes of file: the first limit that would
-/// be passed is the error. `NoMemory` where a growth was refused.
+/// be passed is the error. `NoMemory` if an allocation failed.
 pub fn compile(alloc: Global, rules: &Rules) -> Result<Code, CompileError>
     ensures ok { IfOk result (λ code. (code ≡ code_of rules.now) × (limit_passed rules.now ≡ None)) }
     ensures err { IfErr result (λ e. (e ≡ NoMemory) ⊎ (limit_passed rules.now ≡ Some e)) }

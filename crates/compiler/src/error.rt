@@ -15,7 +15,7 @@ pub enum CompileError {
     TooManyInstructions,
     /// A code file of more than 65,536 bytes.
     FileTooLong,
-    /// A growth was refused.
+    /// An allocation failed.
     NoMemory,
 }
 

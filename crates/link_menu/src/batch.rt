@@ -20,7 +20,7 @@ pub(crate) struct Batch<'t, 'a> {
 impl<'t, 'a> Batch<'t, 'a> {
     /// The next row of each search that has one.
     ///
-    /// `AllocError` where a growth was refused.
+    /// `AllocError` if an allocation failed.
     pub(crate) fn of(
         alloc: Global,
         searches: &'t [TargetSearch<'a>],

@@ -35,7 +35,7 @@ impl<'a> Model for Citation<'a> {
 impl<'a> Citation<'a> {
     /// What a request cites, for targets whose tables have columns of these names.
     ///
-    /// `AllocError` where a growth was refused.
+    /// `AllocError` if an allocation failed.
     pub(crate) fn new(
         alloc: Global,
         request: &'a Request,

@@ -12,8 +12,8 @@ use verified_runs::Outcome;
 /// What becomes of a code on an environment.
 #[derive(Debug, Drop)]
 pub enum Fate {
-    /// The run may print so many bytes, which are more than [`MAX_LINK_BYTES`](verified_runs::MAX_LINK_BYTES): it is
-    /// not begun.
+    /// The bound on the run's output in bytes, if it exceeds [`MAX_LINK_BYTES`](verified_runs::MAX_LINK_BYTES). The
+    /// run is not started.
     OverBudget(u64),
     /// The run ends with this link, which is URI text (RFC 3986, sections 2.1 to 2.3).
     Link(String),

@@ -26,7 +26,7 @@ use std::alloc::{AllocError, Global};
 /// The menu of a request: what each target of the registry gives for it, in their order. The matching rows of a target
 /// are tried in their order, and the first that gives a web link gives the target's link.
 ///
-/// `AllocError` where a growth was refused.
+/// `AllocError` if an allocation failed.
 pub fn resolve(alloc: Global, registry: &Registry, request: &Request) -> Result<Menu, AllocError>
     ensures { IfOk result (λ menu. menu ≡ menu_of registry.now request.now.pairs) }
 {
@@ -37,7 +37,7 @@ pub fn resolve(alloc: Global, registry: &Registry, request: &Request) -> Result<
 /// web link yet tries its next matching row, all of them side by side, as [`round_over`] runs them. The watch is shown
 /// what each round shows, one round after another.
 ///
-/// `AllocError` where a growth was refused; the watch then has seen what was shown until then.
+/// `AllocError` if an allocation failed; the watch then has seen what was shown until then.
 pub fn resolve_watched<W: Watch>(
     alloc: Global,
     registry: &Registry,
@@ -64,7 +64,7 @@ pub fn resolve_watched<W: Watch>(
 
 /// A search for each target, which has tried no row.
 ///
-/// `AllocError` where a growth was refused.
+/// `AllocError` if an allocation failed.
 fn begin_all<'a>(
     alloc: Global,
     targets: &'a [Target],
@@ -90,7 +90,7 @@ fn is_any_open(searches: &[TargetSearch]) -> bool
 
 /// One round: the next row of each search that has one is tried, all of them side by side.
 ///
-/// `AllocError` where a growth was refused; the watch then has seen what was shown until then.
+/// `AllocError` if an allocation failed; the watch then has seen what was shown until then.
 fn try_next_rows<W: Watch>(
     alloc: Global,
     searches: &mut [TargetSearch],
@@ -109,7 +109,7 @@ fn try_next_rows<W: Watch>(
 
 /// What becomes of the next rows, which are run side by side.
 ///
-/// `AllocError` where a growth was refused; the watch then has seen what was shown until then.
+/// `AllocError` if an allocation failed; the watch then has seen what was shown until then.
 fn run_next_rows<W: Watch>(
     alloc: Global,
     searches: &[TargetSearch],

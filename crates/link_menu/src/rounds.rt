@@ -25,7 +25,7 @@ pub(crate) const TURN: u64 = 64;
 /// over budget is not run. After each turn of all, of up to 64 steps of each run, the runs are shown to the watch;
 /// where there is no run, nothing is shown.
 ///
-/// `AllocError` where a growth was refused; the watch then has seen what was shown until then.
+/// `AllocError` if an allocation failed; the watch then has seen what was shown until then.
 pub fn round<W: Watch>(
     alloc: Global,
     codes: &[&Verified],
@@ -49,7 +49,7 @@ pub fn round<W: Watch>(
 
 /// [`round`], over any environments that tell each name of a code by its place in the code's table of names.
 ///
-/// `AllocError` where a growth was refused; the watch then has seen what was shown until then.
+/// `AllocError` if an allocation failed; the watch then has seen what was shown until then.
 pub fn round_over<E: Scope, W: Watch>(
     alloc: Global,
     codes: &[&Verified],

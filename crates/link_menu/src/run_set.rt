@@ -25,7 +25,7 @@ pub(crate) struct RunSet<'a, E: Scope> {
 impl<'a, E: Scope> RunSet<'a, E> {
     /// Begins the run of each code on its environment, but of those that are over budget.
     ///
-    /// `AllocError` where a growth was refused.
+    /// `AllocError` if an allocation failed.
     pub(crate) fn begin_all(
         alloc: Global,
         codes: &[&'a Verified],
@@ -69,7 +69,7 @@ impl<'a, E: Scope> RunSet<'a, E> {
 
     /// Carries out what is left of each run, and answers the fates in the order in which they were begun.
     ///
-    /// `AllocError` where a growth was refused.
+    /// `AllocError` if an allocation failed.
     pub(crate) fn finish_all(self, alloc: Global) -> Result<Vec<Fate>, AllocError>
         requires { count_by is_none self.over_budget.items ≡ length self.runs.items }
         ensures { IfOk result

@@ -45,7 +45,7 @@ impl<'a> Model for TargetSearch<'a> {
 impl<'a> TargetSearch<'a> {
     /// A search that has tried no row.
     ///
-    /// `AllocError` where a growth was refused.
+    /// `AllocError` if an allocation failed.
     pub(crate) fn begin(
         alloc: Global,
         target: &'a Target,
@@ -96,7 +96,7 @@ impl<'a> TargetSearch<'a> {
 
     /// The target's name, with the resolution so far.
     ///
-    /// `AllocError` where a growth was refused.
+    /// `AllocError` if an allocation failed.
     pub(crate) fn into_entry(self, alloc: Global) -> Result<MenuEntry, AllocError>
         ensures { IfOk result (λ entry. entry ≡ spec.entry_so_far self.entry) }
     {

@@ -14,7 +14,7 @@ pub trait Watch {
 
     /// Looks at the runs, between two turns of all.
     ///
-    /// `AllocError` where a growth was refused; what it was shown before stays.
+    /// `AllocError` if an allocation failed; what it was shown before stays.
     fn seen<E: Scope>(&mut self, runs: &[Run<'_, E>]) -> Result<(), AllocError>
         ensures ok { OnOk result (lists self.new ≡ with_list (lists self.old) (steps_of runs.now)) }
         ensures err { OnErr result (lists self.new ≡ lists self.old) };

@@ -16,7 +16,7 @@ pub enum AddErrorKind {
     /// The name is not 1 to 64 ASCII letters, digits, `-`, `_` and `.`, or a target has it already.
     #[error("BadTargetName")]
     BadTargetName,
-    /// A growth was refused.
+    /// An allocation failed.
     #[error("NoMemory")]
     NoMemory,
 }

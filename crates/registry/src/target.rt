@@ -67,7 +67,7 @@ impl Target {
 
     /// A request as the code and the table of the target see it.
     ///
-    /// `AllocError` where a growth was refused.
+    /// `AllocError` if an allocation failed.
     pub fn request<'a>(
         &'a self,
         alloc: Global,

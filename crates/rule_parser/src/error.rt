@@ -22,7 +22,7 @@ pub enum RuleErrorKind {
     Template(TemplateErrorKind),
     /// A list where a text is wanted, or a text before `holds` or `counts`.
     KindMismatch,
-    /// A growth was refused.
+    /// An allocation failed.
     NoMemory,
 }
 

@@ -17,7 +17,7 @@ use uri_template::expand_in;
 /// without such a rule. Each name is seen as the rules declare it: a list where they want a text, and a text where they
 /// want a list, is undefined.
 ///
-/// `AllocError` where a growth was refused.
+/// `AllocError` if an allocation failed.
 pub fn meaning(alloc: Global, rules: &Rules, env: &Env) -> Result<Option<String>, AllocError>
     ensures value { IfOk result (λ link. option_map string_bytes link ≡ meaning_of rules.now env.now.entries) }
     ensures uri_text { IfOk result (λ link. IfSome link (λ text. IsUriText (string_bytes text))) }

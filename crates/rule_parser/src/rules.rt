@@ -46,11 +46,10 @@ impl Rules {
 
     /// Reads a rule text of at most [`MAX_BYTES`] bytes: UTF-8 lines that end with LF, or with CR and LF; the last end
     /// may be missing. Empty lines, and lines that begin with `#`, are skipped. First come lines `list NAME`, then
-    /// rules: a line
-    /// `rule`, any number of lines `when ..`, and one line `link TEMPLATE`.
+    /// rules: a line `rule`, any number of lines `when ..`, and one line `link TEMPLATE`.
     ///
     /// Any other bytes are refused whole, by their first fault. A rule without a link is found where the next one
-    /// begins, or at the end. `NoMemory` where a growth was refused, and never in place of `TooLong` and `NotUtf8`. The
+    /// begins, or at the end. `NoMemory` if an allocation failed, and never in place of `TooLong` and `NotUtf8`. The
     /// clause `limits` says what the limits of every rule text are.
     pub fn parse(alloc: Global, bytes: &[u8]) -> Result<Rules, RuleError>
         ensures limits { (MAX_BYTES ≡ 65536) × (MAX_DIGITS ≡ 9) }
@@ -75,7 +74,7 @@ impl Rules {
     /// The names that stand for lists, each once: `rft.au` and `rft_id`, the keys of ANSI/NISO Z39.88 that can come
     /// more than once, and then the declared names in the order of their lines.
     ///
-    /// `AllocError` where a growth was refused.
+    /// `AllocError` if an allocation failed.
     pub fn lists(&self, alloc: Global) -> Result<Vec<&str>, AllocError>
         ensures { IfOk result (λ lists. map (λ list. list.now) lists.items ≡ each_once (list_names self.now.lists)) }
     {

@@ -71,7 +71,7 @@ impl Env {
     /// a list, stays as it is, and the answer is `false`.
     ///
     /// `TooLarge` where all texts and members would have more than [`MAX_BYTES`] bytes; `NoMemory`
-    /// where a growth was refused. After an error nothing has changed.
+    /// if an allocation failed. After an error nothing has changed.
     pub fn put_text(&mut self, name: &str, text: &str) -> Result<bool, VarsError>
         ensures answer { IfOk result (λ is_new. is_new ≡ not (is_there self.old.entries name.now)) }
         ensures ok { OnOk result (self.new.entries ≡ with_text self.old.entries name.now text.now) }
@@ -109,7 +109,7 @@ impl Env {
     /// and the answer is `false`.
     ///
     /// `TooLarge` where all texts and members would have more than [`MAX_BYTES`] bytes, or all lists more
-    /// than [`MAX_MEMBERS`] members; `NoMemory` where a growth was refused. After an error nothing has
+    /// than [`MAX_MEMBERS`] members; `NoMemory` if an allocation failed. After an error nothing has
     /// changed.
     pub fn add_member(&mut self, name: &str, text: &str) -> Result<bool, VarsError>
         ensures answer { IfOk result (λ is_added. is_added ≡ not (stands_for_text self.old.entries name.now)) }

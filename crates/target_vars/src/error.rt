@@ -10,7 +10,7 @@ pub enum VarsError {
     /// all lists more than [`MAX_MEMBERS`](crate::MAX_MEMBERS) members.
     #[error("TooLarge")]
     TooLarge,
-    /// A growth was refused.
+    /// An allocation failed.
     #[error("NoMemory")]
     NoMemory,
 }

@@ -24,7 +24,7 @@ pub enum TemplateErrorKind {
     BadModifier,
     /// A character stands outside expressions that is no literal.
     BadLiteral,
-    /// A growth was refused.
+    /// An allocation failed.
     NoMemory,
 }
 
