@@ -33,7 +33,7 @@ impl Running {
     }
 }
 
-/// The instruction whose operation stands at a place.
+/// The instruction whose operation is at a place.
 pub(crate) fn reading(code: &Code, place: usize) -> Option<Instruction>
     requires { place < length code.now.instrs }
     ensures { result ≡ reading_at code.now place }
@@ -76,7 +76,7 @@ fn begun(code: &Code, place: usize) -> Option<Running>
     Some(Running { body, kept })
 }
 
-/// Whether NEXT stands at the place.
+/// Whether NEXT is at the place.
 fn ends_loop(code: &Code, place: usize) -> bool
     requires { place < length code.now.instrs }
     ensures { result ≡ form.is_next (reading_at code.now place) }

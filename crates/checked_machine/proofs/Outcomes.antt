@@ -50,7 +50,7 @@ is_stuck_last decided c v s in_time h = (
   ),
 )
 
--- the law that where a run comes to is computed
+-- the law that what a run ends with is computed
 abbrev pub CourseIsDecided : Type 0
 CourseIsDecided = (c : Code) (v : Environment) (k : ℕ) (o : Outcome) → ComesTo c v k o ↔ (course_of c v ≡ course k o)
 

@@ -54,7 +54,7 @@ pub(crate) fn members_of<'a>(code: &Code, env: &'a Env, index: u16) -> Value<'a>
 }
 
 impl<'a> Frame<'a> {
-    /// Puts a value into a register, and goes on.
+    /// Puts a value into a register, and continues.
     pub(crate) fn load(&mut self, register: Register, value: Value<'a>) -> Move
         requires { self.old.place < usize.MAX }
         ensures { move_in (frame_of self.new) result
@@ -64,7 +64,7 @@ impl<'a> Frame<'a> {
         self.on()
     }
 
-    /// Puts the leading number of a text into a register and goes on, or jumps.
+    /// Puts the leading number of a text into a register and continues, or jumps.
     pub(crate) fn load_number(
         &mut self,
         register: Register,
@@ -84,7 +84,7 @@ impl<'a> Frame<'a> {
         }
     }
 
-    /// Puts the number of a list's members into a register, and goes on.
+    /// Puts the number of a list's members into a register, and continues.
     pub(crate) fn load_count(&mut self, register: Register, list: Register) -> Option<Move>
         requires { self.old.place < usize.MAX }
         ensures { moves (frame_of self.new) result ≡ for_list ((frame_of self.old).registers list.number)

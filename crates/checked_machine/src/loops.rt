@@ -39,7 +39,7 @@ impl<'a> Frame<'a> {
     }
 
     /// Puts the loop's next member into the element register and returns to the loop's start; where
-    /// none is left, ends the loop and goes on.
+    /// none is left, ends the loop and continues.
     pub(crate) fn next_member(&mut self) -> Option<Move>
         requires { self.old.place < usize.MAX }
         ensures { moves (frame_of self.new) result ≡ in_loop (frame_of self.old).loop

@@ -16,7 +16,7 @@ use std::alloc::AllocError;
 use text_model::Writing;
 use uri_text::{cut, encode};
 
-/// Appends a text as it stands.
+/// Appends a text unchanged.
 fn append(out: &mut String, text: &[u8]) -> Result<(), AllocError>
     requires { IsUriText text.now }
     ensures { OnOk result (string_bytes out.new ≡ string_bytes out.old ++ text.now) }
@@ -34,7 +34,7 @@ fn append_written(out: &mut String, text: &[u8], writing: Writing) -> Result<(),
 }
 
 impl<'a> Frame<'a> {
-    /// Appends a link text, and goes on.
+    /// Appends a link text, and continues.
     pub(crate) fn emit(&mut self, text: &[u8]) -> Result<Move, AllocError>
         requires uri_text { IsUriText text.now }
         requires place { self.old.place < usize.MAX }
@@ -45,7 +45,7 @@ impl<'a> Frame<'a> {
         Ok(self.on())
     }
 
-    /// Appends a link text unless this is the loop's first turn, and goes on.
+    /// Appends a link text unless this is the loop's first turn, and continues.
     pub(crate) fn separate(&mut self, text: &[u8]) -> Result<Option<Move>, AllocError>
         requires uri_text { IsUriText text.now }
         requires place { self.old.place < usize.MAX }
@@ -61,7 +61,7 @@ impl<'a> Frame<'a> {
         Ok(Some(self.on()))
     }
 
-    /// Appends the register's text, written, and goes on.
+    /// Appends the register's text, written, and continues.
     pub(crate) fn put(
         &mut self,
         register: Register,
@@ -79,7 +79,7 @@ impl<'a> Frame<'a> {
         Ok(Some(self.on()))
     }
 
-    /// Appends the first items of the register's text, written, and goes on.
+    /// Appends the first items of the register's text, written, and continues.
     pub(crate) fn put_first(
         &mut self,
         register: Register,

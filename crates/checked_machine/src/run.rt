@@ -1,4 +1,4 @@
-//! A run, from the start to where it comes to.
+//! A run, from the start to its outcome.
 
 ghost use Rattle.std.specs.Prelude.{◌≡◌, IfOk};
 ghost use Rattle.machine_model.specs.Next.{step_limit};
@@ -11,14 +11,14 @@ use machine_laws::{course_is_decided, every_run_ends, step_is_decided};
 use std::alloc::{AllocError, Global};
 use target_vars::Env;
 
-/// Where a run comes to.
+/// What a run ends with.
 #[derive(Debug, Drop)]
 pub enum Checked {
     /// It ends with this link.
     Link(String),
     /// It ends without a link.
     NoLink,
-    /// No step leads on from this place.
+    /// No step is possible from this place.
     Stuck(usize),
 }
 
@@ -30,10 +30,10 @@ fn step_limit(code: &Code, env: &Env) -> usize
 }
 
 /// Runs a code on an environment, with every test that the definitions of the machine make, and
-/// answers where the run comes to. Any code may be run, and every run ends.
+/// answers what the run ends with. Any code may be run, and every run ends.
 ///
 /// A step takes constant work but for the bytes that it appends or compares; to look a name up is to
-/// compare it with the names of the environment. The only error is want of memory for the output.
+/// compare it with the names of the environment. The only error is that memory for the output runs out.
 pub fn run_checked<'a>(alloc: Global, code: &'a Code, env: &'a Env) -> Result<Checked, AllocError>
     ensures { IfOk result (λ answer. IsOutcome code.now env.now.entries (outcome_of answer)) }
 {
@@ -50,6 +50,6 @@ pub fn run_checked<'a>(alloc: Global, code: &'a Code, env: &'a Env) -> Result<Ch
             Stepped::Stuck(place) => return Ok(Checked::Stuck(place)),
         }
     }
-    // After as many steps as any run takes, none leads on.
+    // After as many steps as any run takes, none is possible.
     Ok(Checked::Stuck(frame.place))
 }

@@ -12,7 +12,7 @@ use code_file::Code;
 use std::alloc::AllocError;
 use target_vars::Env;
 
-/// What a step came to. Stuck has the place from which no step leads on.
+/// The outcome of a step. `Stuck` has the place from which no step is possible.
 #[derive(Clone, Copy)]
 pub(crate) enum Stepped {
     Onward,

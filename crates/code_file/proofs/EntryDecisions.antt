@@ -116,7 +116,7 @@ literal_or_fault (kind ∷ rest) fits = elim (kind_or_fault kind) [
 
 -- ---- a table
 
--- bytes begin with so many good entries
+-- bytes begin with that many good entries
 abbrev BeginsWithTable : {X : Type 0} → (X → Type 0) → (X → Text) → ℕ → Text → Type 0
 BeginsWithTable IsGood field count bytes =
     (front : Text) × (rest : Text) × IsTable IsGood field count front × (bytes ≡ front ++ rest)

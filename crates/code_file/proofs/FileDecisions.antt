@@ -87,7 +87,7 @@ counts_here version (n ∷ n' ∷ l ∷ l' ∷ i ∷ i' ∷ rest) known h fits =
           (sym (number_of_bytes i i' (fits 4) (fits 5)));
     })
 
--- the bytes behind the tables of names and of literals
+-- the bytes after the tables of names and of literals
 instrs_here : (bytes : Text) → AreBytes bytes → length bytes ≤ MAX_BYTES → PastLiterals bytes → IsAnswered bytes
 instrs_here bytes fits short p =
     let room = 8 * p.header.instrs in

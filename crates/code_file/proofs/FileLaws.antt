@@ -83,7 +83,7 @@ literals_read bytes p r more =
     (literals_found p.literal_table.0 p.rest
     (table_found IsLiteral literal_field IsLiteralFault p.header.literals p.literals p.rest p.literal_table)) more)
 
--- the tables of a code, with anything behind them
+-- the tables of a code, with anything after them
 abbrev past_literals : (bytes front behind : Text) (c : Code) → IsCodeFile front c → bytes ≡ front ++ behind → PastLiterals bytes
 past_literals bytes front behind c f h = record {
   header = header_of c;

@@ -1,4 +1,4 @@
--- Names can be told apart, and bytes have one fault of a name at most.
+-- Names can be distinguished, and bytes have one fault of a name at most.
 use Rattle.std.proofs.Common.{◌≡◌, ◌<◌, ◌≤◌, ◌+◌, ◌⊎◌, ℕ, Bool, true, false, [], ◌∷◌, ◌++◌, length, take, get_or, refl, sym, ◌∙◌, ap, subst, inl, inr, arith}
 use Rattle.std.proofs.Common.{length-append}
 use Rattle.std.specs.Prelude.{Result, Ok, Err, nat_lt, nat_le, ◌&&◌, slice_index, if◌then◌else◌}
@@ -45,7 +45,7 @@ kind_no_fault b rest e (bad_kind kind t h k) =
 
 -- ---- names
 
--- what bytes say of the name at their front, short of its text: that text, or a fault
+-- what bytes say of the name at their beginning, short of its text: that text, or a fault
 abbrev name_shape_from : ℕ → ℕ → Text → Result Text CodeError
 name_shape_from kind len rest =
     if (nat_lt 0 len && nat_le len MAX_NAME_BYTES)

@@ -89,7 +89,7 @@ literal_fault_of l rest short bad = bad_text l rest refl short (λ t. bad (recor
 
 -- ---- the first fault of the file of parts
 
--- the first bad entry, behind the good ones and in front of the others
+-- the first bad entry, after the good ones and before the others
 parted : {X : Type 0} (field : X → Text) (xs : List X) (place : ℕ) (d : X) → place < length xs
     → flat_map field xs ≡ flat_map field (take place xs) ++ (field (slice_index_or xs place d) ++ flat_map field (drop (suc place) xs))
 parted field xs place d within =

@@ -58,7 +58,7 @@ same_header h k s t p q same =
       tail,
     )
 
--- what stands behind the magic
+-- what comes after the magic
 abbrev past_magic : {bytes : Text} → PastCounts bytes → PastMagic bytes
 past_magic p = record {
   version = p.header.version;
@@ -164,7 +164,7 @@ instrs_apart = record {
           tail,
         )
 
--- the bytes in front of the instructions
+-- the bytes before the instructions
 abbrev front_len : Literals → ℕ
 front_len s = 10 + length (flat_map name_field s.1) + length (flat_map literal_field s.2)
 

@@ -12,7 +12,7 @@ use Rattle.code_file.specs.Fault.{after}
 
 -- ---- a table
 
--- entries of one kind can be told apart
+-- entries of one kind can be distinguished
 pub record IsApart {X : Type 0} (IsGood : X → Type 0) (field : X → Text) (IsFault : Text → CodeError → Type 0) : Type 0 where
   pub one_entry : (x y : X) (s t : Text) → IsGood x → IsGood y → field x ++ s ≡ field y ++ t → (x ≡ y) × (s ≡ t)
   pub no_fault : (x : X) (s : Text) (e : CodeError) → IsGood x → IsFault (field x ++ s) e → ⊥
@@ -32,7 +32,7 @@ first_entries {X = X} IsGood field IsFault apart (x ∷ xs) (y ∷ ys) s t g h e
     let more = first_entries IsGood field IsFault apart xs ys s t (All-tail IsGood x xs g) (All-tail IsGood y ys h) one.1 (omega arith) in
     (more.0, more.1, ap (λ (l : List X). y ∷ l) more.2 ∙ ap (λ (z : X). z ∷ (xs ++ more.0)) (sym one.0), more.3)
 
--- what reading a table of so many entries gives: the entries and the bytes after them, or the first fault
+-- what reading a table of that many entries gives: the entries and the bytes after them, or the first fault
 pub data ReadsTable {X : Type 0} (IsGood : X → Type 0) (field : X → Text) (IsFault : Text → CodeError → Type 0)
     (count : ℕ) (bytes : Text) : Result (List X × Text) CodeError → Type 0 where
   found : (xs : List X) (rest : Text) → All IsGood xs → length xs ≡ count → bytes ≡ flat_map field xs ++ rest

@@ -21,7 +21,7 @@ fault kind at = record { kind = kind; at = at }
 abbrev pub cut_short : Text → CodeError
 cut_short bytes = fault Truncated (length bytes)
 
--- the same fault, with so many bytes in front
+-- the same fault, with this number of bytes before
 abbrev pub after : ℕ → CodeError → CodeError
 after n e = fault e.kind (n + e.at)
 
@@ -33,7 +33,7 @@ pub record IsFirstWrong (text : Text) (place : ℕ) : Type 0 where
   pub before : All IsNameByte (take place text)
   pub wrong : IsNameByte (slice_index text place) → ⊥
 
--- an entry's first byte is not there, or is neither 0 nor 1
+-- an entry's first byte is missing, or is neither 0 nor 1
 pub data IsKindFault (bytes : Text) : CodeError → Type 0 where
   no_kind : bytes ≡ [] → IsKindFault bytes (cut_short bytes)
   bad_kind : (kind : ℕ) (rest : Text) → bytes ≡ kind ∷ rest → 1 < kind → IsKindFault bytes (fault BadKind 0)
@@ -62,7 +62,7 @@ pub data IsLiteralFault (bytes : Text) : CodeError → Type 0 where
 
 -- ---- the fault of a table
 
--- the bytes are these entries, one after another: so many, and good ones
+-- the bytes are these entries, one after another: that many, all of them good
 pub record IsTableOf {X : Type 0} (IsGood : X → Type 0) (field : X → Text) (count : ℕ) (bytes : Text) (entries : List X) : Type 0 where
   pub good : All IsGood entries
   pub counted : length entries ≡ count
@@ -121,7 +121,7 @@ pub record PastMagic (bytes : Text) : Type 0 where
   pub known : IsVersion version
   pub spells : bytes ≡ magic version ++ rest
 
--- the counts are there, over their limits or not
+-- the counts are present, over their limits or not
 pub record PastCounts (bytes : Text) : Type 0 where
   pub header : Header
   pub rest : Text
@@ -171,6 +171,6 @@ pub data IsFirstFault (bytes : Text) : CodeError → Type 0 where
   too_long : MAX_BYTES < length bytes → IsFirstFault bytes (fault TooLong MAX_BYTES)
   in_field : (e : CodeError) → length bytes ≤ MAX_BYTES → IsFieldFault bytes e → IsFirstFault bytes e
 
--- the answer to bytes that are not read: their first fault, or, only where they have none, want of memory
+-- the answer to bytes that are not read: their first fault, or, only if they have none, out of memory
 abbrev pub IsRefusal : Text → CodeError → Type 0
 IsRefusal bytes e = IsFirstFault bytes e ⊎ ((e ≡ fault NoMemory 0) × ((c : Code) × IsCodeFile bytes c))

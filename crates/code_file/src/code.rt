@@ -196,7 +196,7 @@ impl Code {
         self.instrs[i]
     }
 
-    /// The names of list kind, in the order of their table; a name that stands there twice comes twice.
+    /// The names of list kind, in the order of their table; a name that is listed twice appears twice.
     pub fn lists(&self, alloc: Global) -> Result<Vec<&str>, AllocError>
         ensures { IfOk result
             (λ v. map (λ s. s.now) v.items ≡ map (λ n. n.text) (filter (λ n. n.list) self.now.names)) }

@@ -56,7 +56,7 @@ impl CodeErrorKind {
 }
 
 impl CodeError {
-    /// The same fault, with so many bytes in front.
+    /// The same fault, with this number of bytes before.
     pub(crate) fn after(self, front: usize) -> CodeError
         requires { front + self.at < 2 ^ 64 }
         ensures { result ≡ after front self }

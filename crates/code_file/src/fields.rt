@@ -1,4 +1,4 @@
-//! The fields of a code file, from the front of its bytes. Nothing here takes memory.
+//! The fields of a code file, from the beginning of its bytes. Nothing here takes memory.
 
 ghost use Rattle.std.specs.Prelude.{◌≡◌, ◌≤◌, ◌<◌, ◌+◌, ◌^◌, ◌++◌, ◌∷◌, ◌↔◌, ℕ, length, take, IsTrue, IfOk, IfErr};
 ghost use Rattle.std.specs.Prelude.{IfNone, IfSome, All};
@@ -75,7 +75,7 @@ fn split_kind(bytes: &[u8]) -> Result<(bool, &[u8]), CodeError>
     Ok((*kind == 1, rest))
 }
 
-/// Whether a name may have so many bytes.
+/// Whether a name may have this number of bytes.
 pub(crate) fn is_name_length(len: usize) -> bool
     ensures { IsTrue result ↔ IsNameLength len }
 {

@@ -1,4 +1,4 @@
-//! What a code file has in front of its tables.
+//! What a code file has before its tables.
 
 ghost use Rattle.std.specs.Prelude.{◌≡◌};
 ghost use Rattle.code_file.specs.Fault.{header_fault};

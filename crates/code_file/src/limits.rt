@@ -1,16 +1,16 @@
 //! The limits of a code and of its file.
 
-/// At most so many bytes has a code file.
+/// The maximum size of a code file, in bytes.
 pub const MAX_BYTES: usize = 65_536;
 
-/// At most so many names has a code.
+/// The maximum number of names in a code.
 pub const MAX_NAMES: u16 = 256;
 
-/// At most so many literals has a code.
+/// The maximum number of literals in a code.
 pub const MAX_LITERALS: u16 = 1_024;
 
-/// At most so many instructions has a code.
+/// The maximum number of instructions in a code.
 pub const MAX_INSTRS: u16 = 4_096;
 
-/// At most so many bytes has a name of a code.
+/// The maximum length of a name of a code, in bytes.
 pub const MAX_NAME_BYTES: usize = 255;

@@ -6,7 +6,7 @@ ghost use Rattle.code_file.specs.Private.FromLeft as from_left;
 ghost use Rattle.text_model.specs.Writing.{is_unreserved_or_reserved};
 ghost use Rattle.text_model.specs.UriText.{IsUriText};
 
-/// Whether a byte may stand for itself: an unreserved or a reserved character (RFC 3986, sections 2.2
+/// Whether a byte may represent itself: an unreserved or a reserved character (RFC 3986, sections 2.2
 /// and 2.3).
 #[tactic(auto, unfolding(text_model::specs::Texts::is_unreserved, text_model::specs::Texts::is_reserved))]
 fn is_plain(b: u8) -> bool
@@ -45,7 +45,7 @@ fn after_item(bytes: &[u8]) -> Option<&[u8]>
     None
 }
 
-/// Whether the bytes are URI text: characters that stand for themselves, and triplets.
+/// Whether the bytes are URI text: characters that denote themselves, and triplets.
 pub(crate) fn is_uri_text(bytes: &[u8]) -> bool
     ensures { IsTrue result ↔ IsUriText bytes.now }
 {

@@ -1,6 +1,6 @@
 //! What the program says of itself: its commands, and its version.
 
-/// The line of the version, which stands here alone.
+/// The line of the version, which is written nowhere else.
 pub(crate) const VERSION: &str = "openlink 0.1.0\n";
 
 /// The commands, the limits of what they take, and the exit statuses.

@@ -1,4 +1,4 @@
--- The lines of a block lead no further than to the place behind it.
+-- The lines of a block lead no further than to the place after it.
 use Rattle.std.proofs.Common.{ℕ, suc, ◌+◌, ◌≤◌, List, [], ◌∷◌, ◌++◌, length, arith}
 use Rattle.std.proofs.lemmas.List.{length-append}
 use Rattle.compiler_model.specs.declared.lines.Target.TheVariants.{Ahead}
@@ -33,6 +33,6 @@ lines_within (ForEach a b x) more =
 lines_within (LeaveIf test) more = (omega arith, tt)
 lines_within Leave more = (omega arith, tt)
 
--- HALT behind the lines of a block
+-- HALT after the lines of a block
 pub rule_within : (b : Block) → StayWithin 0 (lines b ++ Halts ∷ [])
 rule_within b = within_both 0 (lines b) (Halts ∷ []) (lines_within b _) (omega arith, tt)

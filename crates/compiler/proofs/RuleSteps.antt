@@ -50,7 +50,7 @@ module _ (names : List Name) (literals : List Literal) where
       ∙ sym (ap (λ rs. old ++ map spelling (rules_instructions names literals lists (length old) rs)) (next_rule all i rule lt is))
       ∙ before
 
--- FAIL behind all lines
+-- FAIL after all lines
 pub length-all_lines : (rules : RuleSet) → length (all_lines rules) ≡ length (flat_map (rule_lines rules.lists) rules.rules) + 1
 length-all_lines rules = length-append (flat_map (rule_lines rules.lists) rules.rules) (Fails ∷ [])
 

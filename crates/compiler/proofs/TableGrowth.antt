@@ -40,7 +40,7 @@ gathered_entry same xs None ys = refl
 gathered_entry same xs (Some x) ys = refl
 
 module _ {X : Type 0} (same : X → X → Bool) (decides : (x y : X) → Decides (same x y) (x ≡ y)) where
-  -- whether an entry is there does not change where another one is taken out
+  -- whether an entry is present does not change where another one is taken out
   among_others : (x y : X) (ys : List X) → same x y ≡ false → list_any (same x) (filter (λ z. not (same y z)) ys) ≡ list_any (same x) ys
   among_others x y [] d = refl
   among_others x y (z ∷ ys) d = by_test (same y z) refl (among_others x y ys d)
@@ -91,7 +91,7 @@ pub gathered_lines : {X : Type 0} (same : X → X → Bool) (used : Line → Opt
     ≡ gathered same (gathered same xs (filter_map used a)) (filter_map used b)
 gathered_lines same used xs a b = ap (gathered same xs) (filter_map-append used a b) ∙ gathered-append same xs (filter_map used a) (filter_map used b)
 
--- FAIL behind all lines uses nothing
+-- FAIL after all lines uses nothing
 unused_end : {X : Type 0} (used : Line → Option X) (ls : List Line) → used Fails ≡ None → filter_map used (ls ++ Fails ∷ []) ≡ filter_map used ls
 unused_end used ls e = filter_map-append used ls (Fails ∷ []) ∙ rw e (append-nil (filter_map used ls))
 

@@ -50,7 +50,7 @@ fn has_counts(rules: &Rules) -> bool
     rules.rules().iter().any(|rule| rule_counts(rule))
 }
 
-// The instructions of all rules, and FAIL behind them.
+// The instructions of all rules, and FAIL after them.
 fn instructions(alloc: Global, rules: &Rules, tables: &Tables) -> Result<Vec<Instr>, AllocError>
     requires names { length tables.now.names.items ≤ 256 }
     requires literals { length tables.now.literals.items ≤ 1024 }

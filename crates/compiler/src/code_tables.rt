@@ -40,7 +40,7 @@ impl Tables {
         Ok(())
     }
 
-    /// The tables of the lines of all rules, with FAIL behind them.
+    /// The tables of the lines of all rules, with FAIL after them.
     pub(crate) fn of_rules(alloc: Global, rules: &Rules) -> Result<Tables, AllocError>
         ensures names { IfOk result (λ tables. tables.names.items ≡ names_of (all_lines rules.now)) }
         ensures literals { IfOk result (λ tables. tables.literals.items ≡ literals_of (all_lines rules.now)) }
@@ -60,7 +60,7 @@ impl Tables {
         Ok(tables)
     }
 
-    /// Whether code may have so many names, literals and instructions; otherwise the first limit that they pass.
+    /// Whether code may have that many names, literals and instructions; otherwise the first limit that they pass.
     pub(crate) fn check(&self) -> Result<(), CompileError>
         ensures names { OnOk result (length self.now.names.items ≤ 256) }
         ensures literals { OnOk result (length self.now.literals.items ≤ 1024) }

@@ -114,7 +114,7 @@ pub(crate) fn push_instr(instrs: &mut Vec<Instr>, instr: Instr) -> Result<(), Al
     Ok(())
 }
 
-/// The instructions of a rule's lines, behind those that are there.
+/// The instructions of a rule's lines, after the existing ones.
 pub(crate) fn push_rule(
     names: &[Name],
     literals: &[Literal],

@@ -18,7 +18,7 @@ use text_model::Writing;
 use uri_grammar::{Op, Part, Spec, Text};
 use uri_template::Style;
 
-// What stands before a piece, where nothing stands before the first.
+// What is written before a piece, with nothing before the first.
 fn push_later_lead(alloc: Global, out: &mut Vec<Line>, sep: &str) -> Result<(), AllocError>
     ensures { OnOk result (out.new.items ≡ out.old.items ++ lines (lead_block [] sep.now)) }
 {

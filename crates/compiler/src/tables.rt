@@ -83,7 +83,7 @@ fn add_used_literal(
     }
 }
 
-/// The names that lines use, behind those that are there.
+/// The names that lines use, after the existing ones.
 #[tactic(auto, using(crate::proofs::TableGrowth::gathered_entry))]
 pub(crate) fn add_names(
     alloc: Global,
@@ -98,7 +98,7 @@ pub(crate) fn add_names(
     Ok(())
 }
 
-/// The literals that lines use, behind those that are there.
+/// The literals that lines use, after the existing ones.
 #[tactic(auto, using(crate::proofs::TableGrowth::gathered_entry))]
 pub(crate) fn add_literals(
     alloc: Global,
@@ -116,7 +116,7 @@ pub(crate) fn add_literals(
     Ok(())
 }
 
-// The place of a name in its table, if it is there.
+// The place of a name in its table, if it is in it.
 fn find_name(names: &[Name], list: bool, text: &str) -> Option<usize>
     ensures { result ≡ position (is_same_name (name_entry list text.now)) names.now }
 {
@@ -125,7 +125,7 @@ fn find_name(names: &[Name], list: bool, text: &str) -> Option<usize>
         .position(|name| text == name.text.as_str() && list == name.list)
 }
 
-// The place of a literal in its table, if it is there.
+// The place of a literal in its table, if it is in it.
 fn find_literal(literals: &[Literal], compared: bool, bytes: &[u8]) -> Option<usize>
     ensures { result ≡ position (is_same_literal (literal_entry compared bytes.now)) literals.now }
 {
@@ -133,7 +133,7 @@ fn find_literal(literals: &[Literal], compared: bool, bytes: &[u8]) -> Option<us
         && compared == literal.compared)
 }
 
-/// The index of a name; the length of the table where it is not there.
+/// The index of a name; the length of the table if it is not in it.
 #[tactic(auto, using(crate::proofs::TableGrowth::index_or_len, crate::proofs::TableGrowth::first_within))]
 pub(crate) fn name_index(names: &[Name], list: bool, text: &str) -> usize
     ensures index { result ≡ index_of_name names.now list text.now }
@@ -142,7 +142,7 @@ pub(crate) fn name_index(names: &[Name], list: bool, text: &str) -> usize
     find_name(names, list, text).unwrap_or(names.len())
 }
 
-/// The index of a literal; the length of the table where it is not there.
+/// The index of a literal; the length of the table if it is not in it.
 #[tactic(auto, using(crate::proofs::TableGrowth::index_or_len, crate::proofs::TableGrowth::first_within))]
 pub(crate) fn literal_index(literals: &[Literal], compared: bool, bytes: &[u8]) -> usize
     ensures index { result ≡ index_of_literal literals.now compared bytes.now }

@@ -1,4 +1,4 @@
--- Blocks that are put together rightly: registers, counts and link texts as code wants them, no loop in a loop, and no
+-- Blocks that are correctly assembled: registers, counts and link texts as code wants them, no loop in a loop, and no
 -- way out of one. The blocks of rules are.
 use Rattle.std.proofs.Common.{◌≡◌, ℕ, zero, suc, ◌≤◌, List, [], ◌∷◌, ◌++◌, Bool, true, false, refl, arith}
 use Rattle.std.specs.Prelude.{codes, if◌then◌else◌, nat_lt, nat_le, ◌&&◌, ◌||◌, All}
@@ -208,7 +208,7 @@ module _ (version : ℕ) where
 
   -- ---- rules
 
-  -- each rule of a list is put together rightly
+  -- each rule of a list is correctly assembled
   abbrev pub AreFormed : List Text → List Rule → Type 0
   AreFormed lists rules = AllByRecursion (λ rule. IsFormed version false (rule_block lists rule)) rules
 

@@ -81,7 +81,7 @@ module _ (c : Code) where
         last = goes_on_to q instruction.Next lt;
       })
 
-  -- HALT and FAIL may stand anywhere
+  -- HALT and FAIL may be anywhere
   pub last_good : (p : ℕ) (i : Instruction) → Reads c p i → ends_run i ≡ true → fault_at c p ≡ None
   last_good p i r e = by_end i r e
     where

@@ -20,7 +20,7 @@ use Rattle.compiler_model.specs.Compiled.{mode_of, line_instruction}
 use Rattle.compiler_model.proofs.Places.{HasText, IsPlaced}
 use Rattle.compiler_model.proofs.Formed.{IsRegister, IsFormedAction, IsFormedTest, IsFormed}
 
--- ---- lines of blocks that are put together rightly
+-- ---- lines of blocks that are correctly assembled
 
 -- an action's line, wherever it is
 abbrev pub IsFormedLine : ℕ → Line → Type 0

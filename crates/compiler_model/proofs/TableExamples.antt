@@ -1,4 +1,4 @@
--- The names and the literals of code are in the order of first use, and each is there once.
+-- The names and the literals of code are in the order of first use, and each occurs once.
 use Rattle.std.proofs.Common.{◌≡◌, List, [], ◌∷◌, ◌++◌, map, refl}
 use Rattle.std.specs.Prelude.{codes}
 use Rattle.text_model.specs.Texts.{Text}

@@ -77,7 +77,7 @@ with_text-new env name t absent = rw absent refl
 pub with_text-known : (env : Environment) (name t : Text) → is_there env name ≡ true → with_text env name t ≡ env
 with_text-known env name t there = rw there refl
 
--- a name that stands for a text keeps it
+-- a name that denotes a text keeps it
 pub with_member-text : (env : Environment) (name t : Text) → is_some (text_of env name) ≡ true → with_member env name t ≡ env
 with_member-text [] name t is_text = let none : is_some (text_of [] name) ≡ false = ap (λ o. is_some (text_in o)) (look_up-empty name) in absurd (cc)
 with_member-text (e ∷ env) name t is_text = by_cases (bytes_eq e.name name) refl (with_member-text env name t)
@@ -169,9 +169,9 @@ member_count-with_member (e ∷ env) name t no_text = by_cases (bytes_eq e.name 
         let after = member_count-cons e (with_member env name t) in
         ap member_count (with_member-other e env name t other) ∙ omega arith
 
--- ---- which names are there
+-- ---- which names are defined
 
--- a member of a name that is there brings no name
+-- a member of a name that is defined brings no name
 pub is_there-with_member : (env : Environment) (name t other : Text) → is_there env name ≡ true → is_there (with_member env name t) other ≡ is_there env other
 is_there-with_member [] name t other there = let none : is_there [] name ≡ false = ap is_some (look_up-empty name) in absurd (cc)
 is_there-with_member (e ∷ env) name t other there = by_cases (bytes_eq e.name name) refl (is_there-with_member env name t other)

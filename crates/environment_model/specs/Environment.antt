@@ -4,7 +4,7 @@ use Rattle.std.specs.Str.{bytes_eq}
 use Rattle.std.specs.List.{list_any}
 use Rattle.text_model.specs.Texts.{Text}
 
--- what a name stands for: a text, or a list of texts
+-- what a name denotes: a text, or a list of texts
 pub data Meaning : Type 0 where
   Single : (text : Text) → Meaning
   Several : (members : List Text) → Meaning

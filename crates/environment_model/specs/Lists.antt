@@ -1,4 +1,4 @@
--- Which names stand for lists, in a request and in the rules that are asked about it.
+-- Which names denote lists, in a request and in the rules that are asked about it.
 use Rattle.std.specs.Prelude.{List, [], ◌∷◌, ◌++◌, Bool, codes}
 use Rattle.text_model.specs.Texts.{Text}
 use Rattle.environment_model.specs.Environment.{is_among}
@@ -11,6 +11,6 @@ standard_lists = codes "rft.au" ∷ codes "rft_id" ∷ []
 abbrev pub list_names : List Text → List Text
 list_names declared = standard_lists ++ declared
 
--- whether the name stands for a list, where these are declared
+-- whether the name denotes a list, where these are declared
 abbrev pub is_list : List Text → Text → Bool
 is_list declared name = is_among name (list_names declared)

@@ -31,7 +31,7 @@ pub data IsReplyToInput (targets : List TargetValue) (old new : Heard) : ℕ →
 -- ---- the exchange
 
 -- what an exchange does to its input and its output, by how it ends: the input ended at once, and nothing was written; a reply
--- with this status was written whole; a read failed that asked for more, and nothing was written; or a write failed after that
+-- with this status was written whole; a read failed that requested more, and nothing was written; or a write failed after that
 -- many bytes of a reply, its first ones and not all
 abbrev pub IsExchange : List TargetValue → Heard → Said → Result Served ServeError → Heard → Said → Type 0
 IsExchange targets old before (Ok Nothing) new after = IsReadWhole MAX_HEAD_BYTES old [] new × (after ≡ before)

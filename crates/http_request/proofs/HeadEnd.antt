@@ -18,7 +18,7 @@ record EndsFirst (test : List ℕ → Bool) (bytes : List ℕ) : Type 0 where
 
 -- ---- one byte more in front
 
--- behind this byte one test goes on as the other
+-- after this byte one test continues as the other
 ends-behind : (test behind : List ℕ → Bool) (b : ℕ) (bytes : List ℕ) → test [] ≡ false → ((more : List ℕ) → test (b ∷ more) ≡ behind more)
     → EndsFirst behind bytes → EndsFirst test (b ∷ bytes)
 ends-behind test behind b bytes none same e = record { whole = same bytes ∙ e.whole; front = front }
@@ -33,7 +33,7 @@ ends-byte b bytes apart e =
     ends-behind has_empty_line has_empty_line b bytes refl
     (λ more. ap (λ (t : Bool). (t && begins_with_empty_line more) || has_empty_line more) apart) e
 
--- the LF of a line, with no empty line behind it
+-- the LF of a line, with no empty line after it
 ends-line : (b : ℕ) (bytes : List ℕ) → (b == 10) ≡ false → (b == 13) ≡ false
     → EndsFirst has_empty_line (b ∷ bytes) → EndsFirst has_empty_line (10 ∷ b ∷ bytes)
 ends-line b bytes apart none e = record { whole = same bytes ∙ e.whole; front = front }

@@ -19,7 +19,7 @@ place_or_length test xs = by_test (nat_lt (position_or_len test xs) (length xs))
     by_test true e = refl
     by_test false e = omega (arith, ltb-false _ _ e, place-le test xs)
 
--- where it stands
+-- where it is
 pub place-some : (test : ℕ → Bool) (xs : List ℕ) (i : ℕ) → position test xs ≡ Some i → i ≡ position_or_len test xs
 place-some test xs i = by_test (nat_lt (position_or_len test xs) (length xs))
   where

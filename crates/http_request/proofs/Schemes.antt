@@ -1,4 +1,4 @@
--- The front of a target and a scheme, in either case.
+-- The beginning of a target and a scheme, in either case.
 use Rattle.std.proofs.Common.{◌≡◌, ℕ, ◌<◌, Bool, true, false, ◌↔◌, List, map, length, take, refl, ap, arith}
 use Rattle.std.specs.Bool.{Decides, IsTrue}
 use Rattle.std.specs.Char.{to_ascii_lowercase}

@@ -66,11 +66,11 @@ head_route head = route_of head.method head.target head.minor (host_count head.f
 
 -- ---- the bytes
 
--- so many bytes whose head has not ended are too many, and any others are no request
+-- that many bytes whose head has not ended are too many, and any others are no request
 abbrev pub route_without_head : List ℕ → RouteValue
 route_without_head bytes = if (length bytes == MAX_HEAD_BYTES) && not (is_closed bytes) then HeadTooLarge else BadRequest
 
--- the bytes are a head with few enough fields, whatever lies behind it
+-- the bytes are a head with few enough fields, whatever lies after it
 pub record IsHeadOf (bytes : List ℕ) (head : RequestHead) : Type 0 where
   pub rest : List ℕ
   pub reads : ReadsRequest bytes head rest

@@ -11,7 +11,7 @@ is_slash b = b == 47
 abbrev pub is_question_mark : ℕ → Bool
 is_question_mark b = b == 63
 
--- ---- origin form (section 3.2.1): a path, and a query behind `?`
+-- ---- origin form (section 3.2.1): a path, and a query after `?`
 
 abbrev pub begins_with_slash : List ℕ → Bool
 begins_with_slash [] = false
@@ -30,7 +30,7 @@ after_scheme scheme target = if begins_with scheme target then Some (drop (lengt
 abbrev pub authority_length : List ℕ → ℕ
 authority_length bytes = position_or_len (λ b. is_slash b || is_question_mark b) bytes
 
--- the bytes behind an authority that is not empty
+-- the bytes after an authority that is not empty
 abbrev pub after_authority : List ℕ → Option (List ℕ)
 after_authority bytes = if authority_length bytes == 0 then None else Some (drop (authority_length bytes) bytes)
 

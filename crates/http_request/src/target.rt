@@ -6,7 +6,7 @@ ghost use Rattle.http_request.specs.Target as spec;
 
 use crate::route::Page;
 
-// Where the authority at the front ends: at the first `/` or `?`.
+// Where the authority at the beginning ends: at the first `/` or `?`.
 fn authority_end(bytes: &[u8]) -> Option<usize>
     ensures { result ≡ position (λ b. spec.is_slash b || spec.is_question_mark b) bytes.now }
 {
@@ -72,14 +72,14 @@ pub(crate) fn resource_of(target: &[u8]) -> Option<&[u8]>
     }
 }
 
-// Where the query's mark stands.
+// Where the query's mark is.
 fn query_mark(resource: &[u8]) -> Option<usize>
     ensures { result ≡ position spec.is_question_mark resource.now }
 {
     resource.iter().position(|byte| *byte == b'?')
 }
 
-/// The path, which is what stands before the first `?`, and the query behind it.
+/// The path, which is what comes before the first `?`, and the query after it.
 pub(crate) fn split_query(resource: &[u8]) -> (&[u8], &[u8])
     ensures path { result.0.now ≡ spec.path_of resource.now }
     ensures query { result.1.now ≡ spec.query_of resource.now }

@@ -9,7 +9,7 @@ pub record IsReadWhole (most : ℕ) (old : Heard) (bytes : List ℕ) (new : Hear
   pub limit : length bytes ≤ most
   pub stopped : (is_closed bytes ≡ true) ⊎ (length bytes ≡ most) ⊎ IsAtEnd new.left
 
--- the bytes were read, and then a read failed that asked for more: they are open and fewer than may be read
+-- the bytes were read, and then a read failed that requested more: they are open and fewer than may be read
 pub record IsReadInPart (most : ℕ) (old : Heard) (bytes : List ℕ) (new : Heard) : Type 0 where
   pub before : Heard
   pub read : Hears old bytes (length bytes) before

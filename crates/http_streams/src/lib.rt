@@ -1,7 +1,7 @@
 //! Streams of bytes that come in and go out, the connections that they belong to, and the reading of a request's
 //! head (RFC 9112, section 2) from any of them.
 //!
-//! A stream may give or take any number of the bytes that it is asked for, one at least, and may fail at any
+//! A stream may give or take any number of the bytes requested, one at least, and may fail at any
 //! call. Contracts see how many bytes it moved and how many of its calls have failed, and its bytes if it tells
 //! them: streams over memory do, a socket does not. Likewise they see which connections a listener accepted and
 //! closed, if it tells them.

@@ -1,4 +1,4 @@
-//! What the front reads from and writes to.
+//! What the server reads from and writes to.
 
 ghost use Rattle.std.specs.Prelude.{◌≡◌, ◌<◌, ◌≤◌, length, take, IfOk, OnErr};
 ghost use Rattle.http_streams.specs.Streams.{Heard, Hears, IsAtEnd, Said, Says, after_failed_read, after_failed_write};

@@ -11,7 +11,7 @@ use std::test::Fail;
 use std::time::Duration;
 use streams_in_memory::Peers;
 
-/// What peers send: one closes the connection at once, one is silent before its head has ended.
+/// What peers send: one closes the connection at once, one sends nothing more before its head has ended.
 const SENT: [&[u8]; 5] = [b"", b"GET /x HTTP/1.1\r\n", REQUEST, REQUEST, REQUEST];
 
 /// A peer that has sent these bytes.

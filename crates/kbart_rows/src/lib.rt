@@ -8,7 +8,7 @@
 //!   a name.
 //! - Quotes are plain characters, cells are not trimmed, and `#` begins no comment.
 //! - A line ends with LF, CR LF or CR. Blank lines are no rows; a line of tabs or of a space is one.
-//! - One byte order mark at the front is dropped.
+//! - One byte order mark at the beginning is dropped.
 //! - A cell that is empty or missing is undefined. Cells past the header are ignored, but their bytes count.
 //! - A table has at most 16,777,216 bytes and 200,000 rows, and a line at most 65,536 bytes of cells and tabs.
 #![tactic(auto)]

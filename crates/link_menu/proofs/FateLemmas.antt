@@ -46,7 +46,7 @@ as_many_runs [] = refl
 as_many_runs (p ∷ pairs) = first_count (is_over_budget p.0 p.1) (most_bytes p.0 p.1) (new_run p.0 p.1) (map excess_of pairs) (runs_of pairs)
     (as_many_runs pairs)
 
--- ---- runs of the same come to the same
+-- ---- equal runs end with the same
 
 pub same_outcomes : (old new : List RunValue) → AreOfTheSame old new → outcomes_in_the_end new ≡ outcomes_in_the_end old
 same_outcomes old new same = outcomes_of_the_same new ∙ ap outcomes_in_the_end same ∙ sym (outcomes_of_the_same old)

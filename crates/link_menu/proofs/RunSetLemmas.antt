@@ -21,7 +21,7 @@ use Rattle.link_menu.specs.Fates.{is_over_budget, run_of, runs_of}
 use Rattle.link_menu.specs.Private.Rounds.{IsFresh, AreFresh}
 use Rattle.link_menu.specs.Private.RunSets.{excess_of, IsRunSetOf}
 
--- what each run comes to is computed
+-- what each run ends with is computed
 abbrev pub CoursesAreDecided : Type 0
 CoursesAreDecided = (c : Code) (v : Environment) (k : ℕ) (o : Outcome) → ComesTo c v k o ↔ (course_of c v ≡ course k o)
 

@@ -15,9 +15,9 @@ use Rattle.registry.specs.Targets.{TargetValue}
 use Rattle.registry.specs.Entries.{entry_of, matching_rows_of, menu_of, resolution_from, resolution_of, resolution_of_row}
 use Rattle.link_menu.specs.Private.Searches.{SearchValue, entry_so_far, is_open, started, after_next_row, after_row_at}
 
--- ---- the reason that a search comes to
+-- ---- the reason that a search ends with
 
--- behind a row that came to a reason
+-- after a row that ended with a reason
 abbrev pub resolution_after : List KeyValue → TargetValue → ℕ → Resolution → Resolution
 resolution_after pairs target row resolution = if is_link resolution then resolution else resolution_from target pairs (row + 1) resolution
 
@@ -66,7 +66,7 @@ module _ (begins : Begins) (no_more : NoMore) (at_link : AtLink) (past_no_link :
       by_next None is = sym (no_more target pairs from so_far is)
       by_next (Some row) is = by_link row (is_link (resolution_of_row target pairs row)) is refl
 
-  -- a search keeps what it comes to
+  -- a search keeps its outcome
   tried_comes_to : (s : SearchValue) → entry_in_the_end (after_next_row s) ≡ entry_in_the_end s
   tried_comes_to s = by_next s.next refl
     where

@@ -1,4 +1,4 @@
--- Lists that a watch tells, and others behind them.
+-- Lists that a watch tells, and others after them.
 use Rattle.std.proofs.Common.{◌≡◌, ℕ, zero, suc, ◌+◌, ◌-◌, ◌≤◌, List, [], ◌++◌, Option, Some, None, refl, sym, ap, ◌∙◌, arith, append-nil, append_assoc}
 use Rattle.std.specs.Prelude.{Result, Ok, Err, OnErr, OnOk}
 use Rattle.link_menu.specs.StepLists.{HasSeenAll, HasSeenSome, with_lists}

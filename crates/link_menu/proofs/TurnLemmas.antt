@@ -19,7 +19,7 @@ use Rattle.link_menu.specs.Turns.{goes_on, is_live, IsMoved, own_turns, IsPlayed
 abbrev pub AreDecided : Type 0
 AreDecided = (c : Code) (v : Environment) (k : ℕ) (s : State) → After c v k s ↔ (state_after c v k ≡ Some s)
 
--- ---- which runs go on
+-- ---- which runs continue
 
 pub ended_is_over : AreDecided → (r : RunValue) → HasEnded r → is_live r ≡ false
 ended_is_over decided r h = ap goes_on ((decided r.code r.env.entries r.steps (Ended h.0)).0 h.1)

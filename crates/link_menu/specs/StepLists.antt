@@ -27,7 +27,7 @@ end_of run = (course_of run.code run.env.entries).steps
 abbrev pub ends_of : List RunValue → List ℕ
 ends_of runs = map end_of runs
 
--- where runs of so many steps stand after n, or at their ends
+-- where runs of that many steps are after n, or at their ends
 abbrev pub steps_after : ℕ → List ℕ → List ℕ
 steps_after n ends = map (λ end. min n end) ends
 
@@ -36,7 +36,7 @@ unfoldable pub step_lists_in : ℕ → List ℕ → List (List ℕ)
 step_lists_in zero ends = []
 step_lists_in (suc t) ends = step_lists_in t ends ++ steps_after (TURN * suc t) ends ∷ []
 
--- so many turns of all, until each run has ended
+-- that many turns of all, until each run has ended
 abbrev pub turns_left : ℕ → ℕ
 turns_left steps = (steps + (TURN - 1)) / TURN
 

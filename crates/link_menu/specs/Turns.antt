@@ -1,4 +1,4 @@
--- Turns of runs, and what they come to together.
+-- Turns of runs, and what they end with together.
 use Rattle.std.specs.Prelude.{◌≡◌, ℕ, ◌+◌, ◌==◌, if◌then◌else◌, List, [], ◌∷◌, Option, Some, Bool, true, false, min}
 use Rattle.std.specs.List.{sum}
 use Rattle.machine_model.specs.States.{State, Ended}

@@ -18,7 +18,7 @@ use target_vars::{Env, Scope};
 use verified_runs::Run;
 use verifier::Verified;
 
-/// In one turn of all, each run carries out at most so many steps.
+/// In one turn of all, each run carries out at most this number of steps.
 pub(crate) const TURN: u64 = 64;
 
 /// Runs each code on its environment, all side by side, until each has ended, and answers their fates in order. What is
@@ -76,7 +76,7 @@ pub fn round_over<E: Scope, W: Watch>(
 /// Carries all runs on, turn by turn of all, until each has ended, and shows them to the watch after each turn. It
 /// takes no memory, but what the watch takes. Where there is no run, nothing is shown.
 ///
-/// `AllocError` where the watch was refused memory; the runs then stand where they last were.
+/// `AllocError` where the watch was refused memory; the runs then stay where they last were.
 pub(crate) fn turn_until_ended<E: Scope, W: Watch>(
     runs: &mut [Run<'_, E>],
     watch: &mut W,

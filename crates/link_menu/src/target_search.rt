@@ -77,7 +77,7 @@ impl<'a> TargetSearch<'a> {
         self.next.is_some()
     }
 
-    /// Takes over what became of the next row, and goes on to the one after it, unless it gave a link.
+    /// Takes over what became of the next row, and continues with the one after it, unless it gave a link.
     pub(crate) fn take_over(&mut self, fate: Fate)
         ensures { self.new ≡ spec.after_fate self.old (said fate) }
     {

@@ -1,4 +1,4 @@
-//! Who looks on while runs are carried on side by side.
+//! The observer of runs that are carried on side by side.
 
 ghost use Rattle.std.specs.Prelude.{◌≡◌, ℕ, List, OnErr, OnOk, Option, map};
 ghost use Rattle.link_menu.specs.StepLists.{with_list, steps_of};
@@ -7,7 +7,7 @@ use std::alloc::AllocError;
 use target_vars::Scope;
 use verified_runs::Run;
 
-/// Who looks on while runs are carried on side by side.
+/// The observer of runs that are carried on side by side.
 pub trait Watch {
     /// The lists that it was shown, each of the steps of all runs, where it tells them.
     ghost lists: { Self → Option (List (List ℕ)) };

@@ -51,7 +51,7 @@ module _ (c : Code) (v : Environment) where
 
   -- ---- courses
 
-  -- where a run comes to is its last state
+  -- what a run ends with is its last state
   last_state : (k : ℕ) (o : Outcome) → ComesTo c v k o → (s : State) × After c v k s × ((new : State) → Step c v s new → ⊥) × (outcome_at s ≡ o)
   last_state k (linked t) h = (Ended (Link t), h, λ new st. st, refl)
   last_state k unlinked h = (Ended NoLink, h, λ new st. st, refl)
@@ -82,7 +82,7 @@ module _ (c : Code) (v : Environment) where
       by_next go None q = comes_to k s h (λ new st. let f = Step-next_state c v s new st in absurd (cc (q, f)))
       by_next go (Some new) q = go new (after_suc k s new h (next_state-Step c v s new q))
 
-  -- every run comes to an outcome, within the limit
+  -- every run ends with an outcome, within the limit
   pub course_found : ComesTo c v (course_of c v).steps (course_of c v).outcome
   unfolding After
   course_found = found (step_limit c v) 0 (Running start) (omega arith) refl
@@ -90,7 +90,7 @@ module _ (c : Code) (v : Environment) where
   courses_same : (x : Course) (k : ℕ) (o : Outcome) → (x.steps ≡ k) × (x.outcome ≡ o) → x ≡ record { outcome = o; steps = k }
   courses_same x k o h = λ i. record { outcome = h.1 i; steps = h.0 i }
 
-  -- a run comes to what is computed, and to nothing else
+  -- a run ends with what is computed, and with nothing else
   pub course_decided : (k : ℕ) (o : Outcome) → ComesTo c v k o ↔ (course_of c v ≡ record { outcome = o; steps = k })
   course_decided k o = (
     λ h. courses_same (course_of c v) k o (one_course (course_of c v).steps k (course_of c v).outcome o course_found h),

@@ -33,7 +33,7 @@ all_turns o a b M E turns bytes B D g lt lb h =
     omega arith
 
 module _ (c : Code) (w t : ℕ → ℕ) (M E : ℕ) where
-  -- g was spent before place p of a loop's turn, whose member has so many bytes: the turns that are over, and the
+  -- g was spent before place p of a loop's turn, whose member has that many bytes: the turns that are over, and the
   -- bytes of their members
   pub record SpentInLoop (l : Loop) (member p g : ℕ) : Type 0 where
     pub turns : ℕ
@@ -54,7 +54,7 @@ module _ (c : Code) (w t : ℕ → ℕ) (M E : ℕ) where
   Within None member p g g' = g' ≤ g + w p
   Within (Some l) member p g g' = g' ≤ g + w p + t p * member
 
-  -- what stands before a place of a body, and the place itself, are part of the body
+  -- what comes before a place of a body, and the place itself, are part of the body
   part : (f : ℕ → ℕ) (p q : ℕ) (l : Loop) → Some (body_of l) ≡ body_at c p → p < q → (inner c f p - inner c f l.start) + f p ≤ inner c f q - inner c f l.start
   part f p q l e lt =
       let here = total_inside c f p (body_of l) (sym e) in

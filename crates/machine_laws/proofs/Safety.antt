@@ -16,7 +16,7 @@ use Rattle.machine_model.proofs.GoodPlaces.{IsGood, good_at}
 use Rattle.machine_model.specs.Fitting.{Conforms}
 use Rattle.machine_laws.proofs.Sound.{GoesOn, StateConforms, along, goes}
 
--- every reached state of a typable code of good form is described by the table, and goes on
+-- every reached state of a typable code of good form is described by the table, and continues
 module _ (c : Code) (form : HasGoodForm c) (starts : 0 < length c.instrs) (t : Table) (closed : IsClosed c t) (meets : MeetsNeeds c t) (v : Environment) where
   begins : Conforms c t start
   unfolding body_at

@@ -35,7 +35,7 @@ module _ (c : Code) (t : Table) where
   StateConforms (Running s) = Conforms c t s
   StateConforms (Ended e) = Unit {0}
 
-  -- some step leads on to a state that the table describes
+  -- some step leads to a state that the table describes
   abbrev pub GoesOn : Environment → Frame → Instruction → Type 0
   GoesOn v s op = (m : Move) × (new : State) × Does c v s op m × Leads c s.place m new × StateConforms new
 

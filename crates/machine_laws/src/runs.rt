@@ -7,7 +7,7 @@ ghost use Rattle.machine_model.specs.States.{Frame, State, Running};
 ghost use Rattle.machine_model.specs.Runs.{After, EndsAfter, ComesTo, HasOutcome, Outcome};
 ghost use Rattle.machine_model.specs.Next.{course, course_of, outcome_of};
 
-/// Each run comes to a link, to no link or to a place without a step, and no run takes more steps than
+/// Each run ends with a link, with no link or at a place without a step, and no run takes more steps than
 /// the instructions of the code times one more than the members of the environment.
 pub fn every_run_ends()
     ensures comes_to { (c : Code) (v : Environment) →
@@ -16,7 +16,7 @@ pub fn every_run_ends()
         After c v k s → k ≤ length c.instrs * (member_count v + 1) }
 {}
 
-/// A run comes to what the function that runs it computes, after as many steps, and to nothing else.
+/// A run ends with what the function that runs it computes, after as many steps, and with nothing else.
 pub fn course_is_decided()
     ensures course { (c : Code) (v : Environment) (k : ℕ) (o : Outcome) →
         ComesTo c v k o ↔ (course_of c v ≡ course k o) }

@@ -19,7 +19,7 @@ pub fn typable_code_is_safe()
 {}
 
 /// Each running state that such a code reaches is described by every table that fits it: its place has
-/// kinds, its registers fit them, and a loop runs exactly in its body. A step leads on from it.
+/// kinds, its registers fit them, and a loop runs exactly in its body. A step is possible from it.
 pub fn reached_states_conform()
     ensures conforms { (c : Code) (t : Table) (v : Environment) (k : ℕ) (s : Frame) →
         HasGoodForm c → 0 < length c.instrs → IsClosed c t → MeetsNeeds c t → After c v k (Running s) → Conforms c t s }

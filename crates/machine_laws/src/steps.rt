@@ -14,7 +14,7 @@ pub fn no_state_has_two_next_states()
         Step c v s new → Step c v s other → new ≡ other }
 {}
 
-/// A step leads on exactly where the function that computes the next state gives one, and to that one.
+/// A step is possible exactly if the function that computes the next state gives one, and to that one.
 pub fn step_is_decided()
     ensures { (c : Code) (v : Environment) (s new : State) →
         Step c v s new ↔ (next_state c v s ≡ Some new) }

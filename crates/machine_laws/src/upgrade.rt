@@ -10,7 +10,7 @@ ghost use Rattle.machine_model.specs.Form.{HasGoodForm};
 ghost use Rattle.machine_model.specs.Typable.{IsTypable};
 ghost use Rattle.machine_model.specs.Budget.{sums_of};
 
-/// A code that comes to a link or to no link comes to the same as code of version 2, after as many steps, and by
+/// A code that ends with a link or with no link ends the same way as code of version 2, after as many steps, and by
 /// the same states. Good form is kept; and of code of good form whether it is typable, and its budget. Code of
 /// version 2 stays what it is.
 pub fn upgrade_keeps_what_code_does()

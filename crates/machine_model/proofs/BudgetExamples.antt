@@ -110,11 +110,11 @@ no_operation = refl
 
 -- ---- PUT of the element: the body writes it, before or after the PUT, or it stays as it is
 
--- over `list`, with so many places in the body; r1 is the element
+-- over `list`, with that many places in the body; r1 is the element
 abbrev loop : List Instruction → Code
 loop body = sample (instruction.List 0 0 ∷ instruction.Each 1 0 (length body + 2) ∷ (body ++ (instruction.Halt ∷ [])))
 
--- with one PUT in a body of so many places
+-- with one PUT in a body of that many places
 abbrev of_the_element : ℕ → Sums
 of_the_element n = sums 3 n 0 0 3 0
 

@@ -1,4 +1,4 @@
--- Where no step leads on.
+-- Where no step is possible.
 
 use Rattle.std.proofs.Common.{◌≡◌, List, [], ◌∷◌, refl, ap, arith}
 use Rattle.std.specs.Prelude.{codes, map}
@@ -60,7 +60,7 @@ loops =
     -- a jump that is not taken is not judged
     ∷ given (instruction.Const 0 1 ∷ instruction.Empty 0 0 ∷ instruction.Halt ∷ []) 3 (linked [])
     ∷ given (instruction.Const 0 1 ∷ instruction.Empty 0 99 ∷ instruction.Halt ∷ []) 3 (linked [])
-    -- HALT may stand in a body, and NEXT at the last place of the code
+    -- HALT may be in a body, and NEXT at the last place of the code
     ∷ given (instruction.List 0 0 ∷ instruction.Each 1 0 4 ∷ instruction.Halt ∷ instruction.Next ∷ []) 3 (linked [])
     ∷ given (instruction.List 0 0 ∷ instruction.Each 1 0 3 ∷ instruction.Next ∷ []) 4 (outcome.Stuck 2)
     ∷ []

@@ -203,7 +203,7 @@ unread_next : fault_at (with_fields 4 (row 18 7 0 0 0) list_code) 2 ≡ None
 unfolding fault_at body_at reading
 unread_next = refl
 
--- an EACH in a body begins none, though a NEXT stands before its end: that NEXT ends no body
+-- an EACH in a body begins none, though a NEXT is before its end: that NEXT ends no body
 abbrev nested : Code
 nested = sample (instruction.List 0 0 ∷ instruction.Each 1 0 6 ∷ instruction.Each 2 0 5 ∷ instruction.Put 1
     0 ∷ instruction.Next ∷ instruction.Next ∷ instruction.Halt ∷ [])

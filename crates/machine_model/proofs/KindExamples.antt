@@ -92,6 +92,6 @@ table_needs = refl
 table_edges : map (λ x. map ends (edges 7 known body x.instruction)) table ≡ map (λ x. x.edges) table
 table_edges = refl
 
--- a NEXT in no body goes on, and does not return
+-- a NEXT in no body continues, and does not return
 stray_next : map ends (edges 7 known None instruction.Next) ≡ (8, same) ∷ []
 stray_next = refl

@@ -31,7 +31,7 @@ with_fields p i c = record c { instrs = take p c.instrs ++ i ∷ drop (p + 1) c.
 abbrev pub with_instruction : ℕ → Instruction → Code → Code
 with_instruction p i c = with_fields p (spelling i) c
 
--- the members of `list`, parted by commas
+-- the members of `list`, separated by commas
 abbrev pub list_code : Code
 list_code =
     code (list_name (codes "list") ∷ []) (link_text (codes ",") ∷ [])

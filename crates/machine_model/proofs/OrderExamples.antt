@@ -10,7 +10,7 @@ use Rattle.machine_model.specs.First.{Located, first_below}
 use Rattle.machine_model.specs.Form.{body_at, fault_at, first_form_fault}
 use Rattle.machine_model.proofs.Listings.{list_code, sample, with_fields}
 
--- the list code with other fields at a place; its EACH stands at 1, its body is 2 to 4, and its last place 5
+-- the list code with other fields at a place; its EACH is at 1, its body is 2 to 4, and its last place 5
 record Case : Type 0 where
   place : ℕ
   fields : Instr
@@ -57,7 +57,7 @@ registers_first =
     ∷ case 5 (row 14 16 0 0 0) fault.BadRegister
     ∷ []
 
--- an entry is wrong, and the SEP stands in no body, or the last instruction does not end the run
+-- an entry is wrong, and the SEP is in no body, or the last instruction does not end the run
 abbrev entries_first : List Case
 entries_first =
     case 0 (row 17 0 1 0 0) fault.BadIndex
@@ -65,7 +65,7 @@ entries_first =
     ∷ case 5 (row 4 0 0 0 0) fault.WrongTableKind
     ∷ []
 
--- a jump goes back or out, and also crosses a body's end, begins a loop in a body or without a NEXT, or stands last
+-- a jump goes back or out, and also crosses a body's end, begins a loop in a body or without a NEXT, or is last
 abbrev jumps_first : List Case
 jumps_first =
     case 3 (row 3 0 0 0 1) fault.JumpNotForward
@@ -78,7 +78,7 @@ jumps_first =
     ∷ case 5 (row 3 0 0 0 6) fault.JumpOut
     ∷ []
 
--- a loop in a body has no NEXT; what ends no body, or stands in none, stands last
+-- a loop in a body has no NEXT; what ends no body, or is in none, is last
 abbrev loops_first : List Case
 loops_first =
     case 2 (row 16 2 0 0 4) fault.NestedLoop

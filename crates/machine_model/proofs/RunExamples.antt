@@ -18,7 +18,7 @@ use Rattle.machine_model.specs.Next.{Course, course, course_from, course_of}
 use Rattle.machine_model.proofs.Listings.{code, list_name, link_text, compared_text, list_code, issn_code, x_code, sample, second, with_fields}
 use Rattle.machine_model.proofs.Listings.{with_instruction, colours, a_text, a_list}
 
--- a code, an environment, and where the run comes to
+-- a code, an environment, and what the run ends with
 pub record Case : Type 0 where
   code : Code
   variables : Environment
@@ -170,7 +170,7 @@ second_version =
     ∷ case (second (instruction.Const 63 1 ∷ instruction.Put 63 0 ∷ instruction.Halt ∷ [])) colours 3 (linked (codes "12"))
     ∷ case (second (instruction.Const 64 1 ∷ instruction.Halt ∷ [])) colours 0 (outcome.Stuck 0)
     ∷ case (second (instruction.List 0 0 ∷ instruction.Count 64 0 ∷ instruction.Halt ∷ [])) colours 1 (outcome.Stuck 1)
-    -- a text has no count; an unused field must be 0; COUNT goes on inside a loop's body, and not past it
+    -- a text has no count; an unused field must be 0; COUNT continues inside a loop's body, and not past it
     ∷ case (second (instruction.Const 0 1 ∷ instruction.Count 1 0 ∷ instruction.Halt ∷ [])) colours 1 (outcome.Stuck 1)
     ∷ case (with_fields 0 (row 19 1 0 1 0) (second (instruction.Halt ∷ instruction.Halt ∷ []))) colours 0 (outcome.Stuck 0)
     ∷ case (with_fields 0 (row 19 1 0 0 1) (second (instruction.Halt ∷ instruction.Halt ∷ []))) colours 0 (outcome.Stuck 0)

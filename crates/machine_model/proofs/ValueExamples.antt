@@ -24,7 +24,7 @@ numbers : map leading_number (codes "7" ∷ codes "12a" ∷ codes "007" ∷ code
 unfolding leading_number value_from
 numbers = refl
 
--- no digit at the front, as beside `0` and `9`, or more than nine of them
+-- no digit at the beginning, as beside `0` and `9`, or more than nine of them
 no_numbers : map leading_number ([] ∷ codes "a12" ∷ codes "-1" ∷ codes " 1" ∷ codes "/" ∷ codes ":" ∷ codes "1234567890" ∷ codes "0000000001" ∷ []) ≡
     None ∷ None ∷ None ∷ None ∷ None ∷ None ∷ None ∷ None ∷ []
 unfolding leading_number value_from
@@ -71,7 +71,7 @@ having x = holding 0 x (holding 1 (TextValue (codes "12")) (holding 2 (NumberVal
 abbrev values : List Value
 values = Nothing ∷ Undefined ∷ TextValue (codes "12") ∷ ListValue (codes "red" ∷ []) ∷ NumberValue 7 ∷ []
 
--- a step leads on from the instruction
+-- a step continues from the instruction
 abbrev leads_on : Instruction → Value → Bool
 leads_on i x = is_some (next_state (second (i ∷ instruction.Halt ∷ instruction.Halt ∷ [])) colours (Running (having x)))
 

@@ -30,11 +30,11 @@ pub enum FormFault {
     CrossesLoop,
     /// A loop begins in the body of another.
     NestedLoop,
-    /// No NEXT stands before the place where the loop is to end.
+    /// There is no NEXT before the place where the loop is to end.
     BadLoop,
     /// A NEXT is not the last place of a body.
     StrayNext,
-    /// A SEP stands in no body.
+    /// A SEP is in no body.
     StraySep,
     /// The last instruction does not end the run.
     FallsOff,

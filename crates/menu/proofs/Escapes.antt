@@ -9,7 +9,7 @@ use Rattle.menu.specs.Escaping.{ampersand, apostrophe, escaped_byte, escaped}
 pub other_stays : (b : ℕ) → b ≢ ampersand → b ≢ apostrophe → escaped_byte b ≡ b ∷ []
 other_stays b h k = rw (ne_eqb b ampersand h, ne_eqb b apostrophe k) refl
 
--- a byte past ASCII in front of bytes that stay
+-- a byte past ASCII before bytes that stay
 past_ascii : (b : ℕ) (t : Text) → 128 ≤ b → escaped t ≡ t → escaped (b ∷ t) ≡ b ∷ t
 past_ascii b t h stay = ap (λ x. x ++ escaped t) (other_stays b (λ e. omega (arith, e, h)) (λ e. omega (arith, e, h))) ∙ ap (λ x. b ∷ x) stay
 

@@ -1,4 +1,4 @@
--- The links of the entries one by one.
+-- The links of the entries one at a time.
 use Rattle.std.proofs.Common.{◌≡◌, ℕ, ◌+◌, ◌<◌, not, ◌||◌, ◌==◌, List, [], ◌∷◌, ◌++◌, length, take, get_or, refl, sym, ap, ◌∙◌, append_assoc, arith, suc}
 use Rattle.std.proofs.lemmas.Bool.{ne_eqb}
 use Rattle.std.specs.List.{flat_map, list_any, cons_option}
@@ -11,7 +11,7 @@ use Rattle.menu.specs.declared.entry.Resolution.{Resolution}
 use Rattle.menu.specs.declared.entry.Resolution.TheVariants as resolution
 use Rattle.menu.specs.Links.{NamedLink, link_under, named_link, links, is_link, has_link, is_empty}
 
--- one more entry, printed behind those before it
+-- one more entry, printed after those before it
 pub links_more : (f : NamedLink → Text) (menu : List MenuEntry) (i : ℕ) (d : MenuEntry) → i < length menu
     → flat_map f (links (take (i + 1) menu)) ≡ flat_map f (links (take i menu)) ++ flat_map f (links (get_or menu i d ∷ []))
 links_more f menu i d within =
@@ -19,7 +19,7 @@ links_more f menu i d within =
     ∙ (ap (flat_map f) (filter_map-append named_link (take i menu) (get_or menu i d ∷ []))
     ∙ flat_map-append f (links (take i menu)) (links (get_or menu i d ∷ [])))
 
--- the step of a loop that prints them behind what was there
+-- the step of a loop that prints them after what was there
 pub links_step : (f : NamedLink → Text) (start before after : Text) (menu : List MenuEntry) (i : ℕ) (d : MenuEntry) → i < length menu
     → before ≡ start ++ flat_map f (links (take i menu)) → after ≡ before ++ flat_map f (links (get_or menu i d ∷ []))
     → after ≡ start ++ flat_map f (links (take (i + 1) menu))

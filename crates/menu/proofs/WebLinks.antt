@@ -1,4 +1,4 @@
--- The front of a text and the letters that it is to be, in either case.
+-- The beginning of a text and the letters that it is to be, in either case.
 use Rattle.std.proofs.Common.{◌≡◌, ◌<◌, Bool, true, false, ◌↔◌, map, length, take, refl, ap, arith}
 use Rattle.std.specs.Bool.{Decides, IsTrue}
 use Rattle.std.specs.Char.{to_ascii_lowercase}

@@ -1,4 +1,4 @@
--- What keeps a text within its place in HTML, whatever stands around it (HTML Living Standard, sections 13.1.2 and 13.1.4).
+-- What keeps a text within its place in HTML, whatever is around it (HTML Living Standard, sections 13.1.2 and 13.1.4).
 use Rattle.std.specs.Prelude.{◌≡◌, ℕ, ◌≤◌, ◌==◌, Bool, true, false, ◌||◌, nat_eq, codes, ◌∷◌, ◌++◌, length, All, ◌⊎◌}
 use Rattle.std.specs.List.{list_any}
 use Rattle.std.specs.Char.{is_ascii_alphanumeric}
@@ -13,7 +13,7 @@ is_delimiter b = list_any (nat_eq b) (codes "\"'<>")
 abbrev pub BeginsWith : Text → Text → Type 0
 BeginsWith front text = (rest : Text) × (text ≡ front ++ rest)
 
--- no delimiter, and no ampersand but as the front of one of the two references
+-- no delimiter, and no ampersand but as the beginning of one of the two references
 pub record IsContained (text : Text) : Type 0 where
   pub no_delimiter : All (λ b. is_delimiter b ≡ false) text
   pub references : (before behind : Text) → text ≡ before ++ (ampersand ∷ behind) → BeginsWith ampersand_reference (ampersand ∷ behind)

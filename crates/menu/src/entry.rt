@@ -54,7 +54,7 @@ pub enum Resolution {
     NoLink,
     /// What they gave is no web link.
     NotAWebLink,
-    /// They did not run: they might have printed so many bytes, which is more than they may.
+    /// They did not run: they might have printed that many bytes, which is more than they may.
     OverBudget(u64),
 }
 

@@ -19,7 +19,7 @@ fn push_escaped_char(out: &mut String, c: char) -> Result<(), AllocError>
     }
 }
 
-// Appends a link as it stands in the value of an attribute.
+// Appends a link unchanged in the value of an attribute.
 fn push_escaped(out: &mut String, link: &str) -> Result<(), AllocError>
     ensures { OnOk result (string_bytes out.new ≡ string_bytes out.old ++ escaped link.now) }
 {

@@ -56,7 +56,7 @@ impl Menu {
     }
 
     /// The links as plain text: for each a line with its target's name, a tab and the link. Lines end with LF,
-    /// and a menu without links has none. The error is want of memory.
+    /// and a menu without links has none. The error is out of memory.
     pub fn text(&self, alloc: Global) -> Result<String, AllocError>
         ensures { IfOk result (λ printed. string_bytes printed ≡ text self.now) }
     {
@@ -69,7 +69,7 @@ impl Menu {
 
     /// The reasons as plain text: for each target a line with its name, a tab and `link R`, where R is the row
     /// that gave the link, from 0; or `no row`, `no link`, `not a web link`, or `over budget N`, where N is
-    /// in bytes. Lines end with LF. The error is want of memory.
+    /// in bytes. Lines end with LF. The error is out of memory.
     pub fn report(&self, alloc: Global) -> Result<String, AllocError>
         ensures { IfOk result (λ printed. string_bytes printed ≡ report self.now) }
     {
@@ -82,7 +82,7 @@ impl Menu {
 
     /// The links as a page of HTML (HTML Living Standard, section 13.1): a list with an item for each link,
     /// whose text is the target's name, or one paragraph where there is none. In a link `&` is written
-    /// `&amp;` and `'` is written `&#39;`; a name is written as it is. The error is want of memory.
+    /// `&amp;` and `'` is written `&#39;`; a name is written as it is. The error is out of memory.
     pub fn html(&self, alloc: Global) -> Result<String, AllocError>
         ensures { IfOk result (λ printed. string_bytes printed ≡ html self.now) }
     {

@@ -52,7 +52,7 @@ RefusesToServe fails draws no_keys no_port disk keys_before ports_before service
 module _ {K P L I O : Type 0} (draws : K → ℕ → ℕ → K → Type 0) (binds : P → ℕ → L × ℕ → P → Type 0)
     (gives : L → Option (I × O) → L → Type 0) (closes : L → I × O → L → Type 0) (heard : I → Heard) (said : O → Said)
     (disk : Disk) (keys_before : K) (ports_before : P) (service : Service) (keys_after : K) (ports_after : P) where
-  -- it listens, and exactly the connections that were asked for are served
+  -- it listens, and exactly the requested connections are served
   pub record Serves (line : Text) (counts : Counts) : Type 0 where
     pub targets : List TargetValue
     pub first : L

@@ -61,7 +61,7 @@ fn runs<'a>(alloc: Global, codes: &'a [Verified], envs: &'a [Env]) -> Result<Vec
     Ok(runs)
 }
 
-/// All runs are turned by two steps, by two, and by 64: how many then go on. The watch is shown the runs.
+/// All runs are turned by two steps, by two, and by 64: how many then continue. The watch is shown the runs.
 fn turned(alloc: Global, shown: &mut Shown) -> Result<Vec<usize>, Fail> {
     let codes = codes(alloc, TWO)?;
     let envs = environments(alloc, TWO)?;

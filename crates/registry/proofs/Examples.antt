@@ -76,7 +76,7 @@ abbrev request : List KeyValue
 request = pair (codes "rft.issn") (codes "1234567x") ∷ pair (codes "title_url") (codes "http://evil.example") ∷ pair (codes "list") (codes "a") ∷ pair
     (codes "list") (codes "b") ∷ []
 
--- the row of the example, the one behind the first
+-- the row of the example, the one after the first
 abbrev later_row : ℕ
 later_row = 1
 

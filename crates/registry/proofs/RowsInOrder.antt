@@ -70,7 +70,7 @@ first_is_from from row (next ∷ rows) found = by_test (nat_le from next) refl (
         omega (arith, same, low)
     by_test false fails rest later = rest later
 
--- the first one, and those behind it
+-- the first one, and those after it
 pub first_and_rest : (from row : ℕ) (rows : List ℕ) → Rise rows → first_from from rows ≡ Some row
     → filter (nat_le from) rows ≡ row ∷ filter (nat_le (row + 1)) rows
 first_and_rest from row [] rise found = absurd (none-some row found)

@@ -1,4 +1,4 @@
--- Targets, and which of them stand together in a registry.
+-- Targets, and which of them belong together in a registry.
 use Rattle.std.specs.Prelude.{◌≡◌, ◌≢◌, ◌≤◌, Bool, false, List, length, All}
 use Rattle.std.specs.List.{AllPairs, list_any}
 use Rattle.std.specs.Str.{bytes_eq}

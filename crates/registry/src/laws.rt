@@ -19,7 +19,7 @@ use verified_runs::MAX_LINK_BYTES;
 
 /// The reason of a target is found row after row: from row 0 on, with NoRow so far. Where no row matches any more,
 /// it is the reason so far. Otherwise it is that of the next matching row, where that is a link; and where it is
-/// none, it is found from behind that row, with its reason so far.
+/// none, the search continues after that row, with its reason as the reason so far.
 pub fn rows_are_tried_in_order()
     ensures start { (target : TargetValue) (pairs : List KeyValue)
         → resolution_of target pairs ≡ resolution_from target pairs 0 NoRow }
@@ -36,7 +36,7 @@ pub fn rows_are_tried_in_order()
 {}
 
 /// The matching rows of a target stand in rising order: those at or after row 0 are all of them. Where none is at or
-/// after a row, there are none there; otherwise they are the first one, and those behind it.
+/// after a row, there are none there; otherwise they are the first one, and those after it.
 pub fn matching_rows_rise()
     ensures start { (target : TargetValue) (pairs : List KeyValue) → filter (nat_le 0) (matching_rows_of target pairs)
         ≡ matching_rows_of target pairs }

@@ -3,7 +3,7 @@
 ghost use Rattle.std.specs.Prelude.{◌≡◌, ◌↔◌, IsTrue};
 ghost use Rattle.menu.specs.Contained as spec;
 
-/// A name has at most so many bytes.
+/// The maximum length of a name, in bytes.
 const MAX_NAME_BYTES: usize = 64;
 
 /// Whether a byte is a letter, a digit, or one of `-_.`.

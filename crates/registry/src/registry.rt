@@ -20,7 +20,7 @@ use std::alloc::{AllocError, Global};
 use std::marker::Model;
 use verifier::Verified;
 
-/// A registry has at most so many targets.
+/// The maximum number of targets in a registry.
 pub const MAX_TARGETS: usize = 256;
 
 /// Targets in the order in which they were added; no two have one name. Each has safe code.
@@ -80,7 +80,7 @@ impl Registry {
         &self.numbers
     }
 
-    /// Adds a target behind the others.
+    /// Adds a target after the others.
     ///
     /// Refuses it by the first of the reasons of [`AddErrorKind`], and gives its parts back; nothing has changed then.
     pub fn add(&mut self, name: String, code: Verified, table: Table) -> Result<(), AddError>

@@ -50,7 +50,7 @@ pub(crate) fn target_line(line: &ByteRecord) -> Option<TargetLine<'_>>
     })
 }
 
-/// The cell of a line, if it is there and is UTF-8.
+/// The cell of a line, if it is present and is UTF-8.
 fn text(line: &ByteRecord, at: usize) -> Option<&str>
     ensures there { IfSome result (λ cell. (field_at (fields_of line.now) at ≡ Some cell.now) × IsUtf8 cell.now) }
     ensures none { IfNone result ((cell : _) → field_at (fields_of line.now) at ≡ Some cell → ¬ (IsUtf8 cell)) }

@@ -1,4 +1,4 @@
--- Whether two names are the same, and whether one is there.
+-- Whether two names are the same, and whether a name is defined.
 use Rattle.std.proofs.Common.{◌≡◌, Bool, true, false, Option, Some, None, is_some, bytes_eq, refl, sym}
 use Rattle.std.proofs.lemmas.Slice.Eq.{bytes_eq-Decides}
 use Rattle.text_model.specs.Texts.{Text}

@@ -47,7 +47,7 @@ module _ (f : ℕ → Resolution) (p : ℕ → Bool) (own : (row place : ℕ) (l
         first = λ other low high passes links. h.first other (omega arith) (omega arith) passes links;
       }
 
-  -- what the rows behind the first one give
+  -- what the rows after the first one give
   abbrev FirstIfChosen : ℕ → ℕ → ℕ → Text → Type 0
   FirstIfChosen from n row link = (before : Resolution) → is_link before ≡ false → chosen before (tried from n) ≡ Link row link → IsFirstFrom from n row link
 
@@ -83,7 +83,7 @@ module _ (f : ℕ → Resolution) (p : ℕ → Bool) (own : (row place : ℕ) (l
   chosen_if_first zero from before row link h = absurd (omega (arith, h.after, h.there))
   chosen_if_first (suc n) from before row link h = by_test (p from) refl (λ last. chosen_if_first n (from + 1) last row link)
     where
-      -- the row is behind the first one, if it is not that one
+      -- the row is after the first one, if it is not that one
       behind : (row ≡ from → ⊥) → IsFirstFrom (from + 1) n row link
       behind other =
           narrower from n row link

@@ -1,4 +1,4 @@
--- What code does depends only on what the names of its table stand for.
+-- What code does depends only on what the names of its table denote.
 use Rattle.std.proofs.Common.{◌≡◌, ℕ, zero, suc, Option, Some, None, true, refl, sym, ap, ◌∙◌, subst, slice_get}
 use Rattle.std.specs.Prelude.{◌&&◌}
 use Rattle.std.proofs.lemmas.Bool.{and_parts, false≢true}
@@ -16,7 +16,7 @@ use Rattle.machine_model.specs.Step.{a_member, equal, different, less, not_less,
 use Rattle.machine_model.specs.Step.{leave, count, Step}
 use Rattle.machine_model.specs.Runs.{After}
 
--- each name of the table stands for the same text and the same members
+-- each name of the table denotes the same text and the same members
 abbrev pub AgreeOn : Code → Environment → Environment → Type 0
 AgreeOn c v w = (k : ℕ) (name : Name) → slice_get c.names k ≡ Some name
     → (text_of v name.text ≡ text_of w name.text) × (members_of v name.text ≡ members_of w name.text)

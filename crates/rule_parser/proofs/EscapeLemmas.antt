@@ -11,7 +11,7 @@ use Rattle.text_model.specs.Texts.{Text}
 use Rattle.rule_parser.specs.Statements.{escaped, is_special}
 use Rattle.rule_parser.proofs.TokenLemmas.{same_parts}
 
--- the text that is left, behind a backslash that was read and waits for its character
+-- the text that is left, after a backslash that was read and waits for its character
 abbrev pub waiting : Bool → Text → Text
 waiting true rest = 92 ∷ rest
 waiting false rest = rest
@@ -90,7 +90,7 @@ rest_behind_bytes d b t s more next e =
 not_empty : (x : ℕ) (t : Text) → [] ≡ x ∷ t → ⊥
 not_empty x t e = cc
 
--- what is escaped and begins with another escaped text goes on with an escaped text
+-- what is escaped and begins with another escaped text continues with an escaped text
 pub escaped_rest : (t s more : Text) → escaped t ≡ escaped s ++ more → (u : Text) × (escaped u ≡ more)
 escaped_rest t [] more e = (t, e)
 escaped_rest [] (b ∷ s) more e =
@@ -143,11 +143,11 @@ not_quote (b ∷ u) more e =
       | inr x ↦ not_both b 34 x (same_parts _ _ _ _ (sym (escaped_plain b u x) ∙ e)).0 refl
     ]
 
--- a special byte at the front
+-- a special byte at the beginning
 abbrev BeginsSpecial : Text → Type 0
 BeginsSpecial text = (b : ℕ) × (rest : Text) × (text ≡ b ∷ rest) × (is_special b ≡ true)
 
--- a backslash has a special byte behind it
+-- a backslash has a special byte after it
 pub after_backslash : (u more : Text) → escaped u ≡ 92 ∷ more → BeginsSpecial more
 after_backslash [] more e = absurd (not_empty _ _ e)
 after_backslash (b ∷ u) more e =
@@ -163,7 +163,7 @@ plain_first (d ∷ bs) next p l h = not_both d h.0 p.0 (same_parts _ _ _ _ h.2).
 
 -- ---- the steps of the reader
 
--- the next character stands for itself
+-- the next character denotes itself
 pub escaped_more : (whole t rest next : Text) (c : ℕ) (waits : Bool) → is_special c ≡ waits → whole ≡ escaped t ++ waiting waits rest
     → rest ≡ encode_utf8 c ++ next
     → whole ≡ escaped (t ++ encode_utf8 c) ++ next

@@ -18,7 +18,7 @@ use Rattle.rule_parser.proofs.LineLaws.{statement_same, HasNext, compare}
 use Rattle.rule_parser.proofs.FaultLaws.{IsBadText, NoFault, OneFault, bad_text, bad_text_same, begin_is_not_faulty, complete, complete_is_sound}
 use Rattle.rule_parser.proofs.FaultLaws.{faulty_is_no_next, so_far_are_statements}
 
--- of two lists of statements that were begun, the longer one goes on with the shorter
+-- of two lists of statements that were begun, the longer one continues with the shorter
 extends_not : OneTree → NoFault → (b c : RulesSoFar) (line : Text) (k : RuleErrorKind) (rest : List Text) → AreSoundSoFar b → AreSoundSoFar c
     → IsLineFault b line k
     → HasNext (statements_so_far b) (statements_so_far c) (line ∷ rest) → ⊥

@@ -125,7 +125,7 @@ no_guard_of_verb verb name v w no_has no_lacks no_given g h e = refuted g (defin
 
 -- ---- guards of more tokens
 
--- what a name, a verb and the text behind them say of a guard that they spell
+-- what a name, a verb and the text after them say of a guard that they spell
 abbrev pub IsCompared : Text → Text → Text → Guard → Type 0
 IsCompared name verb value (guard.Has n) = ⊥
 IsCompared name verb value (guard.Lacks n) = ⊥
@@ -162,7 +162,7 @@ compared_tokens name verb value w v (guard.Counts n low high) h e =
     let second = token_split verb value (codes "counts") (bounds_text low high) v (search rules) first.1 in
     (rw first.0 h.0, second.0, h.1, second.1, sym first.0)
 
--- a guard that a name, a verb and the text behind them spell, refuted by what each verb would ask
+-- a guard that a name, a verb and the text after them spell, refuted by what each verb would ask
 pub no_compared_guard : (name verb value : Text) → IsToken name → IsToken verb
     → (IsName name → verb ≡ codes "is" → (t : Text) → value ≡ quoted t → ⊥)
     → (IsName name → verb ≡ codes "holds" → (t : Text) → value ≡ quoted t → ⊥)

@@ -1,4 +1,4 @@
--- Bytes spell rules or have a first fault: each line goes on with those before it, or it is the first that cannot.
+-- Bytes spell rules or have a first fault: each line continues with those before it, or it is the first that cannot.
 use Rattle.std.proofs.Common.{◌≡◌, ℕ, ◌<◌, ◌≤◌, List, [], ◌∷◌, ◌++◌, ◌+◌, ◌-◌, take, get_or, if◌then◌else◌, Bool, true, false, ◌==◌, Option, Some, None, ◌⊎◌}
 use Rattle.std.proofs.Common.{inl, inr, is_some, map, length, refl, ap, subst, sym, ◌∙◌, codes, arith}
 use Rattle.std.specs.List.{AllByRecursion, join_with_byte, slice_index, slice_split}
@@ -121,7 +121,7 @@ statement_choice line =
 
 -- ---- one more line
 
--- it goes on with what was begun, or is faulty, or begins a rule in another
+-- it continues with what was begun, or is faulty, or begins a rule in another
 abbrev Goes : RulesSoFar → Text → Type 0
 Goes b line = ((new : RulesSoFar) × GoesOn b new line) ⊎ ((k : RuleErrorKind) × IsLineFault b line k) ⊎ ((line ≡ line_of Begin) × (is_some b.guards ≡ true))
 

@@ -146,7 +146,7 @@ statement_same (Link t) (Link u) a b e = ap Link (append_cancel_left (codes "lin
 abbrev pub AreStatements : List Statement → Type 0
 AreStatements ss = AllByRecursion IsStatement ss
 
--- one more statement behind others, spelled by the next line
+-- one more statement after others, spelled by the next line
 pub record HasNext (ss longer : List Statement) (lines : List Text) : Type 0 where
   pub next : Statement
   pub more : List Statement
@@ -159,7 +159,7 @@ cons_next : (x : Statement) (ss ts : List Statement) (lines : List Text) → Has
 cons_next x ss ts lines h =
     record { next = h.next; more = h.more; rest = h.rest; goes_on = ap (λ l. x ∷ l) h.goes_on; is_statement = h.is_statement; spelled = h.spelled }
 
--- Of two lists of statements at the front of the same lines one begins the other.
+-- Of two lists of statements at the beginning of the same lines one begins the other.
 pub compare : (ss ts : List Statement) (rest behind : List Text) → AreStatements ss → AreStatements ts → map line_of ss ++ rest ≡ map line_of ts ++ behind
     → ((ss ≡ ts) × (rest ≡ behind)) ⊎ (HasNext ss ts rest ⊎ HasNext ts ss behind)
 compare [] [] rest behind a b e = inl (refl, e)

@@ -1,4 +1,4 @@
--- The numbers of lines: the statement behind so many others has the number of its line.
+-- The numbers of lines: the statement after that many others has the number of its line.
 use Rattle.std.proofs.Common.{◌≡◌, ℕ, ◌+◌, ◌<◌, zero, suc, List, [], ◌∷◌, ◌++◌, Bool, true, false, Some, map, length, get_or, take, inl, inr, if◌then◌else◌}
 use Rattle.std.proofs.Common.{refl, ap, subst, sym, ◌∙◌, arith}
 use Rattle.std.specs.List.{slice_index}
@@ -26,7 +26,7 @@ abbrev pub significant_numbers : ℕ → List Text → List ℕ
 significant_numbers n [] = []
 significant_numbers n (line ∷ ls) = if is_significant line then (n ∷ significant_numbers (n + 1) ls) else significant_numbers (n + 1) ls
 
--- the number of the line behind so many significant ones, counted from 1
+-- the number of the line after that many significant ones, counted from 1
 abbrev pub line_number : List Text → ℕ → ℕ
 line_number ls k = slice_index (significant_numbers 1 ls) k
 
@@ -49,14 +49,14 @@ split_at [] i line h e = absurd (omega arith)
 split_at (x ∷ xs) zero line h e = (xs, ap (λ y. y ∷ xs) e)
 split_at (x ∷ xs) (suc i) line h e = let r = split_at xs i line (omega arith) e in (r.0, ap (λ l. x ∷ l) r.1)
 
--- the lines before, one line, and the lines behind
+-- the lines before, one line, and the lines after
 pub significant_around : (ls front rest : List Text) (line : Text) → ls ≡ front ++ line ∷ rest → is_significant line ≡ true
     → significant ls ≡ significant front ++ line ∷ significant rest
 significant_around ls front rest line e h =
     ap significant e ∙ significant-append front (line ∷ rest)
     ∙ ap (λ l. significant front ++ l) (ap (λ (y : Bool). if y then (line ∷ significant rest) else significant rest) h)
 
--- the number of a line behind others that spell these statements
+-- the number of a line after others that spell these statements
 number_behind : (ls front behind : List Text) (line : Text) (ss : List Statement) → ls ≡ front ++ line ∷ behind → is_significant line ≡ true
     → significant front ≡ map line_of ss → line_number ls (length ss) ≡ length front + 1
 number_behind ls front behind line ss e h s =
@@ -64,7 +64,7 @@ number_behind ls front behind line ss e h s =
     ap (λ (l : List Text). line_number l (length ss)) e ∙ sym (ap (λ (k : ℕ). line_number (front ++ line ∷ behind) k) count)
     ∙ number_at 1 front behind line h ∙ omega arith
 
--- the number of the line behind those that were read
+-- the number of the line after those that were read
 pub number_is : (ls : List Text) (i : ℕ) (ss : List Statement) (line : Text) → i < length ls → get_or ls i line ≡ line → is_significant line ≡ true
     → significant (take i ls) ≡ map line_of ss → line_number ls (length ss) ≡ i + 1
 number_is ls i ss line h e x s =
@@ -101,7 +101,7 @@ numbered_fault ls k at (inr f) =
         ∙ sym (append_assoc (map line_of (statements f.rules)) (map line_of (statements_of_guards (Some f.guards))) f.rest)
         ∙ ap (λ l. l ++ f.rest) (sym (map-append line_of (statements f.rules) (statements_of_guards (Some f.guards))))
 
--- a significant line, with the lines before and behind it
+-- a significant line, with the lines before and after it
 record SplitsAt (ls before : List Text) (line : Text) (behind : List Text) : Type 0 where
   front : List Text
   back : List Text

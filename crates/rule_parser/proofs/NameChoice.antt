@@ -9,7 +9,7 @@ use Rattle.text_model.specs.Texts.{Text, is_hexadecimal}
 use Rattle.uri_grammar.specs.Names.{IsVarchar, IsVarname, IsName, is_name_character, character_varchar, triplet_varchar, first_varchar, next_varchar}
 use Rattle.uri_grammar.specs.Names.{dotted_varchar}
 
--- what may come behind the bytes so far: more or nothing, where they are a name; a varchar; two digits of a triplet, or one; nothing
+-- what may come after the bytes so far: more or nothing, where they are a name; a varchar; two digits of a triplet, or one; nothing
 pub data Stage : Type 0 where
   Named : Stage
   Wanting : Stage
@@ -30,7 +30,7 @@ step Lost b = Lost
 abbrev pub after : Stage → Text → Stage
 after stage text = fold step stage text
 
--- ---- what was gone through is the front of a name
+-- ---- what was gone through is the beginning of a name
 
 abbrev Stands : Stage → Text → Type 0
 Stands Named front = IsVarname front

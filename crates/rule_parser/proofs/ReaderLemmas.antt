@@ -1,4 +1,4 @@
--- How each statement goes on with what the lines before it said, and what cannot go on.
+-- How each statement continues with what the lines before it said, and what cannot continue.
 use Rattle.std.proofs.Common.{◌≡◌, ◌≢◌, ℕ, List, [], ◌∷◌, ◌++◌, true, false, Option, Some, None, ◌⊎◌, inl, inr, is_some, length, arith, refl, ap, subst, sym}
 use Rattle.std.proofs.Common.{codes}
 use Rattle.std.specs.Option.{option_map}
@@ -138,7 +138,7 @@ no_memory_or_not : (k : TemplateErrorKind) → (k ≡ template_kind.NoMemory) �
 no_memory_or_not template_kind.NoMemory = inl refl
 no_memory_or_not k = inr (λ e. cc)
 
--- a fault of a template, unless memory was wanting
+-- a fault of a template, unless memory ran out
 pub template_faulty : (r : Reader) (number : ℕ) (text : Text) (t : TemplateError) (e : RuleError) → is_some (so_far_of r).guards ≡ true
     → (t ≡ TEMPLATE_NO_MEMORY) ⊎ IsRefused text t.kind t.at
     → (t.kind ≡ template_kind.NoMemory → e ≡ NO_MEMORY) → (t.kind ≢ template_kind.NoMemory → e ≡ record { kind = kind.Template t.kind; line = number })

@@ -35,7 +35,7 @@ pub record AreSoundSoFar (begun : RulesSoFar) : Type 0 where
   pub whole : IsSound begun.whole
   pub guards : AreSoundGuards begun.whole.lists begun.guards
 
--- ---- a line that cannot go on
+-- ---- a line that cannot continue
 
 -- lists come before all rules
 abbrev pub takes_lists : RulesSoFar → Bool
@@ -61,7 +61,7 @@ pub data IsLineFault : RulesSoFar → Text → RuleErrorKind → Type 0 where
 
 -- ---- the first fault
 
--- a line that cannot go on with those before it
+-- a line that cannot continue with those before it
 pub record StopsAtLine (ls : List Text) (k : RuleErrorKind) (number : ℕ) : Type 0 where
   pub before : List Text
   pub line : Text

@@ -34,7 +34,7 @@ abbrev pub is_text : Text → Option Text → Bool
 is_text wanted None = false
 is_text wanted (Some text) = bytes_eq text wanted
 
--- the number that a bound stands for, or none where the bound is open
+-- the number that a bound denotes, or none where the bound is open
 abbrev pub bound_number : LookUp → Bound → Option ℕ
 bound_number look bound.Open = None
 bound_number look (bound.Digits digits) = leading_number digits

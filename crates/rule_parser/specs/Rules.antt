@@ -60,7 +60,7 @@ guard_fits lists (guard.Holds name text) = is_list lists name
 guard_fits lists (guard.Between name low high) = not (is_list lists name) && bounds_fit lists low high
 guard_fits lists (guard.Counts name low high) = is_list lists name && bounds_fit lists low high
 
--- a prefix stands on texts alone
+-- a prefix applies to texts alone
 abbrev pub spec_fits : List Text → Spec → Bool
 spec_fits lists spec = if is_list lists spec.name then spec.cut == 0 else true
 

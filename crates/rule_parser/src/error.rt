@@ -50,7 +50,7 @@ impl RuleError {
         RuleError { kind, line }
     }
 
-    // A template's fault, at its line. A template's want of memory is the rule text's.
+    // A template's fault, at its line. Out of memory in a template is out of memory in the rule text.
     pub(crate) fn in_template(kind: TemplateErrorKind, line: usize) -> RuleError
         ensures no_memory { kind ≡ TemplateErrorKind.NoMemory → result ≡ NO_MEMORY }
         ensures fault { kind ≢ TemplateErrorKind.NoMemory
@@ -63,7 +63,7 @@ impl RuleError {
     }
 }
 
-/// Want of memory, as an error of a rule text.
+/// Out of memory, as an error of a rule text.
 pub const NO_MEMORY: RuleError = RuleError {
     kind: RuleErrorKind::NoMemory,
     line: 0,

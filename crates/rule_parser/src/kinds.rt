@@ -25,7 +25,7 @@ fn bounds_fit(lists: &[Text], low: &Bound, high: &Bound) -> bool
     bound_fits(lists, low) && bound_fits(lists, high)
 }
 
-/// Whether the guard wants a list where a name stands for one, and a text where not.
+/// Whether the guard wants a list where a name denotes one, and a text where not.
 pub(crate) fn guard_fits(lists: &[Text], guard: &Guard) -> bool
     ensures { result ≡ guard_is_fit lists.now guard.now }
 {
@@ -63,7 +63,7 @@ fn part_fits(lists: &[Text], part: &Part) -> bool
     }
 }
 
-/// Whether prefixes stand on texts alone.
+/// Whether prefixes apply to texts alone.
 pub(crate) fn parts_fit(lists: &[Text], parts: &[Part]) -> bool
     ensures { result ≡ parts_are_fit lists.now parts.now }
 {

@@ -14,7 +14,7 @@ pub(crate) fn is_among(names: &[Text], name: &str) -> bool
     names.iter().any(|other| other.as_str() == name)
 }
 
-/// Whether the name stands for a list, where these are declared.
+/// Whether the name denotes a list, where these are declared.
 pub(crate) fn is_list(declared: &[Text], name: &str) -> bool
     ensures { result ≡ stands_for_list declared.now name.now }
 {

@@ -71,7 +71,7 @@ impl Rules {
         read_lines(alloc, &lines)
     }
 
-    /// The names that stand for lists, each once: `rft.au` and `rft_id`, the keys of ANSI/NISO Z39.88 that can come
+    /// The names that denote lists, each once: `rft.au` and `rft_id`, the keys of ANSI/NISO Z39.88 that can come
     /// more than once, and then the declared names in the order of their lines.
     ///
     /// `AllocError` if an allocation failed.

@@ -46,7 +46,7 @@ fn names_are_not_decoded(rt: HostRuntime) -> Result<(), Fail> {
     Ok(())
 }
 
-/// Every name stands for nothing.
+/// Every name denotes nothing.
 struct Nothing;
 
 impl Variables for Nothing {

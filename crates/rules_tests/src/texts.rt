@@ -5,7 +5,7 @@ use std::test::Fail;
 use text_model::Writing;
 use uri_text::{cut, encode, encode_u, encode_ur, leading_number};
 
-/// Writes `&` in the room that is there; whether no room was added.
+/// Writes `&` in the available room; whether no room was added.
 #[tactic(auto, using(text_model::proofs::Written::length_laws))]
 fn appends_u(out: &mut String) -> Result<bool, AllocError> {
     out.reserve(3)?;
@@ -23,7 +23,7 @@ fn appends_ur(out: &mut String) -> Result<bool, AllocError> {
     Ok(out.capacity() == room)
 }
 
-/// The same in the way that is asked for.
+/// The same in the requested way.
 #[tactic(auto, using(text_model::proofs::Written::length_laws))]
 fn appends(out: &mut String, writing: Writing) -> Result<bool, AllocError> {
     out.reserve(3)?;

@@ -64,7 +64,7 @@ wrong T d = Err d
 error_is : (T : Type 0) (d f : PrepareError) → wrong T d ≡ wrong T f → d ≡ f
 error_is T d f same = cc
 
--- an error is over budget whatever was asked for
+-- an error is over budget whatever was requested
 pub same_over : (T U : Type 0) (d : PrepareError) (n : ℕ) (P : Type 0) → (wrong T d ≡ wrong T (OverBudget n)) ↔ P → (wrong U d ≡ wrong U (OverBudget n)) ↔ P
 same_over T U d n P h = ((λ same. h.0 (ap (wrong T) (error_is U d (OverBudget n) same))), (λ p. ap (wrong U) (error_is T d (OverBudget n) (h.1 p))))
 

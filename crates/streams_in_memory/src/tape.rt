@@ -9,7 +9,7 @@ use http_streams::{Failed, Input, Output, Tally};
 use std::alloc::{AllocError, Global};
 use std::marker::Model;
 
-/// Bytes to read, and room for what is written. It gives and takes all that it is asked for, and a write fails
+/// Bytes to read, and room for what is written. It gives and takes all that is requested, and a write fails
 /// if an allocation does.
 #[derive(Drop)]
 pub struct Tape {

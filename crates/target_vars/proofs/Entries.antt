@@ -94,7 +94,7 @@ is_there-entries b m i (n ∷ ns) (p ∷ ps) name long =
     by_cases true same behind = ap is_some (look_up-same (entry b (m i) n p) (entries_from b m (suc i) ns ps) name same) ∙ rw same refl
     by_cases false other behind = ap is_some (look_up-other (entry b (m i) n p) (entries_from b m (suc i) ns ps) name other) ∙ behind ∙ rw other refl
 
--- a name that is among those behind is not in front
+-- a name that is among those after is not among those before
 not_in_front : (e : Entry) (env : Environment) (name : Text) → EachNameOnce (e ∷ env) → is_there env name ≡ true → bytes_eq e.name name ≡ false
 not_in_front e env name once there = by_cases (bytes_eq e.name name) refl
   where

@@ -43,7 +43,7 @@ known r v name k laid is named =
     ap (λ (x : EnvValue). is_there x.entries name) (sym is)
     ∙ ap is_some (look_up-laid (string_bytes r.buffer) r.spans.items r.names.listed r.places.items name k p.0 laid named p.1)
 
--- ---- what it stands for
+-- ---- what it denotes
 
 -- whether what was found is a text's place
 abbrev pub Says : List Place → Result ℕ ℕ → Bool → Type 0
@@ -70,7 +70,7 @@ decided r v name (Err gap) text laid is named says =
     ∙ ap (λ o. is_some (text_in o)) (look_up-lacking (string_bytes r.buffer) r.spans.items r.names.listed r.places.items name laid named.lacks)
     ∙ sym says
 
--- the list of the name that was found, where it stands for no text
+-- the list of the name that was found, where it denotes no text
 pub found_list : (r : Inside) (name : Text) (found : Result ℕ ℕ) (text : Bool) → IsHeld r → IsFound r name found
     → Says r.places.items found text → text ≡ false
     → MatchResult found (λ k. (slice_get r.names.listed k ≡ Some name) × (slice_get r.places.items k ≡ Some Many)) (IsGap r.names name)

@@ -1,4 +1,4 @@
--- What a name stands for, by its number.
+-- What a name denotes, by its number.
 use Rattle.std.proofs.Common.{◌≡◌, ℕ, ◌+◌, ◌-◌, ◌<◌, List, [], ◌∷◌, false, map, length, take, drop, slice_get, get_or, Bor, option_copied, Option, Some, None}
 use Rattle.std.proofs.Common.{is_some, All, refl, sym, ap, ◌∙◌, subst, arith, zero-add, inr}
 use Rattle.std.specs.Prelude.{slice_range}

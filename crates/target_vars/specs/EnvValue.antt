@@ -16,7 +16,7 @@ abbrev pub EachNameOnce : Environment → Type 0
 EachNameOnce [] = Unit {0}
 EachNameOnce (e ∷ env) = (is_there env e.name ≡ false) × EachNameOnce env
 
--- the name is there, and stands for a text
+-- the name is defined, and denotes a text
 abbrev pub stands_for_text : Environment → Text → Bool
 stands_for_text env name = is_some (text_of env name)
 
@@ -31,7 +31,7 @@ pub record IsWithin (env : EnvValue) (at : ℕ × ℕ) : Type 0 where
   pub inside : at.0 + at.1 ≤ length env.buffer
   pub one_side : (at.0 + at.1 ≤ env.seam) ⊎ (env.seam ≤ at.0)
 
--- the name stands for a text, which lies there
+-- the name denotes a text, which lies there
 pub record IsTextAt (env : EnvValue) (name : Text) (at : ℕ × ℕ) : Type 0 where
   pub within : IsWithin env at
   pub is : text_of env.entries name ≡ Some (piece_at env.buffer at)

@@ -42,7 +42,7 @@ pub record IsPieces (buffer : Text) (spans : List Span) : Type 0 where
 abbrev pub spans_of : List Span → ℕ → List Span
 spans_of spans number = filter (λ s. s.list == number) spans
 
--- the spans of a list stand side by side, count of them from first on
+-- the spans of a list lie side by side, count of them from first on
 pub record IsRun (spans : List Span) (number first count : ℕ) : Type 0 where
   pub within : first + count ≤ length spans
   pub is : take count (drop first spans) ≡ spans_of spans number
@@ -62,7 +62,7 @@ pub record IsPutLast (spans : List Span) (span : Span) (new : List Span) : Type 
 abbrev pub members_in : Text → List Span → ℕ → List Text
 members_in buffer spans number = map (piece buffer) (spans_of spans number)
 
--- what a name stands for, where the members of its list are given
+-- what a name denotes, where the members of its list are given
 abbrev pub meaning_in : Text → List Text → Place → Meaning
 meaning_in buffer members (One part) = Single (part_text buffer part)
 meaning_in buffer members Many = Several members
@@ -81,7 +81,7 @@ laid_entries buffer spans names places = entries_from buffer (members_in buffer 
 abbrev pub laid_spans : List Span → List (ℕ × ℕ)
 laid_spans spans = map (λ s. at s.part) spans
 
--- the name stands for a text, which lies at this part
+-- the name denotes a text, which lies at this part
 pub record IsTextPart (env : EnvValue) (name : Text) (part : Part) : Type 0 where
   pub is_part : IsPart env.buffer part
   pub within : IsWithin env (at part)

@@ -18,14 +18,14 @@ use crate::room::reserve;
 use std::alloc::Global;
 use std::marker::Model;
 
-/// At most so many bytes have all texts and members of an [`Env`] together.
+/// The maximum total length of all texts and members of an [`Env`], in bytes.
 pub const MAX_BYTES: usize = 1_048_576;
 
-/// At most so many members have all lists of an [`Env`] together.
+/// The maximum total number of members in all lists of an [`Env`].
 pub const MAX_MEMBERS: usize = 65_535;
 
-/// The variables of a row and a request, in the order in which their names came. Each name stands for
-/// a text, or for a list of texts, and the first that came for a name stays.
+/// The variables of a row and a request, in the order in which their names came. Each name denotes
+/// a text or a list of texts, and the first that came for a name stays.
 #[derive(Drop)]
 pub struct Env {
     buffer: String,
@@ -67,7 +67,7 @@ impl Env {
         }
     }
 
-    /// Adds the name with its text at the end and answers `true`; a name that is there, as a text or as
+    /// Adds the name with its text at the end and answers `true`; a name that is defined, as a text or as
     /// a list, stays as it is, and the answer is `false`.
     ///
     /// `TooLarge` where all texts and members would have more than [`MAX_BYTES`] bytes; `NoMemory`
@@ -104,8 +104,8 @@ impl Env {
         Ok(true)
     }
 
-    /// Adds the text as the last member of the name's list and answers `true`; a name that is not there
-    /// comes at the end, with the list of this one member. A name that stands for a text stays as it is,
+    /// Adds the text as the last member of the name's list and answers `true`; a name that is not defined
+    /// comes at the end, with the list of this one member. A name that denotes a text stays as it is,
     /// and the answer is `false`.
     ///
     /// `TooLarge` where all texts and members would have more than [`MAX_BYTES`] bytes, or all lists more

@@ -27,7 +27,7 @@ pub(crate) struct Span {
     pub(crate) part: Part,
 }
 
-/// What a name stands for: a text, or a list, whose spans carry the name's number.
+/// What a name denotes: a text, or a list, whose spans carry the name's number.
 #[derive(Clone, Copy)]
 pub(crate) enum Place {
     One(Part),
@@ -75,7 +75,7 @@ pub(crate) fn enter(
     Ok(())
 }
 
-/// The name that was found stands for a text.
+/// The name that was found denotes a text.
 pub(crate) fn is_text(places: &[Place], found: Result<usize, usize>) -> bool
     requires { IfOk found (λ number. number < length places.now) }
     ensures { MatchResult found (λ number. (place : PlaceValue) → slice_get places.now number ≡ Some place

@@ -12,7 +12,7 @@ pub(crate) const FIRST_NAMES: usize = 32;
 /// Bytes of names, and of texts and members.
 pub(crate) const FIRST_BYTES: usize = 512;
 
-/// Makes room for so many more items; the first time, for as many as a first growth has too.
+/// Makes room for `additional` more items; the first time, for as many as a first growth has too.
 pub(crate) fn reserve_items<T>(
     items: &mut Vec<T>,
     additional: usize,
@@ -27,7 +27,7 @@ pub(crate) fn reserve_items<T>(
     items.reserve(additional)
 }
 
-/// Makes room in the buffer for so many more bytes; the first time, for as many as a first growth has too.
+/// Makes room in the buffer for that many more bytes; the first time, for as many as a first growth has too.
 pub(crate) fn reserve(buffer: &mut String, additional: usize) -> Result<(), AllocError>
     ensures bytes { string_bytes buffer.new ≡ string_bytes buffer.old }
     ensures len { string_len buffer.new ≡ string_len buffer.old }

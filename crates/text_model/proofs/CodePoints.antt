@@ -13,7 +13,7 @@ use Rattle.text_model.specs.Cut.{is_continuation, code_points, joined, cut}
 use Rattle.text_model.specs.declared.writing.Writing.TheVariants.{U}
 use Rattle.text_model.proofs.Cuts.{code_points-next}
 
--- a byte that begins a character, and bytes that go on with it
+-- a byte that begins a character, and bytes that continue with it
 data IsCharacter : Text → Type 0 where
   character : (b : ℕ) (rest : Text) → is_continuation b ≡ false → prefix_len is_continuation rest ≡ length rest → IsCharacter (b ∷ rest)
 
@@ -50,7 +50,7 @@ encode_utf8-character c = by_tests (nat_lt c 128) (nat_lt c 2048) (nat_lt c 6553
     by_tests false false true e = character (224 + c / 4096) _ (leading (224 + c / 4096) (omega arith)) (following_two (c / 64) c)
     by_tests false false false e = character (240 + c / 262144) _ (leading (240 + c / 262144) (omega arith)) (following_three (c / 4096) (c / 64) c)
 
--- no byte at the front goes on with a character before it
+-- no byte at the beginning continues with a character before it
 begins_anew : Text → Type 0
 begins_anew t = prefix_len is_continuation t ≡ 0
 

@@ -66,7 +66,7 @@ cut-nothing UR [] zero e = refl
 cut-nothing UR [] (suc n) e = refl
 cut-nothing w (b ∷ t) n e = absurd (omega arith)
 
--- an item at the front is the first of the cut
+-- an item at the beginning is the first of the cut
 pub cut-item : (w : Writing) (t front rest : Text) (n : ℕ) → items w t ≡ front ∷ items w rest → cut w t (n + 1) ≡ front ++ cut w rest n
 cut-item w t front rest n e = ap (λ x. joined (take (n + 1) x)) e ∙ first n
   where
@@ -75,13 +75,13 @@ cut-item w t front rest n e = ap (λ x. joined (take (n + 1) x)) e ∙ first n
 
 -- ---- where the first item ends
 
--- the code point and the two behind it are the characters of a triplet
+-- the code point and the two after it are the characters of a triplet
 abbrev pub begins_with_triplet_points : Text → List Text → Bool
 begins_with_triplet_points p [] = false
 begins_with_triplet_points p (q ∷ []) = false
 begins_with_triplet_points p (q ∷ r ∷ points) = are_triplet p q r
 
--- a byte and the bytes of its code point behind it come first
+-- a byte and the bytes of its code point after it come first
 pub code_points-next : (b : ℕ) (t : Text) → code_points (b ∷ t) ≡ (b ∷ take (prefix_len is_continuation t) t) ∷ code_points
     (drop (prefix_len is_continuation t) t)
 unfolding code_points

@@ -29,7 +29,7 @@ hexadecimal = refl
 continuation : filter is_continuation all_bytes ≡ range_with_len 0x80 64
 continuation = refl
 
--- only at the front, and only a whole one
+-- only at the beginning, and only a whole one
 triplet_at_the_front : filter begins_with_triplet (codes "%41" ∷ codes "%fFx" ∷ codes "%4" ∷ codes "%" ∷ codes "" ∷ codes "%4g" ∷ codes "%g4" ∷ codes
     "a41" ∷ codes "x%41" ∷ [])
     ≡ codes "%41" ∷ codes "%fFx" ∷ []

@@ -8,7 +8,7 @@ use Rattle.text_model.specs.UriText.{IsUriText, nothing, and_character, and_trip
 use Rattle.text_model.proofs.UriTexts.{written_ur-uri}
 use Rattle.text_model.proofs.Written.{written_ur-triplet, written_ur-byte}
 
--- no character that stands for itself is the percent sign
+-- no character that denotes itself is the percent sign
 pub not_percent : (b : ℕ) → is_unreserved_or_reserved b ≡ true → b ≢ 37
 unfolding is_unreserved is_reserved
 not_percent b h e = both_ways (is_unreserved_or_reserved b) (subst (λ (k : ℕ). is_unreserved_or_reserved k ≡ false) (sym e) refl) h

@@ -14,7 +14,7 @@ IsUriText-append a _ h (and_character t c i p) = subst IsUriText (append_assoc a
 IsUriText-append a _ h (and_triplet t c d i p q) =
     subst IsUriText (append_assoc a t (37 ∷ c ∷ d ∷ [])) (and_triplet (a ++ t) c d (IsUriText-append a t h i) p q)
 
--- one character that may stand in a URI
+-- one character that may be in a URI
 pub IsUriText-character : (b : ℕ) → is_unreserved_or_reserved b ≡ true → IsUriText (b ∷ [])
 IsUriText-character b p = and_character [] b nothing p
 

@@ -5,11 +5,11 @@ use Rattle.text_model.specs.Texts.{Text, is_triplet}
 use Rattle.text_model.specs.declared.writing.Writing.{Writing}
 use Rattle.text_model.specs.declared.writing.Writing.TheVariants.{U, UR}
 
--- a byte of UTF-8 that goes on with the code point before it, 10xxxxxx in bits (RFC 3629, section 3)
+-- a byte of UTF-8 that continues with the code point before it, 10xxxxxx in bits (RFC 3629, section 3)
 abbrev pub is_continuation : ℕ → Bool
 is_continuation b = nat_le 0x80 b && nat_lt b 0xC0
 
--- a byte in front of code points: one more code point, or the front of the first of them
+-- a byte before code points: one more code point, or the beginning of the first of them
 abbrev pub with_byte : ℕ → List Text → List Text
 with_byte b [] = (b ∷ []) ∷ []
 with_byte b ([] ∷ points) = (b ∷ []) ∷ points

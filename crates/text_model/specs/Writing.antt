@@ -4,7 +4,7 @@ use Rattle.text_model.specs.Texts.{Text, percent, is_unreserved, is_reserved, is
 use Rattle.text_model.specs.declared.writing.Writing.{Writing}
 use Rattle.text_model.specs.declared.writing.Writing.TheVariants.{U, UR}
 
--- a hexadecimal digit, in upper case: `0` and those behind it, then `A` and those behind it
+-- a hexadecimal digit, in upper case: `0` and those after it, then `A` and those after it
 abbrev pub hexadecimal_digit : ℕ → ℕ
 hexadecimal_digit n = if nat_lt (n % 16) 10 then 0x30 + n % 16 else 0x41 - 10 + n % 16
 

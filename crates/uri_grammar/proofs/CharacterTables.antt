@@ -23,7 +23,7 @@ ends_of_ranges =
     ∷ 0xB0000 ∷ 0xBFFFD ∷ 0xC0000 ∷ 0xCFFFD ∷ 0xD0000 ∷ 0xDFFFD ∷ 0xE1000 ∷ 0xEFFFD ∷ 0xF0000 ∷ 0xFFFFD
     ∷ 0x100000 ∷ 0x10FFFD ∷ []
 
--- the characters right before and right behind the ranges
+-- the characters right before and right after the ranges
 abbrev beside_ranges : List ℕ
 beside_ranges =
     0x80 ∷ 0x9F ∷ 0xFDD0 ∷ 0xFDEF ∷ 0xFFF0 ∷ 0xFFFF
@@ -59,7 +59,7 @@ no_literals_beside : list_all is_no_literal beside_ranges ≡ true
 unfolding is_literal_character
 no_literals_beside = refl
 
--- `%` is a literal with two hexadecimal digits behind it, and only so
+-- `%` is a literal with two hexadecimal digits after it, and only so
 first_digits : filter (λ c. literal_item_len (37 ∷ c ∷ codes "0") == 3) ascii ≡ codes "0123456789ABCDEFabcdef"
 unfolding is_literal_character
 first_digits = refl
@@ -88,7 +88,7 @@ first_digits_in_names = refl
 second_digits_in_names : filter (λ c. varchar_len (37 ∷ 48 ∷ c ∷ []) == 3) ascii ≡ codes "0123456789ABCDEFabcdef"
 second_digits_in_names = refl
 
--- a name goes on with what begins one, and with a dot where that follows
+-- a name continues with what begins one, and with a dot where that follows
 names_go_on : filter (λ c. not (next_len (c ∷ codes "aa") == 0)) ascii ≡ codes "%.0123456789ABCDEFGHIJKLMNOPQRSTUVWXYZ_abcdefghijklmnopqrstuvwxyz"
 names_go_on = refl
 

@@ -152,7 +152,7 @@ last_or_fault list lacks =
     (λ f. inr (f.0, f.1, first_fault list list [] f.0 f.1 refl lacks f.2))
     (spec_or_fault list)
 
--- a comma behind a list, seen from its first piece
+-- a comma after a list, seen from its first piece
 comma_behind : (list piece rest : List ℕ) → list ≡ piece ++ comma ∷ rest → list ++ comma ∷ [] ≡ piece ++ comma ∷ (rest ++ comma ∷ [])
 comma_behind list piece rest e = ap (λ (t : List ℕ). t ++ comma ∷ []) e ∙ append_assoc piece (comma ∷ rest) (comma ∷ [])
 

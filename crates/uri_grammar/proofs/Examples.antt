@@ -76,7 +76,7 @@ spelled_spec name after cut explode h t m = record { after = after; whole = refl
 
 -- ---- trees
 
--- one expression with one spec: the body, its operator and the list behind it
+-- one expression with one spec: the body, its operator and the list after it
 one_expression : (body list : List ℕ) (op : Op) (spec : Spec) → Lacks close_brace body → HasOperator body op list → Lacks comma list → IsSpec list spec
     → Spells (open_brace ∷ body ++ close_brace ∷ []) (Expression op (spec ∷ []) ∷ [])
 one_expression body list op spec l o m is =

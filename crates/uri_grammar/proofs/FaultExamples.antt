@@ -72,7 +72,7 @@ bad_character =
     (simple_list (codes "a b") kind.BadName 0 (omega arith) refl refl refl refl
     (bad_name (codes "a b") (bad_follower (codes "a b") (codes "a") (codes " b") (letter_a (codes " b") refl) (omega arith) refl)))
 
--- a hyphen stands in no name
+-- a hyphen is in no name
 hyphen : IsRefused (codes "{a-b}") kind.BadName 1
 hyphen =
     refused (codes "{a-b}") kind.BadName 1 refl refl

@@ -93,7 +93,7 @@ longest_same cs name after other behind h k =
     let size : length name ≡ length other = omega (arith, h.longest other behind k.whole k.is_varname, k.longest name after h.whole h.is_varname) in
     append_same name other after behind size (sym h.whole ∙ k.whole)
 
--- a name that nothing goes on with is the longest
+-- a name that nothing continues with is the longest
 pub ended_varname : (cs name after : List ℕ) → cs ≡ name ++ after → IsVarname name → next_len after ≡ 0 → BeginsWithVarname cs name after
 ended_varname cs name after e h ends = record {
   whole = e;
@@ -183,7 +183,7 @@ IsUriText-varname name (dotted_varchar n v h k) =
 
 -- ---- texts that are names
 
--- the longest name at the front of a name is all of it
+-- the longest name at the beginning of a name is all of it
 pub whole_varname : (cs : List ℕ) (len : ℕ) → len ≤ length cs → BeginsWithVarname cs (take len cs) (drop len cs) → (len ≡ length cs → IsVarname cs)
     × (IsVarname cs → len ≡ length cs)
 whole_varname cs len within begins = (

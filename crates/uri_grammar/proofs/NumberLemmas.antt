@@ -18,7 +18,7 @@ unfolding value_from
 value_from-least [] n = omega arith
 value_from-least (d ∷ ds) n = omega (arith, value_from-least ds (10 * n + (d - 48)))
 
--- a max-length stands for a number from 1 to the largest prefix
+-- a max-length denotes a number from 1 to the largest prefix
 pub max_length_range : (ds : List ℕ) → is_max_length ds ≡ true → (0 < value_from 0 ds) × (value_from 0 ds ≤ MAX_PREFIX)
 unfolding value_from
 max_length_range [] t = cc
@@ -31,13 +31,13 @@ max_length_range (d ∷ ds) t =
 
 -- ---- what the reader's loop keeps
 
--- the digits behind so many decide, and this is the value of those
+-- the digits after that many decide, and this is the value of those
 pub record HasRead (ds : List ℕ) (count value : ℕ) : Type 0 where
   pub digits : list_all is_ascii_digit ds ≡ list_all is_ascii_digit (drop count ds)
   pub value_is : value_from 0 ds ≡ value_from value (drop count ds)
   pub small : value ≤ MAX_PREFIX
 
--- the digits from a place on, where one stands there
+-- the digits from a place on, where one is there
 from_place : (ds : List ℕ) (i d : ℕ) → i < length ds → d ≡ get_or ds i d → drop i ds ≡ d ∷ drop (i + 1) ds
 from_place ds i d inside is = drop_more ds i d inside ∙ ap (λ (x : ℕ). x ∷ drop (i + 1) ds) (sym is)
 

@@ -33,7 +33,7 @@ lacks_split c [] (y ∷ ys) b h e = cc
 lacks_split c (x ∷ xs) [] b h e = All-head (λ z. z ≢ c) x xs h (let same : x ≡ c = cc in same)
 lacks_split c (x ∷ xs) (y ∷ ys) b h e = lacks_split c xs ys b (All-tail (λ z. z ≢ c) x xs h) (let tail : xs ≡ ys ++ c ∷ b = cc in tail)
 
--- items, where a function tells how long the item at the front of a text is, and 0 where there is none
+-- items, where a function tells how long the item at the beginning of a text is, and 0 where there is none
 pub data Run (item : List ℕ → ℕ) : List ℕ → Type 0 where
   no_item : Run item []
   next_item : (front rest : List ℕ) → 0 < length front → ((x : List ℕ) → item (front ++ x) ≡ length front) → Run item rest → Run item (front ++ rest)

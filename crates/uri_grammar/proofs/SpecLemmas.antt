@@ -189,7 +189,7 @@ pub spec_moves : (cs : List ℕ) (k : TemplateErrorKind) (d at n : ℕ) → IsSp
 spec_moves cs k d at n (bad_name xs h) = refl
 spec_moves cs k d at n (bad_modifier xs name after h i) = refl
 
--- a comma behind a text cuts it as one within it does
+-- a comma after a text cuts it as one within it does
 pub piece_cut : (rest : List ℕ) (end : ℕ) → end < length rest → get_or rest end 0 ≡ comma → (x : List ℕ) × (rest ++ comma ∷ [] ≡ take end rest ++ comma ∷ x)
 piece_cut rest end l h =
     let back : drop end rest ≡ comma ∷ drop (end + 1) rest = drop_more rest end 0 l ∙ ap (λ (x : ℕ). x ∷ drop (end + 1) rest) h in

@@ -172,7 +172,7 @@ IsPartFault-empty cs inner end b is l h z =
     subst (λ (t : List ℕ). IsPartFault t kind.EmptyExpression 0) (sym (whole ∙ ap (λ (t : List ℕ). open_brace ∷ t ++ close_brace ∷ drop (end + 1) inner) nil))
     (empty_expression (drop (end + 1) inner))
 
--- a fault behind what was read is the first fault of the text
+-- a fault after what was read is the first fault of the text
 pub IsFirstFault-after : (cs : List ℕ) (done : ℕ) (parts : List Part) (e : TemplateError) → Spells (take done cs) parts
     → IsFault e (IsPartFault (drop done cs)) → IsFault (moved e (length (encode_utf8_all (take done cs)))) (IsFirstFault cs)
 IsFirstFault-after cs done parts e s f =

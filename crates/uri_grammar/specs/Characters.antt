@@ -1,4 +1,4 @@
--- The ASCII characters that the grammar names; the percent sign stands with the triplets.
+-- The ASCII characters that the grammar names; the percent sign is with the triplets.
 use Rattle.std.specs.Prelude.{ℕ}
 
 -- `{`, which begins an expression

@@ -1,4 +1,4 @@
--- What stands between braces (RFC 6570, sections 2.2 and 2.3).
+-- What is written between braces (RFC 6570, sections 2.2 and 2.3).
 use Rattle.std.specs.Prelude.{◌≡◌, ℕ, Bool, false, nat_eq, List, [], ◌∷◌, ◌++◌, codes}
 use Rattle.std.specs.List.{list_any}
 use Rattle.uri_grammar.specs.declared.parts.Op.{Op}
@@ -27,7 +27,7 @@ abbrev pub begins_with_reserved : List ℕ → Bool
 begins_with_reserved [] = false
 begins_with_reserved (c ∷ cs) = list_any (nat_eq c) (codes "=,!@|")
 
--- [ operator ] and the list of specs behind it
+-- [ operator ] and the list of specs after it
 pub record HasOperator (body : List ℕ) (op : Op) (list : List ℕ) : Type 0 where
   pub whole : body ≡ operator_text op ++ list
   pub not_reserved : begins_with_reserved body ≡ false

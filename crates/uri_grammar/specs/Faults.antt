@@ -21,7 +21,7 @@ abbrev pub begins_with_modifier : List ℕ → Bool
 begins_with_modifier [] = false
 begins_with_modifier (c ∷ cs) = c == colon || c == asterisk
 
--- the longest varname at the front is a name, and behind it is nothing or the begin of a modifier
+-- the longest varname at the beginning is a name, and after it is nothing or the begin of a modifier
 pub record IsNamed (cs name after : List ℕ) : Type 0 where
   pub begins : BeginsWithVarname cs name after
   pub short : length name ≤ MAX_NAME_BYTES

@@ -15,7 +15,7 @@ is_ucschar c =
 abbrev pub is_iprivate : ℕ → Bool
 is_iprivate c = is_between 0xE000 0xF8FF c || is_between 0xF_0000 0xF_FFFD c || is_between 0x10_0000 0x10_FFFD c
 
--- a character that stands for itself: all of ASCII but controls, space and "%<>\^`{|}, and with the apostrophe
+-- a character that denotes itself: all of ASCII but controls, space and "%<>\^`{|}, and with the apostrophe
 unfoldable pub is_literal_character : ℕ → Bool
 is_literal_character c =
     c == 0x21 || is_between 0x23 0x24 c || is_between 0x26 0x3B c || c == 0x3D || is_between 0x3F 0x5B c || c == 0x5D || c == 0x5F
@@ -27,7 +27,7 @@ pub data AreLiterals : List ℕ → Type 0 where
   literal_character : (c : ℕ) (cs : List ℕ) → is_literal_character c ≡ true → AreLiterals cs → AreLiterals (c ∷ cs)
   literal_triplet : (c high low : ℕ) (cs : List ℕ) → is_triplet c high low ≡ true → AreLiterals cs → AreLiterals (c ∷ high ∷ low ∷ cs)
 
--- a literal stands at the front: one character, or one triplet
+-- a literal is at the beginning: one character, or one triplet
 abbrev pub begins_with_literal : List ℕ → Bool
 begins_with_literal [] = false
 begins_with_literal (c ∷ cs) = is_literal_character c || begins_with_triplet (c ∷ cs)

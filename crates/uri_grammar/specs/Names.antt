@@ -24,7 +24,7 @@ pub data IsVarname : List ℕ → Type 0 where
 abbrev pub IsName : Text → Type 0
 IsName text = IsVarname text × (length text ≤ MAX_NAME_BYTES)
 
--- the longest varname at the front, and what follows it
+-- the longest varname at the beginning, and what follows it
 pub record BeginsWithVarname (cs name after : List ℕ) : Type 0 where
   pub whole : cs ≡ name ++ after
   pub is_varname : IsVarname name

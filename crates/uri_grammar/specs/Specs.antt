@@ -31,14 +31,14 @@ pub record IsSpec (cs : List ℕ) (spec : Spec) : Type 0 where
 abbrev pub Lacks : ℕ → List ℕ → Type 0
 Lacks c cs = All (λ x. x ≢ c) cs
 
--- a spec up to the first comma, and the rest behind the comma
+-- a spec up to the first comma, and the rest after the comma
 pub record BeginsWithSpec (cs : List ℕ) (spec : Spec) (rest : List ℕ) : Type 0 where
   pub piece : List ℕ
   pub whole : cs ≡ piece ++ comma ∷ rest
   pub lacks : Lacks comma piece
   pub is_spec : IsSpec piece spec
 
--- specs, each with a comma behind it
+-- specs, each with a comma after it
 abbrev pub SpellsSpecs : List ℕ → List Spec → Type 0
 SpellsSpecs cs [] = cs ≡ []
 SpellsSpecs cs (spec ∷ specs) = (rest : List ℕ) × BeginsWithSpec cs spec rest × SpellsSpecs rest specs

@@ -17,7 +17,7 @@ BeginsNoLiteral [] = Unit {0}
 BeginsNoLiteral (Literal text ∷ parts) = ⊥
 BeginsNoLiteral (Expression op specs ∷ parts) = Unit {0}
 
--- literals at the front, in the form that a link gets, and the rest behind them
+-- literals at the beginning, in the form that a link gets, and the rest after them
 pub record BeginsWithLiterals (cs : List ℕ) (text : Text) (rest : List ℕ) : Type 0 where
   pub raw : List ℕ
   pub whole : cs ≡ raw ++ rest
@@ -25,14 +25,14 @@ pub record BeginsWithLiterals (cs : List ℕ) (text : Text) (rest : List ℕ) : 
   pub are_literals : AreLiterals raw
   pub is_written : text ≡ written_ur (encode_utf8_all raw)
 
--- expression = "{" [ operator ] variable-list "}", up to the first closing brace, and the rest behind it
+-- expression = "{" [ operator ] variable-list "}", up to the first closing brace, and the rest after it
 pub record BeginsWithExpression (cs : List ℕ) (op : Op) (specs : List Spec) (rest : List ℕ) : Type 0 where
   pub body : List ℕ
   pub whole : cs ≡ open_brace ∷ body ++ close_brace ∷ rest
   pub lacks : Lacks close_brace body
   pub is_body : IsBody body op specs
 
--- URI-Template = *( literals / expression ). No literal part stands beside another, so each goes as far as it can.
+-- URI-Template = *( literals / expression ). No literal part is beside another, so each goes as far as it can.
 abbrev pub Spells : List ℕ → List Part → Type 0
 Spells cs [] = cs ≡ []
 Spells cs (Literal text ∷ parts) = (rest : List ℕ) × BeginsWithLiterals cs text rest × BeginsNoLiteral parts × Spells rest parts

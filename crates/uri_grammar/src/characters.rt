@@ -25,7 +25,7 @@ pub(crate) fn begins_with_triplet(text: &[char]) -> bool
     }
 }
 
-// Where the first such character stands.
+// Where the first such character is.
 pub(crate) fn place_of(text: &[char], sought: char) -> Option<usize>
     ensures none { IfNone result (Lacks sought text.now) }
     ensures found { IfSome result (λ at. (at < length text.now) × (slice_index text.now at ≡ sought)

@@ -11,26 +11,26 @@ use thiserror::Error;
 pub enum TemplateErrorKind {
     /// It has more than 8,192 bytes.
     TooLong,
-    /// A `{` has no `}` behind it.
+    /// A `{` has no `}` after it.
     Unclosed,
-    /// Nothing stands between two braces.
+    /// There is nothing between two braces.
     EmptyExpression,
     /// An expression begins with one of the operators that are kept for later (RFC 6570, section 2.2).
     ReservedOperator,
     /// A variable's name is empty, too long, or followed by what can neither end nor modify it.
     BadName,
-    /// What stands behind a `:` is no number from 1 to 9,999 without a leading zero, or something follows
+    /// What is after a `:` is no number from 1 to 9,999 without a leading zero, or something follows
     /// a `*`.
     BadModifier,
-    /// A character stands outside expressions that is no literal.
+    /// A character outside expressions is not a literal.
     BadLiteral,
     /// An allocation failed.
     NoMemory,
 }
 
-/// The first fault of a template, and the byte at which it stands: the `{` of an expression that is unclosed
+/// The first fault of a template, and the byte at which it is: the `{` of an expression that is unclosed
 /// or empty, the reserved operator, the first byte of a variable whose name is bad, the `:` or `*` of a bad
-/// modifier, the character that is no literal. `TooLong` stands at 8,192, and `NoMemory` at 0.
+/// modifier, the character that is no literal. `TooLong` is at 8,192, and `NoMemory` at 0.
 #[derive(Clone, Copy, Debug, PartialEq, Eq, Error)]
 #[error("{kind:?} at {at}")]
 pub struct TemplateError {
@@ -45,7 +45,7 @@ impl TemplateError {
         TemplateError { kind, at }
     }
 
-    // The same fault in a text with so many bytes in front.
+    // The same fault in a text with this number of bytes before.
     pub(crate) fn after(self, front: usize) -> TemplateError
         requires { self.at + front < 2 ^ 64 }
         ensures { result ≡ moved self front }
@@ -60,7 +60,7 @@ impl TemplateError {
     }
 }
 
-/// Want of memory, as an error of a template.
+/// Out of memory, as an error of a template.
 pub const NO_MEMORY: TemplateError = TemplateError {
     kind: TemplateErrorKind::NoMemory,
     at: 0,

@@ -85,7 +85,7 @@ fn begins_with_reserved(body: &[char]) -> bool
     matches!(body, ['=' | ',' | '!' | '@' | '|', ..])
 }
 
-// What stands between the braces.
+// What is written between the braces.
 fn body(alloc: Global, text: &[char]) -> Result<(Op, Vec<Spec>), TemplateError>
     requires { length text.now ≤ MAX_BYTES }
     ensures ok { IfOk result (λ body. IsBody text.now body.0 body.1.items) }
@@ -109,7 +109,7 @@ fn begins_with_brace(text: &[char]) -> bool
     matches!(text, ['{', ..])
 }
 
-// The expression at the front, and how many characters it has.
+// The expression at the beginning, and how many characters it has.
 pub(crate) fn expression(alloc: Global, text: &[char]) -> Result<(Part, usize), TemplateError>
     requires short { length text.now ≤ MAX_BYTES }
     requires some { 0 < length text.now }

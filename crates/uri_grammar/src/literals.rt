@@ -27,7 +27,7 @@ fn is_literal_character(c: char) -> bool
     }
 }
 
-// How many characters the literal at the front has that is one character or one triplet; 0 where there is none.
+// How many characters the literal at the beginning has that is one character or one triplet; 0 where there is none.
 fn literal_item_len(text: &[char]) -> usize
     ensures value { result ≡ literal_item_len text.now }
     ensures within { result ≤ length text.now }
@@ -39,7 +39,7 @@ fn literal_item_len(text: &[char]) -> usize
     }
 }
 
-// How many characters the literals at the front have.
+// How many characters the literals at the beginning have.
 pub(crate) fn literals_len(text: &[char]) -> usize
     requires { length text.now ≤ MAX_BYTES }
     ensures within { result ≤ length text.now }

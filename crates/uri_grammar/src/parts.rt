@@ -119,6 +119,6 @@ pub enum Part {
     /// A run of literals in its written form: reserved and unreserved characters and triplets are
     /// copied, any other character is written as the triplets of its UTF-8 (RFC 6570, section 3.1).
     Literal(Text),
-    /// What stands between braces.
+    /// What is written between braces.
     Expression { op: Op, specs: Specs },
 }

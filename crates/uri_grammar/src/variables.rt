@@ -69,7 +69,7 @@ fn begins_with_modifier(after: &[char]) -> bool
     matches!(after, [':' | '*', ..])
 }
 
-// How long the name at the front is, where a spec can go on or end behind it.
+// How long the name at the beginning is, where a spec can continue or end after it.
 fn named_len(text: &[char]) -> Option<usize>
     requires { length text.now ≤ MAX_BYTES }
     ensures some { IfSome result

@@ -73,7 +73,7 @@ exploded_text : by_operators (exploded (codes "t") ∷ exploded (codes "nil") �
 unfolding variables look_up is_unreserved is_reserved written_u written_ur
 exploded_text = refl
 
--- members are written one by one, an empty one too
+-- members are written one at a time, an empty one too
 list :
     by_operators (whole (codes "list") ∷ [])
     ≡ codes "a%2Fb,,c%20d" ∷ codes "a/b,,c%20d" ∷ codes ".a%2Fb,,c%20d" ∷ codes "/a%2Fb,,c%20d" ∷ codes ";list=a%2Fb,,c%20d"

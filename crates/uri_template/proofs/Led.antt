@@ -1,4 +1,4 @@
--- Pieces that are appended one after another, each with what stands before it.
+-- Pieces that are appended one after another, each with what comes before it.
 use Rattle.std.proofs.Common.{◌≡◌, ℕ, zero, suc, ◌+◌, ◌<◌, List, [], ◌∷◌, ◌++◌, length, get_or, drop, map, Option, Some, None, Bool, true, false, ◌&&◌, ◌==◌}
 use Rattle.std.proofs.Common.{◌⊎◌, inl, inr, refl, sym, ap, ◌∙◌, arith, add-one, append_assoc}
 use Rattle.std.specs.Prelude.{is_none}
@@ -32,7 +32,7 @@ pieces_from-led style (p ∷ ps) = ap (λ x. (style.first ++ p) ++ x) (later_pie
 pub appended : (before new after rest all : Text) → after ≡ before ++ new → before ++ (new ++ rest) ≡ all → after ++ rest ≡ all
 appended before new after rest all e f = ap (λ x. x ++ rest) e ∙ (append_assoc before new rest ∙ f)
 
--- the variable at a place, and those behind it
+-- the variable at a place, and those after it
 pub pieces-next : (look : LookUp) (style : Style) (specs : List Spec) (i : ℕ) (spec : Spec) (is_first : Bool) → i < length specs → spec ≡ get_or specs i spec
     → pieces_from style.first style.sep is_first (pieces look style (drop i specs))
     ≡ led_piece style is_first (piece style spec (look spec.name)) ++ pieces_from style.first style.sep
@@ -52,7 +52,7 @@ pieces-next look style specs i spec is_first inside is =
     by_piece (Some p) true = refl
     by_piece (Some p) false = refl
 
--- the member at a place, and those behind it
+-- the member at a place, and those after it
 pub members-next : (sep : Text) (text : Text → Text) (members : List Text) (i : ℕ) → i < length members
     → pieces_from [] sep (i == 0) (map text (drop i members)) ≡ (lead [] sep (i == 0) ++ text (get_or members i [])) ++ pieces_from [] sep (i + 1 == 0)
     (map text (drop (i + 1) members))
@@ -104,7 +104,7 @@ pub list_piece-parts : (style : Style) (name : Text) (explode : Bool) (members :
 list_piece-parts style name false members = refl
 list_piece-parts style name true members = refl
 
--- a list is written: what stands before it, its head and its members
+-- a list is written: what comes before it, its head and its members
 pub list_written : (before after_lead after_head lead : Text) (style : Style) (name : Text) (explode : Bool) (members : List Text)
     → after_lead ≡ before ++ lead → after_head ≡ after_lead ++ list_head style name explode
     → after_head ++ joined_by (member_sep style explode) (map (member_text style name explode) members)

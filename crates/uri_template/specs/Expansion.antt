@@ -15,8 +15,8 @@ use Rattle.uri_grammar.specs.declared.parts.Part.TheVariants.{Literal, Expressio
 
 -- ---- the operators' table (RFC 6570, appendix A)
 
--- what stands before the first piece and before each later one, whether a value has its name in front,
--- what stands behind the name where the value is empty, and how values are written
+-- what comes before the first piece and before each later one, whether a value has its name in front,
+-- what comes after the name where the value is empty, and how values are written
 pub record Style : Type 0 where
   pub first : Text
   pub sep : Text
@@ -41,7 +41,7 @@ abbrev pub joined_by : Text → List Text → Text
 joined_by sep [] = []
 joined_by sep (t ∷ texts) = t ++ flat_map (λ next. sep ++ next) texts
 
--- the equals sign and a written value, or what stands for an empty value
+-- the equals sign and a written value, or what replaces an empty value
 abbrev pub equated : Style → Text → Text
 equated style [] = style.ifemp
 equated style (b ∷ t) = codes "=" ++ written style.writing (b ∷ t)
@@ -60,13 +60,13 @@ abbrev pub prefix : Writing → ℕ → Text → Text
 prefix writing zero t = t
 prefix writing (suc n) t = cut writing t (suc n)
 
--- a list without members is undefined, and so is a list where a prefix is asked for
+-- a list without members is undefined, and so is a list where a prefix is requested
 abbrev pub several_piece : Style → Spec → ℕ → List Text → Option Text
 several_piece style spec n [] = None
 several_piece style spec zero (t ∷ members) = Some (list_piece style spec.name spec.explode (t ∷ members))
 several_piece style spec (suc n) (t ∷ members) = None
 
--- the piece of a variable, from what its name stands for; none where it is undefined
+-- the piece of a variable, from what its name denotes; none where it is undefined
 abbrev pub piece : Style → Spec → Option Meaning → Option Text
 piece style spec None = None
 piece style spec (Some (Single t)) = Some (item style spec.name (prefix style.writing spec.cut t))

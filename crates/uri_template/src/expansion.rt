@@ -68,7 +68,7 @@ fn push_part<V: Variables>(out: &mut String, part: &Part, variables: &V) -> Resu
 }
 
 /// The expansion of the template (RFC 6570, section 3) with any variables: a variable with a prefix is
-/// asked for as a text, any other is taken as the text or the list that its name stands for.
+/// looked up as a text, any other as the text or the list that its name denotes.
 ///
 /// `AllocError` if an allocation failed.
 pub fn expand_in<V: Variables>(

@@ -2,7 +2,7 @@
 //! writing of `uri_text`, whose public calls are here too.
 //!
 //! Differences from RFC 6570: there are no associative arrays, and a variable with a prefix that
-//! stands for a list is undefined.
+//! denotes a list is undefined.
 #![tactic(auto)]
 
 mod expansion;

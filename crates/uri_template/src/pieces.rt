@@ -53,7 +53,7 @@ fn prefix(text: &str, n: u16, writing: Writing) -> &[u8]
     }
 }
 
-/// Appends the piece of a variable that stands for a text, with `lead` in front.
+/// Appends the piece of a variable that denotes a text, with `lead` in front.
 pub(crate) fn push_text(
     out: &mut String,
     lead: &str,
@@ -89,7 +89,7 @@ fn push_member(out: &mut String, style: &Style, spec: &Spec, member: &str) -> Re
     }
 }
 
-// What stands between two members.
+// What is written between two members.
 fn member_sep(style: &Style, explode: bool) -> &'static str
     ensures { result.now ≡ member_sep style.now explode }
 {
@@ -143,7 +143,7 @@ fn push_head(out: &mut String, style: &Style, spec: &Spec) -> Result<(), AllocEr
     out.push_str("=")
 }
 
-/// Appends the piece of a variable that stands for a list, with `lead` in front.
+/// Appends the piece of a variable that denotes a list, with `lead` in front.
 pub(crate) fn push_list(
     out: &mut String,
     lead: &str,

@@ -10,9 +10,9 @@ use uri_grammar::Op;
 /// How an expression is written, by its operator.
 #[derive(Drop)]
 pub struct Style {
-    /// What stands before the first defined variable.
+    /// What is written before the first defined variable.
     pub first: &'static str,
-    /// What stands before each later one, and between exploded members.
+    /// What is written before each later one, and between exploded members.
     pub sep: &'static str,
     /// Whether a value has its variable's name in front.
     pub named: bool,

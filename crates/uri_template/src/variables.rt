@@ -7,17 +7,17 @@ ghost use Rattle.target_vars.specs.Members.{members_left};
 
 use target_vars::{Env, MAX_BYTES, Members};
 
-/// Variables: each name stands for a text, for a list of texts, or for nothing.
+/// Variables: each name denotes a text, a list of texts, or nothing.
 pub trait Variables {
     ghost look: { Self → LookUp };
 
-    /// The text of the name, of at most [`MAX_BYTES`] bytes; `None` where the name stands for a list
-    /// or for nothing.
+    /// The text of the name, of at most [`MAX_BYTES`] bytes; `None` where the name denotes a list
+    /// or nothing.
     fn text(&self, name: &str) -> Option<&str>
         ensures value { option_copied result ≡ text_in (look self.now name.now) }
         ensures small { IfSome result (λ text. length text.now ≤ MAX_BYTES) };
 
-    /// The members of the list of the name; none where the name stands for a text or for nothing.
+    /// The members of the list of the name; none where the name denotes a text or nothing.
     fn list(&self, name: &str) -> Members<'_>
         ensures { members_left result ≡ members_in (look self.now name.now) };
 }

@@ -1,4 +1,4 @@
--- The item at the front of a text.
+-- The item at the beginning of a text.
 use Rattle.std.proofs.Common.{◌≡◌, ℕ, suc, ◌+◌, ◌<◌, ◌-◌, ◌≤◌, ◌⊎◌, inl, inr, append_assoc, append-nil, List, [], ◌∷◌, ◌++◌, length, take, drop, Bool, true}
 use Rattle.std.proofs.Common.{false, cond, ◌&&◌, ◌==◌, not, add-one, refl, sym, ap, ◌∙◌, arith}
 use Rattle.std.specs.Prelude.{if◌then◌else◌}
@@ -77,12 +77,12 @@ by_first b (c ∷ t) true e h =
 by_first b [] false e h = refl
 by_first b (c ∷ t) false e h = rw (run_alone (c ∷ t) e) (by_second b c t (continues t) refl h)
 
--- without a triplet at the front the first code point is the first item
+-- without a triplet at the beginning the first code point is the first item
 other_item : (b : ℕ) (t : Text) → begins_with_triplet_item (b ∷ t) ≡ false
     → with_triplets (code_points (b ∷ t)) ≡ (b ∷ take (prefix_len is_continuation t) t) ∷ with_triplets (code_points (drop (prefix_len is_continuation t) t))
 other_item b t h = ap with_triplets (code_points-next b t) ∙ with_triplets-first _ _ (by_first b t (continues t) refl h)
 
--- a triplet at the front is the first item
+-- a triplet at the beginning is the first item
 triplet_item : (b high low : ℕ) (t : Text) → begins_with_triplet_item (b ∷ high ∷ low ∷ t) ≡ true
     → with_triplets (code_points (b ∷ high ∷ low ∷ t)) ≡ (b ∷ high ∷ low ∷ []) ∷ with_triplets (code_points t)
 triplet_item b high low t h =

@@ -13,7 +13,7 @@ use Rattle.std.proofs.Math.Nat.{pow-succ', pow-le-pow_right}
 use Rattle.text_model.specs.Texts.{Text}
 use Rattle.text_model.specs.Number.{leading_digits, value_from, leading_number}
 
--- so many bytes at the front are digits, and this is their value
+-- that many bytes at the beginning are digits, and this is their value
 pub record HasRead (t : Text) (count value : ℕ) : Type 0 where
   pub digits : length (leading_digits t) ≡ count + length (leading_digits (drop count t))
   pub value_is : value_from 0 (leading_digits t) ≡ value_from value (leading_digits (drop count t))

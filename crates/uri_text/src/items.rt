@@ -8,7 +8,7 @@ ghost use Rattle.uri_text.specs.Private.Items.{continues, code_point_length, beg
 
 use crate::triplet::are_hexadecimal;
 
-// A byte of UTF-8 that goes on with the code point before it (RFC 3629, section 3).
+// A byte of UTF-8 that continues with the code point before it (RFC 3629, section 3).
 fn is_continuation(byte: u8) -> bool
     ensures { result ≡ is_continuation byte }
 {
@@ -50,7 +50,7 @@ fn begins_with_triplet_item(text: &[u8]) -> bool
     }
 }
 
-// How many bytes the item at the front takes.
+// How many bytes the item at the beginning takes.
 #[tactic(auto, using(crate::proofs::FirstItems::lengths))]
 fn item_len(text: &[u8], triplets: bool) -> usize
     ensures value { result ≡ item_length triplets text.now }
@@ -67,7 +67,7 @@ fn item_len(text: &[u8], triplets: bool) -> usize
 ///
 /// An item is a code point; with `triplets` a whole triplet is one item too, as a prefix counts
 /// where triplets are copied. The text is UTF-8. Of other bytes, each is taken together with the
-/// continuation bytes behind it.
+/// continuation bytes after it.
 pub fn cut(text: &[u8], n: usize, triplets: bool) -> &[u8]
     ensures items { result.now ≡ cut (writing_of triplets) text.now n }
     ensures within { length result.now ≤ length text.now }

@@ -10,7 +10,7 @@ pub(crate) fn are_hexadecimal(high: u8, low: u8) -> bool
     high.is_ascii_hexdigit() && low.is_ascii_hexdigit()
 }
 
-// Whether a whole triplet stands at the front.
+// Whether a whole triplet is at the beginning.
 pub(crate) fn begins_with_triplet(text: &[u8]) -> bool
     ensures { result ≡ begins_with_triplet text.now }
 {

@@ -54,7 +54,7 @@ fn is_unreserved_or_reserved(byte: u8) -> bool
     is_unreserved(byte) || is_reserved(byte)
 }
 
-// How many bytes at the front are unreserved.
+// How many bytes at the beginning are unreserved.
 fn unreserved_len(text: &[u8]) -> usize
     ensures value { result ≡ prefix_len is_unreserved text.now }
     ensures within { result ≤ length text.now }
@@ -62,7 +62,7 @@ fn unreserved_len(text: &[u8]) -> usize
     text.iter().take_while(|byte| is_unreserved(**byte)).count()
 }
 
-// How many bytes at the front are unreserved or reserved.
+// How many bytes at the beginning are unreserved or reserved.
 fn unreserved_or_reserved_len(text: &[u8]) -> usize
     ensures value { result ≡ prefix_len is_unreserved_or_reserved text.now }
     ensures within { result ≤ length text.now }
@@ -99,7 +99,7 @@ fn push_byte(out: &mut String, byte: u8, stays: bool)
     }
 }
 
-// Appends a triplet as it stands.
+// Appends a triplet unchanged.
 fn push_triplet(out: &mut String, triplet: &[u8])
     requires whole { begins_with_triplet triplet.now ≡ true }
     requires three { length triplet.now ≡ 3 }

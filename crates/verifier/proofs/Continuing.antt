@@ -48,7 +48,7 @@ continues_after_both from next es fs to le first second = by_case (at_later from
 
 -- ---- the edges of a place of good form
 
--- the edge leads on, or is the return to the head of the body
+-- the edge continues, or is the return to the head of the body
 abbrev LeadsOnOrBack : Code → ℕ → Edge → Type 0
 LeadsOnOrBack c p e = (p < e.to) ⊎ IsReturn c p e.to
 

@@ -28,7 +28,7 @@ use Rattle.verifier.specs.Private.Checks.{located_of}
 use Rattle.verifier.specs.Faults.{form_error, mismatch_error, read_error, IsLoadFault, IsRefusal}
 use Rattle.verifier.specs.Faults as faults
 
--- ---- a first fault is never want of memory
+-- ---- a first fault is never out of memory
 
 in_kind_field : (bytes : Text) (e : CodeError) → IsKindFault bytes e → e.kind ≡ NoMemory → ⊥
 in_kind_field bytes e (no_kind h) k = absurd (cc)

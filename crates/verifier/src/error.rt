@@ -43,13 +43,13 @@ pub enum LoadError {
     /// A loop begins in the body of another.
     #[error("NestedLoop at {0}")]
     NestedLoop(usize),
-    /// No NEXT stands before the place where the loop is to end.
+    /// There is no NEXT before the place where the loop is to end.
     #[error("BadLoop at {0}")]
     BadLoop(usize),
     /// A NEXT is not the last place of a body.
     #[error("StrayNext at {0}")]
     StrayNext(usize),
-    /// A SEP stands in no body.
+    /// A SEP is in no body.
     #[error("StraySep at {0}")]
     StraySep(usize),
     /// The last instruction does not end the run.

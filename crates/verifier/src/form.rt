@@ -190,7 +190,7 @@ impl<'a> Layout<'a> {
         }
     }
 
-    /// What is wrong with where the instruction at a place stands.
+    /// What is wrong with where the instruction at a place is.
     fn order_fault(&self, place: usize, instruction: Instruction) -> Option<FormFault>
         requires { place < length self.now.code.now.instrs }
         ensures { result ≡ first_failing (order_checks self.now.code.now place instruction) }

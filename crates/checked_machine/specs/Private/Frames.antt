@@ -1,4 +1,4 @@
--- What the program's frame and moves stand for.
+-- What the program's frame and moves denote.
 use Rattle.std.specs.Prelude.{ℕ, Option, Some, None, option_map, slice_index_or, string_bytes}
 use Rattle.machine_model.specs.Values as value
 use Rattle.machine_model.specs.States as state

@@ -1,4 +1,4 @@
--- What the values of the program stand for.
+-- What the values of the program denote.
 use Rattle.machine_model.specs.Values as value
 use Rattle.target_vars.specs.Members.{members_left}
 use Rattle.checked_machine.specs.declared.value.Value.{Value}

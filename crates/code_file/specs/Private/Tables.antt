@@ -18,7 +18,7 @@ pub record AreTables (bytes : Text) (h : Header) (names literals instrs : Text) 
 abbrev pub BeginsWith : {X : Type 0} → (X → Type 0) → (X → Text) → Text → Type 0
 BeginsWith {X} IsGood field bytes = (x : X) × (rest : Text) × IsGood x × (bytes ≡ field x ++ rest)
 
--- the first entry that is not good stands at a place
+-- the first entry that is not good is at a place
 pub record IsFirstBad {X : Type 0} (IsGood : X → Type 0) (entries : List X) (place : ℕ) : Type 0 where
   pub within : place < length entries
   pub before : All IsGood (take place entries)

@@ -52,7 +52,7 @@ const RULES: [(&str, &[Entry], &str); 3] = [
     ),
     ("rule\nwhen has y\nlink {x}\n", VARIABLES, "no link"),
     // Three bytes for each byte of the environment and of the longest text that is compared, `1`; and the comma that
-    // would stand before another variable.
+    // would be before another variable.
     ("rule\nlink {x}\n", LONG, "over budget: 1200004"),
 ];
 

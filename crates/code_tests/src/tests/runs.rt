@@ -1,4 +1,4 @@
-//! Where a run of accepted code stands after its turns.
+//! The state of a run of accepted code after its turns.
 
 use super::assembler::file;
 use super::tables::{LIST_CODE, OPTIONAL, TEXTS};
@@ -29,7 +29,7 @@ fn standing(alloc: Global, run: &Run<'_>, ended: bool) -> Result<String, AllocEr
     }
 }
 
-/// Where a run stands after each of its turns.
+/// The state of a run after each of its turns.
 fn standings(alloc: Global, code: &Verified, env: &Env, turns: &[u64]) -> Result<String, Fail> {
     let mut run = prepare(alloc, code, env)?;
     let mut text = String::new(alloc);
@@ -46,7 +46,7 @@ const COLOURS: &[Entry] = &[
     (true, "list", "blue", 1),
 ];
 
-/// Instructions, an environment, how many steps each turn has, and where the run stands after it.
+/// Instructions, an environment, how many steps each turn has, and where the run is after it.
 const TURNS: [(&str, &[Entry], &[u64], &str); 4] = [
     (
         LIST_CODE,

@@ -175,7 +175,7 @@ pub(crate) const BRANCHES: &[(&str, &str)] = &[
     ),
 ];
 
-/// Where no step leads on, in code of version 1.
+/// Where no step is possible, in code of version 1.
 pub(crate) const STUCK: &[(&str, &str)] = &[
     ("? 0 0 0 0 0", "stuck at 0"),
     ("? 19 1 2 3 4", "stuck at 0"),

@@ -4,7 +4,7 @@ use Rattle.std.specs.List.{list_any}
 use Rattle.std.specs.Str.{IsUtf8}
 use Rattle.code_model.specs.Code.{Literal}
 
--- one more entry, if it is not there
+-- one more entry, if it is not present
 abbrev pub added : {X : Type 0} → (X → X → Bool) → List X → X → List X
 added same xs x = if list_any (same x) xs then xs else (xs ++ x ∷ [])
 

@@ -15,7 +15,7 @@ reach (Jumps target) = distance target
 reach (Begins element list places) = places
 reach line = 0
 
--- no line leads past the lines and so many more behind them
+-- no line leads past the lines and that many more after them
 abbrev pub StayWithin : ℕ → List Line → Type 0
 StayWithin more [] = Unit {0}
 StayWithin more (line ∷ rest) = (reach line ≤ suc (length rest) + more) × StayWithin more rest

@@ -17,7 +17,7 @@ AreFresh runs = AllByRecursion IsFresh runs
 abbrev pub same_but_steps : RunValue → RunValue
 same_but_steps run = record run { steps = 0 }
 
--- runs of the same codes on the same environments, wherever they stand
+-- runs of the same codes on the same environments, wherever they are
 abbrev pub AreOfTheSame : List RunValue → List RunValue → Type 0
 AreOfTheSame old new = map same_but_steps new ≡ map same_but_steps old
 

@@ -19,7 +19,7 @@ pub record IsRunSetOf (pairs : List (Code × EnvValue)) (over_budget : List (Opt
   pub runs : begun ≡ runs_of pairs
   pub fresh : AreFresh begun
 
--- what a run comes to in the end
+-- what a run ends with
 abbrev pub outcome_in_the_end : RunValue → Outcome
 outcome_in_the_end run = outcome_of run.code run.env.entries
 

@@ -31,7 +31,7 @@ abbrev pub KeepsLine : Reader → Reader → ℕ → Type 0
 KeepsLine old new number =
     (number_of : ℕ → ℕ) → number_of (length (statements_so_far (so_far_of old))) ≡ number → IsNumbered number_of old → IsNumbered number_of new
 
--- the line with this number cannot go on
+-- the line with this number cannot continue
 abbrev pub IsStepFault : Reader → ℕ → Text → RuleError → Type 0
 IsStepFault reader number line e =
     (e ≡ NO_MEMORY) ⊎ (IsLineFault (so_far_of reader) line e.kind × (e.line ≡ number))

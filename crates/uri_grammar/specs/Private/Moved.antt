@@ -4,7 +4,7 @@ use Rattle.uri_grammar.specs.declared.error.TemplateError.{TemplateError}
 use Rattle.uri_grammar.specs.declared.error.TemplateErrorKind.{TemplateErrorKind}
 use Rattle.uri_grammar.specs.declared.error.TemplateErrorKind.TheVariants.{NoMemory}
 
--- a fault's place is so many bytes further; want of memory has none
+-- a fault's place is that many bytes further; out of memory has none
 abbrev pub moved_place : TemplateErrorKind → ℕ → ℕ → ℕ
 moved_place NoMemory at front = at
 moved_place other at front = at + front

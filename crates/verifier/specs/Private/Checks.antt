@@ -34,7 +34,7 @@ each_checks c place i =
     ∷ check (not (is_each i) || goes_to (λ d. is_next (reading_at c (d - 1))) (target i)) fault.BadLoop
     ∷ []
 
--- of where an instruction stands
+-- of where an instruction is
 abbrev pub order_checks : Code → ℕ → Instruction → List Check
 order_checks c place i =
     check (not (is_next (Some i)) || ends_body place (body_at c place)) fault.StrayNext

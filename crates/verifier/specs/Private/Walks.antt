@@ -63,7 +63,7 @@ pub record IsClosedBefore (c : Code) (n : ℕ) (t : Table) : Type 0 where
 abbrev pub IsBelowClosed : Code → Table → Type 0
 IsBelowClosed c t = (u : Table) → IsClosed c u → TableBelow t u
 
--- where the walk goes on from: on, or back to a place where kinds rose
+-- where the walk continues from: on, or back to a place where kinds rose
 pub record GoesOn (from to : ℕ) (old new : List (Option Row)) : Type 0 where
   pub long : length new ≡ length old
   pub on : to ≤ from

@@ -1,4 +1,4 @@
--- Each character stands for itself, or waits behind a backslash; another one ends what can be escaped.
+-- Each character denotes itself, or waits after a backslash; another one ends what can be escaped.
 use Rattle.std.proofs.Common.{sym, ◌∙◌}
 use Rattle.std.specs.String.{string_bytes}
 use Rattle.rule_parser.proofs.EscapeLemmas.{escaped_more, not_escaped, not_escaped_at_end, same_answers, other_answers}
