@@ -1,16 +1,11 @@
 //! Holdings tables in the KBART form (NISO RP-9-2014): which rows have a cited title, and their cells.
 //!
-//! Differences from the recommended practice:
-//! - Columns may come in any order, and none has to be there; a column is found by its exact name.
-//! - Only `print_identifier` and `online_identifier` have a meaning here. Each other column, one that the
-//!   practice does not name too, is a variable like any other.
-//! - Of columns with one name the first counts, also in a row in which its cell is empty. An empty name is
-//!   a name.
-//! - Quotes are plain characters, cells are not trimmed, and `#` begins no comment.
-//! - A line ends with LF, CR LF or CR. Blank lines are no rows; a line of tabs or of a space is one.
-//! - One byte order mark at the beginning is dropped.
-//! - A cell that is empty or missing is undefined. Cells past the header are ignored, but their bytes count.
-//! - A table has at most 16,777,216 bytes and 200,000 rows, and a line at most 65,536 bytes of cells and tabs.
+//! The differences from the recommended practice are listed at [`Table`].
+//!
+//! ```rust
+//! let table = Table::read(rt.alloc(), b"a\t\n1\t2\n")?;
+//! assert!(rt; table.rows() == 1 && table.cell(0, "") == Some("2"));
+//! ```
 #![tactic(auto)]
 
 mod cells;

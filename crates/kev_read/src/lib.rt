@@ -1,14 +1,13 @@
 //! OpenURL requests in the key/encoded-value form of ANSI/NISO Z39.88-2004.
 //!
-//! Differences from the standard:
-//! - `ctx_ver` and `url_ver` may be missing; where one is stated more than once, its first value counts.
-//! - Texts are read as UTF-8 whatever `ctx_enc` says; what is not UTF-8 becomes U+FFFD.
-//! - Nothing is fetched: a description by reference, as `rft_ref`, is a text like any other.
-//! - No key is checked against a metadata format; each is kept under its own name, `rft_val_fmt` too.
-//! - Only `rft.au`, `rft_id` and declared keys are lists; of any other key the first value stays, also
-//!   of identifiers such as `svc_id`.
-//! - An empty value is a value, and a key without `=` has it.
-//! - A query has at most 65,536 bytes, and 4,096 pairs that are not empty.
+//! The differences from the standard are listed at [`read_kev`].
+//!
+//! A request is read once, and then fills an environment:
+//!
+//! ```rust
+//! let request = read_kev(rt.alloc(), b"x=1&y=2&x=3&%74%3D=1")?;
+//! assert!(rt; request.first("t=") == Some("1") && request.first("z").is_none());
+//! ```
 #![tactic(auto)]
 
 mod error;

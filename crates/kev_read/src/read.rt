@@ -24,6 +24,19 @@ pub const MAX_PAIRS: usize = 4_096;
 /// The pairs are those of [`form_urlencoded::parse`]: the query is split at each `&`, empty pieces are
 /// dropped, and the others are decoded, with U+FFFD for bytes that are not UTF-8. The versions are
 /// compared decoded.
+///
+/// Differences from the standard, each with its test in `checks/commands.d/requests.py`:
+/// - `ctx_ver` and `url_ver` may be missing; if one is given more than once, its first value counts
+///   (`test_refused_queries`).
+/// - Texts are read as UTF-8 whatever `ctx_enc` says; bytes that are not UTF-8 become U+FFFD (`test_first_values`).
+/// - Nothing is fetched: a description by reference, such as `rft_ref`, is a text like any other
+///   (`test_first_values`).
+/// - No key is checked against a metadata format; each is kept under its own name, also `rft_val_fmt`
+///   (`test_first_values`).
+/// - Only `rft.au`, `rft_id` and declared keys are lists (`test_lists`). Of any other key the first value counts, also
+///   of identifiers such as `svc_id` (`test_first_values`).
+/// - An empty value is a value, and a key without `=` has an empty value (`test_first_values`).
+/// - A query has at most 65,536 bytes, and 4,096 pairs that are not empty (`test_refused_queries`).
 pub fn read_kev(alloc: Global, query: &[u8]) -> Result<Request, KevError>
     ensures accepted { IfOk result (λ _. refusal query.now ≡ None) }
     ensures pairs { IfOk result (λ request. request.pairs ≡ pairs_of query.now) }

@@ -1,4 +1,11 @@
 //! The environment: the variables that templates, guards and code look up by name.
+//!
+//! ```rust
+//! let mut env = Env::new(rt.alloc());
+//! env.put_text("%41", "x")?;
+//! env.add_member("%42", "a")?;
+//! env.add_member("%42", "b")?;
+//! ```
 #![tactic(auto)]
 
 mod env;

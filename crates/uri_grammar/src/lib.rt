@@ -1,8 +1,7 @@
 //! The grammar of URI Templates (RFC 6570, section 2): a template's text, its tree, its first fault,
 //! and the laws of the grammar.
 //!
-//! Differences from RFC 6570: the apostrophe is a literal, the operators that the RFC keeps for later are
-//! refused, a template has at most 8,192 bytes, and a name at most 255.
+//! The differences from the RFC are listed at [`Template`].
 #![tactic(auto)]
 
 pub use crate::error::{TemplateError, TemplateErrorKind};

@@ -1,8 +1,15 @@
 //! URI Templates (RFC 6570): the expansion of a template, over the grammar of `uri_grammar` and the
 //! writing of `uri_text`, whose public calls are here too.
 //!
-//! Differences from RFC 6570: there are no associative arrays, and a variable with a prefix that
-//! denotes a list is undefined.
+//! The differences from the RFC are listed at [`Template`].
+//!
+//! If `x` is bound to `a` and `rft.au` is undefined:
+//!
+//! ```rust
+//! let template = Template::parse(rt.alloc(), "{x}{?x,y,rft.au*}")?;
+//! let text = expand(rt.alloc(), &template, &env)?;
+//! assert_eq!(rt; text.as_str(), "a?x=a");
+//! ```
 #![tactic(auto)]
 
 mod expansion;
