@@ -21,7 +21,7 @@ texts() {
   printf 'link b\n'
 }
 
-# row RULES COUNT BYTES SIZE: the rules, filled up with a comment to so many bytes, have a code of that size.
+# row RULES COUNT BYTES SIZE: the rules, filled up with a comment to that many bytes, have a code of that size.
 row() {
   "$1" "$2" > "$work/all.rules"
   printf '#%0*d' $(($3 - $(stat -c %s "$work/all.rules") - 1)) 0 >> "$work/all.rules"
@@ -34,7 +34,7 @@ row() {
 
 echo "| rules | how many | bytes | instructions |"
 echo "|---|---:|---:|---:|"
-# A name takes 6 bytes of the file, a link text of 223 takes 226, and a rule 4 instructions; FAIL stands behind all.
+# A name takes 6 bytes of the file, a link text of 223 takes 226, and a rule 4 instructions; FAIL comes after all.
 for part in 1 2 4; do row names $((part * 60)) $((part * 16384)) $((10 + part * 60 * (6 + 226 + 32) + 8)); done
 # The name x, a text of 4 bytes and 4 instructions for each guard; the text b, EMIT, HALT and FAIL.
 for part in 1 2 4; do row texts $((part * 255)) $((part * 16384)) $((10 + 3 + part * 255 * (7 + 32) + 4 + 24)); done

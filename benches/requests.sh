@@ -17,7 +17,7 @@ build() {
     (cd "$1/crates/requests_bench" && rt run -- read 1) > "$1/build.log" 2>&1 || { tail -20 "$1/build.log"; exit 1; }
 }
 
-# Instructions and allocations of so many rounds of a work.
+# Instructions and allocations of N rounds of a workload.
 counted() {
     local out=$scratch/callgrind.out
     valgrind --tool=callgrind --compress-strings=no --compress-pos=no --callgrind-out-file="$out" \

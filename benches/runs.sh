@@ -11,7 +11,7 @@ cp benches/runs.rt.txt "$scratch/crates/runs_bench/src/main.rt"
 echo 'runs_bench: target_vars code_file interpreter verifier' >> "$scratch/crates.txt"
 (cd "$scratch/crates/runs_bench" && rt run -- rule 1) > "$scratch/build.log" 2>&1 || { tail -20 "$scratch/build.log"; exit 1; }
 
-# Instructions of so many rounds of a work.
+# Instructions of N rounds of a workload.
 counted() {
     local out=$scratch/callgrind.out
     valgrind --tool=callgrind --callgrind-out-file="$out" "$scratch/crates/runs_bench/out/runs_bench" "$1" "$2" \
@@ -19,7 +19,7 @@ counted() {
     sed -n 's/^totals: //p' "$out"
 }
 
-# What a step takes, of so many steps a round.
+# The cost of a step, for N steps in each round.
 row() {
     local none some
     none=$(counted "$1" 0)

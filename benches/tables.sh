@@ -44,7 +44,7 @@ dense() {
   }'
 }
 
-# Seconds of so many rounds, without those of the start.
+# Seconds of N rounds, without those of the start.
 seconds() {
   local some none
   TIMEFORMAT=%U
@@ -80,7 +80,7 @@ echo "  dense cells  $(kept "$scratch/dense.tsv")"
 echo "next_match over 200,000 rows, instructions of a call"
 for many in 1 1000 100000; do
   rows 200000 "$many" > "$scratch/many.tsv"
-  # Of the last row of the identifier, in a table where it has so many.
+  # Of the last row of the identifier, in a table where it has that many.
   row=$((200000 - 200000 / many))
   none=$(instructions match "$scratch/many.tsv" 0 99999999 "$row" "$row")
   some=$(instructions match "$scratch/many.tsv" 1000 99999999 "$row" "$row")

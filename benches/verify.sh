@@ -13,7 +13,7 @@ u16() { printf '\\x%02x\\x%02x' $(($1 >> 8)) $(($1 & 255)); }
 # instruction OP A B C D
 instruction() { printf '\\x%02x\\x%02x%s%s%s' "$1" "$2" "$(u16 "$3")" "$(u16 "$4")" "$(u16 "$5")"; }
 
-# The front of a code of so many instructions, with the text x, the list l and an empty comparison text.
+# The beginning of a code of N instructions, with the text x, the list l and an empty comparison text.
 front() { printf 'OLK2%s%s%s\\x00\\x01x\\x01\\x01l\\x01\\x00\\x00' "$(u16 2)" "$(u16 1)" "$(u16 "$1")"; }
 
 # Reads the text x into one register after the other.

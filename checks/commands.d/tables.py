@@ -96,7 +96,7 @@ FOUND_ROWS = [
     (IDENTIFIERS, "rft.issn=1234567X&rft.isbn=9780142437247", 3, 3),
     (IDENTIFIERS, "", 0, None),
     (IDENTIFIERS, "rft.title=2049-3630", 0, None),
-    # Equal identifiers are asked for as one.
+    # Equal identifiers are requested once.
     (IDENTIFIERS, "rft.issn=0028-0836&rft.eissn=0028-0836&rft.isbn=", 0, 0),
     (IDENTIFIERS, "rft.issn=0028-0836&rft.eissn=0028-0836&rft.isbn=", 1, None),
     # Only first values count, and only ASCII letters are raised.
