@@ -1,4 +1,9 @@
 //! How many steps a code takes at most, and how many bytes it prints at most: six sums over its instructions.
+//!
+//! ```rust
+//! let code = Code::read(alloc, file)?;
+//! let budget = budget_of(&code);
+//! ```
 #![tactic(auto)]
 
 mod budget;

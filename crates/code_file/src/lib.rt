@@ -1,4 +1,10 @@
 //! The code files `OLK1` and `OLK2`: read exactly, written in their one spelling, and listed as text.
+//!
+//! ```rust
+//! let cut = Instr { op: 15, a: 1, b: 2, c: 3, d: 4 };
+//! assert!(rt; matches!(instruction(1, cut), Some(Cut(1, 2, 3))));
+//! assert!(rt; spelling(Cut(1, 2, 3)) == Instr { op: 15, a: 1, b: 2, c: 3, d: 0 });
+//! ```
 #![tactic(auto)]
 
 mod build;

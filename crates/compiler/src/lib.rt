@@ -1,4 +1,9 @@
 //! The compiler: rules to code for the byte-code machine.
+//!
+//! ```rust
+//! let rules = Rules::parse(alloc, rules.as_bytes())?;
+//! let code = compile(alloc, &rules)?;
+//! ```
 #![tactic(auto)]
 
 mod code;

@@ -41,8 +41,8 @@ use target_vars::{Env, VarsError};
 /// - Of columns with the same name the first counts, even in a row in which its cell is empty
 ///   (`test_lines_and_cells`). An empty name is a name (`reads_lines_and_cells` in the crate `holdings_tests`).
 /// - Quotes are plain characters, cells are not trimmed, and `#` does not begin a comment (`test_lines_and_cells`).
-/// - A line ends with LF, CR LF or CR. Blank lines are not rows; a line of tabs or of a space is a row
-///   (`test_lines_and_cells`).
+/// - A line ends with LF, CR LF or CR. Blank lines are not rows; a line of tabs is a row (`test_lines_and_cells`), and
+///   so is a line of one space.
 /// - One byte order mark at the beginning is dropped (`test_lines_and_cells`).
 /// - An empty or missing cell is undefined. Cells past the header are ignored, but their bytes count
 ///   (`test_lines_and_cells`, `test_faults`).

@@ -15,6 +15,12 @@
 //! All targets are searched side by side: a [`round`] tries one row of each. A [`Watch`] is shown the runs of a round
 //! after each turn; [`Shown`] keeps what it was shown, and [`Blind`] keeps nothing. Turns, watches and [`round_over`]
 //! work over any [`Scope`](target_vars::Scope), which is an environment as a run sees it.
+//!
+//! ```rust
+//! let request = read_kev(alloc, query.as_bytes())?;
+//! let menu = resolve(alloc, &registry, &request)?;
+//! let text = menu.text(alloc)?;
+//! ```
 #![tactic(auto)]
 
 mod batch;

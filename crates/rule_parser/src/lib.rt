@@ -1,4 +1,9 @@
 //! Rule text: the guards and links of a target, read from their lines, and what they mean in an environment.
+//!
+//! ```rust
+//! let rules = Rules::parse(alloc, b"rule\nlink http://e.org/{x}\n")?;
+//! let link: Option<String> = meaning(alloc, &rules, &env)?;
+//! ```
 #![tactic(auto)]
 
 mod error;

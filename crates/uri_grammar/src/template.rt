@@ -26,7 +26,7 @@ pub const MAX_BYTES: usize = 8192;
 /// Differences from RFC 6570, each with its test:
 /// - The apostrophe is a literal (`literals` in the crate `rules_tests`).
 /// - The operators that the RFC reserves are errors (`faults` in `rules_tests`).
-/// - A template has at most 8,192 bytes (`long_texts_are_refused` in `rules_tests`), and a name at most 255.
+/// - A template has at most 8,192 bytes, and a name at most 255 (`long_texts_are_refused` in `rules_tests`).
 /// - There are no associative arrays: a variable is a text or a list.
 /// - A list with a prefix is undefined (`test_lists` in `checks/commands.d/templates.py`).
 #[derive(Drop)]

@@ -1,4 +1,12 @@
 //! The verifier: it reads code that comes from strangers, and accepts what is safe on every environment.
+//!
+//! ```rust
+//! let verified = load(rt.alloc(), &file)?;
+//! let code = verified.code();
+//! if place < code.len() {
+//!     let instruction = verified.instruction(place);
+//! }
+//! ```
 #![tactic(auto)]
 
 mod bodies;
