@@ -125,7 +125,7 @@ abbrev IsTableOrFault : {X : Type 0} → (X → Type 0) → (X → Text) → (Te
 IsTableOrFault IsGood field IsFault count bytes =
     BeginsWithTable IsGood field count bytes ⊎ ((e : CodeError) × IsTableFault IsGood field IsFault count bytes e)
 
--- a good entry in front
+-- a good entry before
 entry_more : {X : Type 0} (IsGood : X → Type 0) (field : X → Text) (IsFault : Text → CodeError → Type 0) (count : ℕ)
     (bytes rest : Text) (x : X) → IsGood x → bytes ≡ field x ++ rest → IsTableOrFault IsGood field IsFault count rest
     → IsTableOrFault IsGood field IsFault (suc count) bytes

@@ -5,7 +5,7 @@ use Rattle.text_model.specs.Texts.{Text}
 use Rattle.environment_model.specs.Environment.{Environment, Entry, Meaning, Single, Several, look_up, is_there, text_in, text_of, byte_count, member_count}
 use Rattle.environment_model.specs.Environment.{meaning_bytes, meaning_members, with_text, with_member, more}
 
--- ---- one entry in front
+-- ---- one more entry before
 
 pub look_up-empty : (name : Text) → look_up [] name ≡ None
 unfolding look_up

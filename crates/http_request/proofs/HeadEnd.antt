@@ -16,7 +16,7 @@ record EndsFirst (test : List ℕ → Bool) (bytes : List ℕ) : Type 0 where
   whole : test bytes ≡ true
   front : (n : ℕ) → n < length bytes → test (take n bytes) ≡ false
 
--- ---- one byte more in front
+-- ---- one more byte before
 
 -- after this byte one test continues as the other
 ends-behind : (test behind : List ℕ → Bool) (b : ℕ) (bytes : List ℕ) → test [] ≡ false → ((more : List ℕ) → test (b ∷ more) ≡ behind more)

@@ -12,7 +12,7 @@ use std::marker::Model;
 #[derive(Drop)]
 pub struct Values<'a, 'k> {
     pairs: &'a Pairs,
-    // Which pair is looked at next.
+    // The next pair to examine.
     index: usize,
     key: &'k str,
 }

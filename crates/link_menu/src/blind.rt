@@ -5,7 +5,7 @@ use std::alloc::AllocError;
 use target_vars::Scope;
 use verified_runs::Run;
 
-/// A watch that does not look: it keeps nothing, and is never refused memory.
+/// A watch that observes nothing: it keeps nothing, and never runs out of memory.
 #[derive(Drop)]
 pub struct Blind;
 

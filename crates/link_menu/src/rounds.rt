@@ -76,7 +76,7 @@ pub fn round_over<E: Scope, W: Watch>(
 /// Carries all runs on, turn by turn of all, until each has ended, and shows them to the watch after each turn. It
 /// takes no memory, but what the watch takes. Where there is no run, nothing is shown.
 ///
-/// `AllocError` where the watch was refused memory; the runs then stay where they last were.
+/// `AllocError` if the watch ran out of memory; the runs then stay where they last were.
 pub(crate) fn turn_until_ended<E: Scope, W: Watch>(
     runs: &mut [Run<'_, E>],
     watch: &mut W,

@@ -22,7 +22,7 @@ pub(crate) struct TargetSearch<'a> {
     pub(crate) target: &'a Target,
     /// The request as the target sees it. A target without a matching row has none.
     pub(crate) request: Option<TargetRequest<'a>>,
-    /// None where a row gave a link, or no more row matches.
+    /// `None` if a row gave a link, or no more row matches.
     pub(crate) next: Option<usize>,
     pub(crate) resolution: Resolution,
 }
@@ -77,7 +77,7 @@ impl<'a> TargetSearch<'a> {
         self.next.is_some()
     }
 
-    /// Takes over what became of the next row, and continues with the one after it, unless it gave a link.
+    /// Records the outcome of the next row, and continues with the one after it, unless that row gave a link.
     pub(crate) fn take_over(&mut self, fate: Fate)
         ensures { self.new ≡ spec.after_fate self.old (said fate) }
     {

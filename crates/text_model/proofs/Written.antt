@@ -42,7 +42,7 @@ written_ur-triplet (b ∷ []) e = cc
 written_ur-triplet (b ∷ c ∷ []) e = cc
 written_ur-triplet (b ∷ c ∷ d ∷ t) e = cond-true (is_triplet b c d) _ _ e
 
--- and where none is, the first byte is written by itself
+-- and where none is, the first byte is written separately
 pub written_ur-byte : (t : Text) → begins_with_triplet t ≡ false → 0 < length t → written_ur t ≡ written_byte (is_unreserved_or_reserved (get_or t 0 0))
     (get_or t 0 0) ++ written_ur (drop 1 t)
 unfolding written_ur

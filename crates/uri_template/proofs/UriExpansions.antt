@@ -18,7 +18,7 @@ use Rattle.uri_template.specs.Expansion.{Style, style_of, item, equated, prefix,
 
 -- ---- the operators' table
 
--- what a style writes by itself is URI text
+-- what a style itself writes is URI text
 record HasUriTexts (style : Style) : Type 0 where
   first : IsUriText style.first
   sep : IsUriText style.sep

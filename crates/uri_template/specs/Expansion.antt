@@ -15,7 +15,7 @@ use Rattle.uri_grammar.specs.declared.parts.Part.TheVariants.{Literal, Expressio
 
 -- ---- the operators' table (RFC 6570, appendix A)
 
--- what comes before the first piece and before each later one, whether a value has its name in front,
+-- what comes before the first piece and before each later one, whether a value is written after its name,
 -- what comes after the name where the value is empty, and how values are written
 pub record Style : Type 0 where
   pub first : Text
@@ -50,7 +50,7 @@ equated style (b ∷ t) = codes "=" ++ written style.writing (b ∷ t)
 abbrev pub item : Style → Text → Text → Text
 item style name t = if style.named then (name ++ equated style t) else written style.writing t
 
--- the members joined by commas, with one name in front; or, exploded, each as an item of its own
+-- the members joined by commas, after one name; or, exploded, each as an item of its own
 abbrev pub list_piece : Style → Text → Bool → List Text → Text
 list_piece style name false members = (if style.named then (name ++ codes "=") else []) ++ joined_by (codes ",") (map (written style.writing) members)
 list_piece style name true members = joined_by style.sep (map (item style name) members)
@@ -78,7 +78,7 @@ piece style spec (Some (Several members)) = several_piece style spec spec.cut me
 abbrev pub pieces : LookUp → Style → List Spec → List Text
 pieces look style specs = filter_map (λ spec. piece style spec (look spec.name)) specs
 
--- pieces with first in front, and nothing where there are none
+-- pieces after `first`, and nothing where there are none
 abbrev pub led : Style → List Text → Text
 led style [] = []
 led style (p ∷ ps) = style.first ++ joined_by style.sep (p ∷ ps)

@@ -13,7 +13,7 @@ use std::alloc::{AllocError, Global};
 use target_vars::Env;
 use uri_grammar::{Op, Part, Spec, Template};
 
-// Appends the piece of a variable, with `first` or `sep` in front, and nothing where it is
+// Appends the piece of a variable, after `first` or `sep`, and nothing where it is
 // undefined. Answers whether the first defined variable is still to come.
 fn push_variable<V: Variables>(
     out: &mut String,

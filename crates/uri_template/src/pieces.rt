@@ -53,7 +53,7 @@ fn prefix(text: &str, n: u16, writing: Writing) -> &[u8]
     }
 }
 
-/// Appends the piece of a variable that denotes a text, with `lead` in front.
+/// Appends the piece of a variable that denotes a text, after `lead`.
 pub(crate) fn push_text(
     out: &mut String,
     lead: &str,
@@ -96,7 +96,7 @@ fn member_sep(style: &Style, explode: bool) -> &'static str
     if explode { style.sep } else { "," }
 }
 
-// Member `i`, with the separator in front unless it is the first.
+// Member `i`, after the separator unless it is the first.
 fn push_nth(
     out: &mut String,
     style: &Style,
@@ -143,7 +143,7 @@ fn push_head(out: &mut String, style: &Style, spec: &Spec) -> Result<(), AllocEr
     out.push_str("=")
 }
 
-/// Appends the piece of a variable that denotes a list, with `lead` in front.
+/// Appends the piece of a variable that denotes a list, after `lead`.
 pub(crate) fn push_list(
     out: &mut String,
     lead: &str,

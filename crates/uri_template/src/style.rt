@@ -14,7 +14,7 @@ pub struct Style {
     pub first: &'static str,
     /// What is written before each later one, and between exploded members.
     pub sep: &'static str,
-    /// Whether a value has its variable's name in front.
+    /// Whether a value is written after its variable's name.
     pub named: bool,
     /// What follows the name where the value is empty.
     pub ifemp: &'static str,

@@ -42,7 +42,7 @@ fn check(alloc: Global, code: &Code) -> Result<Vec<Instruction>, LoadError>
     Ok(layout.instructions(alloc)?)
 }
 
-/// Reads code that comes from anybody, of either version, and accepts it where it is of good form and
+/// Reads code from anyone, of either version, and accepts it if it is of good form and
 /// typable. What is accepted is safe on every environment; what is refused by kinds has no table of kinds.
 ///
 /// The first fault is answered: of the file with its byte, then of form in rising place, then of kinds in

@@ -1,4 +1,4 @@
-//! Tables of codes, and codes, each with what comes of it where `x` is a text and `list` has three members.
+//! Tables of codes, and codes, each with its outcome where `x` is a text and `list` has three members.
 
 use super::Entry;
 
