@@ -10,9 +10,10 @@ use Rattle.std.proofs.lemmas.Bool.{cases_eq}
 use Rattle.environment_model.specs.Environment.{Environment}
 use Rattle.code_model.specs.Code.{Code}
 use Rattle.machine_model.specs.States.{State, End, Running, Ended}
-use Rattle.machine_model.specs.Next.{state_after}
+use Rattle.machine_model.specs.Next.{state_after, course_of}
 use Rattle.machine_model.specs.Runs.{After, EndsAfter}
-use Rattle.verified_runs.specs.RunValue.{RunValue, HasEnded}
+use Rattle.target_vars.specs.EnvValue.{EnvValue}
+use Rattle.verified_runs.specs.RunValue.{RunValue, HasEnded, all_steps}
 use Rattle.link_menu.specs.Turns.{goes_on, is_live, IsMoved, own_turns, IsPlayed}
 
 -- the states after steps are decided
@@ -40,6 +41,10 @@ pub ends_alike : (old new : RunValue) (k : ℕ) → new.code ≡ old.code → ne
     → EndsAfter new.code new.env.entries k
 ends_alike old new k code env h = subst (λ x. EndsAfter x new.env.entries k) (sym code) (subst (λ x. EndsAfter old.code x.entries k) (sym env) h)
 
+-- and its whole run has as many
+all_alike : (old new : RunValue) → new.code ≡ old.code → new.env ≡ old.env → all_steps new ≡ all_steps old
+all_alike old new code env = ap (λ c. (course_of c new.env.entries).steps) code ∙ ap (λ (e : EnvValue). (course_of old.code e.entries).steps) env
+
 steps_join : (from m n mid to k : ℕ) → mid ≡ min (from + m) k → to ≡ min (mid + n) k → to ≡ min (from + (m + n)) k
 steps_join from m n mid to k first second = omega (arith, first, second)
 
@@ -47,6 +52,9 @@ pub moves_join : (old mid new : RunValue) (m n : ℕ) → IsMoved old m mid → 
 moves_join old mid new m n first second = record {
   code = second.code ∙ first.code;
   env = second.env ∙ first.env;
+  moved = steps_join old.steps m n mid.steps new.steps (all_steps old) first.moved
+      (second.moved ∙ ap (λ k. min (mid.steps + n) k) (all_alike old mid first.code first.env));
+  in_time = first.in_time;
   steps = λ k ends. steps_join old.steps m n mid.steps new.steps k (first.steps k ends) (second.steps k (ends_alike old mid k first.code first.env ends));
 }
 

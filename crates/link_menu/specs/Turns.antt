@@ -4,7 +4,7 @@ use Rattle.std.specs.List.{sum}
 use Rattle.machine_model.specs.States.{State, Ended}
 use Rattle.machine_model.specs.Runs.{EndsAfter}
 use Rattle.machine_model.specs.Next.{state_after}
-use Rattle.verified_runs.specs.RunValue.{RunValue}
+use Rattle.verified_runs.specs.RunValue.{RunValue, EndsInTime, all_steps}
 
 -- the run has not ended
 abbrev pub goes_on : Option State → Bool
@@ -14,11 +14,13 @@ goes_on s = true
 abbrev pub is_live : RunValue → Bool
 is_live r = goes_on (state_after r.code r.env.entries r.steps)
 
--- a run moved on by n steps: it stays a run of its code on its environment, and its steps are n more, or those of
--- its end
+-- a run moved on by n steps: it stays a run of its code on its environment, and its steps are n more, or those of the
+-- whole run if these are fewer; the run has an end, at any number of steps at which its code ends
 pub record IsMoved (old : RunValue) (n : ℕ) (new : RunValue) : Type 0 where
   pub code : new.code ≡ old.code
   pub env : new.env ≡ old.env
+  pub moved : new.steps ≡ min (old.steps + n) (all_steps old)
+  pub in_time : EndsInTime old
   pub steps : (k : ℕ) → EndsAfter old.code old.env.entries k → new.steps ≡ min (old.steps + n) k
 
 -- how far each turn of run i goes, of the turns of all runs

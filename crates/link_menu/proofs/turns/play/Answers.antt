@@ -19,7 +19,7 @@ loop-turn-preserved g c =
     let inside : turn.0 < length runs = omega (arith, within, inv.count) in
     let here : (d : RunValue) → IsMoved (get_or runs turn.0 d) turn.1 new =
     λ d. subst (λ r. IsMoved r turn.1 new) (get_or_default runs turn.0 c.index-runs-turn.result d inside)
-    (record { code = ens.code; env = ens.env; steps = ens.steps }) in
+    (record { code = ens.code; env = ens.env; moved = ens.moved; in_time = ens.in_time; steps = ens.steps }) in
     record {
       count = length-set runs turn.0 new ∙ inv.count;
       played = played_next old runs turn.0 turn.1 new c.args.turns.now at (0, 0) more refl inside here inv.played;

@@ -20,7 +20,7 @@ loop-run-preserved g c =
     let inside : p < length runs = omega (arith, within, c.loop-run.auto.runs) in
     let here : (d : RunValue) → IsMoved (get_or runs p d) c.args.n new =
     λ d. subst (λ r. IsMoved r c.args.n new) (get_or_default runs p c.run-item.result d inside)
-    (record { code = ens.code; env = ens.env; steps = ens.steps }) in
+    (record { code = ens.code; env = ens.env; moved = ens.moved; in_time = ens.in_time; steps = ens.steps }) in
     let counted : (c.if-not-advance.live ≡ count_by is_live (take (p + 1) (slice_set runs p new))) × (c.if-not-advance.live ≤ p + 1) =
     elim c.if-not-advance.branch [
       | then-not-advance w ↦
