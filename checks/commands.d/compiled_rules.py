@@ -29,19 +29,25 @@ literal 4 compare "1"
 16 HALT
 17 FAIL"""
 
-# Rules, the bytes of their code file, and its listing.
+# Rules, the bytes of their code file, its listing, and its bounds.
 LISTINGS = [
-    ("rule\nlink http://e.org/{rft.issn}\n", 127, ISSN_LISTING),
-    (COUNTS, 193, COUNTS_LISTING),
+    (
+        "rule\nlink http://e.org/{rft.issn}\n",
+        127,
+        ISSN_LISTING,
+        "steps 10 + 0*M\nbytes 17 + 0*M + 3*E + 0*M*E",
+    ),
+    (COUNTS, 193, COUNTS_LISTING, "steps 15 + 3*M\nbytes 14 + 1*M + 3*E + 0*M*E"),
 ]
 
 
 def test_listings(program):
-    for rules, size, listing in LISTINGS:
+    for rules, size, listing, bounds in LISTINGS:
         program.write("some.rules", rules)
         program.prints(["compile", "some.rules", "some.olk"], f"{size} bytes")
         program.expect("bytes", len(program.read("some.olk")), size)
         program.prints(["show", "some.olk"], listing)
+        program.prints(["verify", "some.olk"], f"ok\n{bounds}")
 
 
 def names_to(last):
@@ -59,14 +65,17 @@ def link_of(part, times):
     return f"rule\nlink {part * times}\n"
 
 
-LONG_FILE = link_of("{a}", 500) + "".join(link_of(letter, 8_000) for letter in "bcdef")
+def long_links(letters):
+    """A rule of 500 expressions, and five rules whose links are so many letters each."""
+    return link_of("{a}", 500) + "".join(link_of(letter, letters) for letter in "bcdef")
+
 
 # Rules, and why they are not compiled.
 REFUSALS = [
     (names_to(1_256), "TooManyNames"),
     (guards_to(2_024), "TooManyLiterals"),
     (link_of("{a}", 585), "TooManyInstructions"),
-    (LONG_FILE, "FileTooLong"),
+    (long_links(8_000), "FileTooLong"),
 ]
 
 
@@ -92,6 +101,9 @@ def test_limits(program):
     program.expect("256 names", (names, instructions), (256, 1_539))
     _, _, instructions, size = counts(program, link_of("{a}", 584))
     program.expect("4,090 instructions", (instructions, size), (4_090, 32_744))
+    # The rules whose file is too long, with shorter links.
+    _, _, instructions, size = counts(program, long_links(7_480))
+    program.expect("3,512 instructions", (instructions, size), (3_512, 65_535))
 
 
 COVERAGE = (

@@ -20,6 +20,7 @@ def test_version_2(program):
         program.prints(["upgrade", old, "new.olk"], "68 bytes")
         program.expect("new.olk", program.read("new.olk"), b"OLK2" + LIST_FILE[4:])
         program.expect("new.olk.new is there", program.has("new.olk.new"), False)
+        program.prints(["verify", "new.olk"], "ok\nsteps 3 + 3*M\nbytes 0 + 1*M + 3*E + 0*M*E")
     program.expect("old.olk", program.read("old.olk"), LIST_FILE)
 
 

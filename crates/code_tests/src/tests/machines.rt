@@ -5,7 +5,9 @@ use super::tables::{
     BRANCHES, EFFECTS, FIRST, LIST_CODE, LIST_FILE, OPTIONAL, RULE, SECOND, STUCK, TEXTS, VARIABLES,
 };
 use super::{Entry, checked, environment, shown};
+use compiler::compile;
 use interpreter::{Run, prepare};
+use rule_parser::Rules;
 use std::alloc::{AllocError, Global};
 use std::process::Abort;
 use std::test::Fail;
@@ -105,6 +107,28 @@ fn other_environments(rt: HostRuntime) -> Result<(), Fail> {
         assert_eq!(rt; came.as_str(), wanted, "{text}");
         assert_eq!(rt; taken, steps, "{text}");
     }
+    Ok(())
+}
+
+/// The outcome of the code of rules, and its steps.
+fn came_of_rules(alloc: Global, rules: &str, env: &Env) -> Result<(String, u64), Fail> {
+    let rules = Rules::parse(alloc, rules.as_bytes())?;
+    let file = compile(alloc, &rules)?.write(alloc)?;
+    let code = load(alloc, &file)?;
+    ended(alloc, &code, env, 64)
+}
+
+/// Two authors are counted, and written by the loop over them.
+#[test]
+fn compiled_counts(rt: HostRuntime) -> Result<(), Fail> {
+    let rules = "rule\nwhen rft.au counts 2 to *\nlink http://e.org/{rft.au}\n";
+    let env = environment(
+        rt.alloc(),
+        &[(true, "rft.au", "A", 1), (true, "rft.au", "B", 1)],
+    )?;
+    let (came, steps) = came_of_rules(rt.alloc(), rules, &env)?;
+    assert_eq!(rt; came.as_str(), "link http://e.org/A,B");
+    assert_eq!(rt; steps, 19);
     Ok(())
 }
 

@@ -2,7 +2,7 @@
 
 use super::assembler::file;
 use super::tables::{LIST_CODE, OPTIONAL, TEXTS};
-use super::{Entry, environment};
+use super::{Entry, environment, shown};
 use interpreter::{Run, Step, prepare, step};
 use std::alloc::{AllocError, Global};
 use std::test::Fail;
@@ -107,5 +107,47 @@ fn steps_on_its_words(rt: HostRuntime) -> Result<(), Fail> {
     for (n, wanted) in [(5, (Step::More, Some(3))), (11, (Step::Link, Some(5)))] {
         assert_eq!(rt; stepped(rt.alloc(), &code, &env, n)?, wanted);
     }
+    Ok(())
+}
+
+/// Whether the run has ended after a turn of `n` steps, and its steps.
+fn turn(alloc: Global, run: &mut Run<'_>, n: u64) -> Result<String, AllocError> {
+    let ended = run.advance(n);
+    format!(in alloc; "{ended} {}, ", run.steps())
+}
+
+/// Two runs side by side: after each turn of one of them, whether that has ended, and its steps.
+fn turns_of_both(
+    alloc: Global,
+    first: &mut Run<'_>,
+    second: &mut Run<'_>,
+) -> Result<String, AllocError> {
+    let mut text = turn(alloc, first, 1)?;
+    text.push_str(&turn(alloc, second, 5)?)?;
+    text.push_str(&turn(alloc, first, 100)?)?;
+    text.push_str(&turn(alloc, second, 100)?)?;
+    Ok(text)
+}
+
+/// The same of runs of these codes on these environments, and how both end.
+fn both(alloc: Global, codes: (&Verified, &Verified), envs: (&Env, &Env)) -> Result<String, Fail> {
+    let mut first = prepare(alloc, codes.0, envs.0)?;
+    let mut second = prepare(alloc, codes.1, envs.1)?;
+    let turns = turns_of_both(alloc, &mut first, &mut second)?;
+    let first = shown(alloc, first.finish())?;
+    let second = shown(alloc, second.finish())?;
+    Ok(format!(in alloc; "{turns}{first}, {second}")?)
+}
+
+#[test]
+fn takes_turns_side_by_side(rt: HostRuntime) -> Result<(), Fail> {
+    let colours = environment(rt.alloc(), COLOURS)?;
+    let letter = environment(rt.alloc(), &[(false, "x", "a", 1)])?;
+    let list = load(rt.alloc(), &file(rt.alloc(), b'1', LIST_CODE)?)?;
+    let optional = load(rt.alloc(), &file(rt.alloc(), b'1', OPTIONAL)?)?;
+    assert_eq!(rt;
+        both(rt.alloc(), (&list, &optional), (&colours, &letter))?.as_str(),
+        "false 1, true 4, true 12, true 4, link red,green,blue, link a"
+    );
     Ok(())
 }
