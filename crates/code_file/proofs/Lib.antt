@@ -12,4 +12,6 @@ pub mod FileLaws
 pub mod EntryDecisions
 pub mod FileDecisions
 mod Examples
+mod PartExamples
+mod FaultExamples
 mod ListingExamples

@@ -62,6 +62,26 @@ fn refuses_parts_that_spell_no_file(rt: HostRuntime) -> Result<(), Fail> {
 }
 
 #[test]
+fn lists_are_in_table_order_and_as_often_as_there(rt: HostRuntime) -> Result<(), Fail> {
+    let mut names = Vec::new(rt.alloc());
+    for (list, text) in [
+        (true, "b"),
+        (false, "x"),
+        (true, "a"),
+        (true, "b"),
+        (false, "a"),
+    ] {
+        let text = repeated(rt.alloc(), text, 1)?;
+        names.push(Name { list, text })?;
+    }
+    let halt = vec![in rt.alloc(); instr(1, 0, 0, 0, 0)]?;
+    let code = Code::from_parts(names, Vec::new(rt.alloc()), halt)?;
+    let lists = code.lists(rt.alloc())?;
+    assert_eq!(rt; lists.as_slice(), ["b", "a", "b"].as_slice());
+    Ok(())
+}
+
+#[test]
 fn memory_that_ran_out_is_printed(rt: HostRuntime) -> Result<(), Fail> {
     let fault = CodeError {
         kind: NoMemory,
