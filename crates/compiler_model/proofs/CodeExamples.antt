@@ -1,12 +1,15 @@
 -- The whole code of small rule sets, and the bytes of its file.
-use Rattle.std.proofs.Common.{◌≡◌, [], ◌∷◌, refl}
+use Rattle.std.proofs.Common.{◌≡◌, [], ◌∷◌, Some, None, refl}
 use Rattle.std.specs.Prelude.{codes}
-use Rattle.code_model.specs.Code.{upgraded}
+use Rattle.code_model.specs.Code.{reading, upgraded}
 use Rattle.code_model.specs.declared.code.Instruction.TheVariants as instruction
 use Rattle.uri_grammar.specs.declared.parts.Part.TheVariants.{Literal}
 use Rattle.rule_parser.specs.declared.rule.Guard.TheVariants as guard
 use Rattle.rule_parser.specs.Rules.{RuleSet}
 use Rattle.machine_model.proofs.Listings.{list_name, text_name, link_text, compared_text, code, issn_code}
+use Rattle.machine_model.specs.Operands.{has_right_operands}
+use Rattle.machine_model.specs.Next.{course_from, outcome_of}
+use Rattle.compiler_model.specs.Answer.{answer}
 use Rattle.compiler_model.specs.Compiled.{code_of}
 use Rattle.compiler_model.specs.Size.{file_size}
 use Rattle.compiler_model.proofs.ExampleRules.{issn_rule, authors_rule, date_rule, one_rule, rules_of, rule, variable}
@@ -16,6 +19,15 @@ no_rules = refl
 
 empty_link : code_of (one_rule [] []) ≡ code [] [] (instruction.Halt ∷ instruction.Fail ∷ [])
 empty_link = refl
+
+-- without a rule there is no link, which is not the empty link
+no_rules_answer : outcome_of (code_of (rules_of [])) [] ≡ answer None
+unfolding course_from reading has_right_operands
+no_rules_answer = refl
+
+empty_link_answer : outcome_of (code_of (one_rule [] [])) [] ≡ answer (Some [])
+unfolding course_from reading has_right_operands
+empty_link_answer = refl
 
 -- ---- one text
 
