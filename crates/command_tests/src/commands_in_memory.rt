@@ -200,7 +200,7 @@ fn serves(rt: HostRuntime) -> Result<(), Fail> {
 #[test]
 fn refuses_other_arguments(rt: HostRuntime) -> Result<(), Fail> {
     let mut outside = outside(rt.alloc(), &FILES)?;
-    let cases: [&[&str]; 9] = [
+    let cases: [&[&str]; 14] = [
         &[],
         &["expand", "{x}", "--list", "a", "x=1"],
         &["serve", "registry", "+80", "1"],
@@ -210,6 +210,11 @@ fn refuses_other_arguments(rt: HostRuntime) -> Result<(), Fail> {
         &["serve", "registry", "65536", "1"],
         &["serve", "registry", "0", "0"],
         &["expand", "--list", "a", "b"],
+        &["expand", "--list", "x=1"],
+        &["link", "a.rules", "x=1", "y"],
+        &["--version", "1"],
+        &["help", "serve"],
+        &["serve", "registry", "80", ""],
     ];
     for arguments in cases {
         gives(&rt, &mut outside, arguments, 2, "", "usage")?;

@@ -10,3 +10,5 @@ mod outside;
 mod printed_errors;
 #[cfg(test)]
 mod real_files;
+#[cfg(test)]
+mod results;

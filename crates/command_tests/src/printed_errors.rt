@@ -1,4 +1,4 @@
-//! The line of each error: every word that an error is printed with, once.
+//! The line of each error: every word that an error is printed with, once, and its exit status.
 
 use code_commands::CodeFault;
 use code_file::{CodeError, CodeErrorKind};
@@ -17,10 +17,16 @@ use std::test::Fail;
 use uri_grammar::{TemplateError, TemplateErrorKind};
 use verifier::LoadError;
 
-/// The error is printed so.
-fn prints<R: Abort + AllocGlobal>(rt: &R, fault: Fault<'_>, line: &str) -> Result<(), Fail> {
+/// The error has this exit status, and is printed so.
+fn prints<R: Abort + AllocGlobal>(
+    rt: &R,
+    fault: Fault<'_>,
+    status: u8,
+    line: &str,
+) -> Result<(), Fail> {
     let printed = format!(in rt.alloc(); "{fault}")?;
     assert_eq!(rt; printed.as_str(), line);
+    assert_eq!(rt; fault.status(), status, "of {line}");
     Ok(())
 }
 
@@ -40,11 +46,11 @@ fn errors_of_templates(rt: HostRuntime) -> Result<(), Fail> {
     for (kind, word) in TEMPLATES {
         let fault = RuleFault::Template(TemplateError { kind, at: 7 });
         let line = format!(in rt.alloc(); "template: {word} at 7")?;
-        prints(&rt, Fault::Rule(fault), line.as_str())?;
+        prints(&rt, Fault::Rule(fault), 3, line.as_str())?;
         let kind = RuleErrorKind::Template(kind);
         let fault = RuleFault::Rules(RuleError { kind, line: 2 });
         let line = format!(in rt.alloc(); "rules: line 2: Template {word}")?;
-        prints(&rt, Fault::Rule(fault), line.as_str())?;
+        prints(&rt, Fault::Rule(fault), 3, line.as_str())?;
     }
     Ok(())
 }
@@ -73,10 +79,10 @@ const COMPILED: [(CompileError, &str); 4] = [
 fn errors_of_rules(rt: HostRuntime) -> Result<(), Fail> {
     for (kind, line) in RULES {
         let fault = RuleFault::Rules(RuleError { kind, line: 0 });
-        prints(&rt, Fault::Rule(fault), line)?;
+        prints(&rt, Fault::Rule(fault), 3, line)?;
     }
     for (error, line) in COMPILED {
-        prints(&rt, Fault::Rule(RuleFault::Compile(error)), line)?;
+        prints(&rt, Fault::Rule(RuleFault::Compile(error)), 3, line)?;
     }
     Ok(())
 }
@@ -99,10 +105,10 @@ fn errors_of_code_files(rt: HostRuntime) -> Result<(), Fail> {
     for (kind, word) in CODES {
         let fault = CodeFault::Code(CodeError { kind, at: 10 });
         let line = format!(in rt.alloc(); "code: {word} at 10")?;
-        prints(&rt, Fault::Code(fault), line.as_str())?;
+        prints(&rt, Fault::Code(fault), 3, line.as_str())?;
         let fault = CodeFault::Load(LoadError::Code(kind, 10));
         let line = format!(in rt.alloc(); "load: {word} at 10")?;
-        prints(&rt, Fault::Code(fault), line.as_str())?;
+        prints(&rt, Fault::Code(fault), 3, line.as_str())?;
     }
     Ok(())
 }
@@ -131,10 +137,10 @@ const LOADED: [(LoadError, &str); 14] = [
 #[test]
 fn errors_of_code(rt: HostRuntime) -> Result<(), Fail> {
     for (error, line) in LOADED {
-        prints(&rt, Fault::Code(CodeFault::Load(error)), line)?;
+        prints(&rt, Fault::Code(CodeFault::Load(error)), 3, line)?;
     }
     let fault = CodeFault::OverBudget(1_200_000);
-    prints(&rt, Fault::Code(fault), "over budget: 1200000")
+    prints(&rt, Fault::Code(fault), 3, "over budget: 1200000")
 }
 
 /// The same of tables.
@@ -153,24 +159,29 @@ const ADDED: [(AddErrorKind, &str); 2] = [
 ];
 
 /// The error of a target.
-fn of_target<R: Abort + AllocGlobal>(rt: &R, fault: TargetFault, line: &str) -> Result<(), Fail> {
+fn of_target<R: Abort + AllocGlobal>(
+    rt: &R,
+    fault: TargetFault,
+    status: u8,
+    line: &str,
+) -> Result<(), Fail> {
     let name = String::from_str(rt.alloc(), "a")?;
     let fault = MenuFault::Target(TargetError { name, fault });
-    prints(rt, Fault::Menu(fault), line)
+    prints(rt, Fault::Menu(fault), status, line)
 }
 
 #[test]
 fn errors_of_targets(rt: HostRuntime) -> Result<(), Fail> {
     for (error, line) in TABLES {
-        of_target(&rt, TargetFault::Table(error), line)?;
+        of_target(&rt, TargetFault::Table(error), 3, line)?;
     }
     for (kind, line) in ADDED {
-        of_target(&rt, TargetFault::Add(kind), line)?;
+        of_target(&rt, TargetFault::Add(kind), 3, line)?;
     }
     let load = TargetFault::Load(LoadError::BadIndex(3));
-    of_target(&rt, load, "target a: load: BadIndex at 3")?;
+    of_target(&rt, load, 3, "target a: load: BadIndex at 3")?;
     let path = String::from_str(rt.alloc(), "a.olk")?;
-    of_target(&rt, TargetFault::Device(path), "target a: device: a.olk")
+    of_target(&rt, TargetFault::Device(path), 4, "target a: device: a.olk")
 }
 
 /// The same of queries.
@@ -183,13 +194,48 @@ const QUERIES: [(KevError, &str); 3] = [
 #[test]
 fn errors_of_all_commands(rt: HostRuntime) -> Result<(), Fail> {
     for (error, line) in QUERIES {
-        prints(&rt, Fault::Base(BaseFault::Query(error)), line)?;
+        prints(&rt, Fault::Base(BaseFault::Query(error)), 3, line)?;
     }
-    prints(&rt, Fault::Base(BaseFault::Device("-")), "device: -")?;
-    prints(&rt, Fault::Base(BaseFault::Memory), "out of memory")?;
-    prints(&rt, Fault::Usage, "usage")?;
+    prints(&rt, Fault::Base(BaseFault::Device("-")), 4, "device: -")?;
+    prints(&rt, Fault::Usage, 2, "usage")?;
     let port = MenuFault::Port("080");
-    prints(&rt, Fault::Menu(port), "device: 127.0.0.1:080")?;
+    prints(&rt, Fault::Menu(port), 4, "device: 127.0.0.1:080")?;
     let line = MenuFault::Registry(2);
-    prints(&rt, Fault::Menu(line), "registry: line 2")
+    prints(&rt, Fault::Menu(line), 3, "registry: line 2")
+}
+
+#[test]
+fn an_allocation_that_fails_is_one_error(rt: HostRuntime) -> Result<(), Fail> {
+    let template = TemplateError {
+        kind: TemplateErrorKind::NoMemory,
+        at: 0,
+    };
+    let rules = RuleError {
+        kind: RuleErrorKind::NoMemory,
+        line: 0,
+    };
+    let code = CodeError {
+        kind: CodeErrorKind::NoMemory,
+        at: 0,
+    };
+    for fault in [
+        Fault::Base(BaseFault::Memory),
+        Fault::Base(BaseFault::from(KevError::NoMemory)),
+        Fault::Rule(RuleFault::from(template)),
+        Fault::Rule(RuleFault::from(rules)),
+        Fault::Rule(RuleFault::from(CompileError::NoMemory)),
+        Fault::Code(CodeFault::from(code)),
+        Fault::Code(CodeFault::from(LoadError::NoMemory)),
+        Fault::Menu(MenuFault::from(KevError::NoMemory)),
+    ] {
+        prints(&rt, fault, 4, "out of memory")?;
+    }
+    Ok(())
+}
+
+#[test]
+fn no_link_has_status_1(rt: HostRuntime) {
+    assert_eq!(rt; Fault::Rule(RuleFault::NoLink).status(), 1);
+    assert_eq!(rt; Fault::Code(CodeFault::NoLink).status(), 1);
+    assert_eq!(rt; Fault::Menu(MenuFault::NoLink).status(), 1);
 }

@@ -3,6 +3,7 @@
 use crate::{REPLY, REQUEST};
 use http_front::{ServeError, Served, serve_one};
 use registry::Registry;
+use std::alloc::{AllocError, Global};
 use std::process::Abort;
 use std::test::Fail;
 use streams_in_memory::{PieceIn, PieceOut};
@@ -79,6 +80,137 @@ fn nothing_and_a_page(rt: HostRuntime) -> Result<(), Fail> {
         exchanges(&rt, request, 28, (None, None), Ok(served), written)?;
     }
     Ok(())
+}
+
+/// Requests; and of their replies the status and phrase, the kind of text, a further field, the body, and whether it is
+/// sent.
+const REPLIES: [(&[u8], u16, &str, &str, &str, &str, bool); 9] = [
+    (
+        b"HEAD /openurl HTTP/1.0\r\n\r\n",
+        200,
+        "OK",
+        "html",
+        "",
+        "<!DOCTYPE html>\n<title>Links</title>\n<p>No links</p>\n",
+        false,
+    ),
+    (
+        b"GET /openurl.txt HTTP/1.0\r\n\r\n",
+        200,
+        "OK",
+        "plain",
+        "",
+        "",
+        true,
+    ),
+    (
+        b"GET /report HTTP/1.0\r\n\r\n",
+        200,
+        "OK",
+        "plain",
+        "",
+        "",
+        true,
+    ),
+    (
+        b"HEAD /x HTTP/1.0\r\n\r\n",
+        404,
+        "Not Found",
+        "plain",
+        "",
+        "not found\n",
+        false,
+    ),
+    (
+        b"POST /openurl HTTP/1.0\r\n\r\n",
+        405,
+        "Method Not Allowed",
+        "plain",
+        "Allow: GET, HEAD\r\n",
+        "method not allowed\n",
+        true,
+    ),
+    (
+        b"GET /openurl?ctx_ver=1 HTTP/1.0\r\n\r\n",
+        400,
+        "Bad Request",
+        "plain",
+        "",
+        "query: wrong version\n",
+        true,
+    ),
+    (
+        b"GET /openurl HTTP/1.1\r\n\r\n",
+        400,
+        "Bad Request",
+        "plain",
+        "",
+        "bad request\n",
+        true,
+    ),
+    (
+        b"HEAD * HTTP/1.0\r\n\r\n",
+        400,
+        "Bad Request",
+        "plain",
+        "",
+        "bad request\n",
+        false,
+    ),
+    (
+        b"HEAD /openurl HTTP/1.1\r\n",
+        400,
+        "Bad Request",
+        "plain",
+        "",
+        "bad request\n",
+        true,
+    ),
+];
+
+/// The reply of these parts; a body that is not sent is counted.
+fn reply(
+    alloc: Global,
+    status: (u16, &str),
+    kind: &str,
+    field: &str,
+    body: &str,
+    sent: bool,
+) -> Result<String, AllocError> {
+    let (status, phrase) = status;
+    let length = body.len();
+    let body = if sent { body } else { "" };
+    format!(in alloc;
+        "HTTP/1.1 {status} {phrase}\r\nContent-Type: text/{kind}; charset=utf-8\r\n\
+        Content-Length: {length}\r\nConnection: close\r\n{field}\r\n{body}"
+    )
+}
+
+#[test]
+fn whole_replies(rt: HostRuntime) -> Result<(), Fail> {
+    for (request, status, phrase, kind, field, body, sent) in REPLIES {
+        let reply = reply(rt.alloc(), (status, phrase), kind, field, body, sent)?;
+        let served = Ok(Served::Replied(status));
+        exchanges(&rt, request, 28, (None, None), served, reply.as_bytes())?;
+    }
+    Ok(())
+}
+
+/// A head of 16,384 bytes that has not ended, and a query of 4,097 pairs.
+#[test]
+fn large_requests(rt: HostRuntime) -> Result<(), Fail> {
+    let letters = "a".repeat(rt.alloc(), 16_384 - 19)?;
+    let open = format!(in rt.alloc(); "GET / HTTP/1.1\r\nX: {letters}")?;
+    let phrase = "Request Header Fields Too Large";
+    let large = reply(rt.alloc(), (431, phrase), "plain", "", "head too large\n", true)?;
+    let served = Ok(Served::Replied(431));
+    exchanges(&rt, open.as_bytes(), 1_000, (None, None), served, large.as_bytes())?;
+    let pairs = "&a".repeat(rt.alloc(), 4_096)?;
+    let many = format!(in rt.alloc(); "GET /openurl?a{pairs} HTTP/1.0\r\n\r\n")?;
+    let body = "query: too many pairs\n";
+    let bad = reply(rt.alloc(), (400, "Bad Request"), "plain", "", body, true)?;
+    let served = Ok(Served::Replied(400));
+    exchanges(&rt, many.as_bytes(), 1_000, (None, None), served, bad.as_bytes())
 }
 
 /// The reply if an allocation fails, and its head.

@@ -3,7 +3,7 @@
 use crate::codes::FAIL_CODE;
 use files::SystemFiles;
 use files_in_memory::{Content, Memory};
-use kbart_rows::Keys;
+use kbart_rows::{Keys, MAX_TABLE_BYTES};
 use registry::Registry;
 use registry_file::{KeySource, NoKeys, RegistryError, SystemKeys, load_registry, read_registry};
 use std::alloc::{AllocError, Global};
@@ -16,7 +16,7 @@ use std::random::RandomSource;
 use std::test::Fail;
 
 /// Registry files, and the first fault of each, where it has one.
-const CASES: [(&[u8], &str); 9] = [
+const CASES: [(&[u8], &str); 12] = [
     (b"alpha\ta code.olk\ttable.txt\n", ""),
     (b"alpha\ta code.olk\ttable.txt\n\nbeta\n", "line 2"),
     (
@@ -46,6 +46,12 @@ const CASES: [(&[u8], &str); 9] = [
     (
         b"alpha\ta code.olk\ttable.txt\nalpha\ta code.olk\ttable.txt\n",
         "target alpha: BadTargetName",
+    ),
+    (b"alpha\ta code.olk\ttable.txt\t\n", "line 1"),
+    (b"alph\xff\ta code.olk\ttable.txt\n", "line 1"),
+    (
+        b"\xef\xbb\xbfalpha\ta code.olk\tbad.txt\r\n",
+        "target alpha: table: NotUtf8",
     ),
 ];
 
@@ -156,6 +162,62 @@ fn a_last_line_needs_no_end(rt: HostRuntime) -> Result<(), Fail> {
     for registry in [lines, &lines[..lines.len() - 1]] {
         let mut files = memory(rt.alloc(), registry)?;
         assert_eq!(rt; load(rt.alloc(), &mut files)?.targets().len(), 2);
+    }
+    Ok(())
+}
+
+/// A registry file may have 65,536 bytes. A longer one needs no keys.
+#[test]
+fn has_no_line_0(rt: HostRuntime) -> Result<(), Fail> {
+    for (count, wanted) in [(65_536, ""), (65_537, "line 0")] {
+        let lines = vec![in rt.alloc(); b'\n'; count]?;
+        let mut files = memory(rt.alloc(), &lines)?;
+        compare(&rt, load(rt.alloc(), &mut files), wanted)?;
+        let read = read_registry(rt.alloc(), &mut files, &lines, Keys::new(1, 2));
+        compare(&rt, read, wanted)?;
+        let mut keys = Known { numbers: None };
+        let read = load_registry(rt.alloc(), &mut files, &mut keys, PATH);
+        let wanted = if wanted.is_empty() { "device" } else { wanted };
+        compare(&rt, read, wanted)?;
+    }
+    Ok(())
+}
+
+/// What the first target's fault is if its code has so many bytes of zero.
+const CODES: [(usize, &str); 2] = [
+    (65_536, "target alpha: load: BadMagic at 0"),
+    (65_537, "target alpha: load: TooLong at 65536"),
+];
+
+#[test]
+fn a_code_up_to_its_limit_is_read(rt: HostRuntime) -> Result<(), Fail> {
+    for (count, wanted) in CODES {
+        let mut files = memory(rt.alloc(), CASES[0].0)?;
+        let zeros = vec![in rt.alloc(); 0u8; count]?;
+        files.put("a code.olk", Content::File(zeros))?;
+        compare(&rt, load(rt.alloc(), &mut files), wanted)?;
+    }
+    Ok(())
+}
+
+#[test]
+fn a_table_may_be_too_long(rt: HostRuntime) -> Result<(), Fail> {
+    let mut files = memory(rt.alloc(), CASES[0].0)?;
+    let letters = vec![in rt.alloc(); b'a'; MAX_TABLE_BYTES + 1]?;
+    files.put("table.txt", Content::File(letters))?;
+    let wanted = "target alpha: table: TooLong";
+    compare(&rt, load(rt.alloc(), &mut files), wanted)
+}
+
+/// Each table has the keys that were drawn.
+#[test]
+fn tables_have_the_keys(rt: HostRuntime) -> Result<(), Fail> {
+    let mut files = memory(rt.alloc(), CASES[0].0)?;
+    let registry = load(rt.alloc(), &mut files)?;
+    assert_eq!(rt; registry.targets().len(), 1);
+    for target in registry.targets() {
+        let keys = target.table().keys();
+        assert_eq!(rt; hash_of(keys), hash_of(Keys::new(1, 2)));
     }
     Ok(())
 }

@@ -1,0 +1,203 @@
+//! What commands print of files, with which status, and which fault comes first.
+
+use crate::outside::{Outside, bytes, gives, outside};
+use commands::command;
+use files_in_memory::Content;
+use std::alloc::AllocError;
+use std::process::Abort;
+use std::test::Fail;
+use streams_in_memory::Peers;
+
+/// Rules whose list is declared.
+const RULES: &[u8] = b"list tags\nrule\nwhen has x\nlink http://e.org/{tags*}\n";
+
+/// A loop over the members of `list`, with a comma between them.
+const LIST: &[u8] = b"OLK1\0\x01\0\x01\0\x06\x01\x04list\0\0\x01,\
+    \x05\0\0\0\0\0\0\0\x10\x01\0\0\0\0\0\x05\x11\0\0\0\0\0\0\0\
+    \x0e\x01\0\0\0\0\0\0\x12\0\0\0\0\0\0\0\x01\0\0\0\0\0\0\0";
+
+/// TEXT r2 n0, PUT r2 u, HALT: the text may be undefined.
+const UNSAFE: &[u8] = b"OLK1\0\x01\0\0\0\x03\0\x01x\
+    \x04\x02\0\0\0\0\0\0\x0e\x02\0\0\0\0\0\0\x01\0\0\0\0\0\0\0";
+
+/// FAIL, and nothing else.
+const FAIL: &[u8] = b"OLK1\0\0\0\0\0\x01\x02\0\0\0\0\0\0\0";
+
+const FILES: [(&str, &[u8]); 6] = [
+    ("tags.rules", RULES),
+    ("list.olk", LIST),
+    ("unsafe.olk", UNSAFE),
+    ("fail.olk", FAIL),
+    ("line", b"alpha\n"),
+    ("empty", b""),
+];
+
+/// Commands, their status, what they print, and their error.
+const RESULTS: [(&[&str], u8, &str, &str); 16] = [
+    (
+        &[
+            "expand",
+            "--list",
+            "list",
+            "{list*}/{x}",
+            "list=a&list=b&x=1",
+        ],
+        0,
+        "a,b/1\n",
+        "",
+    ),
+    (&["expand", "{a b}", ""], 3, "", "template: BadName at 1"),
+    (
+        &["expand", "{", "url_ver=1"],
+        3,
+        "",
+        "template: Unclosed at 0",
+    ),
+    (
+        &["expand", "{x}", "ctx_ver=Z39.88-2005&x=1"],
+        3,
+        "",
+        "query: WrongVersion",
+    ),
+    (
+        &["link", "tags.rules", "x=1&tags=a&tags=b"],
+        0,
+        "http://e.org/a,b\n",
+        "",
+    ),
+    (&["link", "tags.rules", "tags=a"], 1, "", ""),
+    (
+        &["show", "unsafe.olk"],
+        0,
+        "OLK1 names 1 literals 0 instructions 3\nname 0 text x\n0 TEXT r2 n0\n1 PUT r2 u\n2 HALT\n",
+        "",
+    ),
+    (&["show", "line"], 3, "", "code: BadMagic at 0"),
+    (
+        &["verify", "list.olk"],
+        0,
+        "ok\nsteps 3 + 3*M\nbytes 0 + 1*M + 3*E + 0*M*E\n",
+        "",
+    ),
+    (
+        &["verify", "unsafe.olk"],
+        3,
+        "",
+        "load: KindMismatch at 1, r2",
+    ),
+    (
+        &["run", "list.olk", "list=red&list=green&list=blue"],
+        0,
+        "red,green,blue\n",
+        "",
+    ),
+    (&["run", "list.olk", ""], 0, "\n", ""),
+    (&["run", "fail.olk", ""], 1, "", ""),
+    (
+        &["run", "fail.olk", "url_ver=1"],
+        3,
+        "",
+        "query: WrongVersion",
+    ),
+    (&["resolve", "line", "url_ver=1"], 3, "", "registry: line 1"),
+    (&["serve", "none", "0", "1000000"], 4, "", "device: none"),
+];
+
+#[test]
+fn statuses_and_lines(rt: HostRuntime) -> Result<(), Fail> {
+    let mut outside = outside(rt.alloc(), &FILES)?;
+    for (arguments, status, printed, error) in RESULTS {
+        gives(&rt, &mut outside, arguments, status, printed, error)?;
+    }
+    Ok(())
+}
+
+#[test]
+fn an_upgraded_file_has_version_2(rt: HostRuntime) -> Result<(), Fail> {
+    let mut outside = outside(rt.alloc(), &FILES)?;
+    let upgrade = ["upgrade", "list.olk", "new"];
+    gives(&rt, &mut outside, &upgrade, 0, "68 bytes\n", "")?;
+    let new = bytes(&outside, "new");
+    assert!(rt; new.is_some_and(|new| new.starts_with(b"OLK2") && new[4..] == LIST[4..]));
+    assert_eq!(rt; bytes(&outside, "list.olk"), Some(LIST));
+    Ok(())
+}
+
+/// Commands on a file of 65,536 bytes, the error of each; and that on a file of one byte more.
+const LONG: [(&[&str], &str, &str); 4] = [
+    (
+        &["compile", "long", "new"],
+        "rules: line 1: BadLine",
+        "rules: line 0: TooLong",
+    ),
+    (
+        &["show", "long"],
+        "code: BadMagic at 0",
+        "code: TooLong at 65536",
+    ),
+    (
+        &["verify", "long"],
+        "load: BadMagic at 0",
+        "load: TooLong at 65536",
+    ),
+    (
+        &["resolve", "long", ""],
+        "registry: line 1",
+        "registry: line 0",
+    ),
+];
+
+/// Puts a file of `count` letters at the path `long`.
+fn put_long(outside: &mut Outside, count: usize) -> Result<(), AllocError> {
+    let letters = vec![in outside.alloc; b'x'; count]?;
+    outside.files.put("long", Content::File(letters))
+}
+
+#[test]
+fn files_up_to_their_limits(rt: HostRuntime) -> Result<(), Fail> {
+    let mut outside = outside(rt.alloc(), &FILES)?;
+    put_long(&mut outside, 65_536)?;
+    for (arguments, error, _) in LONG {
+        gives(&rt, &mut outside, arguments, 3, "", error)?;
+    }
+    put_long(&mut outside, 65_537)?;
+    for (arguments, _, error) in LONG {
+        gives(&rt, &mut outside, arguments, 3, "", error)?;
+    }
+    Ok(())
+}
+
+/// An output that takes three bytes: the status, and the error.
+fn narrow<R: Abort + AllocGlobal>(
+    rt: &R,
+    outside: &mut Outside,
+    arguments: &[&str],
+) -> Result<(), Fail> {
+    let mut room = [0; 3];
+    let mut output = &mut room[..];
+    let mut errors = Vec::new(rt.alloc());
+    let status = command(outside, arguments, &mut output, &mut errors);
+    assert_eq!(rt; status, 4, "{arguments:?}");
+    assert_eq!(rt; errors.as_slice(), b"openlink: device: -\n".as_slice());
+    Ok(())
+}
+
+#[test]
+fn an_output_that_fails_is_a_device(rt: HostRuntime) -> Result<(), Fail> {
+    let mut outside = outside(rt.alloc(), &FILES)?;
+    outside.ports.peers = Some(Peers::new(rt.alloc()));
+    narrow(&rt, &mut outside, &["run", "list.olk", "list=red"])?;
+    narrow(&rt, &mut outside, &["serve", "empty", "80", "1"])
+}
+
+#[test]
+fn three_words_print_the_help(rt: HostRuntime) -> Result<(), Fail> {
+    let mut outside = outside(rt.alloc(), &FILES)?;
+    for word in ["--help", "-h", "help"] {
+        let (mut output, mut errors) = (Vec::new(rt.alloc()), Vec::new(rt.alloc()));
+        assert_eq!(rt; command(&mut outside, &[word], &mut output, &mut errors), 0);
+        assert!(rt; output.starts_with(b"openlink resolves OpenURL 1.0 requests"));
+        assert!(rt; errors.is_empty());
+    }
+    Ok(())
+}
