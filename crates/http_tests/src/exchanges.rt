@@ -202,15 +202,36 @@ fn large_requests(rt: HostRuntime) -> Result<(), Fail> {
     let letters = "a".repeat(rt.alloc(), 16_384 - 19)?;
     let open = format!(in rt.alloc(); "GET / HTTP/1.1\r\nX: {letters}")?;
     let phrase = "Request Header Fields Too Large";
-    let large = reply(rt.alloc(), (431, phrase), "plain", "", "head too large\n", true)?;
+    let large = reply(
+        rt.alloc(),
+        (431, phrase),
+        "plain",
+        "",
+        "head too large\n",
+        true,
+    )?;
     let served = Ok(Served::Replied(431));
-    exchanges(&rt, open.as_bytes(), 1_000, (None, None), served, large.as_bytes())?;
+    exchanges(
+        &rt,
+        open.as_bytes(),
+        1_000,
+        (None, None),
+        served,
+        large.as_bytes(),
+    )?;
     let pairs = "&a".repeat(rt.alloc(), 4_096)?;
     let many = format!(in rt.alloc(); "GET /openurl?a{pairs} HTTP/1.0\r\n\r\n")?;
     let body = "query: too many pairs\n";
     let bad = reply(rt.alloc(), (400, "Bad Request"), "plain", "", body, true)?;
     let served = Ok(Served::Replied(400));
-    exchanges(&rt, many.as_bytes(), 1_000, (None, None), served, bad.as_bytes())
+    exchanges(
+        &rt,
+        many.as_bytes(),
+        1_000,
+        (None, None),
+        served,
+        bad.as_bytes(),
+    )
 }
 
 /// The reply if an allocation fails, and its head.
