@@ -3,7 +3,7 @@
 use crate::outside::{Outside, bytes, gives, outside};
 use commands::command;
 use files_in_memory::Content;
-use std::alloc::AllocError;
+use std::alloc::{AllocError, Global};
 use std::process::Abort;
 use std::test::Fail;
 use streams_in_memory::Peers;
@@ -20,20 +20,26 @@ const LIST: &[u8] = b"OLK1\0\x01\0\x01\0\x06\x01\x04list\0\0\x01,\
 const UNSAFE: &[u8] = b"OLK1\0\x01\0\0\0\x03\0\x01x\
     \x04\x02\0\0\0\0\0\0\x0e\x02\0\0\0\0\0\0\x01\0\0\0\0\0\0\0";
 
+/// TEXT r2 n0, UNDEF r2 3, PUT r2 u, HALT.
+const GUARDED: &[u8] = b"OLK1\0\x01\0\0\0\x04\0\x01x\
+    \x04\x02\0\0\0\0\0\0\x08\x02\0\0\0\0\0\x03\
+    \x0e\x02\0\0\0\0\0\0\x01\0\0\0\0\0\0\0";
+
 /// FAIL, and nothing else.
 const FAIL: &[u8] = b"OLK1\0\0\0\0\0\x01\x02\0\0\0\0\0\0\0";
 
-const FILES: [(&str, &[u8]); 6] = [
+const FILES: [(&str, &[u8]); 7] = [
     ("tags.rules", RULES),
     ("list.olk", LIST),
     ("unsafe.olk", UNSAFE),
+    ("guarded.olk", GUARDED),
     ("fail.olk", FAIL),
     ("line", b"alpha\n"),
     ("empty", b""),
 ];
 
 /// Commands, their status, what they print, and their error.
-const RESULTS: [(&[&str], u8, &str, &str); 16] = [
+const RESULTS: [(&[&str], u8, &str, &str); 17] = [
     (
         &[
             "expand",
@@ -80,6 +86,12 @@ const RESULTS: [(&[&str], u8, &str, &str); 16] = [
         "",
     ),
     (
+        &["verify", "guarded.olk"],
+        0,
+        "ok\nsteps 4 + 0*M\nbytes 0 + 0*M + 3*E + 0*M*E\n",
+        "",
+    ),
+    (
         &["verify", "unsafe.olk"],
         3,
         "",
@@ -110,6 +122,32 @@ fn statuses_and_lines(rt: HostRuntime) -> Result<(), Fail> {
         gives(&rt, &mut outside, arguments, status, printed, error)?;
     }
     Ok(())
+}
+
+/// The text `x` twenty times, or nothing: TEXT r2 n0, UNDEF r2 22, twenty times PUT r2 u, HALT.
+fn twenty_texts(alloc: Global) -> Result<Vec<u8>, AllocError> {
+    let mut code = Vec::from_slice(
+        alloc,
+        b"OLK1\0\x01\0\0\0\x17\0\x01x\
+        \x04\x02\0\0\0\0\0\0\x08\x02\0\0\0\0\0\x16",
+    )?;
+    for _time in 0..20 {
+        code.extend_from_slice(b"\x0e\x02\0\0\0\0\0\0")?;
+    }
+    code.extend_from_slice(b"\x01\0\0\0\0\0\0\0")?;
+    Ok(code)
+}
+
+/// Each of the 20,000 letters might be written as three bytes.
+#[test]
+fn over_budget(rt: HostRuntime) -> Result<(), Fail> {
+    let mut outside = outside(rt.alloc(), &FILES)?;
+    let code = twenty_texts(rt.alloc())?;
+    outside.files.put("twenty.olk", Content::File(code))?;
+    let letters = "a".repeat(rt.alloc(), 20_000)?;
+    let query = format!(in rt.alloc(); "x={letters}")?;
+    let run = ["run", "twenty.olk", query.as_str()];
+    gives(&rt, &mut outside, &run, 3, "", "over budget: 1200000")
 }
 
 #[test]

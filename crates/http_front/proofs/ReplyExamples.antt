@@ -1,8 +1,10 @@
 -- Replies computed: their bytes are written out here, and the checker compares.
-use Rattle.std.proofs.Common.{◌≡◌, ◌++◌, true, false, [], ◌∷◌, refl, codes, map}
+use Rattle.std.proofs.Common.{◌≡◌, ◌++◌, List, true, false, [], ◌∷◌, refl, codes, map}
 use Rattle.std.specs.Fmt.{digits}
 use Rattle.http_front.specs.Replies.{ReplyValue, plain, printed, unavailable}
-use Rattle.http_front.specs.RouteReplies.{is_html}
+use Rattle.menu.specs.declared.entry.MenuEntry.{MenuEntry}
+use Rattle.menu.specs.declared.entry.Resolution.TheVariants.{Link}
+use Rattle.http_front.specs.RouteReplies.{is_html, page_text}
 use Rattle.http_request.specs.declared.route.Page.TheVariants.{Html, Text, Report}
 
 -- ---- an allocation failed
@@ -45,3 +47,13 @@ page_of_html = refl
 
 one_page_is_html : map is_html (Html ∷ Text ∷ Report ∷ []) ≡ true ∷ false ∷ false ∷ []
 one_page_is_html = refl
+
+-- a target with a link
+abbrev entries : List MenuEntry
+entries = record { name = codes "alpha"; resolution = Link 1 (codes "http://e.org/b") } ∷ []
+
+texts_of_pages : map (λ page. page_text page entries) (Html ∷ Text ∷ Report ∷ [])
+    ≡ codes "<!DOCTYPE html>\n<title>Links</title>\n<ul>\n<li><a href=\"http://e.org/b\">alpha</a></li>\n</ul>\n" ∷ codes "alpha\thttp://e.org/b\n"
+    ∷ codes "alpha\tlink 1\n" ∷ []
+unfolding digits
+texts_of_pages = refl
