@@ -16,7 +16,7 @@ use std::random::RandomSource;
 use std::test::Fail;
 
 /// Registry files, and the first fault of each, where it has one.
-const CASES: [(&[u8], &str); 12] = [
+const CASES: [(&[u8], &str); 13] = [
     (b"alpha\ta code.olk\ttable.txt\n", ""),
     (b"alpha\ta code.olk\ttable.txt\n\nbeta\n", "line 2"),
     (
@@ -46,6 +46,10 @@ const CASES: [(&[u8], &str); 12] = [
     (
         b"alpha\ta code.olk\ttable.txt\nalpha\ta code.olk\ttable.txt\n",
         "target alpha: BadTargetName",
+    ),
+    (
+        b"alpha\ta code.olk\ttable.txt\nbeta\ta code.olk\ttable.txt\nbeta\ta code.olk\ttable.txt\n",
+        "target beta: BadTargetName",
     ),
     (b"alpha\ta code.olk\ttable.txt\t\n", "line 1"),
     (b"alph\xff\ta code.olk\ttable.txt\n", "line 1"),

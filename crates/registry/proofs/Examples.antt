@@ -99,6 +99,10 @@ names_of_alpha : map (has_name (alpha ∷ [])) (codes "alpha" ∷ codes "Alpha" 
     ≡ true ∷ false ∷ false ∷ false ∷ false ∷ []
 names_of_alpha = refl
 
+-- each of the targets is looked at
+names_of_two : map (has_name (alpha ∷ target (codes "beta") (printing []) ∷ [])) (codes "alpha" ∷ codes "beta" ∷ codes "gamma" ∷ []) ≡ true ∷ true ∷ false ∷ []
+names_of_two = refl
+
 -- a full registry is full, whatever the name
 full_before_names : (targets : List TargetValue) → length targets ≡ 256 → IsRefusal targets (codes "a b") BadTargetName → ⊥
 full_before_names targets many refused = omega (arith, many, refused.0)
