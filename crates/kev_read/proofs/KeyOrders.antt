@@ -5,7 +5,7 @@ use Rattle.std.proofs.Common.{◌∙◌, subst, arith, length-drop}
 use Rattle.std.proofs.Math.Logic.{⊎_elim}
 use Rattle.std.proofs.lemmas.Bool.{cases_lt, eqb-true, eq-eqb}
 use Rattle.std.proofs.lemmas.Cmp.{nat_list_cmp_total, nat_list_eq_equiv}
-use Rattle.std.proofs.lemmas.List.{get_or-drop, get_or-take, length-take-le, length-map, take-append-drop}
+use Rattle.std.proofs.lemmas.List.{get_or_default, get_or-drop, get_or-take, length-take-le, length-map, take-append-drop}
 use Rattle.std.proofs.lemmas.List.Elements.{All-from_get_or, All-head, All-tail, filter-append}
 use Rattle.std.proofs.lemmas.List.Folds.{Any-from_list_any, list_any_at}
 use Rattle.std.proofs.lemmas.List.FromFn.{length-range_with_len, get_or-range_with_len}
@@ -14,7 +14,7 @@ use Rattle.std.proofs.lemmas.Map.Text.{is_eq-slice_cmp}
 use Rattle.std.proofs.lemmas.Option.{slice_get_past}
 use Rattle.std.specs.Cmp.{both_ways}
 use Rattle.std.specs.Cmp.Lexicographic.{options_total}
-use Rattle.std.specs.List.{range_with_len, sum_by}
+use Rattle.std.specs.List.{AllWithin, range_with_len, sum_by}
 use Rattle.std.specs.List.Sorted.{IsPermutation, IsSortedBy, IsStableBy, IsNonDecreasingBy, IsPartitionedBy, IsPartitionPoint}
 use Rattle.std.specs.Option.{option_map_or}
 use Rattle.std.specs.Ordering.{is_lt, is_le, is_eq, ordering_index}
@@ -79,6 +79,24 @@ rises pairs order key ordered = searchable_from_sorted (options_total nat_list_c
 pub splits : (test : Ordering → Bool) → Falls test → (pairs : List KeyValue) (indices : List ℕ) (key : Text)
     → IsNonDecreasingBy (λ index. ordering_index (compared_at pairs key index)) indices → IsPartitionedBy (λ index. test (compared_at pairs key index)) indices
 splits test falls pairs indices key rise i j d le below h = falls _ _ (rise i j d le below) h
+
+-- where the element at a place fails a test that passes nothing after what it fails, all from there on fail it
+pub none_past : (test : ℕ → Bool) (xs : List ℕ) (i : ℕ) → IsPartitionedBy test xs → (i < length xs → test (get_or xs i 0) ≡ false)
+    → AllWithin (λ x. test x ≡ false) xs i (length xs)
+none_past test xs i splits fails k d from below = by_value (test (get_or xs k d)) refl
+  where
+    by_value : (b : Bool) → test (get_or xs k d) ≡ b → test (get_or xs k d) ≡ false
+    by_value false h = h
+    by_value true h =
+        let within : i < length xs = omega arith in
+        let clash : true ≡ false = sym (splits i k d from below h) ∙ ap test (get_or_default xs i d 0 within) ∙ fails within in
+        absurd (cc)
+
+-- what the first of a list passes, all before the second pass
+pub first_alone : (test : ℕ → Bool) (xs : List ℕ) → 0 < length xs → test (get_or xs 0 0) ≡ true → AllWithin (λ x. test x ≡ true) xs 0 1
+first_alone test xs within passes k d from below =
+    let first : k ≡ 0 = omega arith in
+    rw first (ap test (get_or_default xs 0 d 0 within) ∙ passes)
 
 -- ---- the indices of a key
 

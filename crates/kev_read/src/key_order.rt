@@ -1,8 +1,10 @@
 //! The pairs of a request in the order of their keys.
 
-ghost use Rattle.std.specs.Prelude.{◌≡◌, ◌<◌, ◌≤◌, ℕ, All, length, IfOk};
+ghost use Rattle.std.specs.Prelude.{◌≡◌, ◌<◌, ◌≤◌, ℕ, All, IfOk, Some, false, get_or, length, true};
 ghost use Rattle.std.specs.List.{range_with_len};
+ghost use Rattle.std.specs.List.Sorted.{IsNonDecreasingBy, IsPartitionPoint};
 ghost use Rattle.std.specs.Option.{option_copied};
+ghost use Rattle.std.specs.Ordering.{is_le, ordering_index};
 ghost use Rattle.std.specs.Str.{bytes_eq};
 ghost use Rattle.kev_read.specs.Private.KeyOrder.{IsKeyOrder, IsKeyRun, compared, has_index, key_at, passes_at};
 
@@ -41,8 +43,38 @@ pub(crate) fn run_of(pairs: &Pairs, order: &[u16], key: &str) -> (usize, usize)
 {
     let start = order.partition_point(|index| compare(pairs, *index, Some(key)).is_lt());
     let (_, rest) = order.split_at(start);
-    let count = rest.partition_point(|index| compare(pairs, *index, Some(key)).is_le());
-    (start, count)
+    (start, run_length(pairs, rest, key))
+}
+
+/// How many of the indices come before the first whose key is greater, where the keys rise. Most keys have one pair or
+/// none, so the indices are searched only where the second has no greater key.
+fn run_length(pairs: &Pairs, rest: &[u16], key: &str) -> usize
+    requires { IsNonDecreasingBy (λ index. ordering_index (compared (key_at pairs.now index) (Some key.now))) rest.now }
+    ensures bound { result ≤ length rest.now }
+    ensures split { IsPartitionPoint (λ index. is_le (compared (key_at pairs.now index) (Some key.now)) ≡ true)
+        (λ index. is_le (compared (key_at pairs.now index) (Some key.now)) ≡ false) rest.now result }
+{
+    if is_past(pairs, rest, 0, key) {
+        0
+    } else if is_past(pairs, rest, 1, key) {
+        1
+    } else {
+        rest.partition_point(|index| compare(pairs, *index, Some(key)).is_le())
+    }
+}
+
+/// Whether the index at the place is that of a greater key, or there is no index at the place.
+fn is_past(pairs: &Pairs, indices: &[u16], place: usize, key: &str) -> bool
+    ensures past { result ≡ true → place < length indices.now
+        → is_le (compared (key_at pairs.now (get_or indices.now place 0)) (Some key.now)) ≡ false }
+    ensures not_past { result ≡ false → (place < length indices.now)
+        × (is_le (compared (key_at pairs.now (get_or indices.now place 0)) (Some key.now)) ≡ true) }
+{
+    if place < indices.len() {
+        !compare(pairs, indices[place], Some(key)).is_le()
+    } else {
+        true
+    }
 }
 
 /// The indices of the pairs that have the key.

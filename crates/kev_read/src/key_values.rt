@@ -95,7 +95,7 @@ pub(crate) fn values_by_key<'a>(
     ensures short { IfOk result (λ values. length values.buffer ≤ 3 * MAX_QUERY_BYTES) }
     ensures members { IfOk result (λ values. length values.spans ≤ MAX_PAIRS) }
 {
-    let mut text = String::new(alloc);
+    let mut text = String::with_capacity(alloc, pairs.text_len())?;
     let mut spans = Vec::with_capacity(alloc, order.len())?;
     for index in order {
         add(pairs.at(*index as usize).value, &mut text, &mut spans)?;

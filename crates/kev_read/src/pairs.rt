@@ -73,6 +73,11 @@ impl Pairs {
         self.places.len()
     }
 
+    /// The bytes of all keys and values. No result depends on it.
+    pub(crate) fn text_len(&self) -> usize {
+        self.text.len()
+    }
+
     /// The pair at the index.
     pub(crate) fn at(&self, index: usize) -> Pair<'_>
         requires { index < length self.now }
