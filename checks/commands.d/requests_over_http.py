@@ -64,6 +64,7 @@ REQUESTS = [
     (b"GET /x HTTP/1.1\r\nHost: a\r\nHost: a\r\n\r\n", BAD),
     (b"GET /openurl HTTP/1.1\r\nHosts: a\r\n\r\n", BAD),
     (b"GET /openurl HTTP/1.1\r\nHost: a\r\n", BAD),
+    (b"GET /openurl HTTP/1.2\r\nHost: a\r\n\r\n", BAD),
     (b"GET /openurl HTTP/2.0\r\nHost: a\r\n\r\n", BAD),
     (b"\r\nGET /x?ctx_ver=1 HTTP/1.1\nHost: a\n\n", NOT_FOUND),
     (b"", b""),
