@@ -60,6 +60,10 @@ kinds_as_declared = refl
 unused_list : names (record { lists = a ∷ []; rules = rule [] (variable b ∷ []) ∷ [] }) ≡ text_name b ∷ []
 unused_list = refl
 
+-- one name, of a text and of a list, is two names
+name_of_each_kind : names (one_rule (guard.Given a ∷ guard.Holds a b ∷ []) []) ≡ text_name a ∷ list_name a ∷ []
+name_of_each_kind = refl
+
 -- ---- literals
 
 literals_in_order :
