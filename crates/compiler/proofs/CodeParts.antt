@@ -16,6 +16,7 @@ use Rattle.code_file.specs.declared.error.CodeError.{CodeError}
 use Rattle.code_file.specs.Grammar.{spelled, name_field, literal_field, instr_field, IsVersion, IsTextOf, IsName as IsFileName, IsLiteral, IsInstr, IsCode}
 use Rattle.code_file.specs.Grammar.{IsCodeFile, code_of as code_of_parts}
 use Rattle.code_file.specs.Fault.{IsFirstFault}
+use Rattle.code_file.specs.declared.limits.TheConstants.{MAX_BYTES, MAX_NAMES, MAX_LITERALS, MAX_INSTRS}
 use Rattle.machine_model.specs.Operands.{is_link_text, text_of_literal}
 use Rattle.machine_model.specs.Safe.{IsFileCode}
 use Rattle.uri_grammar.specs.Names.{IsName}
@@ -75,7 +76,7 @@ good_literals (l ∷ ls) short utf8 links =
     (good_literals ls (omega (arith, short, size)) (All-tail IsUtf8Literal l ls utf8) (λ n. links (suc n)))
 
 pub is_code : (c : Code) → IsVersion c.version → IsFileCode c → All (λ (name : Name). IsName name.text) c.names → All IsUtf8Literal c.literals
-    → length c.names ≤ 256 → length c.literals ≤ 1024 → length c.instrs ≤ 4096 → length (spelled c) ≤ 65536 → IsCode c
+    → length c.names ≤ MAX_NAMES → length c.literals ≤ MAX_LITERALS → length c.instrs ≤ MAX_INSTRS → length (spelled c) ≤ MAX_BYTES → IsCode c
 is_code c version file names utf8 few_names few_literals few_instrs short =
     let front = length-append (flat_map name_field c.names) (flat_map literal_field c.literals ++ flat_map instr_field c.instrs) in
     let back = length-append (flat_map literal_field c.literals) (flat_map instr_field c.instrs) in
@@ -98,26 +99,26 @@ known_version false = inl refl
 
 -- what a file may have but for its length is refused for its length
 pub refused_long : ((bytes : Text) (c : Code) (e : CodeError) → IsCodeFile bytes c → IsFirstFault bytes e → ⊥) → (c : Code) (e : CodeError)
-    → (length (spelled c) ≤ 65536 → IsCode c) → All IsInstr c.instrs → IsFirstFault (spelled c) e → 65536 < file_size c
-refused_long no_fault c e good fields fault = elim (cases_lt 65536 (length (spelled c))) [
+    → (length (spelled c) ≤ MAX_BYTES → IsCode c) → All IsInstr c.instrs → IsFirstFault (spelled c) e → MAX_BYTES < file_size c
+refused_long no_fault c e good fields fault = elim (cases_lt MAX_BYTES (length (spelled c))) [
   | inl long ↦ omega (arith, length-spelled c)
   | inr short ↦ absurd (no_fault (spelled c) c e (record { is_code = good short; fields = fields; spells = refl }) fault)
 ]
 
 -- ---- the limits
 
-pub none_passed : (names literals instrs bytes : ℕ) → names ≤ 256 → literals ≤ 1024 → instrs ≤ 4096 → bytes ≤ 65536 → first_passed names literals instrs bytes
-    ≡ None
+pub none_passed : (names literals instrs bytes : ℕ) → names ≤ MAX_NAMES → literals ≤ MAX_LITERALS → instrs ≤ MAX_INSTRS
+    → bytes ≤ MAX_BYTES → first_passed names literals instrs bytes ≡ None
 none_passed names literals instrs bytes n l i b = grind (arith, nat_tests)
 
-pub file_passed : (names literals instrs bytes : ℕ) → names ≤ 256 → literals ≤ 1024 → instrs ≤ 4096 → 65536 < bytes → first_passed names literals instrs bytes
-    ≡ Some FileTooLong
+pub file_passed : (names literals instrs bytes : ℕ) → names ≤ MAX_NAMES → literals ≤ MAX_LITERALS → instrs ≤ MAX_INSTRS
+    → MAX_BYTES < bytes → first_passed names literals instrs bytes ≡ Some FileTooLong
 file_passed names literals instrs bytes n l i b = grind (arith, nat_tests)
 
 -- a count that stops at the largest number passes the limit where the whole count does
 pub counted : (names literals lines n bytes : ℕ) → lines ≡ min n 18446744073709551615 → first_passed names literals lines bytes
     ≡ first_passed names literals n bytes
-counted names literals lines n bytes e = elim (cases_lt 4096 n) [
+counted names literals lines n bytes e = elim (cases_lt MAX_INSTRS n) [
   | inl many ↦ grind (arith, nat_tests)
   | inr few ↦ let same : lines ≡ n = omega arith in ap (λ k. first_passed names literals k bytes) same
 ]

@@ -2,6 +2,7 @@
 use Rattle.std.proofs.Common.{◌≡◌, ℕ, ◌≤◌, List, length, sym, ap, ◌∙◌, subst, arith}
 use Rattle.std.specs.Prelude.{min}
 use Rattle.code_model.specs.Code.{Name, Literal}
+use Rattle.code_file.specs.declared.limits.TheConstants.{MAX_NAMES, MAX_LITERALS, MAX_INSTRS}
 use Rattle.rule_parser.specs.Rules.{RuleSet}
 use Rattle.compiler_model.specs.Compiled.{all_lines, code_of}
 use Rattle.compiler_model.specs.Size.{file_size}
@@ -11,9 +12,9 @@ use Rattle.compiler.proofs.RuleSteps.{length-code}
 
 -- the code of the rules has few enough of each
 pub record IsWithin (rules : RuleSet) : Type 0 where
-  pub names : length (code_of rules).names ≤ 256
-  pub literals : length (code_of rules).literals ≤ 1024
-  pub instrs : length (code_of rules).instrs ≤ 4096
+  pub names : length (code_of rules).names ≤ MAX_NAMES
+  pub literals : length (code_of rules).literals ≤ MAX_LITERALS
+  pub instrs : length (code_of rules).instrs ≤ MAX_INSTRS
 
 module _ (rules : RuleSet) (names : List Name) (literals : List Literal) (lines : ℕ) (n : names ≡ (code_of rules).names)
     (l : literals ≡ (code_of rules).literals) (e : lines ≡ min (length (all_lines rules)) 18446744073709551615) where
@@ -23,9 +24,9 @@ module _ (rules : RuleSet) (names : List Name) (literals : List Literal) (lines 
       (e ∙ ap (λ k. min k 18446744073709551615) (sym (length-code rules)))
       ∙ (λ t. first_passed (length (n t)) (length (l t)) (length (code_of rules).instrs) (file_size (code_of rules)))
 
-  pub within : length names ≤ 256 → length literals ≤ 1024 → lines ≤ 4096 → IsWithin rules
+  pub within : length names ≤ MAX_NAMES → length literals ≤ MAX_LITERALS → lines ≤ MAX_INSTRS → IsWithin rules
   within a b c = record {
-    names = subst (λ (xs : List Name). length xs ≤ 256) n a;
-    literals = subst (λ (xs : List Literal). length xs ≤ 1024) l b;
+    names = subst (λ (xs : List Name). length xs ≤ MAX_NAMES) n a;
+    literals = subst (λ (xs : List Literal). length xs ≤ MAX_LITERALS) l b;
     instrs = omega (arith, e, c, length-code rules);
   }

@@ -7,6 +7,7 @@ ghost use Rattle.environment_model.specs.Environment.{Environment};
 ghost use Rattle.code_model.specs.Code.{spelling as spelled_as};
 ghost use Rattle.code_file.specs.Grammar.{IsCode, IsInstr, spelled, code_of as code_of_parts};
 ghost use Rattle.code_file.specs.Fault.{fault, IsFirstFault};
+ghost use Rattle.code_file.specs.declared.limits.TheConstants.{MAX_BYTES, MAX_INSTRS, MAX_LITERALS, MAX_NAMES};
 ghost use Rattle.machine_model.specs.Form.{HasGoodForm};
 ghost use Rattle.machine_model.specs.Typable.{IsTypable};
 ghost use Rattle.machine_model.specs.Runs.{Outcome, HasOutcome};
@@ -52,9 +53,9 @@ fn has_counts(rules: &Rules) -> bool
 
 // The instructions of all rules, and FAIL after them.
 fn instructions(alloc: Global, rules: &Rules, tables: &Tables) -> Result<Vec<Instr>, AllocError>
-    requires names { length tables.now.names.items ≤ 256 }
-    requires literals { length tables.now.literals.items ≤ 1024 }
-    requires room { length (all_lines rules.now) ≤ 4096 }
+    requires names { length tables.now.names.items ≤ MAX_NAMES }
+    requires literals { length tables.now.literals.items ≤ MAX_LITERALS }
+    requires room { length (all_lines rules.now) ≤ MAX_INSTRS }
     ensures pushed { IfOk result (λ instrs. instrs.items
         ≡ map spelled_as (rules_instructions tables.now.names.items tables.now.literals.items rules.now.lists 0
         rules.now.rules)) }
@@ -96,11 +97,11 @@ fn finish(rules: &Rules, tables: Tables, instrs: Vec<Instr>) -> Result<Code, Com
     requires instrs { instrs.items ≡ (code_of rules.now).instrs }
     requires utf8 { All IsUtf8Literal tables.literals.items }
     requires fields { All IsInstr instrs.items }
-    requires few_names { length tables.names.items ≤ 256 }
-    requires few_literals { length tables.literals.items ≤ 1024 }
-    requires few_instrs { length instrs.items ≤ 4096 }
-    ensures ok { IfOk result (λ code. (code ≡ code_of rules.now) × (file_size (code_of rules.now) ≤ 65536)) }
-    ensures err { IfErr result (λ e. (e ≡ FileTooLong) × (65536 < file_size (code_of rules.now))) }
+    requires few_names { length tables.names.items ≤ MAX_NAMES }
+    requires few_literals { length tables.literals.items ≤ MAX_LITERALS }
+    requires few_instrs { length instrs.items ≤ MAX_INSTRS }
+    ensures ok { IfOk result (λ code. (code ≡ code_of rules.now) × (file_size (code_of rules.now) ≤ MAX_BYTES)) }
+    ensures err { IfErr result (λ e. (e ≡ FileTooLong) × (MAX_BYTES < file_size (code_of rules.now))) }
     ensures sound { IsSound rules.now }
 {
     compiled_code_is_accepted();

@@ -11,7 +11,7 @@ ghost use Rattle.compiler.specs.Limits.{first_passed};
 use crate::error::CompileError;
 use crate::rule_lines::rule_lines;
 use crate::tables::{add_literals, add_names};
-use code_file::{Literal, Name};
+use code_file::{Literal, MAX_INSTRS, MAX_LITERALS, MAX_NAMES, Name};
 use compiler_model::Line;
 use rule_parser::Rules;
 use std::alloc::{AllocError, Global};
@@ -62,20 +62,20 @@ impl Tables {
 
     /// Whether code may have that many names, literals and instructions; otherwise the first limit that they pass.
     pub(crate) fn check(&self) -> Result<(), CompileError>
-        ensures names { OnOk result (length self.now.names.items ≤ 256) }
-        ensures literals { OnOk result (length self.now.literals.items ≤ 1024) }
-        ensures lines { OnOk result (self.now.lines ≤ 4096) }
+        ensures names { OnOk result (length self.now.names.items ≤ MAX_NAMES) }
+        ensures literals { OnOk result (length self.now.literals.items ≤ MAX_LITERALS) }
+        ensures lines { OnOk result (self.now.lines ≤ MAX_INSTRS) }
         ensures err { IfErr result (λ e. (bytes : ℕ)
             → first_passed (length self.now.names.items) (length self.now.literals.items) self.now.lines bytes
             ≡ Some e) }
     {
-        if self.names.len() > 256 {
+        if self.names.len() > MAX_NAMES as usize {
             return Err(CompileError::TooManyNames);
         }
-        if self.literals.len() > 1_024 {
+        if self.literals.len() > MAX_LITERALS as usize {
             return Err(CompileError::TooManyLiterals);
         }
-        if self.lines > 4_096 {
+        if self.lines > MAX_INSTRS as usize {
             return Err(CompileError::TooManyInstructions);
         }
         Ok(())

@@ -3,6 +3,7 @@
 ghost use Rattle.std.specs.Prelude.{◌≡◌, ◌+◌, ◌≤◌, ◌++◌, ◌∷◌, [], All, length, map, OnOk};
 ghost use Rattle.code_model.specs.Code.{spelling as spelled};
 ghost use Rattle.code_file.specs.Grammar.{IsInstr};
+ghost use Rattle.code_file.specs.declared.limits.TheConstants.{MAX_INSTRS, MAX_LITERALS, MAX_NAMES};
 ghost use Rattle.compiler_model.specs.Compiled.{mode_of, place_of, action_instruction, test_instruction};
 ghost use Rattle.compiler_model.specs.Compiled.{line_instruction, instructions_from};
 ghost use Rattle.compiler.specs.Private.Reach.{distance, reach, StayWithin};
@@ -24,8 +25,8 @@ fn mode(writing: Writing) -> u16
 }
 
 fn of_action(names: &[Name], literals: &[Literal], action: &Action) -> Instruction
-    requires names { length names.now ≤ 256 }
-    requires literals { length literals.now ≤ 1024 }
+    requires names { length names.now ≤ MAX_NAMES }
+    requires literals { length literals.now ≤ MAX_LITERALS }
     ensures { result ≡ action_instruction names.now literals.now action.now }
 {
     match action {
@@ -68,8 +69,8 @@ fn of_test(test: Test, place: u16) -> Instruction
 
 // The place that a jump at a place leads to.
 fn place_from(away: usize, place: usize, target: Target) -> u16
-    requires away { away ≤ 4096 }
-    requires ahead { place + distance target ≤ 4096 }
+    requires away { away ≤ MAX_INSTRS }
+    requires ahead { place + distance target ≤ MAX_INSTRS }
     ensures { result ≡ place_of away place target }
 {
     match target {
@@ -85,10 +86,10 @@ fn of_line(
     place: usize,
     line: &Line,
 ) -> Instruction
-    requires names { length names.now ≤ 256 }
-    requires literals { length literals.now ≤ 1024 }
-    requires away { away ≤ 4096 }
-    requires ahead { place + reach line.now ≤ 4096 }
+    requires names { length names.now ≤ MAX_NAMES }
+    requires literals { length literals.now ≤ MAX_LITERALS }
+    requires away { away ≤ MAX_INSTRS }
+    requires ahead { place + reach line.now ≤ MAX_INSTRS }
     ensures { result ≡ line_instruction names.now literals.now away place line.now }
 {
     match line {
@@ -121,9 +122,9 @@ pub(crate) fn push_rule(
     instrs: &mut Vec<Instr>,
     lines: &[Line],
 ) -> Result<(), AllocError>
-    requires names { length names.now ≤ 256 }
-    requires literals { length literals.now ≤ 1024 }
-    requires room { length instrs.old.items + length lines.now ≤ 4096 }
+    requires names { length names.now ≤ MAX_NAMES }
+    requires literals { length literals.now ≤ MAX_LITERALS }
+    requires room { length instrs.old.items + length lines.now ≤ MAX_INSTRS }
     requires within { StayWithin 0 lines.now }
     requires fields { All IsInstr instrs.old.items }
     ensures pushed { OnOk result (instrs.new.items ≡ instrs.old.items
