@@ -1,6 +1,5 @@
 pub mod Places
 pub mod Hosts
-pub mod Schemes
 pub mod Answers
 pub mod Unique
 pub mod HeadEnd

@@ -1,5 +1,5 @@
 -- Routes computed: what becomes of heads of requests is written out here, and the checker compares.
-use Rattle.std.proofs.Common.{◌≡◌, ℕ, Bool, true, false, List, [], ◌∷◌, ◌++◌, refl, codes, map}
+use Rattle.std.proofs.Common.{◌≡◌, ℕ, true, false, List, [], ◌∷◌, ◌++◌, refl, codes, map}
 use Rattle.std.specs.List.{repeat}
 use Rattle.httparse.specs.Grammar.{Field, RequestHead, crlf}
 use Rattle.http_request.specs.Host.{is_host_name}

@@ -1,7 +1,6 @@
 -- Targets computed: the path, the query and the page of each are written out here, and the checker compares.
-use Rattle.std.proofs.Common.{◌≡◌, ℕ, List, [], ◌∷◌, Option, Some, None, refl, codes, map}
+use Rattle.std.proofs.Common.{◌≡◌, ℕ, List, [], ◌∷◌, Some, None, refl, codes, map}
 use Rattle.http_request.specs.Target.{page_of, path_of, query_of, resource_of}
-use Rattle.http_request.specs.declared.route.Page.{Page}
 use Rattle.http_request.specs.declared.route.Page.TheVariants.{Html, Text, Report}
 
 -- ---- path and query

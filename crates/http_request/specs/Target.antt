@@ -1,7 +1,8 @@
 -- The target of a request (RFC 9112, section 3.2): its path and its query, with nothing decoded.
-use Rattle.std.specs.Prelude.{ℕ, ◌==◌, ◌||◌, Bool, false, List, [], ◌∷◌, Option, Some, None, codes, drop, length, take, if◌then◌else◌}
+use Rattle.std.specs.Prelude.{ℕ, ◌==◌, ◌||◌, Bool, false, List, [], ◌∷◌, Option, Some, None, codes, drop, length, if◌then◌else◌}
 use Rattle.std.specs.List.{after_first, before_first, position_or_len}
-use Rattle.std.specs.Str.{bytes_eq, str_eq_ignore_ascii_case}
+use Rattle.std.specs.Str.{bytes_eq}
+use Rattle.uri_text.specs.AnyCase.{begins_in_any_case}
 use Rattle.http_request.specs.declared.route.Page.{Page}
 use Rattle.http_request.specs.declared.route.Page.TheVariants.{Html, Text, Report}
 
@@ -20,11 +21,8 @@ begins_with_slash (b ∷ bytes) = is_slash b
 -- ---- absolute form (section 3.2.2): a scheme, an authority, and then the same, where the path may be empty
 
 -- a scheme is written in either case
-abbrev pub begins_with : List ℕ → List ℕ → Bool
-begins_with scheme target = str_eq_ignore_ascii_case (take (length scheme) target) scheme
-
 abbrev pub after_scheme : List ℕ → List ℕ → Option (List ℕ)
-after_scheme scheme target = if begins_with scheme target then Some (drop (length scheme) target) else None
+after_scheme scheme target = if begins_in_any_case target scheme then Some (drop (length scheme) target) else None
 
 -- an authority ends before a `/`, a `?` or with the target
 abbrev pub authority_length : List ℕ → ℕ

@@ -1,10 +1,11 @@
 //! The target of a request (RFC 9112, section 3.2).
 
-ghost use Rattle.std.specs.Prelude.{◌≡◌, ◌≤◌, ◌||◌, IfSome, IsTrue, length, position};
+ghost use Rattle.std.specs.Prelude.{◌≡◌, ◌≤◌, ◌||◌, IfSome, length, position};
 ghost use Rattle.std.specs.Option.{option_copied};
 ghost use Rattle.http_request.specs.Target as spec;
 
 use crate::route::Page;
+use uri_text::begins_in_any_case;
 
 // Where the authority at the beginning ends: at the first `/` or `?`.
 fn authority_end(bytes: &[u8]) -> Option<usize>
@@ -33,24 +34,12 @@ fn after_authority(bytes: &[u8]) -> Option<&[u8]>
     }
 }
 
-// Whether a target begins with a scheme, written in either case.
-#[tactic(auto, using(crate::proofs::Schemes::front_decides, crate::proofs::Schemes::short_differs))]
-fn begins_with(target: &[u8], scheme: &[u8]) -> bool
-    ensures begins { result ≡ spec.begins_with scheme.now target.now }
-    ensures within { IsTrue result → length scheme.now ≤ length target.now }
-{
-    match target.get(..scheme.len()) {
-        Some(front) => front.eq_ignore_ascii_case(scheme),
-        None => false,
-    }
-}
-
-// What follows the scheme.
+// What follows the scheme, which is written in either case.
 fn after_scheme<'a>(target: &'a [u8], scheme: &[u8]) -> Option<&'a [u8]>
     ensures after { option_copied result ≡ spec.after_scheme scheme.now target.now }
     ensures within { IfSome result (λ rest. length rest.now ≤ length target.now) }
 {
-    if begins_with(target, scheme) {
+    if begins_in_any_case(target, scheme) {
         Some(&target[scheme.len()..])
     } else {
         None

@@ -1,11 +1,7 @@
 -- Links of the web.
-use Rattle.std.specs.Prelude.{Bool, ◌||◌, codes, length, take}
-use Rattle.std.specs.Str.{str_eq_ignore_ascii_case}
+use Rattle.std.specs.Prelude.{Bool, ◌||◌, codes}
 use Rattle.text_model.specs.Texts.{Text}
-
--- the text begins with these letters, each in either case
-abbrev pub begins_in_any_case : Text → Text → Bool
-begins_in_any_case text beginning = str_eq_ignore_ascii_case (take (length beginning) text) beginning
+use Rattle.uri_text.specs.AnyCase.{begins_in_any_case}
 
 abbrev pub is_web_link : Text → Bool
 is_web_link link = begins_in_any_case link (codes "http://") || begins_in_any_case link (codes "https://")

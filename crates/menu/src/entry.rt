@@ -1,47 +1,9 @@
 //! What a menu has of each target.
 
-ghost use Rattle.std.specs.Prelude.{◌≡◌, string_bytes};
+ghost use Rattle.std.specs.Prelude.{◌≡◌};
 ghost use Rattle.menu.specs.Links.{has_link};
 
-use std::marker::Model;
-
-/// A text of a menu, which contracts see as its bytes.
-#[derive(Drop)]
-pub struct Text {
-    string: String,
-}
-
-impl Model for Text {
-    ghost use Rattle.std.specs.Prelude.{string_bytes};
-    ghost use Rattle.text_model.specs.Texts.{Text};
-
-    ghost Value = { Text };
-
-    ghost view = { λ text. string_bytes text.string };
-}
-
-impl Text {
-    /// A text with the bytes of the string.
-    pub fn new(string: String) -> Text
-        ensures { result ≡ string_bytes string }
-    {
-        Text { string }
-    }
-
-    /// The text, lent.
-    pub fn as_str(&self) -> &str
-        ensures { result.now ≡ self.now }
-    {
-        self.string.as_str()
-    }
-
-    /// The text, handed out.
-    pub fn into_string(self) -> String
-        ensures { string_bytes result ≡ self }
-    {
-        self.string
-    }
-}
+use uri_text::Text;
 
 /// What a target's rows led to: its link, or the reason why it has none.
 #[derive(Drop)]

@@ -9,6 +9,7 @@ mod lines;
 mod menu;
 mod web_link;
 
-pub use entry::{MenuEntry, Resolution, Text};
+pub use entry::{MenuEntry, Resolution};
 pub use menu::Menu;
+pub use uri_text::Text;
 pub use web_link::is_web_link;

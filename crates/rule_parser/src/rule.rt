@@ -66,13 +66,6 @@ impl Guards {
     {
         &self.list
     }
-
-    /// The guards in their order, handed out; takes no memory.
-    pub fn into_vec(self) -> Vec<Guard>
-        ensures { result.items ≡ self }
-    {
-        self.list
-    }
 }
 
 /// A link, and what has to hold for it.

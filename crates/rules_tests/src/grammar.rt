@@ -121,9 +121,9 @@ fn parts_give_back_what_they_hold(rt: HostRuntime) -> Result<(), Fail> {
     })?;
     let specs = Specs::new(list);
     assert_eq!(rt; specs.as_slice().len(), 1);
-    for spec in specs.into_vec() {
+    for spec in specs.as_slice() {
         assert_eq!(rt; spec.cut, 3);
-        assert_eq!(rt; spec.name.into_string().as_str(), "a");
+        assert_eq!(rt; spec.name.as_str(), "a");
     }
     Ok(())
 }

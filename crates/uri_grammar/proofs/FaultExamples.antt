@@ -1,6 +1,6 @@
 -- Faults.
 
-use Rattle.std.proofs.Common.{◌≡◌, ◌≢◌, ℕ, ◌+◌, ◌<◌, true, false, inr, None, List, [], ◌∷◌, ◌++◌, length, refl, ap, arith, append-nil, ◌==◌, not, codes}
+use Rattle.std.proofs.Common.{◌≡◌, ℕ, ◌+◌, ◌<◌, true, false, inr, None, List, [], ◌∷◌, ◌++◌, length, refl, ap, arith, append-nil, ◌==◌, not, codes}
 use Rattle.std.proofs.Common.{encode_utf8, encode_utf8_all}
 use Rattle.std.specs.List.{list_all}
 use Rattle.std.proofs.lemmas.Bool.{eq-eqb, leb-true, false≢true}

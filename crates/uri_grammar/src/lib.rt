@@ -6,9 +6,10 @@
 
 pub use crate::error::{TemplateError, TemplateErrorKind};
 pub use crate::names::{MAX_NAME_BYTES, is_name};
-pub use crate::parts::{Op, Part, Spec, Specs, Text};
+pub use crate::parts::{Op, Part, Spec, Specs};
 pub use crate::template::{MAX_BYTES, Template};
 pub use crate::variables::MAX_PREFIX;
+pub use uri_text::Text;
 
 mod characters;
 mod error;

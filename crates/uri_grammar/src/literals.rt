@@ -7,10 +7,10 @@ ghost use Rattle.uri_grammar.specs.Private.Lengths.{literal_item_len};
 ghost use Rattle.uri_grammar.specs.declared.parts.Part.{Part};
 
 use crate::characters::{begins_with_triplet, text_of};
-use crate::parts::{Part, Text};
+use crate::parts::Part;
 use crate::template::MAX_BYTES;
 use std::alloc::{AllocError, Global};
-use uri_text::encode_ur;
+use uri_text::{Text, encode_ur};
 
 #[tactic(auto, unfolding(crate::specs::Literals::is_literal_character))]
 fn is_literal_character(c: char) -> bool

@@ -1,46 +1,9 @@
 //! The parts of a template's tree.
 
-ghost use Rattle.std.specs.Prelude.{◌≡◌, string_bytes};
+ghost use Rattle.std.specs.Prelude.{◌≡◌};
 
 use std::marker::Model;
-
-/// A text of a tree, which contracts see as its bytes.
-#[derive(Drop)]
-pub struct Text {
-    string: String,
-}
-
-impl Model for Text {
-    ghost use Rattle.std.specs.Prelude.{string_bytes};
-    ghost use Rattle.text_model.specs.Texts.{Text};
-
-    ghost Value = { Text };
-
-    ghost view = { λ text. string_bytes text.string };
-}
-
-impl Text {
-    /// A text with the bytes of the string.
-    pub fn new(string: String) -> Text
-        ensures { result ≡ string_bytes string }
-    {
-        Text { string }
-    }
-
-    /// The text, lent.
-    pub fn as_str(&self) -> &str
-        ensures { result.now ≡ self.now }
-    {
-        self.string.as_str()
-    }
-
-    /// The text, handed out.
-    pub fn into_string(self) -> String
-        ensures { string_bytes result ≡ self }
-    {
-        self.string
-    }
-}
+use uri_text::Text;
 
 /// How an expression writes its values (RFC 6570, section 2.2).
 #[derive(Clone, Copy, PartialEq, Eq)]
@@ -103,13 +66,6 @@ impl Specs {
         ensures { result.now ≡ self.now }
     {
         &self.list
-    }
-
-    /// The variables in their order, handed out.
-    pub fn into_vec(self) -> Vec<Spec>
-        ensures { result.items ≡ self }
-    {
-        self.list
     }
 }
 

@@ -13,10 +13,11 @@ use crate::error::{TemplateError, TemplateErrorKind};
 use crate::expressions::expression;
 use crate::literals::{literal, literals_len};
 use crate::names::MAX_NAME_BYTES;
-use crate::parts::{Part, Text};
+use crate::parts::Part;
 use crate::variables::MAX_PREFIX;
 use std::alloc::Global;
 use std::marker::Model;
+use uri_text::Text;
 
 /// The most bytes that a template has.
 pub const MAX_BYTES: usize = 8192;

@@ -10,9 +10,10 @@ ghost use Rattle.uri_grammar.specs.Private.Reading.{begins_above_zero, number_of
 use crate::characters::text_of;
 use crate::error::{TemplateError, TemplateErrorKind};
 use crate::names::{MAX_NAME_BYTES, varname_len};
-use crate::parts::{Spec, Text};
+use crate::parts::Spec;
 use crate::template::MAX_BYTES;
 use std::alloc::Global;
+use uri_text::Text;
 
 /// The most items that a prefix takes of a value.
 pub const MAX_PREFIX: u16 = 9_999;

@@ -1,3 +1,4 @@
+pub mod AnyCase
 pub mod PercentBytes
 pub mod FirstItems
 pub mod Rests

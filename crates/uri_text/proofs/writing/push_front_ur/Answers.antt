@@ -1,10 +1,9 @@
-use Rattle.std.proofs.Common.{◌≡◌, ◌+◌, ◌++◌, ◌<◌, ◌≤◌, ◌∙◌, refl, sym, ap, length, string_bytes, string_len, string_capacity, get_or, take, drop, subst, arith}
+use Rattle.std.proofs.Common.{◌≡◌, ◌+◌, ◌++◌, ◌<◌, ◌≤◌, ◌∙◌, refl, sym, ap, length, string_bytes, string_len, string_capacity, get_or, take, subst, arith}
 use Rattle.std.proofs.Common.{lit<}
-use Rattle.std.specs.List.{prefix_len}
 use Rattle.std.specs.Str.{IsAscii}
 use Rattle.std.proofs.lemmas.Bool.{eqb-false}
 use Rattle.std.proofs.lemmas.List.{get_or-take}
-use Rattle.text_model.specs.Writing.{written_ur, written_byte, is_unreserved_or_reserved}
+use Rattle.text_model.specs.Writing.{written_ur, written_byte}
 use Rattle.text_model.proofs.Written.{written_ur-byte, written_ur-triplet}
 use Rattle.uri_text.proofs.Rests.{bytes_left, len_left, room_left, room_for}
 use Rattle.uri_text.proofs.Runs.{unreserved_or_reserved_ascii, written_ur-run}

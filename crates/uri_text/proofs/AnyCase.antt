@@ -1,4 +1,4 @@
--- The beginning of a text and the letters that it is to be, in either case.
+-- The first bytes of a text and the letters with which they are compared, in either case.
 use Rattle.std.proofs.Common.{◌≡◌, ◌<◌, Bool, true, false, ◌↔◌, map, length, take, refl, ap, arith}
 use Rattle.std.specs.Bool.{Decides, IsTrue}
 use Rattle.std.specs.Char.{to_ascii_lowercase}
@@ -7,10 +7,7 @@ use Rattle.std.proofs.lemmas.Bool.Decides.{same_from_decides}
 use Rattle.std.proofs.lemmas.List.{length-map, take_all}
 use Rattle.std.proofs.lemmas.Slice.Eq.{bytes_eq-Decides}
 use Rattle.text_model.specs.Texts.{Text}
-use Rattle.menu.specs.WebLink.{begins_in_any_case}
-
-lower : Text → Text
-lower t = map to_ascii_lowercase t
+use Rattle.uri_text.specs.AnyCase.{begins_in_any_case}
 
 pub front_decides : (r : Bool) (front beginning : Text) → (IsTrue r ↔ (map to_ascii_lowercase front ≡ map to_ascii_lowercase beginning))
     → r ≡ str_eq_ignore_ascii_case front beginning
