@@ -9,13 +9,10 @@ ghost use Rattle.kev_read.specs.Private.KeyOrder.{IsKeyOrder, has_index, passes_
 use crate::key_order::indices_of;
 use crate::pairs::Pairs;
 use crate::read::MAX_PAIRS;
+use target_vars::{AUTHORS, IDENTIFIERS};
 
-/// The keys that name lists in every request: authors, and identifiers of the referent.
+/// The keys that are lists in every request.
 const STANDARD_LISTS: [&str; 2] = [AUTHORS, IDENTIFIERS];
-
-const AUTHORS: &str = "rft.au";
-
-const IDENTIFIERS: &str = "rft_id";
 
 /// Whether a name is a list in every request.
 pub fn is_standard_list(name: &str) -> bool

@@ -24,3 +24,4 @@ pub use first_link::meaning;
 pub use guard::MAX_DIGITS;
 pub use rule::{Bound, Guard, Guards, Rule};
 pub use rules::{MAX_BYTES, Rules};
+pub use uri_grammar::{Template, TemplateErrorKind, Text};

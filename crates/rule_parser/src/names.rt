@@ -5,6 +5,7 @@ ghost use Rattle.environment_model.specs.Environment.{is_among as is_one_of};
 ghost use Rattle.environment_model.specs.Lists.{is_list as stands_for_list};
 
 use std::alloc::{AllocError, Global};
+use target_vars::{AUTHORS, IDENTIFIERS};
 use uri_grammar::Text;
 
 /// Whether the name is one of these.
@@ -18,7 +19,7 @@ pub(crate) fn is_among(names: &[Text], name: &str) -> bool
 pub(crate) fn is_list(declared: &[Text], name: &str) -> bool
     ensures { result ≡ stands_for_list declared.now name.now }
 {
-    name == "rft.au" || name == "rft_id" || is_among(declared, name)
+    name == AUTHORS || name == IDENTIFIERS || is_among(declared, name)
 }
 
 /// A copy of the text.

@@ -14,6 +14,7 @@ use crate::names::is_list;
 use crate::rule::Rule;
 use std::alloc::{AllocError, Global};
 use std::marker::Model;
+use target_vars::{AUTHORS, IDENTIFIERS};
 use uri_grammar::Text;
 
 /// The most bytes that a rule text has.
@@ -78,7 +79,7 @@ impl Rules {
     pub fn lists(&self, alloc: Global) -> Result<Vec<&str>, AllocError>
         ensures { IfOk result (λ lists. map (λ list. list.now) lists.items ≡ each_once (list_names self.now.lists)) }
     {
-        let mut lists = vec![in alloc; "rft.au", "rft_id"]?;
+        let mut lists = vec![in alloc; AUTHORS, IDENTIFIERS]?;
         for list in &self.lists {
             let name = list.as_str();
             if !lists.contains(&name) {

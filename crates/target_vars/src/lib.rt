@@ -10,6 +10,7 @@
 
 mod env;
 mod error;
+mod lists;
 mod members;
 mod members_iter;
 mod names;
@@ -19,6 +20,7 @@ mod scope;
 
 pub use env::{Env, MAX_BYTES, MAX_MEMBERS};
 pub use error::VarsError;
+pub use lists::{AUTHORS, IDENTIFIERS};
 pub use members::Members;
 pub use members_iter::MembersIter;
 pub use scope::Scope;
