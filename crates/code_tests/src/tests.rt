@@ -18,14 +18,6 @@ use target_vars::Env;
 /// Whether it is a member of a list, a name, a text, and a count: of equal members, or of the parts of one text.
 type Entry = (bool, &'static str, &'static str, usize);
 
-fn repeated(alloc: Global, part: &str, times: usize) -> Result<String, AllocError> {
-    let mut text = String::new(alloc);
-    for _ in 0..times {
-        text.push_str(part)?;
-    }
-    Ok(text)
-}
-
 fn add(alloc: Global, env: &mut Env, entry: Entry) -> Result<(), Fail> {
     let (list, name, text, times) = entry;
     if list {
@@ -33,7 +25,7 @@ fn add(alloc: Global, env: &mut Env, entry: Entry) -> Result<(), Fail> {
             env.add_member(name, text)?;
         }
     } else {
-        env.put_text(name, &repeated(alloc, text, times)?)?;
+        env.put_text(name, &text.repeat(alloc, times)?)?;
     }
     Ok(())
 }

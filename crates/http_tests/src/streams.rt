@@ -40,7 +40,7 @@ fn reads_a_head_in_pieces_and_nothing_more(rt: HostRuntime) {
 }
 
 /// Bytes, and how many of them are read, a byte at a time.
-const CLOSED: [(&[u8], usize); 12] = [
+const LENGTHS_READ: [(&[u8], usize); 12] = [
     (b"", 0),
     (b"a", 1),
     (b"a\n\nb", 3),
@@ -57,7 +57,7 @@ const CLOSED: [(&[u8], usize); 12] = [
 
 #[test]
 fn reads_until_the_head_is_closed(rt: HostRuntime) -> Result<(), Fail> {
-    for (bytes, count) in CLOSED {
+    for (bytes, count) in LENGTHS_READ {
         assert_eq!(rt;
             count_read(rt.alloc(), bytes, 1, None),
             Ok(count),

@@ -256,14 +256,6 @@ fn texts_have_rules(rt: HostRuntime) {
     }
 }
 
-fn repeated(alloc: Global, byte: u8, n: usize) -> Result<Vec<u8>, AllocError> {
-    let mut bytes = Vec::with_capacity(alloc, n)?;
-    for _ in 0..n {
-        bytes.push(byte)?;
-    }
-    Ok(bytes)
-}
-
 // A byte, a number of times; the fault.
 const LONG: &[(u8, usize, RuleErrorKind)] = &[
     (b'#', 65_537, TooLong),
@@ -274,11 +266,11 @@ const LONG: &[(u8, usize, RuleErrorKind)] = &[
 #[test]
 fn faults_of_no_line(rt: HostRuntime) -> Result<(), Fail> {
     for &(byte, n, kind) in LONG {
-        let text = repeated(rt.alloc(), byte, n)?;
+        let text = [byte].repeat(rt.alloc(), n)?;
         assert!(rt; has_fault(rt.alloc(), &text, kind, 0), "{byte} {n}");
     }
     assert!(rt; has_fault(rt.alloc(), b"rule\nrule\xC3", NotUtf8, 0));
-    let longest = repeated(rt.alloc(), b'#', 65_536)?;
+    let longest = b"#".repeat(rt.alloc(), 65_536)?;
     assert_eq!(rt; fault_of(rt.alloc(), &longest), None);
     Ok(())
 }

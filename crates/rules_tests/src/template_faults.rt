@@ -120,20 +120,16 @@ fn faults(rt: HostRuntime) {
     }
 }
 
-/// The text, `n` times another, and a last one.
-fn repeated(
+/// A first text, then another `n` times, then a last one.
+fn text_around(
     alloc: Global,
     first: &str,
     n: usize,
     more: &str,
     last: &str,
 ) -> Result<String, AllocError> {
-    let mut text = String::from_str(alloc, first)?;
-    for _ in 0..n {
-        text.push_str(more)?;
-    }
-    text.push_str(last)?;
-    Ok(text)
+    let more = more.repeat(alloc, n)?;
+    format!(in alloc; "{first}{more}{last}")
 }
 
 // What is too long: a first text, a number of times another, and a last one; the kind and the place.
@@ -152,7 +148,7 @@ const LONG: &[(&str, usize, &str, &str, TemplateErrorKind, usize)] = &[
 #[test]
 fn long_texts_are_refused(rt: HostRuntime) -> Result<(), Fail> {
     for &(first, n, more, last, kind, at) in LONG {
-        let text = repeated(rt.alloc(), first, n, more, last)?;
+        let text = text_around(rt.alloc(), first, n, more, last)?;
         assert!(rt;
             has_fault(rt.alloc(), &text, kind, at),
             "{first} {n} {more} {last}"
@@ -173,7 +169,7 @@ const LONGEST: &[(&str, usize, &str, &str)] = &[
 #[test]
 fn longest_texts_are_templates(rt: HostRuntime) -> Result<(), Fail> {
     for &(first, n, more, last) in LONGEST {
-        let text = repeated(rt.alloc(), first, n, more, last)?;
+        let text = text_around(rt.alloc(), first, n, more, last)?;
         assert_eq!(rt;
             fault_of(rt.alloc(), &text),
             None,

@@ -1,6 +1,5 @@
 //! Codes of parts, and instructions of fields.
 
-use super::repeated;
 use code_file::CodeErrorKind::{BadLiteral, BadName, NoCode, NoMemory, TooLong, TooMany};
 use code_file::{Code, CodeError, CodeErrorKind, Instr, Literal, Name, instruction, spelling};
 use code_model::Instruction::{Count, Cut};
@@ -30,7 +29,7 @@ fn fault(
     link: &str,
     instrs: usize,
 ) -> Result<Option<CodeErrorKind>, AllocError> {
-    let text = repeated(alloc, "a", letters)?;
+    let text = "a".repeat(alloc, letters)?;
     let list = false;
     let names = vec![in alloc; Name { list, text }]?;
     let bytes = Vec::from_slice(alloc, link.as_bytes())?;
@@ -71,7 +70,7 @@ fn lists_are_in_table_order_and_as_often_as_there(rt: HostRuntime) -> Result<(),
         (true, "b"),
         (false, "a"),
     ] {
-        let text = repeated(rt.alloc(), text, 1)?;
+        let text = text.repeat(rt.alloc(), 1)?;
         names.push(Name { list, text })?;
     }
     let halt = vec![in rt.alloc(); instr(1, 0, 0, 0, 0)]?;
