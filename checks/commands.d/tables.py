@@ -107,6 +107,7 @@ FOUND_ROWS = [
     (IDENTIFIERS, "rft.issn=-&rft.eissn=+", 0, None),
     # A header alone.
     ("print_identifier\n", "rft.issn=1", 0, None),
+    (TITLES.splitlines()[0] + "\n", "rft.issn=1234567x", 0, None),
     (KBART, "rft.issn=00991234&rft.eissn=2099-123X", 0, 0),
     (KBART, "rft.issn=00991234&rft.eissn=2099-123X", 1, 2),
     (KBART, "rft.issn=00991234&rft.eissn=2099-123X", 3, None),
