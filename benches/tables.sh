@@ -24,6 +24,7 @@ columns='publication_title print_identifier online_identifier date_first_issue_o
 # So many rows of 83 bytes with all columns, each with two identifiers of its own; of them the first EACH-th, and so on,
 # have 9999-9999 as the first: MANY rows, evenly spread.
 rows() {
+  # shellcheck disable=SC2086 # the names are words of their own
   echo $columns | tr ' ' '\t'
   awk -v rows="$1" -v many="$2" 'BEGIN {
     each = many ? rows / many : 0
@@ -45,6 +46,7 @@ dense() {
 }
 
 # Seconds of N rounds, without those of the start.
+# shellcheck disable=SC2086 # without $last there is no argument
 seconds() {
   local some none
   TIMEFORMAT=%U

@@ -35,7 +35,7 @@ loop() {
 }
 
 row() {
-  printf "$("$1" "$2")" > "$work/code.olk"
+  printf %b "$("$1" "$2")" > "$work/code.olk"
   valgrind --tool=callgrind --callgrind-out-file=/dev/null "$program" verify "$work/code.olk" \
     > "$work/verdict" 2> "$work/count.log" || { echo "$1 $2: not accepted" >&2; exit 1; }
   [ "$(head -2 "$work/verdict")" = "ok"$'\n'"steps $3 + $4*M" ] || { echo "$1 $2: a wrong verdict" >&2; exit 1; }
