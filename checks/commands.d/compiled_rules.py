@@ -66,7 +66,7 @@ def link_of(part, times):
 
 
 def long_links(letters):
-    """A rule of 500 expressions, and five rules whose links are so many letters each."""
+    """A rule of 500 expressions, and five rules whose links have that many letters each."""
     return link_of("{a}", 500) + "".join(link_of(letter, letters) for letter in "bcdef")
 
 
