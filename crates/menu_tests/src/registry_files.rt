@@ -187,7 +187,7 @@ fn has_no_line_0(rt: HostRuntime) -> Result<(), Fail> {
     Ok(())
 }
 
-/// What the first target's fault is if its code has so many bytes of zero.
+/// What the first target's fault is if its code has this many zero bytes.
 const CODES: [(usize, &str); 2] = [
     (65_536, "target alpha: load: BadMagic at 0"),
     (65_537, "target alpha: load: TooLong at 65536"),
