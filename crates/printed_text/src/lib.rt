@@ -1,0 +1,14 @@
+//! Text of unknown bytes as it is printed, and what a review of files finds.
+//!
+//! ```rust
+//! let mut line = String::new(alloc);
+//! push_quoted(&mut line, b"a\tb")?;
+//! assert!(rt; line.as_str() == "\"a\\x09b\"");
+//! ```
+#![tactic(auto)]
+
+mod findings;
+mod quoting;
+
+pub use findings::Findings;
+pub use quoting::{MAX_SHOWN, push_bytes, push_quoted, push_shortened, push_visible};

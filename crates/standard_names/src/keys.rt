@@ -1,0 +1,82 @@
+//! The keys of requests.
+
+ghost use Rattle.std.specs.Prelude.{◌≡◌};
+ghost use Rattle.text_model.specs.Texts.{texts_of};
+ghost use Rattle.standard_names.specs.Keys.{request_keys};
+
+/// The keys of a request in the key/encoded-value form: those of the context object and its entities
+/// (ANSI/NISO Z39.88-2004), then those of the metadata formats for journals, books and dissertations. `rft.au` and
+/// `rft_id`, which are always lists, are not among them. `rft.eisbn` is in no format, but sources send it.
+pub fn request_keys() -> &'static [&'static str]
+    ensures { texts_of result.now ≡ request_keys }
+{
+    &[
+        "ctx_ver",
+        "ctx_enc",
+        "ctx_id",
+        "ctx_tim",
+        "url_ver",
+        "url_ctx_fmt",
+        "url_tim",
+        "rft_val_fmt",
+        "rft_dat",
+        "rft_ref",
+        "rft_ref_fmt",
+        "rfe_id",
+        "rfe_val_fmt",
+        "rfe_dat",
+        "req_id",
+        "req_val_fmt",
+        "req_dat",
+        "rfr_id",
+        "rfr_val_fmt",
+        "rfr_dat",
+        "svc_id",
+        "svc_val_fmt",
+        "svc_dat",
+        "res_id",
+        "res_val_fmt",
+        "res_dat",
+        "rft.genre",
+        "rft.atitle",
+        "rft.jtitle",
+        "rft.stitle",
+        "rft.title",
+        "rft.btitle",
+        "rft.date",
+        "rft.chron",
+        "rft.ssn",
+        "rft.quarter",
+        "rft.volume",
+        "rft.part",
+        "rft.issue",
+        "rft.spage",
+        "rft.epage",
+        "rft.pages",
+        "rft.artnum",
+        "rft.issn",
+        "rft.eissn",
+        "rft.isbn",
+        "rft.eisbn",
+        "rft.coden",
+        "rft.sici",
+        "rft.bici",
+        "rft.aulast",
+        "rft.aufirst",
+        "rft.auinit",
+        "rft.auinit1",
+        "rft.auinitm",
+        "rft.ausuffix",
+        "rft.aucorp",
+        "rft.place",
+        "rft.pub",
+        "rft.edition",
+        "rft.tpages",
+        "rft.series",
+        "rft.co",
+        "rft.cc",
+        "rft.inst",
+        "rft.advisor",
+        "rft.degree",
+    ]
+}
