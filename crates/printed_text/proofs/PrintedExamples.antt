@@ -1,5 +1,5 @@
 -- How texts are printed: what shows itself, what is escaped, and where a long text is cut.
-use Rattle.std.proofs.Common.{◌≡◌, ◌++◌, ℕ, List, [], ◌∷◌, refl, codes}
+use Rattle.std.proofs.Common.{◌≡◌, ◌++◌, [], ◌∷◌, refl, codes}
 use Rattle.std.specs.List.{repeat}
 use Rattle.std.specs.Fmt.{digits}
 use Rattle.printed_text.specs.Printed.{quoted, shortened, visible}
@@ -20,14 +20,14 @@ bytes_beyond_ascii = refl
 empty_text : quoted [] ≡ codes "\"\""
 empty_text = refl
 
-sixty_bytes : shortened (repeat 0x61 60) ≡ codes "\"" ++ (repeat 0x61 60 ++ codes "\"")
+sixty_bytes : shortened (repeat 60 (codes "a")) ≡ codes "\"" ++ (repeat 60 (codes "a") ++ codes "\"")
 sixty_bytes = refl
 
-sixty_one_bytes : shortened (repeat 0x61 61) ≡ codes "\"" ++ (repeat 0x61 60 ++ codes "\"...")
+sixty_one_bytes : shortened (repeat 61 (codes "a")) ≡ codes "\"" ++ (repeat 60 (codes "a") ++ codes "\"...")
 sixty_one_bytes = refl
 
 -- bytes are counted, and not what is printed for them
-sixty_escaped_bytes : shortened (0 ∷ repeat 0x61 60) ≡ codes "\"\\x00" ++ (repeat 0x61 59 ++ codes "\"...")
+sixty_escaped_bytes : shortened (0 ∷ repeat 60 (codes "a")) ≡ codes "\"\\x00" ++ (repeat 59 (codes "a") ++ codes "\"...")
 unfolding digits
 sixty_escaped_bytes = refl
 
