@@ -1,11 +1,10 @@
--- The listings of small codes, and how single instructions and bytes are listed.
+-- The listings of small codes, and how single instructions are listed.
 use Rattle.std.proofs.Common.{◌≡◌, ◌++◌, List, [], ◌∷◌, refl, codes, map}
-use Rattle.std.specs.List.{flat_map}
 use Rattle.std.specs.Fmt.{digits}
 use Rattle.code_model.specs.Code.{row, reading}
 use Rattle.code_model.specs.declared.code.Instr.{Instr}
 use Rattle.code_file.specs.Grammar.{code_of}
-use Rattle.code_file.specs.Listing.{instr_text, byte_text, listing}
+use Rattle.code_file.specs.Listing.{instr_text, listing}
 use Rattle.code_file.proofs.Examples.{list_code, issn_code}
 
 -- ---- whole codes
@@ -49,10 +48,3 @@ of_instructions : map (instr_text 1) fields
     ∷ []
 unfolding reading digits
 of_instructions = refl
-
--- ---- bytes of literals: those outside 20 to 7e, and `"` and `\`, in hexadecimal
-
-of_bytes : flat_map byte_text (0x00 ∷ 0x0a ∷ 0x1f ∷ 0x20 ∷ 0x21 ∷ 0x22 ∷ 0x23 ∷ 0x5b ∷ 0x5c ∷ 0x5d ∷ 0x7e ∷ 0x7f ∷ 0xc3 ∷ 0xff ∷ [])
-    ≡ codes "\\x00\\x0a\\x1f !\\x22#[\\x5c]~\\x7f\\xc3\\xff"
-unfolding digits
-of_bytes = refl

@@ -1,8 +1,9 @@
 -- The listing of a code: its counts, its tables and its instructions, a line each.
-use Rattle.std.specs.Prelude.{ℕ, ◌+◌, ◌/◌, ◌%◌, Bool, false, ◌&&◌, ◌==◌, not, nat_le, List, [], ◌∷◌, ◌++◌, Option, Some, None, length, codes, if◌then◌else◌}
-use Rattle.std.specs.List.{flat_map, list_all}
-use Rattle.std.specs.Fmt.{decimal, digits}
+use Rattle.std.specs.Prelude.{ℕ, ◌+◌, Bool, ◌&&◌, ◌==◌, List, [], ◌∷◌, ◌++◌, Option, Some, None, length, codes, if◌then◌else◌}
+use Rattle.std.specs.List.{list_all}
+use Rattle.std.specs.Fmt.{decimal}
 use Rattle.text_model.specs.Texts.{Text}
+use Rattle.printed_text.specs.Printed.{quoted}
 use Rattle.code_model.specs.Code.{Name, Literal, Code, is_same_instr, reading, spelling}
 use Rattle.code_model.specs.Operands.{operands, is_in_range}
 use Rattle.code_model.specs.declared.code.Instr.{Instr}
@@ -57,20 +58,6 @@ instr_text version i = text_of i (reading version i)
 abbrev pub line_feed : Text
 line_feed = 10 ∷ []
 
-abbrev pub quotation_mark : ℕ
-quotation_mark = 0x22
-
-abbrev pub backslash : ℕ
-backslash = 0x5c
-
--- a printable ASCII byte that is neither of these
-abbrev pub is_plain : ℕ → Bool
-is_plain b = nat_le 0x20 b && (nat_le b 0x7e && (not (b == quotation_mark) && not (b == backslash)))
-
--- a byte as it is, or as `\x` and two hexadecimal digits
-abbrev pub byte_text : ℕ → Text
-byte_text b = if is_plain b then (b ∷ []) else codes "\\x" ++ (digits 16 false (b / 16) ++ digits 16 false (b % 16))
-
 abbrev pub name_kind : Bool → Text
 name_kind list = if list then codes "list" else codes "text"
 
@@ -84,7 +71,7 @@ name_line place n =
 abbrev pub literal_line : ℕ → Literal → Text
 literal_line place l =
     codes "literal " ++ (decimal place ++ (codes " " ++ (literal_kind l.compared
-    ++ (codes " \"" ++ (flat_map byte_text l.bytes ++ (codes "\"" ++ line_feed))))))
+    ++ (codes " " ++ (quoted l.bytes ++ line_feed)))))
 
 abbrev pub instr_line : ℕ → ℕ → Instr → Text
 instr_line version place i = decimal place ++ (codes " " ++ (instr_text version i ++ line_feed))

@@ -2,16 +2,16 @@
 
 ghost use Rattle.std.specs.Prelude.{◌≡◌, ◌++◌, OnOk, codes, string_bytes};
 ghost use Rattle.std.specs.Fmt.{decimal};
-ghost use Rattle.std.specs.List.{flat_map};
 ghost use Rattle.code_model.specs.declared.code.Instruction.TheVariants as variant;
 ghost use Rattle.code_file.specs.Grammar.{IsVersion};
-ghost use Rattle.code_file.specs.Listing.{mode_word, instruction_text, byte_text, is_plain, name_line, literal_line};
+ghost use Rattle.code_file.specs.Listing.{mode_word, instruction_text, name_line, literal_line};
 ghost use Rattle.code_file.specs.Listing.{instr_line, instr_text, fields_text, lines_from, first_line};
 
 use crate::decode::{instruction, is_in_range, spelling};
 use crate::entry::{Literal, Name};
 use crate::header::magic;
 use code_model::{Instr, Instruction};
+use printed_text::push_quoted;
 use std::alloc::AllocError;
 
 fn mode(c: u16) -> &'static str
@@ -106,33 +106,6 @@ fn push_instr(out: &mut String, version: u8, instr: Instr) -> Result<(), AllocEr
     }
 }
 
-fn shows_itself(b: u8) -> bool
-    ensures { result ≡ is_plain b }
-{
-    (0x20..=0x7e).contains(&b) && b != b'"' && b != b'\\'
-}
-
-fn push_byte(out: &mut String, b: u8) -> Result<(), AllocError>
-    ensures { OnOk result (string_bytes out.new ≡ string_bytes out.old ++ byte_text b) }
-{
-    if shows_itself(b) {
-        out.push(char::from(b))
-    } else {
-        let high = b / 16;
-        let low = b % 16;
-        write!(out, "\\x{high:x}{low:x}")
-    }
-}
-
-fn push_bytes(out: &mut String, bytes: &[u8]) -> Result<(), AllocError>
-    ensures { OnOk result (string_bytes out.new ≡ string_bytes out.old ++ flat_map byte_text bytes.now) }
-{
-    for b in bytes {
-        push_byte(out, *b)?;
-    }
-    Ok(())
-}
-
 fn push_name_line(out: &mut String, place: usize, name: &Name) -> Result<(), AllocError>
     ensures { OnOk result (string_bytes out.new ≡ string_bytes out.old ++ name_line place name.now) }
 {
@@ -154,9 +127,9 @@ fn push_literal_line(out: &mut String, place: usize, literal: &Literal) -> Resul
     ensures { OnOk result (string_bytes out.new ≡ string_bytes out.old ++ literal_line place literal.now) }
 {
     let kind = if literal.compared { "compare" } else { "link" };
-    write!(out, "literal {place} {kind} \"")?;
-    push_bytes(out, &literal.bytes)?;
-    out.push_str("\"\n")
+    write!(out, "literal {place} {kind} ")?;
+    push_quoted(out, &literal.bytes)?;
+    out.push('\n')
 }
 
 pub(crate) fn push_literal_lines(out: &mut String, literals: &[Literal]) -> Result<(), AllocError>

@@ -8,8 +8,9 @@ marks_and_backslashes : quoted (codes "a\"b\\c 'd'") ≡ codes "\"a\\x22b\\x5cc 
 unfolding digits
 marks_and_backslashes = refl
 
--- on both sides of each end of printable ASCII
-ends_of_ascii : quoted (0x1f ∷ 0x20 ∷ 0x7e ∷ 0x7f ∷ []) ≡ codes "\"\\x1f ~\\x7f\""
+-- on both sides of each end of printable ASCII, of the quotation mark and of the backslash
+ends_of_ascii : quoted (0x1f ∷ 0x20 ∷ 0x21 ∷ 0x22 ∷ 0x23 ∷ 0x5b ∷ 0x5c ∷ 0x5d ∷ 0x7e ∷ 0x7f ∷ [])
+    ≡ codes "\"\\x1f !\\x22#[\\x5c]~\\x7f\""
 unfolding digits
 ends_of_ascii = refl
 

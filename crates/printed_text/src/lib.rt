@@ -11,4 +11,4 @@ mod findings;
 mod quoting;
 
 pub use findings::Findings;
-pub use quoting::{MAX_SHOWN, push_bytes, push_quoted, push_shortened, push_visible};
+pub use quoting::{MAX_SHOWN, push_quoted, push_shortened, push_visible};

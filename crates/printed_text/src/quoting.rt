@@ -41,8 +41,8 @@ pub fn push_visible(out: &mut String, bytes: &[u8]) -> Result<(), AllocError>
     Ok(())
 }
 
-/// Appends the bytes as they stand between the marks of [`push_quoted`].
-pub fn push_bytes(out: &mut String, bytes: &[u8]) -> Result<(), AllocError>
+/// Appends the bytes as they are between the quotation marks of [`push_quoted`].
+fn push_bytes(out: &mut String, bytes: &[u8]) -> Result<(), AllocError>
     ensures { OnOk result (string_bytes out.new ≡ string_bytes out.old ++ flat_map byte_text bytes.now) }
 {
     for b in bytes {

@@ -1,8 +1,0 @@
-use Rattle.std.proofs.Common.{◌≡◌, ◌++◌, take}
-use Rattle.std.specs.Prelude.{string_bytes}
-use Rattle.std.specs.List.{flat_map}
-use Rattle.code_file.specs.Listing.{byte_text}
-use Rattle.code_file.proofs.listing.push_bytes.Given as goal
-
-abbrev pub invariant-loop-b : goal.invariant-loop-b
-invariant-loop-b l = string_bytes l.out ≡ string_bytes l.initial.out ++ flat_map byte_text (take l.b-index l.bytes)
