@@ -22,6 +22,9 @@ mod row;
 mod verified;
 mod walk;
 
+pub use budget::Budget;
+pub use code_file::{Code, CodeErrorKind};
+pub use code_model::Instruction;
 pub use error::LoadError;
 pub use loading::load;
 pub use verified::Verified;
