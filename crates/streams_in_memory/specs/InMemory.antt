@@ -3,15 +3,16 @@ use Rattle.std.specs.Prelude.{ℕ, ◌-◌, ◌==◌, List, Option, Some, None, 
 use Rattle.http_streams.specs.Streams.{Heard, Said}
 use Rattle.http_streams.specs.declared.tally.Tally.{Tally}
 
--- what is told of an input with these bytes left, and of an output with these bytes written
-abbrev pub heard_of : List ℕ → Tally → Option ℕ → Heard
-heard_of left tally wait = record { left = Some left; taken = tally.moved; failures = tally.failures; wait = wait }
+-- what is told of an input with these bytes left to read and these calls counted, and of an output with these bytes written
+abbrev pub input_with : List ℕ → Tally → Option ℕ → Heard
+input_with left tally wait = record { left = Some left; taken = tally.moved; failures = tally.failures; wait = wait }
 
-abbrev pub said_of : List ℕ → Tally → Option ℕ → Said
-said_of written tally wait = record { written = Some written; sent = tally.moved; failures = tally.failures; wait = wait }
+abbrev pub output_with : List ℕ → Tally → Option ℕ → Said
+output_with written tally wait = record { written = Some written; sent = tally.moved; failures = tally.failures; wait = wait }
 
-abbrev pub nothing_yet : Tally
-nothing_yet = record { moved = 0; failures = 0 }
+-- the count of a stream on which nothing was called
+abbrev pub no_calls : Tally
+no_calls = record { moved = 0; failures = 0 }
 
 -- a tape: what is left to read, what was written, and what its reads and its writes have counted
 pub record TapeValue : Type 0 where
@@ -37,17 +38,22 @@ pub record PieceOutValue : Type 0 where
   pub tally : Tally
   pub wait : Option ℕ
 
-abbrev pub heard_on_tape : TapeValue → Heard
-heard_on_tape tape = heard_of tape.left tape.reads None
+-- ---- what is told of them
 
-abbrev pub said_on_tape : TapeValue → Said
-said_on_tape tape = said_of tape.written tape.writes None
+-- a tape is both an input and an output
+abbrev pub tape_as_input : TapeValue → Heard
+tape_as_input tape = input_with tape.left tape.reads None
 
-abbrev pub heard_in_pieces : PieceInValue → Heard
-heard_in_pieces stream = heard_of stream.left stream.tally stream.wait
+abbrev pub tape_as_output : TapeValue → Said
+tape_as_output tape = output_with tape.written tape.writes None
 
-abbrev pub said_in_pieces : PieceOutValue → Said
-said_in_pieces stream = said_of stream.written stream.tally stream.wait
+abbrev pub pieces_as_input : PieceInValue → Heard
+pieces_as_input stream = input_with stream.left stream.tally stream.wait
+
+abbrev pub pieces_as_output : PieceOutValue → Said
+pieces_as_output stream = output_with stream.written stream.tally stream.wait
+
+-- ---- calls that fail
 
 -- the number of calls before the one that fails, after one call more
 abbrev pub after_call : Option ℕ → Option ℕ

@@ -4,7 +4,7 @@
 ghost use Rattle.std.specs.Prelude.{◌≡◌, ◌<◌, ◌≤◌, ◌↔◌, [], None, Some, IfOk, IsErr, OnErr, length, min, take};
 ghost use Rattle.std.specs.Duration.{as_nanos};
 ghost use Rattle.http_streams.specs.Streams.{Hears, IsAtEnd, Says, after_failed_read, after_failed_write};
-ghost use Rattle.streams_in_memory.specs.InMemory.{after_call, heard_in_pieces, nothing_yet, said_in_pieces};
+ghost use Rattle.streams_in_memory.specs.InMemory.{after_call, pieces_as_input, no_calls, pieces_as_output};
 
 use crate::fault::{call, copy_front};
 use http_streams::{Failed, Input, Output, Tally};
@@ -57,7 +57,7 @@ impl PieceIn {
               left = bytes.now;
               piece = piece;
               fails_after = fail_at;
-              tally = nothing_yet;
+              tally = no_calls;
               wait = None;
             }) }
     {
@@ -77,7 +77,7 @@ impl PieceIn {
           left = input.items;
           piece = usize.MAX;
           fails_after = None;
-          tally = nothing_yet;
+          tally = no_calls;
           wait = Some (as_nanos wait);
         } }
     {
@@ -93,16 +93,16 @@ impl PieceIn {
 }
 
 impl Input for PieceIn {
-    ghost heard = { heard_in_pieces };
+    ghost heard = { pieces_as_input };
 
     // As much as there is, the room and the piece allow.
     fn read(&mut self, room: &mut [u8]) -> Result<usize, Failed>
         requires { 0 < length room.old }
         ensures within { IfOk result (λ n. n ≤ length room.new) }
         ensures read { IfOk result
-            (λ n. Hears (heard_in_pieces self.old) (take n room.new) n (heard_in_pieces self.new)) }
+            (λ n. Hears (pieces_as_input self.old) (take n room.new) n (pieces_as_input self.new)) }
         ensures end { IfOk result (λ n. n ≡ 0 → IsAtEnd (Some self.old.left)) }
-        ensures failed { OnErr result (heard_in_pieces self.new ≡ after_failed_read (heard_in_pieces self.old)) }
+        ensures failed { OnErr result (pieces_as_input self.new ≡ after_failed_read (pieces_as_input self.old)) }
 
         ensures count { IfOk result (λ n. n ≡ min (length room.old) (min self.old.piece (length self.old.left))) }
         ensures piece { self.new.piece ≡ self.old.piece }
@@ -163,7 +163,7 @@ impl PieceOut {
               written = [];
               piece = piece;
               fails_after = fail_at;
-              tally = nothing_yet;
+              tally = no_calls;
               wait = None;
             }) }
     {
@@ -182,7 +182,7 @@ impl PieceOut {
           written = [];
           piece = usize.MAX;
           fails_after = None;
-          tally = nothing_yet;
+          tally = no_calls;
           wait = Some (as_nanos wait);
         } }
     {
@@ -212,14 +212,14 @@ impl PieceOut {
 }
 
 impl Output for PieceOut {
-    ghost said = { said_in_pieces };
+    ghost said = { pieces_as_output };
 
     fn write(&mut self, bytes: &[u8]) -> Result<usize, Failed>
         ensures within { IfOk result (λ n. n ≤ length bytes.now) }
         ensures some { IfOk result (λ n. 0 < length bytes.now → 0 < n) }
         ensures written { IfOk result
-            (λ n. Says (said_in_pieces self.old) (take n bytes.now) n (said_in_pieces self.new)) }
-        ensures failed { OnErr result (said_in_pieces self.new ≡ after_failed_write (said_in_pieces self.old)) }
+            (λ n. Says (pieces_as_output self.old) (take n bytes.now) n (pieces_as_output self.new)) }
+        ensures failed { OnErr result (pieces_as_output self.new ≡ after_failed_write (pieces_as_output self.old)) }
 
         ensures count { IfOk result (λ n. n ≡ min self.old.piece (length bytes.now)) }
         ensures piece { self.new.piece ≡ self.old.piece }

@@ -2,7 +2,7 @@
 
 ghost use Rattle.std.specs.Prelude.{◌≡◌, ◌<◌, ◌≤◌, [], Some, IfOk, OnErr, length, min, take};
 ghost use Rattle.http_streams.specs.Streams.{Hears, IsAtEnd, Says, after_failed_read, after_failed_write};
-ghost use Rattle.streams_in_memory.specs.InMemory.{heard_on_tape, nothing_yet, said_on_tape};
+ghost use Rattle.streams_in_memory.specs.InMemory.{tape_as_input, no_calls, tape_as_output};
 
 use crate::fault::copy_front;
 use http_streams::{Failed, Input, Output, Tally};
@@ -40,7 +40,7 @@ impl Tape {
     /// A tape with these bytes to read, and nothing written. The error is a failed allocation.
     pub fn new(alloc: Global, bytes: &[u8]) -> Result<Tape, AllocError>
         ensures { IfOk result
-            (λ tape. tape ≡ record { left = bytes.now; written = []; reads = nothing_yet; writes = nothing_yet }) }
+            (λ tape. tape ≡ record { left = bytes.now; written = []; reads = no_calls; writes = no_calls }) }
     {
         Ok(Tape {
             input: Vec::from_slice(alloc, bytes)?,
@@ -61,17 +61,17 @@ impl Tape {
 
 impl Input for Tape {
     ghost use Rattle.std.specs.Prelude.{Ok};
-    ghost use Rattle.streams_in_memory.specs.InMemory.{heard_on_tape};
+    ghost use Rattle.streams_in_memory.specs.InMemory.{tape_as_input};
 
-    ghost heard = { heard_on_tape };
+    ghost heard = { tape_as_input };
 
     // As much as there is, and the room allows.
     fn read(&mut self, room: &mut [u8]) -> Result<usize, Failed>
         requires { 0 < length room.old }
         ensures within { IfOk result (λ n. n ≤ length room.new) }
-        ensures read { IfOk result (λ n. Hears (heard_on_tape self.old) (take n room.new) n (heard_on_tape self.new)) }
+        ensures read { IfOk result (λ n. Hears (tape_as_input self.old) (take n room.new) n (tape_as_input self.new)) }
         ensures end { IfOk result (λ n. n ≡ 0 → IsAtEnd (Some self.old.left)) }
-        ensures failed { OnErr result (heard_on_tape self.new ≡ after_failed_read (heard_on_tape self.old)) }
+        ensures failed { OnErr result (tape_as_input self.new ≡ after_failed_read (tape_as_input self.old)) }
 
         ensures count { result ≡ Ok (min (length room.old) (length self.old.left)) }
         ensures written { self.new.written ≡ self.old.written }
@@ -85,16 +85,17 @@ impl Input for Tape {
 }
 
 impl Output for Tape {
-    ghost use Rattle.streams_in_memory.specs.InMemory.{said_on_tape};
+    ghost use Rattle.streams_in_memory.specs.InMemory.{tape_as_output};
 
-    ghost said = { said_on_tape };
+    ghost said = { tape_as_output };
 
     // All of the bytes.
     fn write(&mut self, bytes: &[u8]) -> Result<usize, Failed>
         ensures within { IfOk result (λ n. n ≤ length bytes.now) }
         ensures some { IfOk result (λ n. 0 < length bytes.now → 0 < n) }
-        ensures written { IfOk result (λ n. Says (said_on_tape self.old) (take n bytes.now) n (said_on_tape self.new)) }
-        ensures failed { OnErr result (said_on_tape self.new ≡ after_failed_write (said_on_tape self.old)) }
+        ensures written { IfOk result
+            (λ n. Says (tape_as_output self.old) (take n bytes.now) n (tape_as_output self.new)) }
+        ensures failed { OnErr result (tape_as_output self.new ≡ after_failed_write (tape_as_output self.old)) }
 
         ensures all { IfOk result (λ n. n ≡ length bytes.now) }
         ensures left { self.new.left ≡ self.old.left }
