@@ -1,5 +1,6 @@
 pub mod Adding
 mod Examples
+mod MenuExamples
 pub mod Fates
 pub mod RowsInOrder
 pub mod SoundMenus
