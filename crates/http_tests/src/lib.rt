@@ -5,6 +5,8 @@
 #[cfg(test)]
 mod exchanges;
 #[cfg(test)]
+mod fields;
+#[cfg(test)]
 mod heads;
 #[cfg(test)]
 mod service;
