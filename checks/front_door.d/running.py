@@ -1,5 +1,5 @@
 """Starts nginx with the front door and processes of the program, in a temporary folder and on free local ports."""
-import http.client, os, re, shutil, signal, socket, subprocess, tempfile, time
+import http.client, json, os, re, shutil, signal, socket, subprocess, tempfile, time
 
 PROGRAM = os.path.abspath("crates/openlink/out/openlink")
 LIBRARY = {
@@ -60,7 +60,9 @@ class Site:
         self.port, self.report_port, *self.ports = free_ports(2 + processes)
         self.processes = {}
         self.nginx = None
-        for name in ("log", "temp", "targets"):
+        # The paths of a registry are relative to the folder in which the program runs.
+        self.program_folder = None if is_sample else self.folder
+        for name in ("log", "temp", "rules", "code", "tables"):
             os.mkdir(f"{self.folder}/{name}")
         shutil.copytree("deploy/nginx", f"{self.folder}/openlink")
         if is_sample:
@@ -73,18 +75,21 @@ class Site:
         return f"{self.folder}/{name}"
 
     def write_registry(self):
-        lines = []
+        """A folder as in docs/OPERATING.md: the registry, rules/, code/ and tables/."""
+        tables = {}
         for name, table in LIBRARY.items():
-            lines.append((name, f"examples/library/{name}.rules", os.path.abspath(f"examples/library/{table}.txt")))
+            shutil.copy(f"examples/library/{name}.rules", self.path("rules"))
+            tables[name] = f"examples/library/{table}.txt"
         for name, rules in FOR_EVERY_REQUEST.items():
-            with open(self.path(f"targets/{name}.rules"), "w") as file:
+            with open(self.path(f"rules/{name}.rules"), "w") as file:
                 file.write(rules)
-            lines.append((name, self.path(f"targets/{name}.rules"), os.path.abspath("deploy/tables/ANY.tsv")))
+            tables[name] = "deploy/tables/ANY.tsv"
         with open(self.path("registry.tsv"), "w") as registry:
-            for name, rules, table in lines:
-                code = self.path(f"targets/{name}.olk")
-                subprocess.run([PROGRAM, "compile", rules, code], check=True, stdout=subprocess.DEVNULL)
-                registry.write(f"{name}\t{code}\t{table}\n")
+            for name, table in tables.items():
+                shutil.copy(table, self.path("tables"))
+                code = f"code/{name}.olk"
+                subprocess.run([PROGRAM, "compile", self.path(f"rules/{name}.rules"), self.path(code)], check=True, stdout=subprocess.DEVNULL)
+                registry.write(f"{name}\t{code}\ttables/{os.path.basename(table)}\n")
 
     def write_configuration(self):
         """The site as it is copied, with the paths and ports of this folder."""
@@ -111,7 +116,7 @@ class Site:
 
     def start_process(self, port):
         self.processes[port] = subprocess.Popen([PROGRAM, "serve", self.path("registry.tsv"), str(port), "1000000"],
-                                                stdout=subprocess.DEVNULL)
+                                                stdout=subprocess.DEVNULL, cwd=self.program_folder)
 
     def start(self):
         for port in self.ports:
@@ -128,6 +133,15 @@ class Site:
             except OSError:
                 time.sleep(0.02)
         raise SystemExit(f"checks/front_door: nothing listens at port {port}")
+
+    def write_targets(self, data):
+        """Writes this targets.json and takes it in use; the one that operators copy if it is None."""
+        if data is None:
+            shutil.copy("deploy/nginx/targets.json", self.path("openlink"))
+        else:
+            with open(self.path("openlink/targets.json"), "w") as file:
+                json.dump(data, file)
+        self.reload()
 
     def reload(self):
         """Reads the configuration again, and waits until a new worker serves."""

@@ -3,9 +3,9 @@ import glob, json, os, re
 
 SAMPLE = "deploy/nginx/words/en.json"
 # Texts that depend on the library, so no file of a language has them.
-OF_THE_LIBRARY = ("library", "help", "helpLink")
-# Names of groups, which are the same in all languages.
-PLAIN = ("name", "group", "onlyWithout")
+OF_THE_LIBRARY = ("library", "help", "helpLink", "problemLink")
+# Names of groups, and paths, which are the same in all languages.
+PLAIN = ("name", "group", "onlyWithout", "rules")
 TAG = r"[A-Za-z]{2,8}(-[A-Za-z0-9]{1,8})*"
 
 
@@ -84,15 +84,27 @@ def languages_of(site, loaded, faults):
     return languages
 
 
+def problem_link(site, faults):
+    """Adds a fault if the page would leave out the link "Report a problem"."""
+    words_of_site = site.get("words")
+    link = words_of_site.get("problemLink") if isinstance(words_of_site, dict) else None
+    for text in link.values() if isinstance(link, dict) else [link]:
+        if isinstance(text, str) and not re.fullmatch(r"(?i)(https?://|mailto:)[!-~]*\{\}[!-~]*", text):
+            faults.append("words: problemLink is no address of http, https or mailto with {} for the request")
+
+
 def faults_of(data, loaded=None):
     """Faults of a targets.json; `loaded` has the languages whose words are there."""
     faults = []
     site = parsed(data, faults)
     if site is None:
         return faults
-    faults += [f"unknown name {json.dumps(name)}" for name in site if name not in ("languages", "words", "groups", "targets")]
+    faults += [f"unknown name {json.dumps(name)}" for name in site if name not in ("languages", "words", "groups", "targets", "folder")]
     languages = languages_of(site, loaded, faults)
     texts("words", site.get("words", {}), words(), languages, faults)
+    problem_link(site, faults)
+    if not str(site.get("folder", "/")).startswith("/"):
+        faults.append("folder is not an absolute path")
     groups = site.get("groups", [])
     targets = site.get("targets", {})
     if not isinstance(groups, list) or not groups:
@@ -108,7 +120,7 @@ def faults_of(data, loaded=None):
         return faults + ["targets is not an object"]
     for name, target in targets.items():
         place = f"target {json.dumps(name)}"
-        texts(place, target, ("label", "group", "note"), languages, faults)
+        texts(place, target, ("label", "group", "note", "rules"), languages, faults)
         if not re.fullmatch(r"[A-Za-z0-9_.-]{1,64}", name):
             faults.append(f"{place}: no target can have this name")
         if isinstance(target, dict) and target.get("group", names[0]) not in names:

@@ -1,11 +1,13 @@
 // The front door of the link resolver: reads an OpenURL of any source, asks the program for its menu, and replies with the
-// reader's page of pages.js. An operator edits nothing here: labels are in targets.json, the page's texts in words/.
+// reader's page of pages.js, or the one for staff of why.js. An operator edits nothing here: labels are in targets.json,
+// the pages' texts in words/.
 //
 // It runs in njs 0.7.9 and later. That version lacks for-of, destructuring, spread, default parameters and classes. It
 // frees no memory before the reply is sent, and `test`, `exec`, `match` and `replace` take 5 KB where nothing matches,
 // but `search` takes none: so it goes first. A function expression in an array literal turns its index into a text.
 import languages from './languages.js';
 import pages from './pages.js';
+import why from './why.js';
 
 const MOST_PAIRS = 300;
 const MOST_BYTES = 12000;
@@ -58,9 +60,10 @@ function isDropped(key, value) {
         || (NUMBER_KEYS[key] === true && is(ANY, value));
 }
 
-// A query while the rules work on it. `pairs` are those of the request, `given` their values by key, `added` the values
-// that the rules put before them, `addedKeys` the keys of these in their order. Each pair is read once.
+// A query while the rules work on it. `args` is the request as it was sent, `pairs` its pairs, `given` their values by key,
+// `added` the values that the rules put before them, `addedKeys` the keys of these in their order. Each pair is read once.
 function Query(args) {
+    this.args = args;
     this.pairs = [];
     this.given = Object.create(null);
     this.added = Object.create(null);
@@ -410,11 +413,12 @@ async function ask(r, place, args) {
     await new Promise(function (done) { setTimeout(done, 400); });
     return r.subrequest(place, { args: args });
 }
-// Asks with both queries; gives the worse status and both texts.
+// Asks with both queries; gives these, the worse status and both texts.
 async function askBoth(r, place, q) {
-    const replies = await Promise.all([ask(r, place, requestText(q)), ask(r, place, anyText(q))]);
+    const queries = [requestText(q), anyText(q)];
+    const replies = await Promise.all(queries.map((query) => ask(r, place, query)));
     const status = Math.max(replies[0].status, replies[1].status);
-    return { status: status, texts: replies.map((reply) => reply.responseText || '') };
+    return { queries: queries, status: status, texts: replies.map((reply) => reply.responseText || '') };
 }
 
 function nameOf(line) { return line.slice(0, line.indexOf('\t')); }
@@ -432,7 +436,7 @@ function joinedReports(first, second) {
 }
 
 function faultStatus(replies) { return replies.status >= 400 && replies.status < 500 ? 400 : 503; }
-// Asks the program, unless the query is empty, and gives the citation and the groups to `reply`.
+// Asks the program, unless the query is empty, and gives the query and the groups to `reply`.
 async function answer(r, q, reply) {
     const site = siteOf(r);
     let menu = '';
@@ -444,7 +448,7 @@ async function answer(r, q, reply) {
     }
     const groups = pages.groupsOf(menu, site);
     if (q.pairs.length > 0) logLinks(r, groups);
-    reply(r, pages.citationOf(q, site), groups, site);
+    reply(r, q, groups, site);
 }
 
 function linksOf(groups) { return groups.reduce((links, group) => links.concat(group.links), []); }
@@ -455,9 +459,9 @@ function logLinks(r, groups) {
     logTargets(r, linksOf(pages.shownGroups(groups)));
 }
 
-function replyPage(r, citation, groups, site) { sendPage(r, 200, pages.pageOf(citation, groups, site), site); }
-function replyJson(r, citation, groups, site) {
-    sendJson(r, 200, { citation: citation, groups: pages.shownGroups(groups) }, site);
+function replyPage(r, q, groups, site) { sendPage(r, 200, pages.pageOf(q, groups, site), site); }
+function replyJson(r, q, groups, site) {
+    sendJson(r, 200, { citation: pages.citationOf(q, site), groups: pages.shownGroups(groups) }, site);
 }
 function find(r) { return answer(r, queryOf(argsOf(r)), replyPage); }
 function json(r) { return answer(r, queryOf(argsOf(r)), replyJson); }
@@ -466,9 +470,9 @@ function go(r) {
     const q = queryOf(argsOf(r));
     const isFirst = q.first('first') === '1';
     q.drop('first');
-    return answer(r, q, function (r, citation, groups, site) {
+    return answer(r, q, function (r, q, groups, site) {
         const links = groups[0].links;
-        if (links.length !== 1 && !(isFirst && links.length > 0)) return replyPage(r, citation, groups, site);
+        if (links.length !== 1 && !(isFirst && links.length > 0)) return replyPage(r, q, groups, site);
         logTargets(r, links.slice(0, 1));
         r.return(302, links[0].url);
     });
@@ -479,6 +483,15 @@ async function report(r) {
     const replies = await askBoth(r, '/_report', queryOf(argsOf(r)));
     if (replies.status !== 200) return sendFault(r, faultStatus(replies), siteOf(r));
     send(r, 200, 'text/plain; charset=utf-8', joinedReports(replies.texts[0], replies.texts[1]));
+}
+
+// For staff: the same as a page, with both queries and a command for each target. It has the queries even if the program
+// does not answer.
+async function whyPage(r) {
+    const site = siteOf(r);
+    const q = queryOf(argsOf(r));
+    const replies = await askBoth(r, '/_report', q);
+    sendPage(r, replies.status === 200 ? 200 : faultStatus(replies), why.pageOf(q, replies, site), site);
 }
 
 // The page in place of nginx's own text.
@@ -499,5 +512,7 @@ function guarded(handler) {
 export default {
     requestOf: requestOf, anyOf: anyOf, joined: joined, joinedReports: joinedReports,
     groupsOf: pages.groupsOf, shownGroups: pages.shownGroups, chosen: languages.chosen, siteIn: languages.siteIn,
-    find: guarded(find), json: guarded(json), go: guarded(go), report: guarded(report), fault: guarded(fault)
+    registryOf: why.registryOf, commandOf: why.commandOf, reasonsOf: why.reasonsOf,
+    find: guarded(find), json: guarded(json), go: guarded(go), report: guarded(report), why: guarded(whyPage),
+    fault: guarded(fault)
 };

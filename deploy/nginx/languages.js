@@ -80,7 +80,8 @@ function siteIn(targets, header) {
     const languages = offered(targets);
     const language = chosen(header, languages);
     return { language: language, main: languages[0], dir: is(RIGHT_TO_LEFT, language) ? 'rtl' : 'ltr',
-        words: own(targets, 'words'), groups: own(targets, 'groups'), targets: own(targets, 'targets') };
+        words: own(targets, 'words'), groups: own(targets, 'groups'), targets: own(targets, 'targets'),
+        folder: own(targets, 'folder') };
 }
 
 // A text of targets.json in a language. It is the same in all languages, or an object of texts by language.

@@ -96,16 +96,16 @@ function citationHtml(c, site) {
     const parts = [text(c.author), c.title ? '<strong>' + text(c.title) + '</strong>' : '',
         c.journal ? '<cite>' + text(c.journal) + '</cite>' : '', text(c.year)]
         .concat(['volume', 'issue', 'pages'].concat(numbers).map(named)).filter(Boolean);
-    return parts.length > 0 ? parts.join(', ') : escape(word(site, 'noCitation'));
+    return '<p class="citation">' + (parts.length > 0 ? parts.join(', ') : escape(word(site, 'noCitation'))) + '</p>';
 }
 
-function documentOf(title, body, site) {
+function documentOf(title, heading, body, site) {
     const library = escape(word(site, 'library'));
     return ['<!DOCTYPE html>', '<html lang="' + site.language + '" dir="' + site.dir + '">', '<head>',
         '<meta charset="utf-8">', '<meta name="viewport" content="width=device-width, initial-scale=1">',
         '<title>' + escape(title) + (library && ' – ' + library) + '</title>', '<link rel="stylesheet" href="/menu.css">',
         '</head>', '<body>', library && '<header><p>' + library + '</p></header>', '<main>',
-        '<h1>' + escape(word(site, 'heading')) + '</h1>'].filter(Boolean)
+        '<h1>' + escape(heading) + '</h1>'].filter(Boolean)
         .concat(body, ['</main>', '</body>', '</html>', '']).join('\n');
 }
 
@@ -119,8 +119,19 @@ function noteHtml(note) { return note ? '<p>' + escape(note) + '</p>' : ''; }
 function linkHtml(link) { return '<li>' + anchor(link.url, link.label) + noteHtml(link.note) + '</li>'; }
 function notice(name, site) { return '<p class="nothing">' + escape(word(site, name)) + '</p>'; }
 
-function pageOf(citation, groups, site) {
-    let body = ['<p class="citation">' + citationHtml(citation, site) + '</p>'];
+// The link by which a reader sends the request to the library. `{}` in the library's address is the place of the request.
+const PROBLEM_LINK = /^(?:https?:\/\/|mailto:)[\x21-\x7e]*\{\}[\x21-\x7e]*$/i;
+function problemHtml(q, site) {
+    const text = word(site, 'problem');
+    const link = word(site, 'problemLink');
+    if (q.args === '' || text === '' || !is(PROBLEM_LINK, link)) return [];
+    return ['<p class="problem">' + anchor(link.split('{}').join(encodeURIComponent(q.args)), text) + '</p>'];
+}
+
+function pageOf(q, groups, site) {
+    const citation = citationOf(q, site);
+    const heading = word(site, 'heading');
+    let body = [citationHtml(citation, site)];
     if (groups[0].links.length === 0) {
         if (Object.keys(citation).length > 0) body.push(notice('nothing', site));
         body = body.concat(helpHtml(site));
@@ -128,15 +139,21 @@ function pageOf(citation, groups, site) {
     shownGroups(groups).forEach((g) => {
         body = body.concat(['<h2>' + escape(g.label || g.name) + '</h2>', '<ul>'], g.links.map(linkHtml), ['</ul>']);
     });
-    return documentOf((citation.title || citation.journal || word(site, 'heading')).slice(0, 100), body, site);
+    const title = (citation.title || citation.journal || heading).slice(0, 100);
+    return documentOf(title, heading, body.concat(problemHtml(q, site)), site);
 }
 
 const FAULTS = { 403: 'refused', 404: 'missing', 405: 'refused', 413: 'tooLong', 414: 'tooLong', 429: 'busy' };
+function faultHtml(status, site) {
+    return notice(FAULTS[status] || (status < 500 ? 'unreadable' : 'unavailable'), site);
+}
 function faultOf(status, site) {
-    const name = FAULTS[status] || (status < 500 ? 'unreadable' : 'unavailable');
-    return documentOf(word(site, 'heading'), [notice(name, site)].concat(helpHtml(site)), site);
+    const heading = word(site, 'heading');
+    return documentOf(heading, heading, [faultHtml(status, site)].concat(helpHtml(site)), site);
 }
 
 export default {
-    clean: clean, citationOf: citationOf, groupsOf: groupsOf, shownGroups: shownGroups, pageOf: pageOf, faultOf: faultOf
+    clean: clean, word: word, filled: filled, escape: escape, citationOf: citationOf, citationHtml: citationHtml,
+    faultHtml: faultHtml, documentOf: documentOf,
+    groupsOf: groupsOf, shownGroups: shownGroups, pageOf: pageOf, faultOf: faultOf
 };
