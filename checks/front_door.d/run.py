@@ -1,8 +1,8 @@
 """The tests of the front door; checks/front_door starts it at the top of the repository."""
 import concurrent.futures, glob, json, os, re, shutil, signal, subprocess, sys, tempfile, threading, time
 from urllib.parse import quote
-import targets
-from running import Site, free_ports
+import staff, targets
+from running import FOR_EVERY_REQUEST, Site, free_ports
 
 HERE = os.path.dirname(os.path.abspath(__file__))
 ARTICLE = "sid=google&issn=2901-0012&volume=12&issue=3&spage=101&date=2003&atitle=Storm+surges&title=Annals+of+Tidal+Studies"
@@ -94,6 +94,11 @@ SLIPS = [
     (b'{"groups": [{"name": "A"}], "targets": {"a b": {}}}', 'target "a b": no target can have this name'),
     (b'{"groups": [{"name": "A"}], "words": {"libary": "x"}}', 'words: unknown name "libary"'),
     (b'{"groups": [{"name": "A"}], "words": {"library": 3}}', "words: library is not a text"),
+    (b'{"groups": [{"name": "A"}], "words": {"problemLink": "https://e.org/"}}', "words: problemLink is no address"),
+    (b'{"groups": [{"name": "A"}], "words": {"problemLink": {"en": "a@e.org?body={}"}}}', "words: problemLink is no address"),
+    (b'{"groups": [{"name": "A"}], "folder": "openlink"}', "folder is not an absolute path"),
+    (b'{"groups": [{"name": "A"}], "folder": 3}', "folder is not an absolute path"),
+    (b'{"groups": [{"name": "A"}], "targets": {"a": {"rules": {"en": "x"}}}}', 'target "a": rules is not a text'),
     (b'{"groups": [{"name": "A"}], "words": {"library": {"en": 3}}}', "words: library: en is not a text"),
     (b'{"groups": [{"name": "A"}], "words": {"library": {"de": "x"}}}', 'words: library: "de" is none of the languages'),
     (b'{"groups": [{"name": {"en": "A"}}]}', "group 1: name is not a text"),
@@ -160,6 +165,12 @@ def tidy(name, text):
     expect(f"tidy: {name}", (done.returncode, done.stdout + done.stderr), (0, b""))
 
 
+def problem_link(query):
+    """The address that the page of the sample has for a report of a problem with a query."""
+    return ("mailto:links@library.example.edu?subject=Link%20problem&amp;body=http:%2F%2F127.0.0.1:8079%2Fwhy%3F"
+            + quote(query, safe=""))
+
+
 def order_of(text):
     """The headings, citation, notices and links of a page, in the order of the text."""
     return re.findall(r'<(h1|h2|p class="\w+"|a href="[^"]*")>', text)
@@ -177,13 +188,14 @@ def test_page(site):
     expect("order", order_of(reply.text), ["h1", 'p class="citation"', "h2",
            'a href="https://press.example.com/2908-0142/12/3/101"', 'a href="https://aggregator.example.net/titles/17"', "h2",
            'a href="https://catalogue.example.org/search?index=number&amp;term=2901-0012"', "h2",
-           'a href="https://search.example.org/?q=Storm%20surges"'])
-    reply = site.get("/find?issn=3006-1962&atitle=Notes+on+tar&date=1921")
+           'a href="https://search.example.org/?q=Storm%20surges"', 'p class="problem"', f'a href="{problem_link(ARTICLE)}"'])
+    tar = "issn=3006-1962&atitle=Notes+on+tar&date=1921"
+    reply = site.get(f"/find?{tar}")
     tidy("a page without full text", reply.text)
     expect("without full text", order_of(reply.text), ["h1", 'p class="citation"', 'p class="nothing"', 'p class="help"',
            'a href="https://library.example.edu/ask"', "h2",
            'a href="https://loans.example.org/article?issn=3006-1962&amp;title=Notes%20on%20tar"', "h2",
-           'a href="https://search.example.org/?q=Notes%20on%20tar"'])
+           'a href="https://search.example.org/?q=Notes%20on%20tar"', 'p class="problem"', f'a href="{problem_link(tar)}"'])
     expect("an identifier alone", "DOI 10.5555/a" in site.get("/find?id=doi:10.5555/a").text)
     expect("a PubMed number alone", "PubMed 7" in site.get("/find?id=pmid:7").text)
     for query in ("", "?", "?&&", "?rft.isbn="):
@@ -232,7 +244,7 @@ def test_languages(site):
         expect(f"{name}: the page", f'<html lang="{language}" dir="ltr">' in reply.text)
     reply = reply_in("de")
     tidy("a page in German", reply.text)
-    for part in ("<title>Storm surges – Bibliothek der Beispieluniversität</title>", "<h1>Diesen Titel finden</h1>", "Bd. 12", "Nr. 3",
+    for part in (">Problem melden</a>", "<title>Storm surges – Bibliothek der Beispieluniversität</title>", "<h1>Diesen Titel finden</h1>", "Bd. 12", "Nr. 3",
                  "S. 101", "<h2>Volltext</h2>", ">Bibliothekskatalog</a>", ">Im Web suchen</a>"):
         expect(f"the page in German has {part}", part in reply.text)
     note = reply_in("de", "/find?issn=2943-081X&date=2012").text
@@ -248,11 +260,12 @@ def test_languages(site):
         expect(f"a fault in German: {method}", ("<h1>Diesen Titel finden</h1>" in reply.text, reply.headers["Content-Language"],
                                                     reply.headers["Vary"]), (True, "de", "Accept-Language"))
     expect("a redirect has no language", site.get("/go?issn=2943-081X&date=2012").headers["Content-Language"], None)
-    tidy("a page from right to left", hebrew(site).text)
+    for name, reply in zip(("reader", "staff"), hebrew(site)):
+        tidy(f"a page from right to left, {name}", reply.text)
 
 
 def hebrew(site):
-    """Adds Hebrew as an operator does, with one word in it, and returns the page that is read in it."""
+    """Adds Hebrew as an operator does, with one word in it, and returns the pages that are read in it."""
     with open(site.path("openlink/words/he.json"), "w") as file:
         json.dump({"heading": "חיפוש"}, file)
     with open(site.path("openlink.conf")) as file:
@@ -268,12 +281,15 @@ def hebrew(site):
     site.reload()
     reply = site.get("/find?" + ARTICLE, headers={"Accept-Language": "he-IL, fr"})
     expect("Hebrew", ('<html lang="he" dir="rtl">' in reply.text, "<h1>חיפוש</h1>" in reply.text, "Bd. 12" in reply.text), (True,) * 3)
+    staff_reply = site.get("/why?" + ARTICLE, headers={"Accept-Language": "he-IL, fr"}, port=site.report_port)
+    expect("Hebrew for staff", ('<html lang="he" dir="rtl">' in staff_reply.text, "<h2>Berichte</h2>" in staff_reply.text), (True, True))
+    expect("commands and reports stay from left to right", re.findall(r"<(?:pre|code)(?! (?:lang=\"en\" )?dir=\"ltr\")", staff_reply.text), [])
     expect("another default", site.get("/find", headers={"Accept-Language": "en, fr"}).headers["Content-Language"], "de")
     shutil.copy("deploy/nginx/targets.json", site.path("openlink"))
     with open(site.path("openlink.conf"), "w") as file:
         file.write(conf)
     site.reload()
-    return reply
+    return reply, staff_reply
 
 
 def test_go(site):
@@ -403,6 +419,10 @@ def test_passed_on(site):
         expect(f"{target} on the server of the reports", site.get(target, port=site.report_port).status, 404)
 
 
+def test_staff(site):
+    staff.test(site, FOR_EVERY_REQUEST, expect, tidy)
+
+
 def test_limit(site):
     """Twenty requests of one address at a time; the next one gets a page with status 429."""
     import socket
@@ -478,6 +498,9 @@ def test_processes(site):
     tidy("no process", reply.text)
     reply = site.get(f"/find.json?{ARTICLE}")
     expect("no process, as JSON", (reply.status, json.loads(reply.text)), (503, {"error": 503}))
+    reply = site.get(f"/why?{ARTICLE}", port=site.report_port)
+    expect("no process, for staff", (reply.status, reply.text.count("<h2>"), "The service is being restarted." in reply.text), (503, 2, True))
+    tidy("no process, for staff", reply.text)
     expect("no process, passed on", site.get(f"/openurl?{ARTICLE}").status in (502, 503, 504))
 
 
@@ -566,8 +589,8 @@ def main():
         status, text = site.test_configuration()
         expect("nginx -t", (status, text if status else ""), (0, ""))
         site.start()
-        for test in (test_requests, test_page, test_json, test_languages, test_go, test_hostile, test_form, test_passed_on, test_faults, test_limit,
-                     test_hostile_labels, test_processes, test_logs):
+        for test in (test_requests, test_page, test_json, test_languages, test_go, test_hostile, test_form, test_passed_on, test_staff, test_faults,
+                     test_limit, test_hostile_labels, test_processes, test_logs):
             test(site)
     finally:
         site.stop()

@@ -167,9 +167,9 @@ class Site:
         finally:
             peer.close()
 
-    def send(self, data):
+    def send(self, data, port=None):
         """The whole reply to these bytes."""
-        with socket.create_connection(("127.0.0.1", self.port), 30) as peer:
+        with socket.create_connection(("127.0.0.1", port or self.port), 30) as peer:
             peer.sendall(data)
             parts = []
             while part := peer.recv(65536):
