@@ -1,6 +1,8 @@
-// The unit tests of find.js: the cases of cases.js, requests of good form, limits and menus. Runs in njs and in node,
-// in a folder with find.js and sample.js, which run.py writes; prints each failure, and a last line that counts.
+// The unit tests of find.js and why.js: the cases of cases.js, requests of good form, limits, menus and commands. Runs in njs
+// and in node, in a folder with the module and sample.js, which run.py writes; prints each failure, and a last line that
+// counts.
 import door from './find.js';
+import staff from './why.js';
 import cases from './cases.js';
 import sample from './sample.js';
 
@@ -145,15 +147,16 @@ function testWords() {
 
 // The commands of the page for staff. The registry's paths are relative to its folder.
 function testCommands() {
-    const registry = door.registryOf('a\tcode/a.olk\ttables/a.txt\r\n\nb part\tcode/a.olk\t/t/it\'s.txt\nc\tx\nconstructor\tc.d/e\tf\n');
+    const registry = staff.registryOf('a\tcode/a.olk\ttables/a.txt\r\n\nb part\tcode/a.olk\t/t/it\'s.txt\nc\tx\nconstructor\tc.d/e\tf\n');
     expect('a registry', Object.keys(registry).join(), 'a,b part,constructor');
-    const command = function (targets, name, query) { return door.commandOf(name, registry[name], query, door.siteIn(targets, '')); };
+    const command = function (targets, name, query) { return staff.commandOf(name, registry[name], query, door.siteIn(targets, '')); };
     expect('a command', command({}, 'a', 'rft.issn=2901-0012&x=1'),
         "openlink explain '/etc/openlink/current/rules/a.rules' '/etc/openlink/current/tables/a.txt' 'rft.issn=2901-0012&x=1'");
     expect('the rules of the code', command({ folder: '/srv/r/' }, 'b part', 'a=b'), "openlink explain '/srv/r/rules/a.rules' '/t/it'\\''s.txt' 'a=b'");
     expect('code in another folder', command({ folder: '/r' }, 'constructor', ''), "openlink explain '/r/rules/e.rules' '/r/f' ''");
     const named = function (rules) { return command({ folder: '/r', targets: { a: { rules: rules } } }, 'a', '').split("'")[1]; };
-    expect('rules that are named', [named('own/b.rules'), named('/o/b.rules'), named(3), named(undefined)].join(), '/r/own/b.rules,/o/b.rules,/r/rules/a.rules,/r/rules/a.rules');
+    expect('rules that are named', [named('own/b.rules'), named('/o/b.rules'), named(3), named(undefined)].join(),
+        '/r/own/b.rules,/o/b.rules,/r/rules/a.rules,/r/rules/a.rules');
     expect('a folder that is no text', command({ folder: ['/r'] }, 'a', '').split("'")[1], '/etc/openlink/current/rules/a.rules');
     expect('quotes', command({ folder: '' }, 'a', "a='$(id)`\\\"%27%'"), "openlink explain '/rules/a.rules' '/tables/a.txt' 'a=%27$(id)`\\\"%27%%27'");
 }
@@ -165,13 +168,13 @@ const REASONS = [
 ];
 function testReasons() {
     const report = function (i) { return REASONS.map(function (it, n) { return 't' + n + '\t' + it[i] + '\n'; }).join(''); };
-    door.reasonsOf([report(0), report(1)]).forEach(function (it, n) {
+    staff.reasonsOf([report(0), report(1)]).forEach(function (it, n) {
         expect('the query of ' + REASONS[n].join(', '), it.name + ' ' + it.reasons.join(', ') + ' ' + it.used,
             't' + n + ' ' + REASONS[n][0] + ', ' + REASONS[n][1] + ' ' + REASONS[n][2]);
     });
-    expect('a target that the second report lacks', JSON.stringify(door.reasonsOf(['a\tno row\n', ''])),
+    expect('a target that the second report lacks', JSON.stringify(staff.reasonsOf(['a\tno row\n', ''])),
         '[{"name":"a","reasons":["no row",""],"used":0}]');
-    expect('no report', door.reasonsOf(['', '']).length, 0);
+    expect('no report', staff.reasonsOf(['', '']).length, 0);
 }
 
 // A request of nginx whose subrequests get these statuses; -1 throws.
@@ -204,18 +207,18 @@ async function testReplies() {
     if (typeof njs === 'undefined') await testRetries();  // the njs command line has no timers
     await expectReply('not asked again', door.json, requestWith('/find.json', [504, 200]), '503 "error":503, asked 2');
     await expectReply('refused', door.go, requestWith('/go?', [400, 200]), '400 <h1>, asked 2');
-    const staff = requestWith('/why?', [200, 200]);
-    staff.rawVariables.args = Buffer.from("au=O'Neill&issn=2901-0012");
+    const request = requestWith('/why?', [200, 200]);
+    request.rawVariables.args = Buffer.from("au=O'Neill&issn=2901-0012");
     let page = '';
-    staff.return = function (status, text) { this.replied = status; page = text; };
-    await door.why(staff);
-    expect('the page for staff', staff.replied, 200);
+    request.return = function (status, text) { this.replied = status; page = text; };
+    await staff.why(request);
+    expect('the page for staff', request.replied, 200);
     const shown = page.split('<pre dir="ltr">').slice(1).map(function (it) { return it.split('</pre>')[0]; });
     expect('the queries that were sent', shown.map(function (it) { return '/_report ' + it.split('&#39;').join("'").split('&amp;').join('&'); }).join(' '),
-        staff.places.join(' '));
+        request.places.join(' '));
     expect('the second one', shown[1].slice(0, 12), 'rft.issn=ANY');
-    await expectReply('no reports', door.why, requestWith('/why?', [200, 503]), '503 <h1>, asked 2');
-    await expectReply('refused, for staff', door.why, requestWith('/why?', [200, 400]), '400 <h1>, asked 2');
+    await expectReply('no reports', staff.why, requestWith('/why?', [200, 503]), '503 <h1>, asked 2');
+    await expectReply('refused, for staff', staff.why, requestWith('/why?', [200, 400]), '400 <h1>, asked 2');
     const broken = requestWith('/find?', [200, -1]);
     await expectReply('an exception', door.find, broken, '503 <h1>, asked 2');
     expect('an exception in the log', broken.variables.openlink_found, 'exception:no_reply');

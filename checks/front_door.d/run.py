@@ -244,7 +244,8 @@ def test_languages(site):
         expect(f"{name}: the page", f'<html lang="{language}" dir="ltr">' in reply.text)
     reply = reply_in("de")
     tidy("a page in German", reply.text)
-    for part in (">Problem melden</a>", "<title>Storm surges – Bibliothek der Beispieluniversität</title>", "<h1>Diesen Titel finden</h1>", "Bd. 12", "Nr. 3",
+    for part in (">Problem melden</a>", "<title>Storm surges – Bibliothek der Beispieluniversität</title>", "<h1>Diesen Titel finden</h1>",
+                 "Bd. 12", "Nr. 3",
                  "S. 101", "<h2>Volltext</h2>", ">Bibliothekskatalog</a>", ">Im Web suchen</a>"):
         expect(f"the page in German has {part}", part in reply.text)
     note = reply_in("de", "/find?issn=2943-081X&date=2012").text

@@ -153,7 +153,8 @@ def test_server(staff):
     for method, status in (("HEAD", 200), ("POST", 403), ("DELETE", 403)):
         expect(f"{method} /why", staff.get(ARTICLE, method=method).status, status)
     headers = staff.get(ARTICLE).headers
-    expect("its headers", [headers[name] for name in ("X-Content-Type-Options", "Referrer-Policy", "Cache-Control")], ["nosniff", "no-referrer", "private, no-store"])
+    expect("its headers", [headers[name] for name in ("X-Content-Type-Options", "Referrer-Policy", "Cache-Control")],
+           ["nosniff", "no-referrer", "private, no-store"])
     expect("its content policy", headers["Content-Security-Policy"].startswith("default-src 'none'; style-src 'self';"))
     expect("its style", site.get("/menu.css", port=site.report_port).headers["Content-Type"], "text/css")
     for query in ("", "&&", "rft.isbn="):

@@ -1,13 +1,11 @@
 // The front door of the link resolver: reads an OpenURL of any source, asks the program for its menu, and replies with the
-// reader's page of pages.js, or the one for staff of why.js. An operator edits nothing here: labels are in targets.json,
-// the pages' texts in words/.
+// reader's page of pages.js. An operator edits nothing here: labels are in targets.json, the page's texts in words/.
 //
 // It runs in njs 0.7.9 and later. That version lacks for-of, destructuring, spread, default parameters and classes. It
 // frees no memory before the reply is sent, and `test`, `exec`, `match` and `replace` take 5 KB where nothing matches,
 // but `search` takes none: so it goes first. A function expression in an array literal turns its index into a text.
 import languages from './languages.js';
 import pages from './pages.js';
-import why from './why.js';
 
 const MOST_PAIRS = 300;
 const MOST_BYTES = 12000;
@@ -485,15 +483,6 @@ async function report(r) {
     send(r, 200, 'text/plain; charset=utf-8', joinedReports(replies.texts[0], replies.texts[1]));
 }
 
-// For staff: the same as a page, with both queries and a command for each target. It has the queries even if the program
-// does not answer.
-async function whyPage(r) {
-    const site = siteOf(r);
-    const q = queryOf(argsOf(r));
-    const replies = await askBoth(r, '/_report', q);
-    sendPage(r, replies.status === 200 ? 200 : faultStatus(replies), why.pageOf(q, replies, site), site);
-}
-
 // The page in place of nginx's own text.
 function fault(r) { sendFault(r, Number(r.variables.status) || 503, siteOf(r)); }
 
@@ -512,7 +501,7 @@ function guarded(handler) {
 export default {
     requestOf: requestOf, anyOf: anyOf, joined: joined, joinedReports: joinedReports,
     groupsOf: pages.groupsOf, shownGroups: pages.shownGroups, chosen: languages.chosen, siteIn: languages.siteIn,
-    registryOf: why.registryOf, commandOf: why.commandOf, reasonsOf: why.reasonsOf,
-    find: guarded(find), json: guarded(json), go: guarded(go), report: guarded(report), why: guarded(whyPage),
-    fault: guarded(fault)
+    queryOf: queryOf, argsOf: argsOf, siteOf: siteOf, askBoth: askBoth, faultStatus: faultStatus, sendPage: sendPage,
+    guarded: guarded,  // for why.js
+    find: guarded(find), json: guarded(json), go: guarded(go), report: guarded(report), fault: guarded(fault)
 };

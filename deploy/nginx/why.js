@@ -1,9 +1,12 @@
-// The page for staff: the two queries that a request becomes, the program's report on each, and for each target the command
-// that explains its link or why it has none. All text of a request or a file is escaped here where it is put into HTML, and
-// quoted where it is put into a command. An operator edits nothing here: targets.json may name the folder of the registry.
+// The page for staff: the two queries that a request becomes, the program's report on each, and for each target the
+// command that explains its link or why it has none. All text of a request or a file is escaped here where it is put into
+// HTML, and quoted where it is put into a command. An operator edits nothing here: targets.json names the folder of the
+// registry if it is not the one below.
 //
-// It runs in njs 0.7.9 and later, as find.js does; what that version lacks is said there.
+// Only the server for staff loads this file, so no request of a reader meets code that reads files. It runs in njs 0.7.9
+// and later, as find.js does; what that version lacks is said there.
 import fs from 'fs';
+import door from './find.js';
 import languages from './languages.js';
 import pages from './pages.js';
 
@@ -57,8 +60,8 @@ function commandOf(name, target, query, site) {
 // ---------------------------------------------------------------- Reports
 function isLink(reason) { return is(/^link /, reason); }
 
-// The reason of each target for both queries, in the order of the registry, and which of the two queries the target gets: 0,
-// or 1 where only the second finds a link, or a row. So does /find.
+// The reason of each target for both queries, in the order of the registry, and which of the two queries the target gets:
+// 0, or 1 if only the second one finds a link, or a row. /find takes the target's link from the same one.
 function reasonsOf(reports) {
     const lines = reports.map((text) => text.split('\n').filter((line) => line.indexOf('\t') > 0)
         .map((line) => ({ name: line.slice(0, line.indexOf('\t')), reason: line.slice(line.indexOf('\t') + 1) })));
@@ -94,8 +97,8 @@ function rowHtml(it) {
 function reportsHtml(reasons, site) {
     const names = ['target'].concat(QUERIES).map((name) => escape(pages.word(site, name)));
     return [heading('h2', pages.word(site, 'reports')), paragraph(pages.word(site, 'reportsNote')), '<table>',
-        '<thead><tr><th scope="col">' + names.join('</th><th scope="col">') + '</th></tr></thead>', '<tbody>'].filter(Boolean)
-        .concat(reasons.map(rowHtml), ['</tbody>', '</table>']);
+        '<thead><tr><th scope="col">' + names.join('</th><th scope="col">') + '</th></tr></thead>', '<tbody>']
+        .filter(Boolean).concat(reasons.map(rowHtml), ['</tbody>', '</table>']);
 }
 
 function targetHtml(it, registry, queries, site) {
@@ -109,12 +112,13 @@ function targetHtml(it, registry, queries, site) {
 }
 function commandsHtml(reasons, queries, site) {
     const registry = readRegistry(site);
-    const note = registry === null ? pages.filled(site, 'noRegistry', registryPath(site)) : pages.word(site, 'commandsNote');
+    const note = registry === null ? pages.filled(site, 'noRegistry', registryPath(site))
+        : pages.word(site, 'commandsNote');
     return [heading('h2', pages.word(site, 'commands')), paragraph(note)]
         .concat(reasons.map((it) => targetHtml(it, registry, queries, site)));
 }
 
-// The page for a request, both queries of it and the replies to them. It has no reports if the program did not answer.
+// The page for a request and the replies to both its queries. It has no reports if the program did not answer.
 function pageOf(q, replies, site) {
     const title = pages.word(site, 'why');
     const reasons = reasonsOf(replies.texts);
@@ -124,4 +128,11 @@ function pageOf(q, replies, site) {
     return pages.documentOf(title, title, body, site);
 }
 
-export default { registryOf: registryOf, commandOf: commandOf, reasonsOf: reasonsOf, pageOf: pageOf };
+async function why(r) {
+    const site = door.siteOf(r);
+    const q = door.queryOf(door.argsOf(r));
+    const replies = await door.askBoth(r, '/_report', q);
+    door.sendPage(r, replies.status === 200 ? 200 : door.faultStatus(replies), pageOf(q, replies, site), site);
+}
+
+export default { registryOf: registryOf, commandOf: commandOf, reasonsOf: reasonsOf, why: door.guarded(why) };
