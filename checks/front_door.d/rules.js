@@ -149,14 +149,18 @@ function testWords() {
 function testCommands() {
     const registry = staff.registryOf('a\tcode/a.olk\ttables/a.txt\r\n\nb part\tcode/a.olk\t/t/it\'s.txt\nc\tx\nconstructor\tc.d/e\tf\n');
     expect('a registry', Object.keys(registry).join(), 'a,b part,constructor');
-    const command = function (targets, name, query) { return staff.commandOf(name, registry[name], query, door.siteIn(targets, '')); };
+    const received = function (path) { return path === '/r/received/a.rules'; };
+    const command = function (targets, name, query) {
+        return staff.commandOf(name, registry[name], query, door.siteIn(targets, ''), received);
+    };
     expect('a command', command({}, 'a', 'rft.issn=2901-0012&x=1'),
         "openlink explain '/etc/openlink/current/rules/a.rules' '/etc/openlink/current/tables/a.txt' 'rft.issn=2901-0012&x=1'");
     expect('the rules of the code', command({ folder: '/srv/r/' }, 'b part', 'a=b'), "openlink explain '/srv/r/rules/a.rules' '/t/it'\\''s.txt' 'a=b'");
     expect('code in another folder', command({ folder: '/r' }, 'constructor', ''), "openlink explain '/r/rules/e.rules' '/r/f' ''");
     const named = function (rules) { return command({ folder: '/r', targets: { a: { rules: rules } } }, 'a', '').split("'")[1]; };
+    expect('rules as they were received', command({ folder: '/r' }, 'b part', '').split("'")[1], '/r/received/a.rules');
     expect('rules that are named', [named('own/b.rules'), named('/o/b.rules'), named(3), named(undefined)].join(),
-        '/r/own/b.rules,/o/b.rules,/r/rules/a.rules,/r/rules/a.rules');
+        '/r/own/b.rules,/o/b.rules,/r/received/a.rules,/r/received/a.rules');
     expect('a folder that is no text', command({ folder: ['/r'] }, 'a', '').split("'")[1], '/etc/openlink/current/rules/a.rules');
     expect('quotes', command({ folder: '' }, 'a', "a='$(id)`\\\"%27%'"), "openlink explain '/rules/a.rules' '/tables/a.txt' 'a=%27$(id)`\\\"%27%%27'");
 }

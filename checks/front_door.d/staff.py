@@ -108,10 +108,13 @@ def test_folders(staff):
     os.symlink(site.folder, folder)
     named = {**staff.targets["targets"], "tidal-press": {"rules": "/o'/x y.rules"}, "catalogue": {"rules": "own/c.rules"}}
     site.write_targets({**staff.targets, "folder": folder, "targets": named})
+    os.mkdir(site.path("received"))
+    os.rename(site.path("rules/pubmed.rules"), site.path("received/pubmed.rules"))
     reply = staff.get(ARTICLE)
     staff.tidy("a folder with quotes", reply.text)
     commands = page_parts(reply.text)[3]
-    for name, rules in (("web-search", f"{folder}/rules/web-search.rules"), ("tidal-press", "/o'/x y.rules"), ("catalogue", f"{folder}/own/c.rules")):
+    for name, rules in (("web-search", f"{folder}/rules/web-search.rules"), ("tidal-press", "/o'/x y.rules"), ("catalogue", f"{folder}/own/c.rules"),
+                        ("pubmed", f"{folder}/received/pubmed.rules")):
         expect(f"a folder with quotes: {name}", staff.arguments_of(commands[name])[1], rules)
     expect("a table in it", staff.arguments_of(commands["web-search"])[2], f"{folder}/tables/ANY.tsv")
     expect("HTML in it", "<b>" in reply.text, False)

@@ -11,6 +11,7 @@ import languages from './languages.js';
 import pages from './pages.js';
 
 const FOLDER = '/etc/openlink/current';  // that of openlink@.service
+const RULES = ['rules/', 'received/'];   // folders of rule files in it
 const own = languages.own;
 const is = languages.is;
 const escape = pages.escape;
@@ -39,11 +40,21 @@ function readRegistry(site) {
     }
 }
 
-// The rules of code/NAME.olk are rules/NAME.rules, unless targets.json names them.
-function rulesOf(name, code, site) {
+// The rules of code/NAME.olk are NAME.rules in the first folder that has such a file, unless targets.json names them.
+function rulesOf(name, code, site, isFile) {
     const path = own(own(own(site, 'targets'), name), 'rules');
     if (typeof path === 'string') return inFolder(path, site);
-    return inFolder('rules/' + code.slice(code.lastIndexOf('/') + 1).replace(/\.[^.]*$/, '') + '.rules', site);
+    const file = code.slice(code.lastIndexOf('/') + 1).replace(/\.[^.]*$/, '') + '.rules';
+    const paths = RULES.map((folder) => inFolder(folder + file, site));
+    return paths.filter(isFile)[0] || paths[0];
+}
+function isFile(path) {
+    try {
+        fs.accessSync(path);
+        return true;
+    } catch (e) {
+        return false;
+    }
 }
 
 // ---------------------------------------------------------------- Commands
@@ -52,8 +63,8 @@ function quoted(path) { return "'" + path.split("'").join("'\\''") + "'"; }
 function quotedQuery(query) { return "'" + query.split("'").join('%27') + "'"; }
 
 // The command for a target of the registry.
-function commandOf(name, target, query, site) {
-    return ['openlink explain', quoted(rulesOf(name, target.code, site)), quoted(inFolder(target.table, site)),
+function commandOf(name, target, query, site, isFile) {
+    return ['openlink explain', quoted(rulesOf(name, target.code, site, isFile)), quoted(inFolder(target.table, site)),
         quotedQuery(query)].join(' ');
 }
 
@@ -104,7 +115,7 @@ function reportsHtml(reasons, site) {
 function targetHtml(it, registry, queries, site) {
     const target = registry === null ? undefined : registry[it.name];
     const report = escape(pages.word(site, QUERIES[it.used])) + ': ' + code(it.reasons[it.used]);
-    const command = target ? escape(commandOf(it.name, target, queries[it.used], site)) : '';
+    const command = target ? escape(commandOf(it.name, target, queries[it.used], site, isFile)) : '';
     return ['<h3 id="target-' + escape(it.name) + '">' + escape(it.name) + '</h3>', '<p>' + report + '</p>',
         target ? '<pre dir="ltr" class="command">' + command + '</pre>'
             : registry !== null ? paragraph(pages.filled(site, 'notInRegistry', registryPath(site))) : '']
