@@ -166,7 +166,7 @@ def test_server(staff):
         staff.tidy("no reference", reply.text)
     reply = staff.get(ARTICLE, "de-AT")
     staff.tidy("the page for staff in German", reply.text)
-    for part in ('<html lang="de" dir="ltr">', "<h1>Warum ein Link erscheint oder fehlt</h1>", "<h2>Anfrage 2</h2>", "<h2>Berichte</h2>", "<h2>Befehle</h2>"):
+    for part in ('<html lang="de" dir="ltr">', "<h1>Warum ein Link erscheint oder fehlt</h1>", "<h2>Abfrage 2</h2>", "<h2>Berichte</h2>", "<h2>Befehle</h2>"):
         expect(f"the page in German has {part}", part in reply.text)
 
 
