@@ -151,7 +151,7 @@ function testCommands() {
     expect('a registry', Object.keys(registry).join(), 'a,b part,constructor');
     const received = function (path) { return path === '/r/received/a.rules'; };
     const command = function (targets, name, query) {
-        return staff.commandOf(name, registry[name], query, door.siteIn(targets, ''), received);
+        return staff.commandOf(name, registry[name], door.siteIn(targets, ''), received) + ' ' + staff.quotedQuery(query);
     };
     expect('a command', command({}, 'a', 'rft.issn=2901-0012&x=1'),
         "openlink explain '/etc/openlink/current/rules/a.rules' '/etc/openlink/current/tables/a.txt' 'rft.issn=2901-0012&x=1'");

@@ -125,7 +125,8 @@ function problemHtml(q, site) {
     const text = word(site, 'problem');
     const link = word(site, 'problemLink');
     if (q.args === '' || text === '' || !is(PROBLEM_LINK, link)) return [];
-    return ['<p class="problem">' + anchor(link.split('{}').join(encodeURIComponent(q.args)), text) + '</p>'];
+    const request = encodeURIComponent(q.args).split("'").join('%27');  // thousands of quotes would be slow to escape
+    return ['<p class="problem">' + anchor(link.split('{}').join(request), text) + '</p>'];
 }
 
 function pageOf(q, groups, site) {

@@ -62,10 +62,10 @@ function isFile(path) {
 function quoted(path) { return "'" + path.split("'").join("'\\''") + "'"; }
 function quotedQuery(query) { return "'" + query.split("'").join('%27') + "'"; }
 
-// The command for a target of the registry.
-function commandOf(name, target, query, site, isFile) {
-    return ['openlink explain', quoted(rulesOf(name, target.code, site, isFile)), quoted(inFolder(target.table, site)),
-        quotedQuery(query)].join(' ');
+// The command for a target of the registry, without its last argument, the query.
+function commandOf(name, target, site, isFile) {
+    return ['openlink explain', quoted(rulesOf(name, target.code, site, isFile)), quoted(inFolder(target.table, site))]
+        .join(' ');
 }
 
 // ---------------------------------------------------------------- Reports
@@ -112,10 +112,11 @@ function reportsHtml(reasons, site) {
         .filter(Boolean).concat(reasons.map(rowHtml), ['</tbody>', '</table>']);
 }
 
-function targetHtml(it, registry, queries, site) {
+// `last` has the last argument for each query as HTML: to escape a long one for each target would take seconds.
+function targetHtml(it, registry, last, site) {
     const target = registry === null ? undefined : registry[it.name];
     const report = escape(pages.word(site, QUERIES[it.used])) + ': ' + code(it.reasons[it.used]);
-    const command = target ? escape(commandOf(it.name, target, queries[it.used], site, isFile)) : '';
+    const command = target ? escape(commandOf(it.name, target, site, isFile)) + ' ' + last[it.used] : '';
     return ['<h3 id="target-' + escape(it.name) + '">' + escape(it.name) + '</h3>', '<p>' + report + '</p>',
         target ? '<pre dir="ltr" class="command">' + command + '</pre>'
             : registry !== null ? paragraph(pages.filled(site, 'notInRegistry', registryPath(site))) : '']
@@ -123,10 +124,11 @@ function targetHtml(it, registry, queries, site) {
 }
 function commandsHtml(reasons, queries, site) {
     const registry = readRegistry(site);
+    const last = queries.map((query) => escape(quotedQuery(query)));
     const note = registry === null ? pages.filled(site, 'noRegistry', registryPath(site))
         : pages.word(site, 'commandsNote');
     return [heading('h2', pages.word(site, 'commands')), paragraph(note)]
-        .concat(reasons.map((it) => targetHtml(it, registry, queries, site)));
+        .concat(reasons.map((it) => targetHtml(it, registry, last, site)));
 }
 
 // The page for a request and the replies to both its queries. It has no reports if the program did not answer.
@@ -146,4 +148,7 @@ async function why(r) {
     door.sendPage(r, replies.status === 200 ? 200 : door.faultStatus(replies), pageOf(q, replies, site), site);
 }
 
-export default { registryOf: registryOf, commandOf: commandOf, reasonsOf: reasonsOf, why: door.guarded(why) };
+export default {
+    registryOf: registryOf, commandOf: commandOf, quotedQuery: quotedQuery, reasonsOf: reasonsOf,
+    why: door.guarded(why)
+};
