@@ -24,7 +24,7 @@ function inFolder(path, site) { return path.charAt(0) === '/' ? path : folderOf(
 // The paths of the code and of the table of each target, by its name.
 function registryOf(text) {
     const found = Object.create(null);
-    text.split(/[\r\n]+/).forEach((line) => {
+    text.split('\r').join('\n').split('\n').forEach((line) => {
         const cells = line.split('\t');
         if (cells.length === 3) found[cells[0]] = { code: cells[1], table: cells[2] };
     });
