@@ -8,12 +8,16 @@ use std::test::Fail;
 use target_vars::{Env, Members, VarsError};
 use uri_template::{Variables, expand, expand_in};
 
+fn expanded(alloc: Global, text: &str, env: &Env) -> Result<String, Fail> {
+    let template = parsed(alloc, text)?;
+    Ok(expand(alloc, &template, env)?)
+}
+
 #[test]
 fn an_environment_expands(rt: HostRuntime) -> Result<(), Fail> {
     let env = environment(rt.alloc())?;
-    let template = parsed(rt.alloc(), "{x}{?x,y,rft.au*}")?;
-    let text = expand(rt.alloc(), &template, &env)?;
-    assert_eq!(rt; text.as_str(), "a?x=a");
+    let text = expanded(rt.alloc(), "{x}{?x,y,rft.au*}", &env)?;
+    assert!(rt; text.as_str() == "a?x=a");
     Ok(())
 }
 
@@ -35,13 +39,16 @@ const TRIPLETS: &[(&str, &str)] = &[
     ("{?A,B,%61}", ""),
 ];
 
+fn over_triplets(alloc: Global, text: &str) -> Result<String, Fail> {
+    let env = triplets(alloc)?;
+    expanded(alloc, text, &env)
+}
+
 #[test]
 fn names_are_not_decoded(rt: HostRuntime) -> Result<(), Fail> {
-    let env = triplets(rt.alloc())?;
     for &(text, wanted) in TRIPLETS {
-        let template = parsed(rt.alloc(), text)?;
-        let expanded = expand(rt.alloc(), &template, &env)?;
-        assert_eq!(rt; expanded.as_str(), wanted, "{text}");
+        let expanded = over_triplets(rt.alloc(), text)?;
+        assert!(rt; expanded.as_str() == wanted, "{text}");
     }
     Ok(())
 }
@@ -61,10 +68,14 @@ impl Variables for Nothing {
     }
 }
 
+fn over_nothing(alloc: Global, text: &str) -> Result<String, Fail> {
+    let template = parsed(alloc, text)?;
+    Ok(expand_in(alloc, &template, &Nothing)?)
+}
+
 #[test]
 fn any_variables_expand(rt: HostRuntime) -> Result<(), Fail> {
-    let template = parsed(rt.alloc(), "a{x}b{?y,z*}{/x:3}")?;
-    let text = expand_in(rt.alloc(), &template, &Nothing)?;
-    assert_eq!(rt; text.as_str(), "ab");
+    let text = over_nothing(rt.alloc(), "a{x}b{?y,z*}{/x:3}")?;
+    assert!(rt; text.as_str() == "ab");
     Ok(())
 }

@@ -1,7 +1,7 @@
 //! The trees of templates.
 
 use crate::parsed;
-use std::alloc::Global;
+use std::alloc::{AllocError, Global};
 use std::test::Fail;
 use uri_grammar::{
     Op, Part, Spec, Specs, Template, TemplateError, TemplateErrorKind, Text, is_name,
@@ -12,6 +12,19 @@ fn has_literal(template: &Template, part: usize, wanted: &str) -> bool {
         Some(Part::Literal(text)) => text.as_str() == wanted,
         _ => false,
     }
+}
+
+/// The template has this text, this number of parts, and this literal.
+fn is_split(template: &Template, case: &(&str, usize, usize, &str)) -> bool {
+    let &(text, parts, part, wanted) = case;
+    template.text() == text
+        && template.parts().len() == parts
+        && has_literal(template, part, wanted)
+}
+
+fn splits(alloc: Global, case: &(&str, usize, usize, &str)) -> Result<bool, TemplateError> {
+    let template = parsed(alloc, case.0)?;
+    Ok(is_split(&template, case))
 }
 
 // A template, how many parts it has, the place of a literal among them, and its text.
@@ -29,11 +42,8 @@ const LITERALS: &[(&str, usize, usize, &str)] = &[
 
 #[test]
 fn literals(rt: HostRuntime) -> Result<(), Fail> {
-    for &(text, parts, part, wanted) in LITERALS {
-        let template = parsed(rt.alloc(), text)?;
-        assert_eq!(rt; template.text(), text);
-        assert_eq!(rt; template.parts().len(), parts);
-        assert!(rt; has_literal(&template, part, wanted), "{text}");
+    for case in LITERALS {
+        assert!(rt; splits(rt.alloc(), case)?, "{}", case.0);
     }
     Ok(())
 }
@@ -55,8 +65,10 @@ fn is_variable(found: Option<(Op, &Spec)>, op: Op, name: &str, cut: u16, explode
     }
 }
 
-// A template, the place of an expression, its operator, the place of a variable in it, its name, prefix and explode.
-const VARIABLES: &[(&str, usize, Op, usize, &str, u16, bool)] = &[
+/// A template, the place of an expression, its operator, the place of a variable in it, its name, prefix and explode.
+type Variable = (&'static str, usize, Op, usize, &'static str, u16, bool);
+
+const VARIABLES: &[Variable] = &[
     ("{hello}", 0, Op::Simple, 0, "hello", 0, false),
     ("é/{x}", 1, Op::Simple, 0, "x", 0, false),
     ("?{x,empty}", 1, Op::Simple, 0, "x", 0, false),
@@ -83,12 +95,17 @@ const VARIABLES: &[(&str, usize, Op, usize, &str, u16, bool)] = &[
     ("{a}{b}", 1, Op::Simple, 0, "b", 0, false),
 ];
 
+fn has_variable(alloc: Global, case: &Variable) -> Result<bool, TemplateError> {
+    let &(text, part, op, place, name, cut, explode) = case;
+    let template = parsed(alloc, text)?;
+    let found = variable(&template, part, place);
+    Ok(is_variable(found, op, name, cut, explode))
+}
+
 #[test]
 fn variables(rt: HostRuntime) -> Result<(), Fail> {
-    for &(text, part, op, place, name, cut, explode) in VARIABLES {
-        let template = parsed(rt.alloc(), text)?;
-        let found = variable(&template, part, place);
-        assert!(rt; is_variable(found, op, name, cut, explode), "{text}");
+    for case in VARIABLES {
+        assert!(rt; has_variable(rt.alloc(), case)?, "{}", case.0);
     }
     Ok(())
 }
@@ -110,21 +127,27 @@ fn names(rt: HostRuntime) {
     }
 }
 
-#[test]
-fn parts_give_back_what_they_hold(rt: HostRuntime) -> Result<(), Fail> {
-    let name = Text::new(String::from_str(rt.alloc(), "a")?);
-    let mut list = Vec::new(rt.alloc());
-    list.push(Spec {
+fn specs(alloc: Global) -> Result<Specs, AllocError> {
+    let name = Text::new(String::from_str(alloc, "a")?);
+    let spec = Spec {
         name,
         cut: 3,
         explode: false,
-    })?;
-    let specs = Specs::new(list);
-    assert_eq!(rt; specs.as_slice().len(), 1);
-    for spec in specs.as_slice() {
-        assert_eq!(rt; spec.cut, 3);
-        assert_eq!(rt; spec.name.as_str(), "a");
+    };
+    Ok(Specs::new(vec![in alloc; spec]?))
+}
+
+fn is_spec(specs: &[Spec]) -> bool {
+    match specs {
+        [spec] => spec.cut == 3 && spec.name.as_str() == "a",
+        _ => false,
     }
+}
+
+#[test]
+fn parts_give_back_what_they_hold(rt: HostRuntime) -> Result<(), Fail> {
+    let specs = specs(rt.alloc())?;
+    assert!(rt; is_spec(specs.as_slice()));
     Ok(())
 }
 
@@ -143,11 +166,8 @@ const NO_MEMORY: TemplateError = TemplateError {
 
 #[test]
 fn errors_say_kind_and_place(rt: HostRuntime) -> Result<(), Fail> {
-    assert_eq!(rt;
-        fault_of(rt.alloc(), "{a"),
-        Some(TemplateErrorKind::Unclosed)
-    );
+    assert!(rt; fault_of(rt.alloc(), "{a") == Some(TemplateErrorKind::Unclosed));
     let printed = format!(in rt.alloc(); "{NO_MEMORY}")?;
-    assert_eq!(rt; printed.as_str(), "NoMemory at 0");
+    assert!(rt; printed.as_str() == "NoMemory at 0");
     Ok(())
 }

@@ -34,16 +34,28 @@ fn has_rule(rules: &Rules, template: &str) -> bool {
 const TEXT: &[u8] =
     b"list x\nlist rft.au\nlist x\nrule\nwhen lacks x\nwhen lacks y\nlink http://e.org/";
 
+fn has_lists_and_rule(alloc: Global, rules: &Rules) -> Result<bool, AllocError> {
+    let has_lists = rules.is_list("x") && !rules.is_list("y") && lists_come_once(alloc, rules)?;
+    Ok(has_lists && has_rule(rules, "http://e.org/"))
+}
+
+fn has_lines(alloc: Global) -> Result<bool, Fail> {
+    let rules = parsed(alloc, TEXT)?;
+    Ok(has_lists_and_rule(alloc, &rules)?)
+}
+
+fn link_of_text(alloc: Global, env: &Env) -> Result<Option<String>, Fail> {
+    let rules = parsed(alloc, TEXT)?;
+    Ok(link(alloc, &rules, env)?)
+}
+
 // The environment has a text of the name x, which the rules declare as a list.
 #[test]
 fn rules_are_what_their_lines_say(rt: HostRuntime) -> Result<(), Fail> {
-    let rules = parsed(rt.alloc(), TEXT)?;
-    assert!(rt; rules.is_list("x") && !rules.is_list("y"));
-    assert!(rt; has_rule(&rules, "http://e.org/"));
-    assert!(rt; lists_come_once(rt.alloc(), &rules)?);
+    assert!(rt; has_lines(rt.alloc())?);
     let env = environment(rt.alloc())?;
-    let link = link(rt.alloc(), &rules, &env)?;
-    assert_eq!(rt; link.as_deref(), Some("http://e.org/"));
+    let link = link_of_text(rt.alloc(), &env)?;
+    assert!(rt; link.as_deref() == Some("http://e.org/"));
     Ok(())
 }
 
@@ -68,8 +80,8 @@ const NO_MEMORY: RuleError = RuleError {
 #[test]
 fn errors_say_line_and_kind(rt: HostRuntime) -> Result<(), Fail> {
     let fault = fault_of(rt.alloc(), b"list counts\nrule\nwhen x holds \"x\"\nlink a");
-    assert_eq!(rt; fault, Some(MISUSED));
+    assert!(rt; fault == Some(MISUSED));
     let printed = format!(in rt.alloc(); "{NO_MEMORY}")?;
-    assert_eq!(rt; printed.as_str(), "line 0: NoMemory");
+    assert!(rt; printed.as_str() == "line 0: NoMemory");
     Ok(())
 }

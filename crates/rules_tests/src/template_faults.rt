@@ -170,11 +170,8 @@ const LONGEST: &[(&str, usize, &str, &str)] = &[
 fn longest_texts_are_templates(rt: HostRuntime) -> Result<(), Fail> {
     for &(first, n, more, last) in LONGEST {
         let text = text_around(rt.alloc(), first, n, more, last)?;
-        assert_eq!(rt;
-            fault_of(rt.alloc(), &text),
-            None,
-            "{first} {n} {more} {last}"
-        );
+        let fault = fault_of(rt.alloc(), &text);
+        assert!(rt; fault.is_none(), "{first} {n} {more} {last}");
     }
     Ok(())
 }
