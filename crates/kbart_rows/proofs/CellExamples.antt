@@ -1,8 +1,8 @@
 -- The cells of small tables, and what they make of an environment, computed.
-use Rattle.std.proofs.Common.{◌≡◌, ℕ, ◌+◌, ◌<◌, true, false, Bool, List, [], ◌∷◌, ◌++◌, length, Some, None, Option, refl, codes, arith, ap}
+use Rattle.std.proofs.Common.{◌≡◌, [], ◌∷◌, ◌++◌, length, Some, None, refl, codes, arith, ap}
 use Rattle.std.specs.Prelude.{map, filter, ◌==◌}
-use Rattle.std.specs.List.{range_with_len, repeat}
-use Rattle.std.specs.Hash.DefaultHasher.{initial, write, write_byte}
+use Rattle.std.specs.List.{range_with_len}
+use Rattle.std.specs.Hash.DefaultHasher.{initial, write}
 use Rattle.std.specs.Hash.{le_bytes}
 use Rattle.text_model.specs.Texts.{Text}
 use Rattle.environment_model.specs.Environment.{Environment, Entry, Single, Several}

@@ -1,6 +1,6 @@
 -- Which rows have a title that is cited, computed for small tables and queries.
-use Rattle.std.proofs.Common.{◌≡◌, ℕ, true, false, List, [], ◌∷◌, ◌++◌, length, Some, None, refl, codes, bytes_eq}
-use Rattle.std.specs.Prelude.{map, filter, not, is_none, ◌==◌}
+use Rattle.std.proofs.Common.{◌≡◌, ℕ, List, [], ◌∷◌, ◌++◌, length, Some, None, refl, codes, bytes_eq}
+use Rattle.std.specs.Prelude.{map, filter, not, ◌==◌}
 use Rattle.std.specs.List.{range_with_len}
 use Rattle.std.specs.Hash.DefaultHasher.{initial}
 use Rattle.text_model.specs.Texts.{Text}

@@ -4,6 +4,7 @@ mod ReadingExamples
 mod CellExamples
 pub mod LineCells
 pub mod LineRests
+pub mod KeptLines
 pub mod PlainCells
 pub mod FirstColumns
 pub mod ReadingLines

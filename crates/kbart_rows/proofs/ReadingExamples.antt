@@ -1,7 +1,6 @@
 -- What small tables are read as, and why bytes are no table: the lines are written out here, and the checker compares.
-use Rattle.std.proofs.Common.{◌≡◌, ◌+◌, ◌≤◌, ◌<◌, List, [], ◌∷◌, ◌++◌, length, Some, None, refl, sym, ap, subst, ◌∙◌, codes, arith, true≢false}
+use Rattle.std.proofs.Common.{◌≡◌, ◌≤◌, List, [], ◌∷◌, ◌++◌, length, None, refl, sym, ap, subst, ◌∙◌, codes, arith, true≢false}
 use Rattle.std.specs.Hash.DefaultHasher.{initial}
-use Rattle.std.specs.Str.{IsUtf8}
 use Rattle.std.proofs.lemmas.Str.{IsUtf8-from_is_utf8, is_utf8-from_IsUtf8}
 use Rattle.csv.specs.Machine.{next_record}
 use Rattle.std.proofs.lemmas.List.Elements.{All-cons, All-nil}

@@ -1,5 +1,5 @@
 -- Reading a table line by line.
-use Rattle.std.proofs.Common.{Bor, ◌≡◌, ℕ, List, [], ◌∷◌, ◌++◌, Option, Some, All, true, false, refl, sym, ◌∙◌, inl, arith, ◌+◌, ◌≤◌, ◌<◌, length, get_or, drop}
+use Rattle.std.proofs.Common.{Bor, ◌≡◌, ℕ, List, [], ◌∷◌, ◌++◌, Some, All, true, false, refl, sym, ◌∙◌, inl, arith, ◌+◌, ◌≤◌, ◌<◌, length, get_or, drop}
 use Rattle.csv.specs.Reading.{Reached, Ready, ReadRecord, source_of, strip_bom}
 use Rattle.csv.specs.declared.parser.State.TheVariants as state
 use Rattle.csv.specs.declared.reader.Reader.{Reader}
@@ -7,16 +7,13 @@ use Rattle.csv.specs.declared.reader.Trim.TheVariants as trim
 use Rattle.csv.proofs.ReadFacts.{rows-end, rows-more}
 use Rattle.text_model.specs.Texts.{Text}
 use Rattle.kbart_rows.specs.Cells.{Row}
-use Rattle.kbart_rows.specs.Private.Kept.{IsRefusedLine}
+use Rattle.kbart_rows.specs.Private.Kept.{IsLineTooLong, IsRefusedLine, rest_of}
 use Rattle.kbart_rows.specs.Private.Line.{HasNoTab}
 use Rattle.kbart_rows.specs.Reading.{tab_separated, AreLines, AreFirstLines, AllFit, IsFreshReader, IsLineFault}
 use Rattle.kbart_rows.specs.declared.error.TableError.{TableError}
 use Rattle.kbart_rows.specs.declared.error.TableError.TheVariants.{TooLong, NotUtf8, NoHeader, TooManyRows, RowTooLong, NoMemory}
 use Rattle.kbart_rows.specs.declared.read.TheConstants.{MAX_ROWS}
 use Rattle.kbart_rows.proofs.PlainCells.{last_is_plain}
-
-abbrev rest_of : Bor (List ℕ) → Option (List ℕ)
-rest_of bytes = Some bytes.now
 
 -- the reader took these lines of the bytes
 pub record IsReading (bytes : Text) (lines : List Row) (reader : Reader (Bor (List ℕ))) : Type 0 where
@@ -55,10 +52,11 @@ reading_goes_on bytes lines old new cells reading read first =
 pub first_lines : (bytes : Text) (lines : List Row) (reader : Reader (Bor (List ℕ))) → IsReading bytes lines reader → AreFirstLines bytes lines
 first_lines bytes lines reader reading = record { after = reader.state; rest = reading.rest; reached = reading.reached }
 
-pub reading_ends : (bytes : Text) (lines : List Row) (old new : Reader (Bor (List ℕ))) → IsReading bytes lines old → ReadRecord rest_of old new false []
+pub reading_ends : (bytes : Text) (lines : List Row) (old new : Reader (Bor (List ℕ))) (cells : Row) → IsReading bytes lines old
+    → ReadRecord rest_of old new false cells
     → AreLines bytes lines
-reading_ends bytes lines old new reading read =
-    (old.state, reading.rest, reading.reached, rows-end rest_of old new [] tab_separated reading.rest reading.config reading.source read)
+reading_ends bytes lines old new cells reading read =
+    (old.state, reading.rest, reading.reached, rows-end rest_of old new cells tab_separated reading.rest reading.config reading.source read)
 
 pub no_tab_in_last : (bytes : Text) (lines : List Row) (cells : Row) (reader : Reader (Bor (List ℕ))) → IsReading bytes (lines ++ cells ∷ []) reader
     → All HasNoTab cells
@@ -76,6 +74,15 @@ line_refused bytes lines cells reader NoMemory reading fit few why = tt
 line_refused bytes lines cells reader TooLong reading fit few why = absurd why
 line_refused bytes lines cells reader NotUtf8 reading fit few why = absurd why
 line_refused bytes lines cells reader NoHeader reading fit few why = absurd why
+
+-- why a line was not kept, where others could be before it
+pub line_not_kept : (before : ℕ) (cells : Row) (e : TableError) → before ≤ MAX_ROWS → IsLineTooLong cells e → IsRefusedLine before cells e
+line_not_kept before cells RowTooLong few why = (few, why)
+line_not_kept before cells NoMemory few why = tt
+line_not_kept before cells TooManyRows few why = absurd why
+line_not_kept before cells TooLong few why = absurd why
+line_not_kept before cells NotUtf8 few why = absurd why
+line_not_kept before cells NoHeader few why = absurd why
 
 -- the header and the rows
 pub header_first : (lines : List Row) → 0 < length lines → lines ≡ get_or lines 0 [] ∷ drop 1 lines

@@ -10,14 +10,13 @@ ghost use Rattle.kbart_rows.specs.Private.Line.{IsSplit, line_of};
 use csv::StringRecord;
 use std::alloc::AllocError;
 
-/// Writes the cells of a record, in place of what the line was.
-pub(crate) fn write_line(cells: &StringRecord, line: &mut String) -> Result<(), AllocError>
-    ensures { OnOk result (string_bytes line.new ≡ line_of (fields_of cells.now)) }
+/// Writes the cells of a record after a text.
+pub(crate) fn write_line(cells: &StringRecord, text: &mut String) -> Result<(), AllocError>
+    ensures { OnOk result (string_bytes text.new ≡ string_bytes text.old ++ line_of (fields_of cells.now)) }
 {
-    line.clear();
     for column in 0..cells.len() {
-        line.push_str(cells.get(column).unwrap_or(""))?;
-        line.push('\t')?;
+        text.push_str(cells.get(column).unwrap_or(""))?;
+        text.push('\t')?;
     }
     Ok(())
 }

@@ -4,10 +4,10 @@ ghost use Rattle.std.specs.Prelude.{◌≡◌, ◌≤◌, ◌<◌, ◌+◌, ◌+
 ghost use Rattle.csv.specs.Records.{fields_of};
 ghost use Rattle.kbart_rows.specs.Cells.{row_bytes};
 ghost use Rattle.kbart_rows.specs.Private.Line.{HasNoTab};
-ghost use Rattle.kbart_rows.specs.Private.Kept.{IsRefusedLine};
+ghost use Rattle.kbart_rows.specs.Private.Kept.{IsRead, IsRefusedLine};
+ghost use Rattle.kbart_rows.specs.declared.error.TableError.TheVariants.{NoMemory};
 ghost use Rattle.kbart_rows.specs.Reading.{AreLines, AllFit, IsFault, IsFreshReader, IsLineFault, IsText};
 
-use crate::cells::write_line;
 use crate::error::TableError;
 use crate::records::Records;
 use csv::{Reader, ReaderBuilder, StringRecord};
@@ -45,18 +45,28 @@ pub(crate) fn read_lines(alloc: Global, bytes: &[u8]) -> Result<Records, TableEr
     ensures fit { IfOk result AllFit }
     ensures refused { IfErr result (IsLineFault bytes.now) }
 {
-    let mut lines = Records::new(alloc);
-    let mut line = String::new(alloc);
-    for record in tab_separated_reader(alloc, bytes).into_records() {
-        let Ok(cells) = record else {
-            return Err(TableError::NoMemory);
-        };
-        add_line(&mut lines, &cells, &mut line)?;
+    // With a tab after its last cell, a line is no longer than with its end in the table, which the last may lack.
+    let mut lines = Records::with_capacity(alloc, bytes.len().saturating_add(1))?;
+    let mut reader = tab_separated_reader(alloc, bytes);
+    let mut cells = StringRecord::new(alloc);
+    while read_cells(&mut reader, &mut cells)? {
+        add_line(&mut lines, &cells)?;
     }
     if lines.len() == 0 {
         return Err(TableError::NoHeader);
     }
     Ok(lines)
+}
+
+/// Reads the cells of the next line that is not blank, and answers whether there is one.
+fn read_cells(reader: &mut Reader<&[u8]>, cells: &mut StringRecord) -> Result<bool, TableError>
+    ensures read { IfOk result (λ found. IsRead reader.old found (fields_of cells.new) reader.new) }
+    ensures refused { IfErr result (λ e. e ≡ NoMemory) }
+{
+    match reader.read_record(cells) {
+        Ok(found) => Ok(found),
+        Err(_) => Err(TableError::NoMemory),
+    }
 }
 
 /// A reader of the records of a tab separated text, as a table is read: a line ends with LF, CR LF or CR, blank lines
@@ -72,8 +82,8 @@ pub fn tab_separated_reader(alloc: Global, bytes: &[u8]) -> Reader<&[u8]>
         .from_reader(alloc, bytes)
 }
 
-/// Adds a line after the others; `line` is room to write it.
-fn add_line(lines: &mut Records, cells: &StringRecord, line: &mut String) -> Result<(), TableError>
+/// Adds a line after the others.
+fn add_line(lines: &mut Records, cells: &StringRecord) -> Result<(), TableError>
     requires { All HasNoTab (fields_of cells.now) }
     ensures added { OnOk result (lines.new ≡ lines.old ++ fields_of cells.now ∷ []) }
     ensures few { OnOk result (length lines.old ≤ MAX_ROWS) }
@@ -83,12 +93,5 @@ fn add_line(lines: &mut Records, cells: &StringRecord, line: &mut String) -> Res
     if lines.len() > MAX_ROWS {
         return Err(TableError::TooManyRows);
     }
-    write_line(cells, line)?;
-    let line = line.as_str();
-    // The line has a tab after its last cell too, which does not count.
-    if line.len() > MAX_ROW_BYTES + 1 {
-        return Err(TableError::RowTooLong);
-    }
-    lines.push(line)?;
-    Ok(())
+    lines.push(cells)
 }

@@ -1,9 +1,17 @@
 //! Records of cells, kept as lines.
 
-ghost use Rattle.std.specs.Prelude.{◌≡◌, ◌++◌, ◌∷◌, [], ◌≤◌, ◌+◌, OnOk, get_or, length};
+ghost use Rattle.std.specs.Prelude.{◌≡◌, ◌++◌, ◌∷◌, [], ◌≤◌, ◌<◌, ◌+◌, All, IfErr, IfOk, OnOk, get_or, length};
+ghost use Rattle.std.specs.Prelude.{string_bytes};
+ghost use Rattle.csv.specs.Records.{fields_of, prev};
+ghost use Rattle.kbart_rows.specs.Cells.{row_bytes};
 ghost use Rattle.kbart_rows.specs.Lines.{cells_in};
+ghost use Rattle.kbart_rows.specs.Private.Kept.{IsLineTooLong};
+ghost use Rattle.kbart_rows.specs.Private.Line.{HasNoTab, line_of};
 ghost use Rattle.kbart_rows.specs.declared.read.TheConstants.{MAX_ROW_BYTES};
 
+use crate::cells::write_line;
+use crate::error::TableError;
+use crate::read::MAX_ROW_BYTES;
 use csv::StringRecord;
 use std::alloc::{AllocError, Global};
 use std::marker::Model;
@@ -12,49 +20,58 @@ use std::marker::Model;
 /// bytes, a tab for each cell and eight bytes more, however many cells it has.
 #[derive(Drop)]
 pub(crate) struct Records {
-    lines: StringRecord,
+    // The lines, one after another.
+    text: String,
+    // Where each line ends.
+    ends: Vec<usize>,
 }
 
 impl Model for Records {
-    ghost use Rattle.std.specs.Prelude.{◌≤◌, ◌+◌, All, List, length, map};
-    ghost use Rattle.csv.specs.Records.{fields_of};
+    ghost use Rattle.std.specs.Prelude.{List, map, string_bytes};
     ghost use Rattle.kbart_rows.specs.Cells.{Row};
     ghost use Rattle.kbart_rows.specs.Lines.{cells_in};
-    ghost use Rattle.kbart_rows.specs.declared.read.TheConstants.{MAX_ROW_BYTES};
+    ghost use Rattle.kbart_rows.specs.Private.Kept.{AreKept, lines_in};
 
     ghost Value = { List Row };
 
-    ghost view = { λ records. map cells_in (fields_of records.lines) };
+    ghost view = { λ records. map cells_in (lines_in records.ends.items (string_bytes records.text)) };
 
-    // Each line has the bytes of a row at most, and a tab more.
-    ghost invariant = { λ records. All (λ line. length line ≤ MAX_ROW_BYTES + 1) (fields_of records.lines) };
+    ghost invariant = { λ records. AreKept records.ends.items (string_bytes records.text) };
 }
 
 impl Records {
-    pub(crate) fn new(alloc: Global) -> Records
-        ensures { result ≡ [] }
+    /// No records, with room for `bytes` bytes of lines.
+    pub(crate) fn with_capacity(alloc: Global, bytes: usize) -> Result<Records, AllocError>
+        ensures { IfOk result (λ records. records ≡ []) }
     {
-        Records {
-            lines: StringRecord::new(alloc),
-        }
+        Ok(Records {
+            text: String::with_capacity(alloc, bytes)?,
+            ends: Vec::new(alloc),
+        })
     }
 
-    /// Adds the record whose line this is; if an allocation failed, no record is kept.
-    pub(crate) fn push(&mut self, line: &str) -> Result<(), AllocError>
-        requires { length line.now ≤ MAX_ROW_BYTES + 1 }
-        ensures { OnOk result (self.new ≡ self.old ++ cells_in line.now ∷ []) }
+    /// Adds a record. `RowTooLong` if its line would be longer than a row may be, `NoMemory` if an allocation
+    /// failed; no record is kept then.
+    pub(crate) fn push(&mut self, cells: &StringRecord) -> Result<(), TableError>
+        requires { All HasNoTab (fields_of cells.now) }
+        ensures added { OnOk result (self.new ≡ self.old ++ fields_of cells.now ∷ []) }
+        ensures fits { OnOk result (row_bytes (fields_of cells.now) ≤ MAX_ROW_BYTES) }
+        ensures refused { IfErr result (IsLineTooLong (fields_of cells.now)) }
     {
-        let added = self.lines.push_field(line);
-        if added.is_err() {
-            self.lines.clear();
+        match append(&mut self.text, &mut self.ends, cells) {
+            Ok(()) => Ok(()),
+            Err(e) => {
+                self.text.clear();
+                self.ends.clear();
+                Err(e)
+            }
         }
-        added
     }
 
     pub(crate) fn len(&self) -> usize
         ensures { result ≡ length self.now }
     {
-        self.lines.len()
+        self.ends.len()
     }
 
     /// The line of a record; past the last the empty one, which has no cells.
@@ -62,6 +79,37 @@ impl Records {
         ensures cells { cells_in result.now ≡ get_or self.now at [] }
         ensures short { length result.now ≤ MAX_ROW_BYTES + 1 }
     {
-        self.lines.get(at).unwrap_or("")
+        if at >= self.ends.len() {
+            return "";
+        }
+        let start = start_of(self.ends.as_slice(), at);
+        &self.text[start..self.ends[at]]
     }
+}
+
+/// Where a line begins, which is where the one before it ends.
+fn start_of(ends: &[usize], at: usize) -> usize
+    requires { at < length ends.now }
+    ensures { result ≡ prev 0 ends.now at }
+{
+    if at == 0 { 0 } else { ends[at - 1] }
+}
+
+/// Writes the line of a record after the others, and where it ends.
+fn append(text: &mut String, ends: &mut Vec<usize>, cells: &StringRecord) -> Result<(), TableError>
+    ensures text { OnOk result (string_bytes text.new ≡ string_bytes text.old ++ line_of (fields_of cells.now)) }
+    ensures ends { OnOk result (ends.new.items ≡ ends.old.items ++ length (string_bytes text.new) ∷ []) }
+    ensures fits { OnOk result (row_bytes (fields_of cells.now) ≤ MAX_ROW_BYTES) }
+    ensures refused { IfErr result (IsLineTooLong (fields_of cells.now)) }
+{
+    let start = text.len();
+    write_line(cells, text)?;
+    // The line has a tab after its last cell too, which does not count.
+    if text.len() - start > MAX_ROW_BYTES + 1 {
+        return Err(TableError::RowTooLong);
+    }
+    if ends.push(text.len()).is_err() {
+        return Err(TableError::NoMemory);
+    }
+    Ok(())
 }

@@ -1,10 +1,15 @@
 -- What a table keeps, and how it is read and found.
 use Rattle.std.specs.Prelude.{◌≡◌, ℕ, ◌↔◌, ◌==◌, if◌then◌else◌, ◌+◌, ◌≤◌, ◌<◌, List, [], ◌∷◌, filter, map, min, drop, length, get_or, String, Vec, Bool, false}
-use Rattle.std.specs.Prelude.{Option, None, Some}
+use Rattle.std.specs.Prelude.{true, All, Option, None, Some}
+use Rattle.std.specs.Borrow.{Bor}
 use Rattle.std.specs.HashMap.{HashMap, get_by_text, hasher_of}
 use Rattle.std.specs.List.{range_with_len}
 use Rattle.std.specs.Option.{option_map_or}
-use Rattle.std.specs.Str.{bytes_eq}
+use Rattle.std.specs.Str.{bytes_eq, IsCharBoundary}
+use Rattle.csv.specs.Reading.{ReadRecord, Ready}
+use Rattle.csv.specs.Records.{cut_from, last_end, Rising}
+use Rattle.csv.specs.declared.reader.Reader.{Reader}
+use Rattle.csv.specs.declared.reader.Trim.TheVariants as trim
 use Rattle.text_model.specs.Texts.{Text}
 use Rattle.environment_model.specs.Environment.{Environment, is_there, byte_count}
 use Rattle.target_vars.specs.declared.env.TheConstants.{MAX_BYTES}
@@ -28,6 +33,34 @@ IsRefusedLine before cells NoMemory = Unit {0}
 IsRefusedLine before cells TooLong = ⊥
 IsRefusedLine before cells NotUtf8 = ⊥
 IsRefusedLine before cells NoHeader = ⊥
+
+-- why a line is not added, however many others there are
+abbrev pub IsLineTooLong : Row → TableError → Type 0
+IsLineTooLong cells RowTooLong = MAX_ROW_BYTES < row_bytes cells
+IsLineTooLong cells NoMemory = Unit {0}
+IsLineTooLong cells TooManyRows = ⊥
+IsLineTooLong cells TooLong = ⊥
+IsLineTooLong cells NotUtf8 = ⊥
+IsLineTooLong cells NoHeader = ⊥
+
+-- the bytes that a reader of them has left
+abbrev pub rest_of : Bor (List ℕ) → Option (List ℕ)
+rest_of bytes = Some bytes.now
+
+-- a reader that drops nothing from cells read a record of these cells, or found none
+abbrev pub IsRead : Reader (Bor (List ℕ)) → Bool → Row → Reader (Bor (List ℕ)) → Type 0
+IsRead old found cells new = old.trim ≡ trim.None → Ready old → ReadRecord rest_of old new found cells × (new.first ≡ true)
+
+-- the lines that end at these places of a text, one after another
+abbrev pub lines_in : List ℕ → Text → List Text
+lines_in ends text = cut_from 0 ends text
+
+-- the text is these lines, none is longer than a row may be, with a tab more, and each ends between two characters
+pub record AreKept (ends : List ℕ) (text : Text) : Type 0 where
+  pub rising : Rising 0 ends (length text)
+  pub whole : last_end 0 ends ≡ length text
+  pub apart : All (IsCharBoundary text) ends
+  pub short : All (λ line. length line ≤ MAX_ROW_BYTES + 1) (lines_in ends text)
 
 -- ---- filling
 

@@ -1,23 +1,60 @@
-use Rattle.std.proofs.Common.{◌≡◌, ℕ, ◌≤◌, ◌+◌, All, List, [], ◌∷◌, zero, suc, get_or, length, refl, ap, ◌∙◌, arith}
-use Rattle.std.proofs.lemmas.List.Elements.{All-head, All-tail}
-use Rattle.csv.specs.Records.{fields_of}
+use Rattle.std.proofs.Common.{◌≡◌, ◌≤◌, ◌<◌, ◌+◌, [], map, length, get_or, sym, ◌∙◌, arith, string_bytes}
+use Rattle.std.proofs.lemmas.List.{get_or_past, get_or_read}
+use Rattle.std.proofs.lemmas.List.Elements.{All-get_or}
+use Rattle.std.proofs.lemmas.Str.{IsUtf8-string_bytes}
+use Rattle.csv.proofs.RecordFacts.{cut-length}
 use Rattle.text_model.specs.Texts.{Text}
 use Rattle.kbart_rows.specs.Lines.{cells_in}
+use Rattle.kbart_rows.specs.Private.Kept.{lines_in}
 use Rattle.kbart_rows.specs.declared.read.TheConstants.{MAX_ROW_BYTES}
-use Rattle.kbart_rows.proofs.LineCells.{field_or_empty, cells_of_field}
+use Rattle.kbart_rows.proofs.KeptLines.{IsLineAt, line_is, line_is_at, lines_count}
+use Rattle.kbart_rows.proofs.LineCells.{cells_of_field, no_cells}
 use Rattle.kbart_rows.proofs.records.Records.line.Goals as goal
 
-found : (c : goal.After-unwrap_or) → c.unwrap_or.result.now ≡ get_or (fields_of c.self.inside.lines) c.args.at []
-found c = ap (λ (line : _). line.now) c.unwrap_or.ensures ∙ field_or_empty (fields_of c.self.inside.lines) c.args.at c.get.result _ c.get.ensures.value refl
+pub returns-then-at-len-clause-cells : goal.returns-then-at-len-clause-cells
+returns-then-at-len-clause-cells c =
+    let ends = c.self.inside.ends.items in
+    let text = string_bytes c.self.inside.text in
+    let size = c.len.ensures ∙ c.self.inside.ends.ok.0 in
+    rw (← c.self.view_is) (no_cells ∙ sym (get_or_past (map cells_in (lines_in ends text)) c.args.at []
+    (omega (arith, c.if-at-len.true, size, lines_count ends text))))
+
+-- where the line begins and ends
+is_at : (c : goal.After-row_known-1) → IsLineAt c.self.inside.ends.items (string_bytes c.self.inside.text) c.args.at c.start_of-start.result c.index.result.now
+is_at c =
+    let ends = c.self.inside.ends.items in
+    let inside : c.args.at < length ends = omega (arith, c.if-at-len.false, c.len.ensures ∙ c.self.inside.ends.ok.0) in
+    line_is_at ends (string_bytes c.self.inside.text) c.args.at c.start_of-start.result c.index.result.now (IsUtf8-string_bytes c.self.inside.text)
+    c.self.invariant inside (rw c.as_slice.ensures.value at c.start_of-start.ensures)
+    (get_or_read ends c.args.at c.index.result.now inside c.index.ensures 0)
+
+pub range-requires-clause-start_le_end : goal.range-requires-clause-start_le_end
+range-requires-clause-start_le_end c = (is_at c).forwards
+
+pub range-requires-clause-start_boundary : goal.range-requires-clause-start_boundary
+range-requires-clause-start_boundary c = λ some. rw c.deref.ensures (is_at c).start_apart
+
+pub range-requires-clause-end_boundary : goal.range-requires-clause-end_boundary
+range-requires-clause-end_boundary c = rw c.deref.ensures (is_at c).end_apart
+
+inside : (c : goal.After-range) → c.args.at < length c.self.inside.ends.items
+inside c = omega (arith, c.if-at-len.false, c.len.ensures ∙ c.self.inside.ends.ok.0)
+
+found : (c : goal.After-range) → c.range.result.now ≡ get_or (lines_in c.self.inside.ends.items (string_bytes c.self.inside.text)) c.args.at []
+found c =
+    let ends = c.self.inside.ends.items in
+    let text = string_bytes c.self.inside.text in
+    let is = line_is_at ends text c.args.at c.start_of-start.result c.index.result.now (IsUtf8-string_bytes c.self.inside.text) c.self.invariant
+    (inside c) (rw c.as_slice.ensures.value at c.start_of-start.ensures) (get_or_read ends c.args.at c.index.result.now (inside c) c.index.ensures 0) in
+    rw (c.range.ensures.value, c.deref.ensures) (line_is ends text c.args.at c.start_of-start.result c.index.result.now (inside c) is)
 
 pub returns-clause-cells : goal.returns-clause-cells
 returns-clause-cells c =
-    ap cells_in (found c) ∙ cells_of_field (fields_of c.self.inside.lines) c.args.at ∙ ap (λ (records : _). get_or records c.args.at []) c.self.view_is
-
-short_or_none : (lines : List Text) (at : ℕ) → All (λ line. length line ≤ MAX_ROW_BYTES + 1) lines → length (get_or lines at []) ≤ MAX_ROW_BYTES + 1
-short_or_none [] at short = omega arith
-short_or_none (line ∷ lines) zero short = All-head (λ (line : Text). length line ≤ MAX_ROW_BYTES + 1) line lines short
-short_or_none (line ∷ lines) (suc at) short = short_or_none lines at (All-tail (λ (line : Text). length line ≤ MAX_ROW_BYTES + 1) line lines short)
+    rw (found c, ← c.self.view_is) (cells_of_field (lines_in c.self.inside.ends.items (string_bytes c.self.inside.text)) c.args.at)
 
 pub returns-clause-short : goal.returns-clause-short
-returns-clause-short c = rw (found c) (short_or_none (fields_of c.self.inside.lines) c.args.at c.self.invariant)
+returns-clause-short c =
+    let ends = c.self.inside.ends.items in
+    let text = string_bytes c.self.inside.text in
+    rw (found c) (All-get_or (λ (line : Text). length line ≤ MAX_ROW_BYTES + 1) (lines_in ends text) c.args.at []
+    (omega (arith, inside c, cut-length 0 ends text)) c.self.invariant.short)
