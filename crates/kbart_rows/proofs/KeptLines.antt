@@ -38,7 +38,8 @@ lines_more ends text line kept =
 boundary_stays : (text line : Text) (i : ℕ) → IsUtf8 text → IsUtf8 (text ++ line) → IsCharBoundary text i → IsCharBoundary (text ++ line) i
 boundary_stays text line i utf8 both at =
     let inside = at.0 in
-    IsCharBoundary-from_take (text ++ line) i both (omega (arith, length-append text line)) (rw (take-append-le i text line inside) (IsUtf8-take text i utf8 at))
+    IsCharBoundary-from_take (text ++ line) i both (omega (arith, length-append text line))
+    (rw (take-append-le i text line inside) (IsUtf8-take text i utf8 at))
 
 pub one_more_kept : (ends : List ℕ) (text line : Text) → IsUtf8 text → IsUtf8 (text ++ line) → length line ≤ MAX_ROW_BYTES + 1 → AreKept ends text
     → AreKept (ends ++ length (text ++ line) ∷ []) (text ++ line)
