@@ -1,10 +1,10 @@
 -- What small queries make of an environment, computed, and what the limits of an environment refuse.
-use Rattle.std.proofs.Common.{◌≡◌, ℕ, ◌+◌, ◌≤◌, true, false, Bool, List, [], ◌∷◌, ◌++◌, length, refl, codes, arith, inl, inr, true≢false}
+use Rattle.std.proofs.Common.{◌≡◌, ℕ, true, false, List, [], ◌∷◌, ◌++◌, length, refl, codes, arith, inl, inr, true≢false}
 use Rattle.std.specs.Prelude.{map, sum_by}
 use Rattle.std.specs.List.{repeat}
 use Rattle.text_model.specs.Texts.{Text}
 use Rattle.environment_model.specs.Environment.{Environment, Entry, Single, Several}
-use Rattle.target_vars.specs.declared.error.VarsError.TheVariants.{TooLarge, NoMemory}
+use Rattle.target_vars.specs.declared.error.VarsError.TheVariants.{TooLarge}
 use Rattle.kev_read.proofs.OnLiterals.{kev_read_on_literals}
 use Rattle.kev_read.specs.Pairs.{KeyValue, pairs_of}
 use Rattle.kev_read.specs.ReadQuery.{ReadQuery, IsBounded}

@@ -1,5 +1,5 @@
 -- In the order of the keys a pair of a key that came before comes right after another of that key.
-use Rattle.std.proofs.Common.{◌≡◌, ℕ, suc, zero, ◌+◌, ◌≤◌, ◌<◌, Bool, true, false, List, [], length, take, get_or, All, bytes_eq, refl, sym, ap, ◌∙◌, subst}
+use Rattle.std.proofs.Common.{◌≡◌, ℕ, suc, ◌≤◌, ◌<◌, true, List, length, take, get_or, bytes_eq, refl, sym, ap, ◌∙◌}
 use Rattle.std.proofs.Common.{arith}
 use Rattle.std.proofs.lemmas.List.{get_or-take, get_or-map, length-map, length-take-le}
 use Rattle.std.proofs.lemmas.List.Elements.{All-get_or}

@@ -9,7 +9,7 @@ use Rattle.std.proofs.lemmas.Option.{get_or_from_slice_get, slice_get_within}
 use Rattle.text_model.specs.Texts.{Text}
 use Rattle.environment_model.specs.Environment.{members_of}
 use Rattle.target_vars.specs.EnvValue.{piece_at}
-use Rattle.kev_read.specs.Pairs.{KeyValue, all_of, value_bytes}
+use Rattle.kev_read.specs.Pairs.{KeyValue, value_bytes}
 use Rattle.kev_read.specs.Private.Gathered.{AreSpans, AreKeyValues, gathered}
 use Rattle.kev_read.specs.Private.KeyOrder.{IsKeyOrder, IsKeyRun, pairs_at}
 use Rattle.kev_read.proofs.GatheredValues.{members_of-gathered}

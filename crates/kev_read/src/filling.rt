@@ -1,15 +1,18 @@
 //! The pairs of a request, added to an environment.
 
-ghost use Rattle.std.specs.Prelude.{◌≡◌, ◌≤◌, true, ◌↔◌, length, IfErr, OnOk, OnErr};
+ghost use Rattle.std.specs.Prelude.{◌≡◌, ℕ, ◌≤◌, false, true, ◌↔◌, length, slice_index_or, IfErr, OnOk, OnErr};
 ghost use Rattle.text_model.specs.Texts.{texts_of};
 ghost use Rattle.kev_read.specs.Filling as spec;
 ghost use Rattle.kev_read.specs.Private.KeyOrder.{IsKeyOrder};
 ghost use Rattle.kev_read.specs.Private.Layout.{key_value};
 
-use crate::list_keys::list_marks;
+use crate::list_keys::mark_lists;
 use crate::pairs::{Pair, Pairs};
 use crate::read::MAX_PAIRS;
 use target_vars::{Env, VarsError};
+
+/// The number of pairs for which short marks suffice, which take less time to unset than those of all pairs.
+const USUAL_PAIRS: usize = 64;
 
 /// Adds each pair to the environment, up to the first that is refused.
 pub(crate) fn fill(
@@ -23,9 +26,32 @@ pub(crate) fn fill(
     ensures ok { OnOk result (env.new.entries ≡ spec.filled (texts_of lists.now) env.old.entries pairs.now) }
     ensures err { IfErr result (spec.StopsAtPair (texts_of lists.now) env.old.entries pairs.now env.new.entries) }
 {
-    let are_lists = list_marks(pairs, order, lists);
+    if pairs.len() <= USUAL_PAIRS {
+        let mut marks = [false; USUAL_PAIRS];
+        fill_marked(pairs, order, lists, &mut marks, env)
+    } else {
+        let mut marks = [false; MAX_PAIRS];
+        fill_marked(pairs, order, lists, &mut marks, env)
+    }
+}
+
+/// Adds each pair as [`fill`] does; `marks` has room for a mark for each pair, and none is set.
+fn fill_marked(
+    pairs: &Pairs,
+    order: &[u16],
+    lists: &[&str],
+    marks: &mut [bool],
+    env: &mut Env,
+) -> Result<(), VarsError>
+    requires order { IsKeyOrder pairs.now order.now }
+    requires room { length pairs.now ≤ length marks.old }
+    requires unmarked { (index : ℕ) → slice_index_or marks.old index false ≡ false }
+    ensures ok { OnOk result (env.new.entries ≡ spec.filled (texts_of lists.now) env.old.entries pairs.now) }
+    ensures err { IfErr result (spec.StopsAtPair (texts_of lists.now) env.old.entries pairs.now env.new.entries) }
+{
+    mark_lists(pairs, order, lists, marks);
     for index in 0..pairs.len() {
-        add(pairs.at(index), are_lists[index], env)?;
+        add(pairs.at(index), marks[index], env)?;
     }
     Ok(())
 }

@@ -8,7 +8,6 @@ ghost use Rattle.kev_read.specs.Private.KeyOrder.{IsKeyOrder, has_index, passes_
 
 use crate::key_order::indices_of;
 use crate::pairs::Pairs;
-use crate::read::MAX_PAIRS;
 use target_vars::{AUTHORS, IDENTIFIERS};
 
 /// The keys that are lists in every request.
@@ -21,18 +20,17 @@ pub fn is_standard_list(name: &str) -> bool
     name == AUTHORS || name == IDENTIFIERS
 }
 
-/// Whether the key of each pair names a list. The work grows with the number of pairs, and with the number of lists
-/// times the logarithm of the number of pairs. It allocates nothing.
-pub(crate) fn list_marks(pairs: &Pairs, order: &[u16], declared: &[&str]) -> [bool; MAX_PAIRS]
+/// Marks each pair whose key names a list, where none is marked yet. The work grows with the number of lists times the
+/// logarithm of the number of pairs, and with the number of marked pairs. It allocates nothing.
+pub(crate) fn mark_lists(pairs: &Pairs, order: &[u16], declared: &[&str], marks: &mut [bool])
     requires order { IsKeyOrder pairs.now order.now }
-    requires few { length pairs.now ≤ MAX_PAIRS }
-    ensures { (index : ℕ) → slice_index_or result index false ≡ passes_at (is_list (texts_of declared.now)) pairs.now
-        index }
+    requires room { length pairs.now ≤ length marks.old }
+    requires unmarked { (index : ℕ) → slice_index_or marks.old index false ≡ false }
+    ensures { (index : ℕ) → slice_index_or marks.new index false
+        ≡ passes_at (is_list (texts_of declared.now)) pairs.now index }
 {
-    let mut marks = [false; MAX_PAIRS];
-    mark_names(pairs, order, &STANDARD_LISTS, &mut marks);
-    mark_names(pairs, order, declared, &mut marks);
-    marks
+    mark_names(pairs, order, &STANDARD_LISTS, marks);
+    mark_names(pairs, order, declared, marks);
 }
 
 /// Marks the pairs whose key is one of the names.

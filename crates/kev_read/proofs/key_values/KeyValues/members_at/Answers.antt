@@ -1,4 +1,4 @@
-use Rattle.std.proofs.Common.{sym, ◌∙◌, arith, string_bytes, subst}
+use Rattle.std.proofs.Common.{arith, subst}
 use Rattle.target_vars.specs.EnvValue.{EnvValue, AreMembersAt}
 use Rattle.kev_read.proofs.KeySpans.{few_spans, members_are, spans_of_order}
 use Rattle.kev_read.proofs.key_values.KeyValues.members_at.Goals as goal

@@ -1,9 +1,0 @@
-use Rattle.text_model.specs.Texts.{texts_of}
-use Rattle.kev_read.specs.declared.read.TheConstants.{MAX_PAIRS}
-use Rattle.kev_read.proofs.ListMarks.{marked_twice, unmarked}
-use Rattle.kev_read.proofs.list_keys.list_marks.Goals as goal
-
-pub returns : goal.returns
-returns c = λ index.
-    marked_twice (texts_of c.args.declared.now) c.args.pairs.now index _ _ _ (unmarked MAX_PAIRS index) (c.mark_names.ensures index)
-    (c.mark_names-2.ensures index)
