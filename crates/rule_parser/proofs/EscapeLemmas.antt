@@ -30,11 +30,11 @@ large_is_plain b h = elim (cases_Bool (is_special b)) [ inl e ↦ absurd (omega 
 encode_is_not_empty : (c : ℕ) → 0 < length (encode_utf8 c)
 encode_is_not_empty c = let h : 1 ≤ length (encode_utf8 c ++ []) = length-le-encodes (c ∷ []) in rw append-nil at h
 
-abbrev ArePlain : Text → Type 0
+abbrev pub ArePlain : Text → Type 0
 ArePlain bs = AllByRecursion (λ b. is_special b ≡ false) bs
 
 -- a character past ASCII has no byte of ASCII
-plain_bytes : (c : ℕ) → is_special c ≡ false → ArePlain (encode_utf8 c)
+pub plain_bytes : (c : ℕ) → is_special c ≡ false → ArePlain (encode_utf8 c)
 plain_bytes c h =
     recursion_from_All (λ b. is_special b ≡ false) (encode_utf8 c) (All-from_get_or (λ b. is_special b ≡ false) (encode_utf8 c) 0 each)
   where
@@ -56,7 +56,7 @@ escaped_special b t e = escaped_step true b t e
 pub escaped_plain : (b : ℕ) (t : Text) → is_special b ≡ false → escaped (b ∷ t) ≡ b ∷ escaped t
 escaped_plain b t e = escaped_step false b t e
 
-escaped-append : (xs ys : Text) → escaped (xs ++ ys) ≡ escaped xs ++ escaped ys
+pub escaped-append : (xs ys : Text) → escaped (xs ++ ys) ≡ escaped xs ++ escaped ys
 escaped-append [] ys = refl
 escaped-append (b ∷ xs) ys =
     elim (cases_Bool (is_special b)) [
@@ -64,7 +64,7 @@ escaped-append (b ∷ xs) ys =
       | inr e ↦ escaped_plain b (xs ++ ys) e ∙ ap (λ t. b ∷ t) (escaped-append xs ys) ∙ sym (ap (λ t. t ++ escaped ys) (escaped_plain b xs e))
     ]
 
-escaped_plain_text : (bs : Text) → ArePlain bs → escaped bs ≡ bs
+pub escaped_plain_text : (bs : Text) → ArePlain bs → escaped bs ≡ bs
 escaped_plain_text [] h = refl
 escaped_plain_text (b ∷ bs) h = escaped_plain b bs h.0 ∙ ap (λ t. b ∷ t) (escaped_plain_text bs h.1)
 

@@ -9,6 +9,8 @@ pub mod LawLemmas
 pub mod LineLaws
 pub mod FaultLaws
 pub mod FirstFaults
+pub mod SpellingLemmas
+pub mod MentionLemmas
 pub mod NameChoice
 pub mod GuardChoice
 pub mod WholeGuards
@@ -16,3 +18,4 @@ pub mod LineChoice
 pub mod Examples
 pub mod LineExamples
 mod MeaningExamples
+mod MentionExamples

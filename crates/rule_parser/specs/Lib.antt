@@ -5,4 +5,6 @@ pub mod Statements
 pub mod Grammar
 pub mod Faults
 pub mod Meaning
+pub mod Mentions
+pub mod View
 pub mod Private

@@ -23,7 +23,9 @@ pub(crate) fn all_hold<V: Variables>(variables: &V, guards: &[Guard]) -> bool
     guards.iter().all(|guard| holds(variables, guard))
 }
 
-fn holds<V: Variables>(variables: &V, guard: &Guard) -> bool
+/// Whether the guard holds of the variables. As rules see an environment, they are those of
+/// [`Rules::view`](crate::Rules::view).
+pub fn holds<V: Variables>(variables: &V, guard: &Guard) -> bool
     ensures { result ≡ is_held (V.look variables.now) guard.now }
 {
     match guard {

@@ -6,17 +6,31 @@ use uri_template::Variables;
 
 /// The variables of an environment, each as the rules declare it: a text whose name they declare a list, and a list
 /// whose name they do not, is undefined.
+///
+/// Contracts see it by `seen_by`.
 #[derive(Clone, Copy)]
-pub(crate) struct RulesView<'a> {
+pub struct RulesView<'a> {
     pub(crate) rules: &'a Rules,
     pub(crate) env: &'a Env,
 }
 
-impl Variables for RulesView<'_> {
-    ghost use Rattle.environment_model.specs.Environment.{look_up, view};
-    ghost use Rattle.environment_model.specs.Lists.{list_names};
+impl Rules {
+    ghost use Rattle.std.specs.Prelude.{◌≡◌};
+    ghost use Rattle.rule_parser.specs.Meaning.{seen};
+    ghost use Rattle.rule_parser.specs.View.{seen_by};
 
-    ghost look = { λ v. view (list_names v.rules.now.lists) (look_up v.env.now.entries) };
+    /// An environment as the rules see it; takes no memory.
+    pub fn view<'a>(&'a self, env: &'a Env) -> RulesView<'a>
+        ensures { seen_by result ≡ seen self.now env.now.entries }
+    {
+        RulesView { rules: self, env }
+    }
+}
+
+impl Variables for RulesView<'_> {
+    ghost use Rattle.rule_parser.specs.View.{seen_by};
+
+    ghost look = { seen_by };
 
     fn text(&self, name: &str) -> Option<&str> {
         if self.rules.is_list(name) {
