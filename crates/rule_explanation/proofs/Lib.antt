@@ -1,0 +1,11 @@
+mod PageExamples
+mod RuleExamples
+pub mod NameLemmas
+pub mod PlaceLemmas
+pub mod RowOrder
+pub mod LeftRows
+pub mod LawLemmas
+pub mod LastTried
+pub mod LinkLemmas
+pub mod WholeText
+pub mod RowLemmas

@@ -1,0 +1,38 @@
+-- A row's text from its pieces, and its environment by the names that the rules give out as lists.
+use Rattle.std.proofs.Common.{◌≡◌, ◌++◌, ℕ, List, [], ◌∷◌, Bool, true, false, ◌||◌, refl, ap, ◌∙◌, codes, append_assoc}
+use Rattle.std.specs.Fmt.{decimal}
+use Rattle.std.specs.Str.{bytes_eq}
+use Rattle.text_model.specs.Texts.{Text}
+use Rattle.environment_model.specs.Environment.{Environment, is_among}
+use Rattle.environment_model.specs.Lists.{is_list, list_names}
+use Rattle.kev_read.specs.Pairs.{KeyValue}
+use Rattle.kev_read.specs.Filling.{added, filled}
+use Rattle.rule_parser.specs.Names.{each_once}
+use Rattle.rule_parser.proofs.NameLemmas.{among_each_once}
+
+pub row_lines : (row : ℕ) (start out lines : Text) → start ≡ codes "row " ++ (decimal row ++ codes "\n") → out ≡ start ++ lines
+    → out ≡ codes "row " ++ (decimal row ++ (codes "\n" ++ lines))
+row_lines row start out lines begin rest =
+    rest ∙ ap (λ (t : Text). t ++ lines) begin ∙ append_assoc (codes "row ") (decimal row ++ codes "\n") lines
+    ∙ ap (λ (t : Text). codes "row " ++ t) (append_assoc (decimal row) (codes "\n") lines)
+
+absorbed : (a b c : Bool) → (a || (b || (a || (b || c)))) ≡ (a || (b || c))
+absorbed true b c = refl
+absorbed false true c = refl
+absorbed false false c = refl
+
+same_list : (lists : List Text) (key : Text) → is_list (each_once (list_names lists)) key ≡ is_list lists key
+same_list lists key =
+    ap (λ b. bytes_eq (codes "rft.au") key || (bytes_eq (codes "rft_id") key || b)) (among_each_once key (list_names lists))
+    ∙ absorbed (bytes_eq (codes "rft.au") key) (bytes_eq (codes "rft_id") key) (is_among key lists)
+
+same_filled : (names lists : List Text) → ((key : Text) → is_list names key ≡ is_list lists key) → (env : Environment) (pairs : List KeyValue)
+    → filled names env pairs ≡ filled lists env pairs
+same_filled names lists same env [] = refl
+same_filled names lists same env (pair ∷ pairs) =
+    ap (λ b. filled names (added b env pair) pairs) (same pair.key) ∙ same_filled names lists same (added (is_list lists pair.key) env pair) pairs
+
+pub same_environment : (names lists : List Text) (env : Environment) (pairs : List KeyValue) → names ≡ each_once (list_names lists)
+    → filled names env pairs ≡ filled lists env pairs
+same_environment names lists env pairs is =
+    ap (λ ns. filled ns env pairs) is ∙ same_filled (each_once (list_names lists)) lists (same_list lists) env pairs

@@ -1,0 +1,89 @@
+-- Matching rows one after another.
+use Rattle.std.proofs.Common.{◌≡◌, ℕ, ◌+◌, ◌≤◌, ◌<◌, Bool, true, false, cond, suc, List, [], ◌∷◌, All, Some, None, filter, refl, sym, ap, ◌∙◌, arith, nat_le}
+use Rattle.std.proofs.Common.{get_or, length}
+use Rattle.std.proofs.lemmas.Bool.Decides.{nat_tests}
+use Rattle.std.proofs.lemmas.List.FromFn.{length-range_with_len, get_or-range_with_len}
+use Rattle.std.proofs.lemmas.List.Kept.{AllPairs-filter}
+use Rattle.std.proofs.lemmas.List.Elements.{All-head, All-tail}
+use Rattle.std.proofs.lemmas.Option.{none-some, same_Some}
+use Rattle.std.specs.List.{AllPairs, range_with_len}
+use Rattle.text_model.specs.Texts.{Text}
+use Rattle.kbart_rows.specs.Cells.{Holdings}
+use Rattle.kbart_rows.specs.Identifiers.{first_from, identifier_columns, is_match, matching_rows}
+
+-- each row is below the later ones
+abbrev pub Rise : List ℕ → Type 0
+Rise rows = AllPairs (λ x y. x < y) rows
+
+range_rises : (first n : ℕ) → Rise (range_with_len first n)
+range_rises first n i j d before within =
+    let long = length-range_with_len first n in
+    let at_i = get_or-range_with_len first n i d (omega (arith, before, within, long)) in
+    let at_j = get_or-range_with_len first n j d (omega (arith, within, long)) in
+    omega (arith, at_i, at_j, before)
+
+filtered_rise : (test : ℕ → Bool) (first n : ℕ) → Rise (filter test (range_with_len first n))
+filtered_rise test first n = AllPairs-filter (λ x y. x < y) test (range_with_len first n) (range_rises first n)
+
+pub matching_rows_rise : (table : Holdings) (ids : List Text) → Rise (matching_rows table ids)
+matching_rows_rise table ids = filtered_rise (λ row. is_match (identifier_columns table.header) ids (get_or table.rows row [])) 0 (length table.rows)
+
+rest_rises : (row : ℕ) (rows : List ℕ) → Rise (row ∷ rows) → Rise rows
+rest_rises row rows rise i j d before within = rise (suc i) (suc j) d (omega (arith, before)) (omega (arith, within))
+
+-- ---- the rows at or after one
+
+all_from : (from : ℕ) (rows : List ℕ) → All (λ row. from ≤ row) rows → filter (nat_le from) rows ≡ rows
+all_from from [] low = refl
+all_from from (row ∷ rows) low =
+    let here : from ≤ row = All-head (λ row. from ≤ row) row rows low in
+    let passes : nat_le from row ≡ true = grind (arith, nat_tests) in
+    rw passes (ap (λ rest. row ∷ rest) (all_from from rows (All-tail (λ row. from ≤ row) row rows low)))
+
+pub all_from_start : (rows : List ℕ) → filter (nat_le 0) rows ≡ rows
+all_from_start rows = all_from 0 rows (λ k d within. omega arith)
+
+-- where there is no first one, there is none
+pub none_from : (from : ℕ) (rows : List ℕ) → first_from from rows ≡ None → filter (nat_le from) rows ≡ []
+none_from from [] none = refl
+none_from from (row ∷ rows) none = by_test (nat_le from row) (none_from from rows) none
+  where
+    by_test : (b : Bool) → (first_from from rows ≡ None → filter (nat_le from) rows ≡ []) → cond b (Some row) (first_from from rows) ≡ None
+        → cond b (row ∷ filter (nat_le from) rows) (filter (nat_le from) rows) ≡ []
+    by_test true rest found = absurd (none-some row (sym found))
+    by_test false rest later = rest later
+
+pub first_is_from : (from row : ℕ) (rows : List ℕ) → first_from from rows ≡ Some row → from ≤ row
+first_is_from from row [] found = absurd (none-some row found)
+first_is_from from row (next ∷ rows) found = by_test (nat_le from next) refl (first_is_from from row rows) found
+  where
+    by_test : (b : Bool) → nat_le from next ≡ b → (first_from from rows ≡ Some row → from ≤ row) → cond b (Some next) (first_from from rows) ≡ Some row
+        → from ≤ row
+    by_test true passes rest here =
+        let same : next ≡ row = same_Some next row here in
+        let low : from ≤ next = grind (arith, nat_tests) in
+        omega (arith, same, low)
+    by_test false fails rest later = rest later
+
+-- the first one, and those after it
+pub first_and_rest : (from row : ℕ) (rows : List ℕ) → Rise rows → first_from from rows ≡ Some row
+    → filter (nat_le from) rows ≡ row ∷ filter (nat_le (row + 1)) rows
+first_and_rest from row [] rise found = absurd (none-some row found)
+first_and_rest from row (next ∷ rows) rise found = by_test (nat_le from next) refl (first_and_rest from row rows (rest_rises next rows rise)) found
+  where
+    by_test : (b : Bool) → nat_le from next ≡ b → (first_from from rows ≡ Some row → filter (nat_le from) rows ≡ row ∷ filter (nat_le (row + 1)) rows)
+        → cond b (Some next) (first_from from rows) ≡ Some row
+        → cond b (next ∷ filter (nat_le from) rows) (filter (nat_le from) rows) ≡ row ∷ filter (nat_le (row + 1)) (next ∷ rows)
+    by_test true passes rest here =
+        let same : next ≡ row = same_Some next row here in
+        let low : from ≤ next = grind (arith, nat_tests) in
+        let past : nat_le (row + 1) next ≡ false = grind (arith, nat_tests) in
+        let above : (bound : ℕ) → bound ≤ next + 1 → All (λ other. bound ≤ other) rows =
+        λ bound small k d within. let more = rise 0 (suc k) d (omega arith) (omega (arith, within)) in omega (arith, more, small) in
+        let kept = all_from from rows (above from (omega (arith, low))) in
+        let kept_on = all_from (row + 1) rows (above (row + 1) (omega (arith, same))) in
+        rw past (ap (λ others. next ∷ others) kept ∙ ap (λ first. first ∷ rows) same ∙ ap (λ others. row ∷ others) (sym kept_on))
+    by_test false fails rest later =
+        let low = first_is_from from row rows later in
+        let past : nat_le (row + 1) next ≡ false = grind (arith, nat_tests) in
+        rw past (rest later)

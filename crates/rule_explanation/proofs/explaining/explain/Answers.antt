@@ -1,0 +1,36 @@
+-- A row matches, or none does.
+use Rattle.std.proofs.Common.{◌≡◌, ap, sym, ◌∙◌, subst, OnOk, IfErr}
+use Rattle.std.specs.Io.KnownBytes.{Appends}
+use Rattle.text_model.specs.Texts.{Text}
+use Rattle.kbart_rows.specs.Identifiers.{first_from, matching_rows}
+use Rattle.rule_explanation.specs.Writing.{IsBegun}
+use Rattle.rule_explanation.specs.declared.error.ExplainError.{ExplainError}
+use Rattle.rule_explanation.specs.declared.error.ExplainError.TheVariants.{NoMemory}
+use Rattle.rule_explanation.proofs.WholeText.{no_link, no_text, some_text}
+use Rattle.rule_explanation.proofs.explaining.explain.Goals as goal
+
+pub returns-in-Some-clause-printed : goal.returns-in-Some-clause-printed
+returns-in-Some-clause-printed g c =
+    let first = ap (λ ids. first_from 0 (matching_rows c.args.table.now ids)) (sym c.in_ok-ids.ensures) ∙ sym c.in-Some.ensures.first in
+    let P : Text → Type 0 =
+    λ whole. OnOk c.explain_rows.result (Appends (g.W.Write.contents c.args.output.now) (g.W.Write.contents c.explain_rows.new.output) whole) in
+    subst P (sym (some_text c.args.rules.now c.args.table.now c.args.request.now.pairs _ first)) c.explain_rows.ensures.printed
+
+pub returns-in-Some-clause-begun : goal.returns-in-Some-clause-begun
+returns-in-Some-clause-begun g c =
+    let first = ap (λ ids. first_from 0 (matching_rows c.args.table.now ids)) (sym c.in_ok-ids.ensures) ∙ sym c.in-Some.ensures.first in
+    let P : Text → Type 0 =
+    λ whole. IfErr c.explain_rows.result
+    (λ (e : ExplainError). e ≡ NoMemory → IsBegun (g.W.Write.contents c.args.output.now) (g.W.Write.contents c.explain_rows.new.output) whole) in
+    subst P (sym (some_text c.args.rules.now c.args.table.now c.args.request.now.pairs _ first)) c.explain_rows.ensures.begun
+
+pub returns-clause-found : goal.returns-clause-found
+returns-clause-found g c =
+    let none = ap (λ ids. first_from 0 (matching_rows c.args.table.now ids)) (sym c.in_ok-ids.ensures) ∙ sym c.in-None.ensures.first in
+    sym (no_link c.args.rules.now c.args.table.now c.args.request.now.pairs none)
+
+pub returns-clause-printed : goal.returns-clause-printed
+returns-clause-printed g c =
+    let none = ap (λ ids. first_from 0 (matching_rows c.args.table.now ids)) (sym c.in_ok-ids.ensures) ∙ sym c.in-None.ensures.first in
+    let P : Text → Type 0 = λ whole. Appends (g.W.Write.contents c.args.output.now) (g.W.Write.contents c.write.new.output) whole in
+    subst P (sym (no_text c.args.rules.now c.args.table.now c.args.request.now.pairs none)) c.in_ok-write-in-None.ensures.ok

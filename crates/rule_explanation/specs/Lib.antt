@@ -1,0 +1,4 @@
+pub mod Rows
+pub mod Failing
+pub mod Explanation
+pub mod Writing

@@ -1,0 +1,77 @@
+//! The rule that holds.
+
+ghost use Rattle.std.specs.Prelude.{◌≡◌, ◌++◌, ◌<◌, IfOk, IfSome, OnOk, length, position, string_bytes};
+ghost use Rattle.std.specs.List.{find, list_all};
+ghost use Rattle.std.specs.Option.{option_map};
+ghost use Rattle.uri_template.specs.Expansion.{expansion};
+ghost use Rattle.rule_parser.specs.Meaning.{guard_holds, guards_hold};
+ghost use Rattle.rule_parser.specs.View.{seen_by};
+ghost use Rattle.menu.specs.WebLink.{is_web_link as begins_as_web_link};
+ghost use Rattle.rule_explanation.specs.Rows.{is_web};
+ghost use Rattle.rule_explanation.specs.Failing.{holding_rule};
+ghost use Rattle.rule_explanation.specs.Explanation.{holding_lines, link_lines};
+
+use menu::is_web_link;
+use rule_parser::{Guard, Rule, RulesView, holds};
+use std::alloc::{AllocError, Global};
+use uri_template::expand_in;
+
+fn all_hold(view: &RulesView<'_>, guards: &[Guard]) -> bool
+    ensures { result ≡ list_all (guard_holds (seen_by view.now)) guards.now }
+{
+    guards.iter().all(|guard| holds(view, guard))
+}
+
+// The index of the first rule that holds.
+pub(crate) fn first_holding(view: &RulesView<'_>, rules: &[Rule]) -> Option<usize>
+    ensures { result ≡ position (guards_hold (seen_by view.now)) rules.now }
+{
+    rules
+        .iter()
+        .position(|rule| all_hold(view, rule.guards.as_slice()))
+}
+
+// Appends a rule that holds, the one at a place, with its link. Returns whether this is a web link.
+fn push_link(
+    alloc: Global,
+    out: &mut String,
+    view: &RulesView<'_>,
+    place: usize,
+    rule: &Rule,
+) -> Result<bool, AllocError>
+    ensures bytes { OnOk result (string_bytes out.new ≡ string_bytes out.old
+        ++ link_lines place (expansion (seen_by view.now) rule.now.template.parts)) }
+    ensures web { IfOk result (λ found. found
+        ≡ begins_as_web_link (expansion (seen_by view.now) rule.now.template.parts)) }
+{
+    let link = expand_in(alloc, &rule.template, view)?;
+    let link = link.as_str();
+    write!(out, "  rule {place} holds: {link}\n")?;
+    if is_web_link(link) {
+        return Ok(true);
+    }
+    out.push_str("  not a web link\n")?;
+    Ok(false)
+}
+
+// Appends the rule that holds. Returns whether there is one with a web link.
+pub(crate) fn push_holding_rule(
+    alloc: Global,
+    out: &mut String,
+    view: &RulesView<'_>,
+    rules: &[Rule],
+) -> Result<bool, AllocError>
+    ensures bytes { OnOk result (string_bytes out.new ≡ string_bytes out.old
+        ++ holding_lines (seen_by view.now) (holding_rule (seen_by view.now) rules.now)) }
+    ensures web { IfOk result (λ found. found ≡ is_web (option_map
+        (λ rule. expansion (seen_by view.now) rule.template.parts)
+        (find (guards_hold (seen_by view.now)) rules.now))) }
+{
+    match first_holding(view, rules) {
+        Some(i) => push_link(alloc, out, view, i + 1, &rules[i]),
+        None => {
+            out.push_str("  no rule holds\n")?;
+            Ok(false)
+        }
+    }
+}
