@@ -1,0 +1,72 @@
+-- The cells of a line, from left to right.
+use Rattle.std.proofs.Common.{◌≡◌, ℕ, ◌+◌, ◌-◌, ◌&&◌, ◌||◌, ◌==◌, ◌≤◌, ◌<◌, Bool, true, false, not, cond, count_by, zero, suc, List, [], ◌∷◌, length, drop, Option, Some, None, refl, sym, ap, ◌∙◌, arith}
+use Rattle.std.proofs.Common.{if◌then◌else◌}
+use Rattle.std.proofs.lemmas.Option.{none-some, same_Some}
+use Rattle.std.proofs.lemmas.Bool.{false≢true}
+use Rattle.std.proofs.lemmas.List.Sums.{count_by-le-length, sum_by-cons}
+use Rattle.std.specs.List.{list_any, slice_get}
+use Rattle.table_inspection.specs.Columns.{is_empty}
+use Rattle.table_inspection.proofs.Ranges.{not_none}
+use Rattle.text_model.specs.Texts.{Text}
+use Rattle.kbart_rows.specs.Cells.{Row, tab}
+use Rattle.kbart_rows.specs.Lines.{prepended, cells_in}
+
+prepended_cells : (b : ℕ) (cells : Row) → length (prepended b cells) ≡ length cells
+prepended_cells b [] = refl
+prepended_cells b (cell ∷ cells) = refl
+
+-- a tab makes a cell
+pub tab_count : (line : Text) → count_by (λ b. b == tab) line ≡ length (cells_in line)
+unfolding cells_in
+tab_count [] = refl
+tab_count (b ∷ line) =
+    let f : ℕ → ℕ = λ b. cond (b == tab) 1 0 in
+    sum_by-cons f b line
+    ∙ elim (b == tab) as (λ is. cond is 1 0 + count_by (λ b. b == tab) line ≡ length (if is then [] ∷ cells_in line else prepended b (cells_in line))) [
+      | true ↦ omega (arith, tab_count line)
+      | false ↦ omega (arith, tab_count line, prepended_cells b (cells_in line))
+    ]
+
+pub few_cells : (line : Text) → length (cells_in line) ≤ length line
+few_cells line = omega (arith, tab_count line, count_by-le-length (λ b. b == tab) line)
+
+-- ---- cells past that many
+
+abbrev pub any_text : Row → Bool
+any_text cells = list_any (λ cell. not (is_empty cell)) cells
+
+pub past_found : (left : ℕ) (cell : Text) (rest : Row) → (left == 0 && not (is_empty cell)) ≡ true → any_text (drop left (cell ∷ rest)) ≡ true
+past_found zero cell rest is = ap (λ b. b || any_text rest) is
+past_found (suc left) cell rest is =
+    let no = not_none left in
+    let never : false ≡ true = ap (λ b. b && not (is_empty cell)) (sym no) ∙ is in
+    absurd (false≢true never)
+
+pub past_goes_on : (left : ℕ) (cell : Text) (rest : Row) → (left == 0 && not (is_empty cell)) ≡ false
+    → any_text (drop left (cell ∷ rest)) ≡ any_text (drop (left - 1) rest)
+past_goes_on zero cell rest is = ap (λ b. b || any_text rest) is
+past_goes_on (suc left) cell rest is =
+    let one : left ≡ suc left - 1 = omega arith in
+    ap (λ n. any_text (drop n rest)) one
+
+-- the item at a place is the first of what is left
+pub left_at : {X : Type 0} (xs : List X) (place : ℕ) (x : X) → slice_get xs place ≡ Some x → drop place xs ≡ x ∷ drop (place + 1) xs
+left_at [] place x is = absurd (none-some x is)
+left_at (y ∷ xs) zero x is = ap (λ z. z ∷ xs) (same_Some y x is)
+left_at (y ∷ xs) (suc place) x is =
+    let next : suc place + 1 ≡ suc (place + 1) = omega arith in
+    left_at xs place x is ∙ ap (λ n. x ∷ drop n (y ∷ xs)) (sym next)
+
+-- past the last there is nothing left
+pub none_left : {X : Type 0} (xs : List X) (place : ℕ) → slice_get xs place ≡ None → drop place xs ≡ []
+none_left [] zero is = refl
+none_left [] (suc place) is = refl
+none_left (y ∷ xs) zero is = absurd (none-some y (sym is))
+none_left (y ∷ xs) (suc place) is = none_left xs place is
+
+pub header_end : {X : Type 0} (xs : List X) (place : ℕ) → place ≤ length xs → slice_get xs place ≡ None → place ≡ length xs
+header_end [] place within is = omega (arith, within)
+header_end (y ∷ xs) zero within is = absurd (none-some y (sym is))
+header_end (y ∷ xs) (suc place) within is =
+    let last : place ≡ length xs = header_end xs place (omega (arith, within)) is in
+    ap suc last

@@ -1,0 +1,125 @@
+-- Counting the rows of each identifier, row by row.
+use Rattle.std.proofs.Common.{◌≡◌, ℕ, ◌+◌, ◌||◌, ◌≤◌, ◌++◌, Bool, true, false, not, cond, List, [], ◌∷◌, length, Option, None, Some, refl, sym, ap, ◌∙◌, arith}
+use Rattle.std.proofs.Common.{if◌then◌else◌, append-nil, append_assoc, length-append}
+use Rattle.std.specs.Prelude.{filter}
+use Rattle.std.specs.List.{cons_option, filter_map, flat_map, list_any, sum_by}
+use Rattle.std.specs.Option.{option_and_then, option_to_list}
+use Rattle.std.specs.Str.{bytes_eq}
+use Rattle.std.proofs.lemmas.Grind.{flat_map-append}
+use Rattle.std.proofs.lemmas.List.Elements.{filter-append}
+use Rattle.std.proofs.lemmas.List.Folds.{list_any-append}
+use Rattle.std.proofs.lemmas.List.Sums.{count_by-le-length, sum_by-append, sum_by-cons}
+use Rattle.text_model.specs.Texts.{Text}
+use Rattle.kbart_rows.specs.Cells.{Row, defined}
+use Rattle.kbart_rows.specs.Identifiers.{identifier_in}
+use Rattle.table_inspection.specs.Identifiers.{identifiers_of, distinct, row_identifiers, rows_having}
+use Rattle.table_inspection.specs.Private.Counting.{AreCounts, is_id, new_among}
+
+-- ---- different texts
+
+left_of : (t x : Text) (before : Bool) → filter (λ other. not (bytes_eq other t)) (if before then [] else x ∷ []) ≡ (if bytes_eq x t || before then [] else x ∷ [])
+left_of t x true = elim (bytes_eq x t) as (λ b. [] ≡ (if b || true then [] else x ∷ [])) [ true ↦ refl | false ↦ refl ]
+left_of t x false = elim (bytes_eq x t) as (λ b. cond (not b) (x ∷ []) [] ≡ (if b || false then [] else x ∷ [])) [ true ↦ refl | false ↦ refl ]
+
+pub distinct_more : (texts : List Text) (x : Text) → distinct (texts ++ x ∷ []) ≡ distinct texts ++ (if list_any (bytes_eq x) texts then [] else x ∷ [])
+unfolding distinct
+distinct_more [] x = refl
+distinct_more (t ∷ texts) x =
+    ap (λ rest. t ∷ filter (λ other. not (bytes_eq other t)) rest) (distinct_more texts x)
+    ∙ ap (λ rest. t ∷ rest) (filter-append (λ other. not (bytes_eq other t)) (distinct texts) (if list_any (bytes_eq x) texts then [] else x ∷ []))
+    ∙ ap (λ rest. t ∷ (filter (λ other. not (bytes_eq other t)) (distinct texts) ++ rest)) (left_of t x (list_any (bytes_eq x) texts))
+
+pub distinct_option : (texts : List Text) (id : Option Text)
+    → length (distinct (texts ++ option_to_list id)) ≡ length (distinct texts) + new_among (λ x. list_any (bytes_eq x) texts) id
+distinct_option texts None = ap (λ xs. length (distinct xs)) (append-nil texts) ∙ omega arith
+distinct_option texts (Some x) =
+    ap length (distinct_more texts x) ∙ length-append (distinct texts) (if list_any (bytes_eq x) texts then [] else x ∷ [])
+    ∙ elim (list_any (bytes_eq x) texts) as (λ b. length (distinct texts) + length (if b then [] else x ∷ []) ≡ length (distinct texts) + (if b then 0 else 1)) [
+      | true ↦ refl
+      | false ↦ refl
+    ]
+
+pub new_among_same : (f g : Text → Bool) → ((id : Text) → f id ≡ g id) → (id : Option Text) → new_among f id ≡ new_among g id
+new_among_same f g same None = refl
+new_among_same f g same (Some id) = ap (λ b. if b then 0 else 1) (same id)
+
+-- ---- the identifiers of a row
+
+or_false : (x : Bool) → (x || false) ≡ x
+or_false true = refl
+or_false false = refl
+
+pub is_in_option : (id : Text) (o : Option Text) → list_any (bytes_eq id) (option_to_list o) ≡ is_id id o
+is_in_option id None = refl
+is_in_option id (Some x) = or_false (bytes_eq id x)
+
+abbrev two : Option Text → Option Text → List Text
+two first second = option_to_list (option_and_then defined first) ++ option_to_list (option_and_then defined second)
+
+two_defined : (first second : Option Text) → filter_map defined (cons_option first (cons_option second [])) ≡ two first second
+two_defined None None = refl
+two_defined None (Some []) = refl
+two_defined None (Some (b ∷ text)) = refl
+two_defined (Some []) None = refl
+two_defined (Some []) (Some []) = refl
+two_defined (Some []) (Some (b ∷ text)) = refl
+two_defined (Some (b ∷ text)) None = refl
+two_defined (Some (b ∷ text)) (Some []) = refl
+two_defined (Some (b ∷ text)) (Some (c ∷ other)) = refl
+
+pub identifiers_of_row : (a b : Option ℕ) (cells : Row) → row_identifiers (a ∷ b ∷ []) cells
+    ≡ option_to_list (option_and_then defined (identifier_in cells a)) ++ option_to_list (option_and_then defined (identifier_in cells b))
+identifiers_of_row a b cells = two_defined (identifier_in cells a) (identifier_in cells b)
+
+-- ---- one row more
+
+pub identifiers_more : (columns : List (Option ℕ)) (rows : List Row) (cells : Row)
+    → identifiers_of columns (rows ++ cells ∷ []) ≡ identifiers_of columns rows ++ row_identifiers columns cells
+unfolding identifiers_of
+identifiers_more columns rows cells =
+    flat_map-append (row_identifiers columns) rows (cells ∷ []) ∙ ap (λ last. identifiers_of columns rows ++ last) (append-nil (row_identifiers columns cells))
+
+having_more : (columns : List (Option ℕ)) (rows : List Row) (cells : Row) (id : Text)
+    → rows_having columns (rows ++ cells ∷ []) id ≡ rows_having columns rows id + (if list_any (bytes_eq id) (row_identifiers columns cells) then 1 else 0)
+unfolding rows_having
+having_more columns rows cells id =
+    let f : Row → ℕ = λ cells. cond (list_any (bytes_eq id) (row_identifiers columns cells)) 1 0 in
+    omega (arith, sum_by-append f rows (cells ∷ []), sum_by-cons f cells [])
+
+either : (id : Text) (first second : Option Text) → list_any (bytes_eq id) (option_to_list first ++ option_to_list second) ≡ (is_id id first || is_id id second)
+either id first second =
+    list_any-append (bytes_eq id) (option_to_list first) (option_to_list second)
+    ∙ ap (λ a. a || list_any (bytes_eq id) (option_to_list second)) (is_in_option id first) ∙ ap (λ b. is_id id first || b) (is_in_option id second)
+
+pub row_counted : (columns : List (Option ℕ)) (rows : List Row) (cells : Row) (first second : Option Text) (number new_number : Text → ℕ) (known new_known : Text → Bool)
+    (count new_count : ℕ) → row_identifiers columns cells ≡ option_to_list first ++ option_to_list second → AreCounts columns rows number known count
+    → ((id : Text) → new_number id ≡ number id + (if is_id id first || is_id id second then 1 else 0))
+    → ((id : Text) → new_known id ≡ (known id || (is_id id first || is_id id second)))
+    → new_count ≡ count + (new_among known first + new_among (λ id. known id || is_id id first) second)
+    → AreCounts columns (rows ++ cells ∷ []) new_number new_known new_count
+row_counted columns rows cells first second number new_number known new_known count new_count is old numbers knows counts =
+    let ids = identifiers_of columns rows in
+    let all : identifiers_of columns (rows ++ cells ∷ []) ≡ ids ++ (option_to_list first ++ option_to_list second) = identifiers_more columns rows cells
+    ∙ ap (λ row. ids ++ row) is in
+    let any : (id : Text) → list_any (bytes_eq id) (ids ++ option_to_list first) ≡ (known id || is_id id first) = λ id.
+    list_any-append (bytes_eq id) ids (option_to_list first) ∙ ap (λ a. a || list_any (bytes_eq id) (option_to_list first)) (sym (old.knows id))
+    ∙ ap (λ b. known id || b) (is_in_option id first) in
+    let one = distinct_option ids first in
+    let one_known = new_among_same known (λ id. list_any (bytes_eq id) ids) old.knows first in
+    let other = distinct_option (ids ++ option_to_list first) second in
+    let other_known = new_among_same (λ id. list_any (bytes_eq id) (ids ++ option_to_list first)) (λ id. known id || is_id id first) any second in
+    let joined = ap (λ xs. length (distinct xs)) (all ∙ sym (append_assoc ids (option_to_list first) (option_to_list second))) in
+    record {
+      numbers = λ id. numbers id ∙ ap (λ n. n + (if is_id id first || is_id id second then 1 else 0)) (old.numbers id)
+          ∙ ap (λ b. rows_having columns rows id + (if b then 1 else 0)) (sym (ap (list_any (bytes_eq id)) is ∙ either id first second))
+          ∙ sym (having_more columns rows cells id);
+      knows = λ id. knows id ∙ ap (λ b. b || (is_id id first || is_id id second)) (old.knows id)
+          ∙ ap (λ b. list_any (bytes_eq id) ids || b) (sym (either id first second))
+          ∙ sym (ap (list_any (bytes_eq id)) all ∙ list_any-append (bytes_eq id) ids (option_to_list first ++ option_to_list second));
+      counts = omega (arith, counts, old.counts, joined, one, one_known, other, other_known);
+    }
+
+-- no more than there are rows
+pub having_few : (columns : List (Option ℕ)) (rows : List Row) (id : Text) → rows_having columns rows id ≤ length rows
+unfolding rows_having
+having_few columns rows id = count_by-le-length (λ cells. list_any (bytes_eq id) (row_identifiers columns cells)) rows

@@ -1,0 +1,11 @@
+pub mod OnLiterals
+pub mod Ranges
+pub mod AddingLemmas
+pub mod CountingLemmas
+pub mod MostLemmas
+pub mod SpellingLemmas
+pub mod CellLemmas
+pub mod NameLemmas
+pub mod RowCells
+mod TextExamples
+mod TableExamples

@@ -1,0 +1,87 @@
+-- The first of the texts with the largest number.
+use Rattle.std.proofs.Common.{◌≡◌, ℕ, ◌+◌, ◌<◌, ◌≤◌, ◌&&◌, ◌++◌, Bool, true, false, cond, List, [], ◌∷◌, All, Option, None, Some, refl, sym, ap, ◌∙◌, arith}
+use Rattle.std.proofs.Common.{append-nil, append_assoc, nat_le}
+use Rattle.std.proofs.lemmas.Bool.Decides.{nat_tests}
+use Rattle.std.proofs.lemmas.List.Elements.{All-nil, All-cons, All-head, All-tail, All-weaker, All-append, All-push}
+use Rattle.std.proofs.lemmas.List.Folds.{list_all-append}
+use Rattle.std.specs.List.{find, list_all}
+use Rattle.std.specs.Option.{option_to_list}
+use Rattle.text_model.specs.Texts.{Text}
+use Rattle.table_inspection.specs.Identifiers.{finding_of_most, first_of_most}
+use Rattle.table_inspection.specs.Private.Counting.{IsMost, none, some}
+
+-- ---- one text more
+
+pub most_of_none : (number : Text → ℕ) (texts : List Text) (second : Option Text) → IsMost number texts None → IsMost number (texts ++ option_to_list second) second
+most_of_none number texts None (none empty) = none (append-nil texts ∙ empty)
+most_of_none number texts (Some text) (none empty) =
+    some [] text [] (ap (λ texts. texts ++ text ∷ []) empty) (All-nil (λ other. number other < number text)) (All-nil (λ other. number other ≤ number text))
+
+pub most_and_none : (number : Text → ℕ) (texts : List Text) (first : Option Text) → IsMost number texts first → IsMost number (texts ++ []) first
+most_and_none number texts first most = rw append-nil most
+
+pub most_is_later : (number : Text → ℕ) (texts : List Text) (first second : Text) → number first < number second → IsMost number texts (Some first)
+    → IsMost number (texts ++ second ∷ []) (Some second)
+most_is_later number texts first second less (some front _ back is below above) =
+    let P : Text → Type 0 = λ other. number other < number second in
+    let before = All-weaker (λ other. number other < number first) P (λ other low. omega (arith, low, less)) front below in
+    let after = All-weaker (λ other. number other ≤ number first) P (λ other low. omega (arith, low, less)) back above in
+    some texts second [] refl (rw is (All-append P front (first ∷ back) before (All-cons P first back less after))) (All-nil (λ other. number other ≤ number second))
+
+pub most_stays : (number : Text → ℕ) (texts : List Text) (first second : Text) → number second ≤ number first → IsMost number texts (Some first)
+    → IsMost number (texts ++ second ∷ []) (Some first)
+most_stays number texts first second less (some front _ back is below above) =
+    some front first (back ++ second ∷ []) (ap (λ texts. texts ++ second ∷ []) is ∙ append_assoc front (first ∷ back) (second ∷ [])) below
+    (All-push (λ other. number other ≤ number first) back second above less)
+
+-- ---- the first that none exceeds
+
+all_from : (number : Text → ℕ) (n : ℕ) (texts : List Text) → All (λ other. number other ≤ n) texts → list_all (λ other. nat_le (number other) n) texts ≡ true
+all_from number n [] all = refl
+all_from number n (text ∷ texts) all =
+    let here : number text ≤ n = All-head (λ other. number other ≤ n) text texts all in
+    let yes : nat_le (number text) n ≡ true = grind (arith, nat_tests) in
+    rw yes (all_from number n texts (All-tail (λ other. number other ≤ n) text texts all))
+
+and_false : (x : Bool) → (x && false) ≡ false
+and_false true = refl
+and_false false = refl
+
+not_all : (number : Text → ℕ) (n : ℕ) (front : List Text) (text : Text) (back : List Text) → n < number text
+    → list_all (λ other. nat_le (number other) n) (front ++ text ∷ back) ≡ false
+not_all number n front text back less =
+    let no : nat_le (number text) n ≡ false = grind (arith, nat_tests) in
+    list_all-append (λ other. nat_le (number other) n) front (text ∷ back)
+    ∙ ap (λ b. list_all (λ other. nat_le (number other) n) front && (b && list_all (λ other. nat_le (number other) n) back)) no
+    ∙ and_false (list_all (λ other. nat_le (number other) n) front)
+
+find_at : (test : Text → Bool) (front : List Text) (text : Text) (back : List Text) → All (λ other. test other ≡ false) front → test text ≡ true
+    → find test (front ++ text ∷ back) ≡ Some text
+find_at test [] text back fails passes = rw passes refl
+find_at test (other ∷ front) text back fails passes =
+    let no = All-head (λ other. test other ≡ false) other front fails in
+    rw no (find_at test front text back (All-tail (λ other. test other ≡ false) other front fails) passes)
+
+pub most_is_first : (number : Text → ℕ) (texts : List Text) (most : Option Text) → IsMost number texts most → first_of_most number texts ≡ most
+unfolding first_of_most
+most_is_first number texts None (none empty) = rw empty refl
+most_is_first number texts (Some text) (some front _ back is below above) =
+    let parts = front ++ text ∷ back in
+    let test : Text → Bool = λ text. list_all (λ other. nat_le (number other) (number text)) parts in
+    let P : Text → Type 0 = λ other. number other ≤ number text in
+    let all = All-append P front (text ∷ back) (All-weaker (λ other. number other < number text) P (λ other low. omega (arith, low)) front below)
+    (All-cons P text back (omega arith) above) in
+    rw is (find_at test front text back
+    (All-weaker (λ other. number other < number text) (λ other. test other ≡ false) (λ other low. not_all number (number other) front text back low) front below)
+    (all_from number (number text) parts all))
+
+pub same_most : (f g : Text → ℕ) (texts : List Text) (most : Option Text) → ((text : Text) → f text ≡ g text) → IsMost f texts most → IsMost g texts most
+same_most f g texts None same (none empty) = none empty
+same_most f g texts (Some text) same (some front _ back is below above) =
+    some front text back is (All-weaker (λ other. f other < f text) (λ other. g other < g text) (λ other low. omega (arith, low, same other, same text)) front below)
+    (All-weaker (λ other. f other ≤ f text) (λ other. g other ≤ g text) (λ other low. omega (arith, low, same other, same text)) back above)
+
+pub finding_is : (f g : Text → ℕ) (texts : List Text) (most : Option Text) → ((text : Text) → f text ≡ g text) → IsMost f texts most → (found : Option Text)
+    → most ≡ found → finding_of_most g (first_of_most g texts) ≡ finding_of_most g found
+finding_is f g texts most same is found found_is =
+    ap (finding_of_most g) (most_is_first g texts most (same_most f g texts most same is) ∙ found_is)

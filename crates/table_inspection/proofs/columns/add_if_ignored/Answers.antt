@@ -1,0 +1,20 @@
+use Rattle.std.proofs.Common.{◌≡◌, true, false, [], ◌∷◌, get_or, sym, ap, ◌∙◌}
+use Rattle.table_inspection.specs.Columns.{is_ignored}
+use Rattle.table_inspection.specs.Findings.{IgnoredColumn}
+use Rattle.table_inspection.proofs.AddingLemmas.{adds_one, adds_if_true, adds_if_false}
+use Rattle.table_inspection.proofs.columns.add_if_ignored.Goals as goal
+
+pub returns-then-is_ignored : goal.returns-then-is_ignored
+returns-then-is_ignored c =
+    let header = c.args.table.now.header in
+    let name = get_or header c.args.column [] in
+    let yes : is_ignored header c.args.column ≡ true = sym c.is_ignored.ensures ∙ c.if-is_ignored.true in
+    let added = rw c.requires at c.in_ok-add_text.ensures in
+    adds_if_true (is_ignored header c.args.column) (IgnoredColumn name ∷ []) _ _ yes (adds_one _ _ (IgnoredColumn name) added)
+
+pub returns : goal.returns
+returns c =
+    let header = c.args.table.now.header in
+    let name = get_or header c.args.column [] in
+    let no : is_ignored header c.args.column ≡ false = sym c.is_ignored.ensures ∙ c.if-is_ignored.false in
+    adds_if_false (is_ignored header c.args.column) (IgnoredColumn name ∷ []) _ no

@@ -1,0 +1,21 @@
+use Rattle.std.proofs.Common.{◌≡◌, ◌||◌, ◌++◌, Bool, true, false, codes, string_bytes, refl, sym, ap, ◌∙◌, append_assoc}
+use Rattle.text_model.specs.Texts.{Text}
+use Rattle.table_inspection.specs.Findings.{line_feed, named_text}
+use Rattle.table_inspection.proofs.lines.add_misspelled.Goals as goal
+
+or_true : (x : Bool) → true ≡ (x || true)
+or_true true = refl
+or_true false = refl
+
+pub returns : goal.returns
+returns c =
+    let old = string_bytes c.args.findings.now.text in
+    let named = named_text c.args.label.now c.args.text.now in
+    let name = c.args.name.now in
+    record {
+      text = c.in_ok-push_meant.ensures
+          ∙ ap (λ (text : Text). text ++ (codes ", did you mean " ++ (name ++ line_feed))) c.in_ok-push_named.ensures
+          ∙ append_assoc old named (codes ", did you mean " ++ (name ++ line_feed))
+          ∙ ap (λ (text : Text). old ++ text) (sym (append_assoc named (codes ", did you mean " ++ name) line_feed));
+      warned = or_true c.args.findings.now.warned;
+    }

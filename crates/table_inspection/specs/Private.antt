@@ -1,0 +1,6 @@
+-- Definitions that no contract of a public function cites.
+pub mod Adding
+pub mod Counting
+pub mod Forms
+pub mod Gathering
+pub mod Spelling

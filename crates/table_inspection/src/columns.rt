@@ -1,0 +1,194 @@
+//! What is found in the header.
+
+ghost use Rattle.std.specs.Prelude.{◌≡◌, ◌∷◌, ◌&&◌, [], OnOk, get_or};
+ghost use Rattle.std.specs.List.{find, list_any};
+ghost use Rattle.std.specs.Option.{option_copied};
+ghost use Rattle.std.specs.Str.{bytes_eq};
+ghost use Rattle.standard_names.specs.Columns.{column_names};
+ghost use Rattle.table_inspection.specs.Columns as spec;
+ghost use Rattle.table_inspection.specs.Inspection.{findings_in_columns};
+ghost use Rattle.table_inspection.specs.Private.Adding.{Adds};
+
+use crate::lines::{add_missing, add_misspelled, add_text};
+use crate::spelling::spelling;
+use kbart_rows::{RowCursor, Table};
+use printed_text::Findings;
+use standard_names::column_names;
+use std::alloc::{AllocError, Global};
+
+/// Adds the columns that are missing, unknown and ignored.
+pub(crate) fn add_columns(
+    alloc: Global,
+    findings: &mut Findings,
+    table: &Table,
+) -> Result<(), AllocError>
+    ensures { OnOk result (Adds findings.old findings.new (findings_in_columns table.now.header)) }
+{
+    add_missing_columns(findings, table)?;
+    add_unknown_columns(alloc, findings, table)?;
+    add_ignored_columns(findings, table)?;
+    Ok(())
+}
+
+fn add_missing_columns(findings: &mut Findings, table: &Table) -> Result<(), AllocError>
+    ensures { OnOk result (Adds findings.old findings.new (spec.missing_columns table.now.header)) }
+{
+    let are_both = is_missing(table, "print_identifier") && is_missing(table, "online_identifier");
+    add_if_missing(findings, table, "print_identifier", are_both)?;
+    add_if_missing(findings, table, "online_identifier", are_both)?;
+    Ok(())
+}
+
+/// Adds a column of identifiers that is missing.
+fn add_if_missing(
+    findings: &mut Findings,
+    table: &Table,
+    name: &str,
+    are_both: bool,
+) -> Result<(), AllocError>
+    requires { are_both ≡ spec.are_both_missing table.now.header }
+    ensures { OnOk result (Adds findings.old findings.new (spec.missing_column table.now.header name.now)) }
+{
+    if is_missing(table, name) {
+        add_missing(findings, name, are_both)?;
+        return Ok(());
+    }
+    Ok(())
+}
+
+fn is_missing(table: &Table, name: &str) -> bool
+    ensures { result ≡ spec.is_missing table.now.header name.now }
+{
+    table.column(name).is_none()
+}
+
+fn add_unknown_columns(
+    alloc: Global,
+    findings: &mut Findings,
+    table: &Table,
+) -> Result<(), AllocError>
+    ensures { OnOk result (Adds findings.old findings.new (spec.unknown_columns table.now.header)) }
+{
+    let mut column: usize = 0;
+    let mut names = RowCursor::new(table.header());
+    while let Some(name) = names.next_cell() {
+        add_if_unknown(alloc, findings, table, name, column)?;
+        column += 1;
+    }
+    Ok(())
+}
+
+fn add_ignored_columns(findings: &mut Findings, table: &Table) -> Result<(), AllocError>
+    ensures { OnOk result (Adds findings.old findings.new (spec.ignored_columns table.now.header)) }
+{
+    let mut column: usize = 0;
+    let mut names = RowCursor::new(table.header());
+    while let Some(name) = names.next_cell() {
+        add_if_ignored(findings, table, name, column)?;
+        column += 1;
+    }
+    Ok(())
+}
+
+fn add_if_unknown(
+    alloc: Global,
+    findings: &mut Findings,
+    table: &Table,
+    name: &str,
+    column: usize,
+) -> Result<(), AllocError>
+    requires { name.now ≡ get_or table.now.header column [] }
+    ensures { OnOk result (Adds findings.old findings.new (spec.unknown_column table.now.header column)) }
+{
+    if is_unknown(table, name, column) {
+        add_unknown(alloc, findings, table, name)?;
+        return Ok(());
+    }
+    Ok(())
+}
+
+fn add_if_ignored(
+    findings: &mut Findings,
+    table: &Table,
+    name: &str,
+    column: usize,
+) -> Result<(), AllocError>
+    requires { name.now ≡ get_or table.now.header column [] }
+    ensures { OnOk result (Adds findings.old findings.new (spec.ignored_column table.now.header column)) }
+{
+    if is_ignored(table, name, column) {
+        add_text(findings, "ignored column", name, true)?;
+        return Ok(());
+    }
+    Ok(())
+}
+
+fn is_unknown(table: &Table, name: &str, column: usize) -> bool
+    requires { name.now ≡ get_or table.now.header column [] }
+    ensures { result ≡ spec.is_unknown table.now.header column }
+{
+    !name.is_empty() && table.column(name) == Some(column) && !is_standard(name)
+}
+
+fn is_ignored(table: &Table, name: &str, column: usize) -> bool
+    requires { name.now ≡ get_or table.now.header column [] }
+    ensures { result ≡ spec.is_ignored table.now.header column }
+{
+    !name.is_empty() && table.column(name) != Some(column)
+}
+
+fn is_standard(name: &str) -> bool
+    ensures { result ≡ list_any (bytes_eq name.now) column_names }
+{
+    for other in column_names() {
+        if is_same(name, other) {
+            return true;
+        }
+    }
+    false
+}
+
+/// Adds a column that is unknown, and the standard's name that it resembles.
+fn add_unknown(
+    alloc: Global,
+    findings: &mut Findings,
+    table: &Table,
+    text: &str,
+) -> Result<(), AllocError>
+    ensures { OnOk result
+        (Adds findings.old findings.new (spec.column_finding text.now (spec.meant table.now.header text.now) ∷ [])) }
+{
+    let spelled = spelling(alloc, text)?;
+    let found = meant(table, spelled.as_str());
+    let Some(name) = found else {
+        add_text(findings, "unknown column", text, false)?;
+        return Ok(());
+    };
+    add_misspelled(findings, "unknown column", text, name)?;
+    Ok(())
+}
+
+/// The first of the standard's names that is so spelled, and that no column has.
+fn meant(table: &Table, spelling: &str) -> Option<&'static str>
+    ensures { option_copied result
+        ≡ find (λ name. spec.is_missing table.now.header name && bytes_eq spelling.now name) column_names }
+{
+    for name in column_names() {
+        if is_meant(table, spelling, name) {
+            return Some(name);
+        }
+    }
+    None
+}
+
+fn is_meant(table: &Table, spelling: &str, name: &str) -> bool
+    ensures { result ≡ (spec.is_missing table.now.header name.now && bytes_eq spelling.now name.now) }
+{
+    is_missing(table, name) && spelling == name
+}
+
+fn is_same(name: &str, other: &str) -> bool
+    ensures { result ≡ bytes_eq name.now other.now }
+{
+    name == other
+}

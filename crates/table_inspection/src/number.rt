@@ -1,0 +1,56 @@
+//! Identifiers in normal form, and which of them are numbers.
+
+ghost use Rattle.std.specs.Prelude.{◌≡◌, ◌<◌, IfOk, string_bytes};
+ghost use Rattle.std.specs.List.{list_all};
+ghost use Rattle.std.specs.Char.{is_ascii_digit};
+ghost use Rattle.kbart_rows.specs.Identifiers.{normalised};
+ghost use Rattle.table_inspection.specs.Identifiers as spec;
+
+use std::alloc::{AllocError, Global};
+
+/// An identifier as it is compared: without hyphens and spaces, and in capital letters.
+pub(crate) fn normalised(alloc: Global, text: &str) -> Result<String, AllocError>
+    ensures { IfOk result (λ id. string_bytes id ≡ normalised text.now) }
+{
+    text.chars()
+        .filter(|character| *character != '-' && *character != ' ')
+        .map(|character| character.to_ascii_uppercase())
+        .collect(alloc)
+}
+
+/// Whether an identifier in normal form is an ISSN or an ISBN, or stands for any title. Check digits are not computed.
+pub(crate) fn is_number(id: &str) -> bool
+    ensures { result ≡ spec.is_number id.now }
+{
+    let bytes = id.as_bytes();
+    is_checked(bytes, 7) || is_checked(bytes, 9) || is_long_isbn(bytes) || id == "ANY"
+}
+
+/// Whether these are that many digits, and a digit or `X`.
+fn is_checked(id: &[u8], digits: usize) -> bool
+    requires { digits < 10 }
+    ensures { result ≡ spec.is_checked digits id.now }
+{
+    id.len() == digits + 1 && are_digits(&id[..digits]) && is_check(id[digits])
+}
+
+fn is_long_isbn(id: &[u8]) -> bool
+    ensures { result ≡ spec.is_long_isbn id.now }
+{
+    id.len() == 13
+        && are_digits(id)
+        && (&id[..3] == b"978".as_slice() || &id[..3] == b"979".as_slice())
+}
+
+fn is_check(b: u8) -> bool
+    ensures { result ≡ spec.is_check b }
+{
+    b.is_ascii_digit() || b == b'X'
+}
+
+/// Whether all bytes are ASCII digits.
+pub(crate) fn are_digits(bytes: &[u8]) -> bool
+    ensures { result ≡ list_all is_ascii_digit bytes.now }
+{
+    bytes.iter().all(|b| b.is_ascii_digit())
+}
