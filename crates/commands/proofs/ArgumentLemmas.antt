@@ -5,9 +5,10 @@ use Rattle.std.proofs.lemmas.List.{length-map}
 use Rattle.text_model.specs.Texts.{Text, texts_of}
 use Rattle.menu_commands.specs.Service.{IsServiceOf}
 use Rattle.menu_commands.specs.declared.service.Service.{Service}
+use Rattle.target_commands.specs.declared.review.Review.TheVariants.{Inspect, Lint, Explain}
 use Rattle.commands.specs.Arguments.{AreArgumentsOf, AreArgumentsOfServe}
 use Rattle.commands.specs.declared.arguments.Command.{Command}
-use Rattle.commands.specs.declared.arguments.Command.TheVariants.{Expand, Link, Compile, Verify, Show, Upgrade, Run, Resolve, Serve, Help, Version}
+use Rattle.commands.specs.declared.arguments.Command.TheVariants.{Expand, Link, Compile, Verify, Show, Upgrade, Run, Resolve, Serve, Review, Help, Version}
 
 -- the argument at an index, or an empty one after the last
 abbrev pub argument_at : List (Bor Text) → ℕ → Text
@@ -24,6 +25,9 @@ Begins first count (Upgrade old new) = (first ≡ codes "upgrade") × (count ≡
 Begins first count (Run code query) = (first ≡ codes "run") × (count ≡ 3)
 Begins first count (Resolve registry query) = (first ≡ codes "resolve") × (count ≡ 3)
 Begins first count (Serve s) = (first ≡ codes "serve") × (count ≡ 4)
+Begins first count (Review (Inspect table)) = (first ≡ codes "inspect") × (count ≡ 2)
+Begins first count (Review (Lint rules table)) = (first ≡ codes "lint") × (count ≡ 3)
+Begins first count (Review (Explain rules table query)) = (first ≡ codes "explain") × (count ≡ 4)
 Begins first count Help = ((first ≡ codes "--help") ⊎ (first ≡ codes "-h") ⊎ (first ≡ codes "help")) × (count ≡ 1)
 Begins first count Version = (first ≡ codes "--version") × (count ≡ 1)
 
@@ -45,6 +49,9 @@ begins arguments (Upgrade old new) h = (named arguments _ _ h, counted arguments
 begins arguments (Run code query) h = (named arguments _ _ h, counted arguments _ h)
 begins arguments (Resolve registry query) h = (named arguments _ _ h, counted arguments _ h)
 begins arguments (Serve s) h = (named arguments _ _ h.named, counted arguments _ h.named)
+begins arguments (Review (Inspect table)) h = (named arguments _ _ h, counted arguments _ h)
+begins arguments (Review (Lint rules table)) h = (named arguments _ _ h, counted arguments _ h)
+begins arguments (Review (Explain rules table query)) h = (named arguments _ _ h, counted arguments _ h)
 begins arguments Help (inl h) = (inl (named arguments _ _ h), counted arguments _ h)
 begins arguments Help (inr (inl h)) = (inr (inl (named arguments _ _ h)), counted arguments _ h)
 begins arguments Help (inr (inr h)) = (inr (inr (named arguments _ _ h)), counted arguments _ h)
@@ -54,6 +61,9 @@ begins arguments Version h = (named arguments _ _ h, counted arguments _ h)
 
 none : (first : Text) (count : ℕ) → (count < 1) ⊎ (4 < count) → first ≢ codes "expand" → (command : Command) → Begins first count command → ⊥
 none first count few expand (Expand e) h = expand h
+none first count few expand (Review (Inspect table)) h = omega (arith, few, h.1)
+none first count few expand (Review (Lint rules table)) h = omega (arith, few, h.1)
+none first count few expand (Review (Explain rules table query)) h = omega (arith, few, h.1)
 none first count few expand other h = omega (arith, few, h.1)
 
 of_one : (first : Text) (count : ℕ) → count < 2 → first ≢ codes "expand" → first ≢ codes "--help" → first ≢ codes "-h" → first ≢ codes "help"
@@ -64,33 +74,49 @@ of_one first count few expand long short help version Help (inl h, n) = long h
 of_one first count few expand long short help version Help (inr (inl h), n) = short h
 of_one first count few expand long short help version Help (inr (inr h), n) = help h
 of_one first count few expand long short help version Version h = version h.0
+of_one first count few expand long short help version (Review (Inspect table)) h = omega (arith, few, h.1)
+of_one first count few expand long short help version (Review (Lint rules table)) h = omega (arith, few, h.1)
+of_one first count few expand long short help version (Review (Explain rules table query)) h = omega (arith, few, h.1)
 of_one first count few expand long short help version other h = omega (arith, few, h.1)
 
-of_two : (first : Text) (count : ℕ) → 2 ≤ count → count < 3 → first ≢ codes "expand" → first ≢ codes "verify" → first ≢ codes "show" → (command : Command)
-    → Begins first count command → ⊥
-of_two first count some few expand verify show (Expand e) h = expand h
-of_two first count some few expand verify show (Verify code) h = verify h.0
-of_two first count some few expand verify show (Show code) h = show h.0
-of_two first count some few expand verify show other h = omega (arith, some, few, h.1)
+of_two : (first : Text) (count : ℕ) → 2 ≤ count → count < 3 → first ≢ codes "expand" → first ≢ codes "verify" → first ≢ codes "show"
+    → first ≢ codes "inspect" → (command : Command) → Begins first count command → ⊥
+of_two first count some few expand verify show inspect (Expand e) h = expand h
+of_two first count some few expand verify show inspect (Verify code) h = verify h.0
+of_two first count some few expand verify show inspect (Show code) h = show h.0
+of_two first count some few expand verify show inspect (Review (Inspect table)) h = inspect h.0
+of_two first count some few expand verify show inspect (Review (Lint rules table)) h = omega (arith, some, few, h.1)
+of_two first count some few expand verify show inspect (Review (Explain rules table query)) h = omega (arith, some, few, h.1)
+of_two first count some few expand verify show inspect other h = omega (arith, some, few, h.1)
 
 of_three : (first : Text) (count : ℕ) → 3 ≤ count → count < 4 → first ≢ codes "expand" → first ≢ codes "link" → first ≢ codes "compile"
     → first ≢ codes "upgrade" → first ≢ codes "run"
-    → first ≢ codes "resolve" → (command : Command) → Begins first count command → ⊥
-of_three first count some few expand link compile upgrade run resolve (Expand e) h = expand h
-of_three first count some few expand link compile upgrade run resolve (Link rules query) h = link h.0
-of_three first count some few expand link compile upgrade run resolve (Compile rules code) h = compile h.0
-of_three first count some few expand link compile upgrade run resolve (Upgrade old new) h = upgrade h.0
-of_three first count some few expand link compile upgrade run resolve (Run code query) h = run h.0
-of_three first count some few expand link compile upgrade run resolve (Resolve registry query) h = resolve h.0
-of_three first count some few expand link compile upgrade run resolve other h = omega (arith, some, few, h.1)
+    → first ≢ codes "resolve" → first ≢ codes "lint" → (command : Command) → Begins first count command → ⊥
+of_three first count some few expand link compile upgrade run resolve lint (Expand e) h = expand h
+of_three first count some few expand link compile upgrade run resolve lint (Link rules query) h = link h.0
+of_three first count some few expand link compile upgrade run resolve lint (Compile rules code) h = compile h.0
+of_three first count some few expand link compile upgrade run resolve lint (Upgrade old new) h = upgrade h.0
+of_three first count some few expand link compile upgrade run resolve lint (Run code query) h = run h.0
+of_three first count some few expand link compile upgrade run resolve lint (Resolve registry query) h = resolve h.0
+of_three first count some few expand link compile upgrade run resolve lint (Review (Inspect table)) h = omega (arith, some, few, h.1)
+of_three first count some few expand link compile upgrade run resolve lint (Review (Lint rules table)) h = lint h.0
+of_three first count some few expand link compile upgrade run resolve lint (Review (Explain rules table query)) h = omega (arith, some, few, h.1)
+of_three first count some few expand link compile upgrade run resolve lint other h = omega (arith, some, few, h.1)
 
-of_four : (first : Text) (count : ℕ) → 4 ≤ count → first ≢ codes "expand" → first ≢ codes "serve" → (command : Command) → Begins first count command → ⊥
-of_four first count some expand serve (Expand e) h = expand h
-of_four first count some expand serve (Serve s) h = serve h.0
-of_four first count some expand serve other h = omega (arith, some, h.1)
+of_four : (first : Text) (count : ℕ) → 4 ≤ count → first ≢ codes "expand" → first ≢ codes "serve" → first ≢ codes "explain" → (command : Command)
+    → Begins first count command → ⊥
+of_four first count some expand serve explain (Expand e) h = expand h
+of_four first count some expand serve explain (Serve s) h = serve h.0
+of_four first count some expand serve explain (Review (Inspect table)) h = omega (arith, some, h.1)
+of_four first count some expand serve explain (Review (Lint rules table)) h = omega (arith, some, h.1)
+of_four first count some expand serve explain (Review (Explain rules table query)) h = explain h.0
+of_four first count some expand serve explain other h = omega (arith, some, h.1)
 
 pub none_of_none : (arguments : List (Bor Text)) → length arguments < 1 → (command : Command) → AreArgumentsOf (texts_of arguments) command → ⊥
 none_of_none [] few (Expand e) h = cc (h.named)
+none_of_none [] few (Review (Inspect table)) h = omega (arith, (begins [] (Review (Inspect table)) h).1)
+none_of_none [] few (Review (Lint rules table)) h = omega (arith, (begins [] (Review (Lint rules table)) h).1)
+none_of_none [] few (Review (Explain rules table query)) h = omega (arith, (begins [] (Review (Explain rules table query)) h).1)
 none_of_none [] few other h = omega (arith, (begins [] other h).1)
 none_of_none (argument ∷ arguments) few command h = omega (arith, few)
 
@@ -101,20 +127,22 @@ none_of_one arguments few expand long short help version command h = of_one _ _ 
 
 pub none_of_two : (arguments : List (Bor Text)) → 2 ≤ length arguments → length arguments < 3 → argument_at arguments 0 ≢ codes "expand"
     → argument_at arguments 0 ≢ codes "verify"
-    → argument_at arguments 0 ≢ codes "show" → (command : Command) → AreArgumentsOf (texts_of arguments) command → ⊥
-none_of_two arguments some few expand verify show command h = of_two _ _ some few expand verify show command (begins arguments command h)
+    → argument_at arguments 0 ≢ codes "show" → argument_at arguments 0 ≢ codes "inspect"
+    → (command : Command) → AreArgumentsOf (texts_of arguments) command → ⊥
+none_of_two arguments some few expand verify show inspect command h =
+    of_two _ _ some few expand verify show inspect command (begins arguments command h)
 
 pub none_of_three : (arguments : List (Bor Text)) → 3 ≤ length arguments → length arguments < 4 → argument_at arguments 0 ≢ codes "expand"
     → argument_at arguments 0 ≢ codes "link"
     → argument_at arguments 0 ≢ codes "compile" → argument_at arguments 0 ≢ codes "upgrade" → argument_at arguments 0 ≢ codes "run"
-    → argument_at arguments 0 ≢ codes "resolve"
+    → argument_at arguments 0 ≢ codes "resolve" → argument_at arguments 0 ≢ codes "lint"
     → (command : Command) → AreArgumentsOf (texts_of arguments) command → ⊥
-none_of_three arguments some few expand link compile upgrade run resolve command h =
-    of_three _ _ some few expand link compile upgrade run resolve command (begins arguments command h)
+none_of_three arguments some few expand link compile upgrade run resolve lint command h =
+    of_three _ _ some few expand link compile upgrade run resolve lint command (begins arguments command h)
 
 pub none_of_four : (arguments : List (Bor Text)) → 4 ≤ length arguments → argument_at arguments 0 ≢ codes "expand" → argument_at arguments 0 ≢ codes "serve"
-    → (command : Command) → AreArgumentsOf (texts_of arguments) command → ⊥
-none_of_four arguments some expand serve command h = of_four _ _ some expand serve command (begins arguments command h)
+    → argument_at arguments 0 ≢ codes "explain" → (command : Command) → AreArgumentsOf (texts_of arguments) command → ⊥
+none_of_four arguments some expand serve explain command h = of_four _ _ some expand serve explain command (begins arguments command h)
 
 pub none_of_more : (arguments : List (Bor Text)) → 5 ≤ length arguments → argument_at arguments 0 ≢ codes "expand" → (command : Command)
     → AreArgumentsOf (texts_of arguments) command → ⊥
@@ -145,4 +173,8 @@ no_service arguments four is_serve wrong (Serve s) h = refuted arguments wrong h
     refuted (a ∷ b ∷ []) wrong h = cc (h.named)
     refuted (a ∷ b ∷ c ∷ []) wrong h = cc (h.named)
     refuted (a ∷ b ∷ c ∷ d ∷ e ∷ more) wrong h = cc (h.named)
+no_service arguments four is_serve wrong (Review (Inspect table)) h = omega (arith, four, (begins arguments (Review (Inspect table)) h).1)
+no_service arguments four is_serve wrong (Review (Lint rules table)) h = omega (arith, four, (begins arguments (Review (Lint rules table)) h).1)
+no_service arguments four is_serve wrong (Review (Explain rules table query)) h =
+    omega (arith, ap first_byte (sym is_serve ∙ (begins arguments (Review (Explain rules table query)) h).0))
 no_service arguments four is_serve wrong other h = omega (arith, four, (begins arguments other h).1)

@@ -5,8 +5,10 @@ use Rattle.menu_commands.specs.Service.{IsServiceOf}
 use Rattle.menu_commands.specs.declared.service.Service.{Service}
 use Rattle.rule_commands.specs.Arguments.{AreExpandArguments, names_of}
 use Rattle.rule_commands.specs.declared.arguments.ExpandArguments.{ExpandArguments}
+use Rattle.target_commands.specs.declared.review.Review.{Review}
+use Rattle.target_commands.specs.declared.review.Review.TheVariants.{Inspect, Lint, Explain}
 use Rattle.commands.specs.declared.arguments.Command.{Command}
-use Rattle.commands.specs.declared.arguments.Command.TheVariants.{Expand, Link, Compile, Verify, Show, Upgrade, Run, Resolve, Serve, Help, Version}
+use Rattle.commands.specs.declared.arguments.Command.TheVariants.{Expand, Link, Compile, Verify, Show, Upgrade, Run, Resolve, Serve, Review as OfReview, Help, Version}
 
 -- the arguments are `expand`, and then those of the expansion
 pub record AreArgumentsOfExpand (arguments : List Text) (e : ExpandArguments) : Type 0 where
@@ -22,6 +24,12 @@ pub record AreArgumentsOfServe (arguments : List Text) (s : Service) : Type 0 wh
   pub named : arguments ≡ codes "serve" ∷ registry ∷ port ∷ count ∷ []
   pub given : IsServiceOf registry port count s
 
+-- the arguments name a command on the files of a target, and what it is given
+abbrev pub AreArgumentsOfReview : List Text → Review → Type 0
+AreArgumentsOfReview arguments (Inspect table) = arguments ≡ codes "inspect" ∷ table.now ∷ []
+AreArgumentsOfReview arguments (Lint rules table) = arguments ≡ codes "lint" ∷ rules.now ∷ table.now ∷ []
+AreArgumentsOfReview arguments (Explain rules table query) = arguments ≡ codes "explain" ∷ rules.now ∷ table.now ∷ query.now ∷ []
+
 -- the arguments that name a command, and what it is given
 abbrev pub AreArgumentsOf : List Text → Command → Type 0
 AreArgumentsOf arguments (Expand e) = AreArgumentsOfExpand arguments e
@@ -33,5 +41,6 @@ AreArgumentsOf arguments (Upgrade old new) = arguments ≡ codes "upgrade" ∷ o
 AreArgumentsOf arguments (Run code query) = arguments ≡ codes "run" ∷ code.now ∷ query.now ∷ []
 AreArgumentsOf arguments (Resolve registry query) = arguments ≡ codes "resolve" ∷ registry.now ∷ query.now ∷ []
 AreArgumentsOf arguments (Serve s) = AreArgumentsOfServe arguments s
+AreArgumentsOf arguments (OfReview review) = AreArgumentsOfReview arguments review
 AreArgumentsOf arguments Help = (arguments ≡ codes "--help" ∷ []) ⊎ (arguments ≡ codes "-h" ∷ []) ⊎ (arguments ≡ codes "help" ∷ [])
 AreArgumentsOf arguments Version = arguments ≡ codes "--version" ∷ []

@@ -1,4 +1,5 @@
--- What each command prints and leaves, and why it prints nothing. `serve`, which prints before it is done, is apart.
+-- What each command prints and leaves, and why it prints nothing. `serve`, which prints before it is done, and the reviews of a target's files,
+-- which print warnings, are apart.
 use Rattle.std.specs.Prelude.{◌≡◌, ℕ}
 use Rattle.text_model.specs.Texts.{Text, texts_of}
 use Rattle.files.specs.Found.{Disk}
@@ -21,11 +22,12 @@ use Rattle.commands.specs.Faults.{OfRule, OfCode, OfMenu, out_of_memory}
 use Rattle.commands.specs.declared.fault.Fault.{Fault}
 use Rattle.commands.specs.declared.help.TheConstants.{HELP, VERSION}
 use Rattle.commands.specs.declared.arguments.Command.{Command}
-use Rattle.commands.specs.declared.arguments.Command.TheVariants.{Expand, Link, Compile, Verify, Show, Upgrade, Run, Resolve, Serve, Help, Version}
+use Rattle.commands.specs.declared.arguments.Command.TheVariants.{Expand, Link, Compile, Verify, Show, Upgrade, Run, Resolve, Serve, Review, Help, Version}
 
 -- the command prints at its end, and nothing before
 abbrev pub PrintsAtEnd : Command → Type 0
 PrintsAtEnd (Serve service) = ⊥
+PrintsAtEnd (Review review) = ⊥
 PrintsAtEnd command = Unit {0}
 
 -- what a command prints, and what files it leaves
@@ -39,6 +41,7 @@ Does draws old keys new drawn (Upgrade source target) text = Makes IsUpgrade old
 Does draws old keys new drawn (Run code query) text = Tells (IsRunLine query.now) old code.now new text
 Does draws old keys new drawn (Resolve registry query) text = TellsMenu draws old keys registry.now query.now drawn text × Unchanged old new
 Does draws old keys new drawn (Serve service) text = ⊥
+Does draws old keys new drawn (Review review) text = ⊥
 Does draws old keys new drawn Help text = (text ≡ HELP.now) × Unchanged old new
 Does draws old keys new drawn Version text = (text ≡ VERSION.now) × Unchanged old new
 
@@ -59,6 +62,7 @@ Fails at fails draws no_keys old keys new drawn (Run code query) fault =
 Fails at fails draws no_keys old keys new drawn (Resolve registry query) fault =
     OfMenu (IsResolveFault fails draws no_keys (at old) keys registry query.now drawn) fault
 Fails at fails draws no_keys old keys new drawn (Serve service) fault = ⊥
+Fails at fails draws no_keys old keys new drawn (Review review) fault = ⊥
 Fails at fails draws no_keys old keys new drawn Help fault = fault ≡ out_of_memory
 Fails at fails draws no_keys old keys new drawn Version fault = fault ≡ out_of_memory
 
@@ -73,5 +77,6 @@ Leaves fails old new (Upgrade source target) = IsAsBefore fails old target.now n
 Leaves fails old new (Run code query) = Unchanged old new
 Leaves fails old new (Resolve registry query) = Unchanged old new
 Leaves fails old new (Serve service) = Unchanged old new
+Leaves fails old new (Review review) = Unchanged old new
 Leaves fails old new Help = Unchanged old new
 Leaves fails old new Version = Unchanged old new

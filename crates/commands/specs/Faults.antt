@@ -8,8 +8,10 @@ use Rattle.code_commands.specs.Faults.{status_of as status_of_code}
 use Rattle.code_commands.specs.declared.fault.CodeFault.{CodeFault}
 use Rattle.menu_commands.specs.Faults.{status_of as status_of_menu}
 use Rattle.menu_commands.specs.declared.fault.MenuFault.{MenuFault}
+use Rattle.target_commands.specs.Faults.{status_of as status_of_review}
+use Rattle.target_commands.specs.declared.fault.ReviewFault.{ReviewFault}
 use Rattle.commands.specs.declared.fault.Fault.{Fault}
-use Rattle.commands.specs.declared.fault.Fault.TheVariants.{Usage, Rule, Code, Menu, Base}
+use Rattle.commands.specs.declared.fault.Fault.TheVariants.{Usage, Rule, Code, Menu, Review, Base}
 
 -- the exit status
 abbrev pub status_of : Fault → ℕ
@@ -17,6 +19,7 @@ status_of Usage = 2
 status_of (Rule fault) = status_of_rule fault
 status_of (Code fault) = status_of_code fault
 status_of (Menu fault) = status_of_menu fault
+status_of (Review fault) = status_of_review fault
 status_of (Base fault) = status_of_base fault
 
 abbrev pub out_of_memory : Fault
@@ -28,6 +31,7 @@ OfRule P Usage = ⊥
 OfRule P (Rule fault) = P fault
 OfRule P (Code fault) = ⊥
 OfRule P (Menu fault) = ⊥
+OfRule P (Review fault) = ⊥
 OfRule P (Base fault) = ⊥
 
 abbrev pub OfCode : (CodeFault → Type 0) → Fault → Type 0
@@ -35,6 +39,7 @@ OfCode P Usage = ⊥
 OfCode P (Rule fault) = ⊥
 OfCode P (Code fault) = P fault
 OfCode P (Menu fault) = ⊥
+OfCode P (Review fault) = ⊥
 OfCode P (Base fault) = ⊥
 
 abbrev pub OfMenu : (MenuFault → Type 0) → Fault → Type 0
@@ -42,4 +47,5 @@ OfMenu P Usage = ⊥
 OfMenu P (Rule fault) = ⊥
 OfMenu P (Code fault) = ⊥
 OfMenu P (Menu fault) = P fault
+OfMenu P (Review fault) = ⊥
 OfMenu P (Base fault) = ⊥

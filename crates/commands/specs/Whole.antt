@@ -1,5 +1,5 @@
 -- What the program does with its arguments.
-use Rattle.std.specs.Prelude.{◌≡◌, ℕ, List, Option}
+use Rattle.std.specs.Prelude.{◌≡◌, ℕ, List, Option, true, false}
 use Rattle.text_model.specs.Texts.{Text}
 use Rattle.files.specs.Found.{Disk}
 use Rattle.files.specs.Changes.{Unchanged}
@@ -11,13 +11,17 @@ use Rattle.menu_commands.specs.Serve.{IsListening, RefusesToServe, Serves, Stops
 use Rattle.menu_commands.specs.declared.service.Service.{Service}
 use Rattle.menu_commands.specs.declared.fault.MenuFault.{MenuFault}
 use Rattle.menu_commands.specs.Faults.{IsOutput, IsOutputFault}
+use Rattle.target_commands.specs.Reviews.{RefusesToReview, Reviews, StopsReview}
+use Rattle.target_commands.specs.declared.review.Review.{Review}
+use Rattle.target_commands.specs.declared.fault.ReviewFault.{ReviewFault}
+use Rattle.target_commands.specs.declared.fault.ReviewFault.TheVariants.{Warning}
 use Rattle.command_base.specs.declared.fault.BaseFault.{BaseFault}
 use Rattle.commands.specs.Arguments.{AreArgumentsOf}
 use Rattle.commands.specs.Commands.{Does, Fails, Leaves}
 use Rattle.commands.specs.declared.arguments.Command.{Command}
-use Rattle.commands.specs.declared.arguments.Command.TheVariants.{Serve}
+use Rattle.commands.specs.declared.arguments.Command.TheVariants.{Serve, Review as OfReview}
 use Rattle.commands.specs.declared.fault.Fault.{Fault}
-use Rattle.commands.specs.declared.fault.Fault.TheVariants.{Usage, Menu, Base}
+use Rattle.commands.specs.declared.fault.Fault.TheVariants.{Usage, Menu, Review as OfReviewFault, Base}
 
 -- what the system tells of its files, keys and ports and of the listeners bound to these; then the arguments; and then the system before the
 -- command and after it
@@ -30,6 +34,8 @@ module _ {F K P L I O : Type 0} (at : F → Disk) (fails : F → FileCall → Te
     prints : (command : Command) (text : Text) → AreArgumentsOf arguments command → Does draws (at old) keys (at new) drawn command text → Succeeds text
     serves : (service : Service) (line : Text) (counts : Counts) → AreArgumentsOf arguments (Serve service)
         → Serves draws binds gives closes heard said (at old) keys ports service drawn bound line counts → Unchanged (at old) (at new) → Succeeds line
+    reviews : (review : Review) (text : Text) → AreArgumentsOf arguments (OfReview review) → Reviews draws (at old) keys review drawn text true
+        → Unchanged (at old) (at new) → Succeeds text
 
   -- the arguments name no command, or one that fails before it prints, and this is the error
   pub data Refuses : Fault → Type 0 where
@@ -38,17 +44,23 @@ module _ {F K P L I O : Type 0} (at : F → Disk) (fails : F → FileCall → Te
         → Leaves fails (at old) (at new) command → Refuses fault
     no_service : (service : Service) (fault : MenuFault) → AreArgumentsOf arguments (Serve service)
         → RefusesToServe fails draws no_keys no_port (at old) keys ports service drawn bound fault → Unchanged (at old) (at new) → Refuses (Menu fault)
+    no_review : (review : Review) (fault : ReviewFault) → AreArgumentsOf arguments (OfReview review)
+        → RefusesToReview fails draws no_keys (at old) keys review drawn fault → Unchanged (at old) (at new) → Refuses (OfReviewFault fault)
 
-  -- the arguments name a command that has something to print, which the output does not take whole
+  -- the arguments name a command that has something to print, which the output does not take whole; or memory runs out once `explain` has begun
   pub data OutputFails : Fault → Type 0 where
     no_output : (command : Command) (text : Text) (fault : BaseFault) → AreArgumentsOf arguments command
         → Does draws (at old) keys (at new) drawn command text → IsOutput fault → OutputFails (Base fault)
     no_line : (service : Service) (targets : List TargetValue) (listener : L) (line : Text) (fault : MenuFault) → AreArgumentsOf arguments (Serve service)
         → IsListening draws binds (at old) keys ports service drawn bound targets listener line → Unchanged (at old) (at new)
         → IsOutputFault fault → OutputFails (Menu fault)
+    no_lines : (review : Review) (fault : ReviewFault) → AreArgumentsOf arguments (OfReview review)
+        → StopsReview draws (at old) keys review drawn fault → Unchanged (at old) (at new) → OutputFails (OfReviewFault fault)
 
-  -- the arguments name a service, which printed its line, and stops before it is done
+  -- the arguments name a service, which printed its line, and stops before it is done; or a review, which printed this, and a warning is in it
   pub data Stops : Text → Fault → Type 0 where
     stops : (service : Service) (line : Text) (fault : MenuFault) → AreArgumentsOf arguments (Serve service)
         → StopsServing draws binds gives closes heard said (at old) keys ports service drawn bound no_more line fault → Unchanged (at old) (at new)
         → Stops line (Menu fault)
+    warns : (review : Review) (text : Text) (fault : ReviewFault) → AreArgumentsOf arguments (OfReview review)
+        → Reviews draws (at old) keys review drawn text false → Unchanged (at old) (at new) → fault ≡ Warning → Stops text (OfReviewFault fault)

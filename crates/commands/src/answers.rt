@@ -36,7 +36,7 @@ pub(crate) fn answer<'a, F: Files, K: KeySource>(
         Command::Upgrade { old, new } => Ok(upgrade(alloc, files, old, new)?),
         Command::Run { code, query } => Ok(run(alloc, files, code, query)?),
         Command::Resolve { registry, query } => Ok(resolve(alloc, files, keys, registry, query)?),
-        Command::Serve(_) => unreachable!(),
+        Command::Serve(_) | Command::Review(_) => unreachable!(),
         Command::Help => Ok(String::from_str(alloc, HELP)?),
         Command::Version => Ok(String::from_str(alloc, VERSION)?),
     }

@@ -7,6 +7,7 @@ ghost use Rattle.commands.specs.declared.arguments.Command.{Command};
 
 use menu_commands::Service;
 use rule_commands::{ExpandArguments, expand_arguments};
+use target_commands::Review;
 
 /// A command, with what it is given: a query is the text itself, all others are paths.
 #[derive(Clone, Copy)]
@@ -29,6 +30,8 @@ pub enum Command<'a> {
     Resolve { registry: &'a str, query: &'a str },
     /// `serve REGISTRY PORT COUNT`
     Serve(Service<'a>),
+    /// `inspect TABLE`, `lint RULES TABLE` or `explain RULES TABLE QUERY`
+    Review(Review<'a>),
     /// `--help`, `-h` or `help`
     Help,
     /// `--version`
@@ -52,6 +55,13 @@ pub fn parse<'a>(arguments: &'a [&'a str]) -> Option<Command<'a>>
         ["serve", registry, port, count] => Some(Command::Serve(Service::parse(
             registry, port, count,
         )?)),
+        ["inspect", table] => Some(Command::Review(Review::Inspect { table })),
+        ["lint", rules, table] => Some(Command::Review(Review::Lint { rules, table })),
+        ["explain", rules, table, query] => Some(Command::Review(Review::Explain {
+            rules,
+            table,
+            query,
+        })),
         ["--help" | "-h" | "help"] => Some(Command::Help),
         ["--version"] => Some(Command::Version),
         _ => None,

@@ -8,6 +8,7 @@ use command_base::{BaseFault, USAGE};
 use menu_commands::MenuFault;
 use rule_commands::RuleFault;
 use std::alloc::AllocError;
+use target_commands::ReviewFault;
 use thiserror::Error;
 
 /// Why a command ends without its result; printed after `openlink: `.
@@ -23,6 +24,8 @@ pub enum Fault<'a> {
     #[error("{0}")]
     Menu(MenuFault<'a>),
     #[error("{0}")]
+    Review(ReviewFault<'a>),
+    #[error("{0}")]
     Base(BaseFault<'a>),
 }
 
@@ -36,6 +39,7 @@ impl<'a> Fault<'a> {
             Fault::Rule(fault) => fault.status(),
             Fault::Code(fault) => fault.status(),
             Fault::Menu(fault) => fault.status(),
+            Fault::Review(fault) => fault.status(),
             Fault::Base(fault) => fault.status(),
         }
     }
@@ -71,6 +75,17 @@ impl<'a> From<MenuFault<'a>> for Fault<'a> {
 
     fn from(e: MenuFault<'a>) -> Fault<'a> {
         Fault::Menu(e)
+    }
+}
+
+impl<'a> From<ReviewFault<'a>> for Fault<'a> {
+    ghost use Rattle.commands.specs.declared.fault.Fault.TheVariants.{Review};
+    ghost use Rattle.std.specs.Prelude.{◌≡◌};
+
+    ghost from_gives = { λ e fault. fault ≡ Review e };
+
+    fn from(e: ReviewFault<'a>) -> Fault<'a> {
+        Fault::Review(e)
     }
 }
 

@@ -15,13 +15,16 @@ Commands, and what each prints:
   openlink show CODE                               the listing of a code file
   openlink upgrade OLD NEW                         `N bytes`, and writes OLD in version 2 to NEW
   openlink run CODE QUERY                          the link that a code file gives
+  openlink inspect TABLE                           what is wrong with a holdings table
+  openlink lint RULES TABLE                        what is doubtful in the rules of a target
+  openlink explain RULES TABLE QUERY               which rule gives a link on each row, or why none does
   openlink resolve REGISTRY QUERY                  the menu: a target's name, a tab, its link
   openlink serve REGISTRY PORT COUNT               where it listens; serves menus over HTTP
   openlink --help, -h or help                      this text
   openlink --version                               `openlink` and the version
 
-TEMPLATE and QUERY (an OpenURL in the key/encoded-value form) are the texts themselves;
-RULES, CODE, OLD, NEW and REGISTRY are paths. PORT 0 is a free port of 127.0.0.1.
+TEMPLATE and QUERY (an OpenURL in the key/encoded-value form) are given directly.
+RULES, TABLE, CODE, OLD, NEW and REGISTRY are paths. PORT 0 is a free port of 127.0.0.1.
 
 Limits:
   TEMPLATE   8,192 bytes
@@ -30,13 +33,13 @@ Limits:
   CODE       65,536 bytes, 256 names, 1,024 literals, 4,096 instructions
   run        1,048,576 bytes of output
   REGISTRY   65,536 bytes, 256 targets
-  tables     16,777,216 bytes, 200,000 rows, 65,536 bytes a row
+  TABLE      16,777,216 bytes, 200,000 rows, 65,536 bytes a row
   COUNT      1 to 1,000,000 connections
 
 Exit status:
   0   done
-  1   no link, or an empty menu
-  2   the arguments are no command
-  3   refused: a template, a query, a file or a target
+  1   no link, an empty menu, or a warning
+  2   unknown command or wrong arguments
+  3   a template, a query, a file or a target is rejected
   4   memory or device
 ";

@@ -17,6 +17,7 @@ use http_streams::Ports;
 use menu_commands::serve;
 use registry_file::KeySource;
 use std::io::Write;
+use target_commands::print_review;
 
 /// Runs the command that the arguments name, prints its result on `output`, or one line with its error on `errors`, and
 /// returns the exit status: 0 done, 1 no link or an empty menu (and nothing is printed), 2 unknown command or wrong
@@ -104,6 +105,12 @@ fn run<'a, F: Files, K: KeySource, P: Ports, O: Write>(
                 service,
                 output,
             )?;
+            Ok(())
+        }
+        // A review prints its lines even if one of them is a warning.
+        Some(Command::Review(review)) => {
+            let alloc = rt.alloc;
+            print_review(alloc, &mut rt.files, &mut rt.keys, review, output)?;
             Ok(())
         }
         Some(command) => {

@@ -1,6 +1,6 @@
 use Rattle.std.proofs.Common.{inl, inr, refl, string_bytes}
 use Rattle.std.proofs.lemmas.Result.{err_from_is_err_and}
-use Rattle.commands.specs.Whole.{no_command, no_text, no_service, no_output, no_line, prints, serves, stops}
+use Rattle.commands.specs.Whole.{no_command, no_text, no_service, no_review, no_output, no_line, no_lines, prints, serves, reviews, stops, warns}
 use Rattle.commands.proofs.program.run.Goals as goal
 
 pub returns-in-None-clause-failed : goal.returns-in-None-clause-failed
@@ -24,6 +24,26 @@ returns-in-Some-Serve-clause-done g c =
     let given = rw c.in-Some-Serve.field-0-is at c.in-Some-Serve.ensures.some in
     let done = c.in_ok-serve-in-Some-Serve.ensures.served in
     (done.0, serves _ _ c.in_ok-serve-in-Some-Serve.field-0 given done.1 c.in_ok-serve-in-Some-Serve.ensures.same, done.2)
+
+pub returns-in_err-print_review-in-Some-Review-clause-failed : goal.returns-in_err-print_review-in-Some-Review-clause-failed
+returns-in_err-print_review-in-Some-Review-clause-failed g c =
+    let made = err_from_is_err_and c.from_residual-in_err-print_review-in-Some-Review.result
+        c.from_residual-in_err-print_review-in-Some-Review.ensures.1 in
+    let given = rw c.in-Some-Review.field-0-is at c.in-Some-Review.ensures.some in
+    let same = c.in_err-print_review-in-Some-Review.ensures.same in
+    rw (made.1, made.2) (elim c.in_err-print_review-in-Some-Review.ensures.not_clean [
+      | inl refused ↦ inl (no_review _ _ given refused.0 same, refused.1)
+      | inr rest ↦ elim rest [
+        | inl unprinted ↦ inr (inl (no_lines _ _ given unprinted same))
+        | inr warned ↦ inr (inr (warned.0, warns _ _ _ given warned.1 same warned.2, warned.3))
+      ]
+    ])
+
+pub returns-in-Some-Review-clause-done : goal.returns-in-Some-Review-clause-done
+returns-in-Some-Review-clause-done g c =
+    let given = rw c.in-Some-Review.field-0-is at c.in-Some-Review.ensures.some in
+    let done = c.in_ok-print_review-in-Some-Review.ensures.clean in
+    (done.0, reviews _ _ given done.1 c.in_ok-print_review-in-Some-Review.ensures.same, done.2)
 
 pub returns-in_err-text-in-Some : goal.returns-in_err-text-in-Some
 returns-in_err-text-in-Some g c =

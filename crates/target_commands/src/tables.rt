@@ -1,0 +1,36 @@
+//! Tables that a command reads.
+
+ghost use Rattle.std.specs.Prelude.{IfOk, IfErr, OnOk};
+ghost use Rattle.files.specs.Changes.{Unchanged};
+ghost use Rattle.files.specs.Failures.{HasFailed};
+ghost use Rattle.files.specs.declared.call.FileCall.TheVariants.{Read};
+ghost use Rattle.target_commands.specs.Tables.{IsTableAt, IsNoTable};
+
+use crate::fault::ReviewFault;
+use command_base::{BaseFault, read_file};
+use files::Files;
+use kbart_rows::{MAX_TABLE_BYTES, Table, TableError};
+use registry_file::KeySource;
+use std::alloc::Global;
+
+/// The holdings table at the path, which has at most 16,777,216 bytes. Its hashed look-ups have keys that are drawn
+/// for it.
+pub(crate) fn read_table<'a, F: Files, K: KeySource>(
+    alloc: Global,
+    files: &mut F,
+    keys: &mut K,
+    path: &'a str,
+) -> Result<Table, ReviewFault<'a>>
+    ensures ok { IfOk result (IsTableAt K.draws (F.at files.old path.now) keys.old keys.new) }
+    ensures err { IfErr result
+        (IsNoTable (F.at files.old path.now) path.now (HasFailed F.fails Read path.now) (K.fails keys.old keys.new)) }
+    ensures same { Unchanged (F.at files.old) (F.at files.new) }
+{
+    let Some(bytes) = read_file(alloc, files, path, MAX_TABLE_BYTES)? else {
+        return Err(ReviewFault::Table(TableError::TooLong));
+    };
+    let Ok(keys) = keys.draw() else {
+        return Err(ReviewFault::Base(BaseFault::Device(path)));
+    };
+    Ok(Table::read_keyed(alloc, &bytes, keys)?)
+}
