@@ -1,0 +1,114 @@
+-- What was found one after another.
+use Rattle.std.proofs.Common.{◌≡◌, ℕ, ◌+◌, ◌<◌, Bool, true, false, ◌||◌, ◌==◌, cond, map, Bor, List, [], ◌∷◌, ◌++◌, length, take, get_or, refl, sym, ap, ◌∙◌, subst, string_bytes, append_assoc}
+use Rattle.std.specs.List.{flat_map, list_any}
+use Rattle.std.proofs.lemmas.Grind.{flat_map-append}
+use Rattle.std.proofs.lemmas.List.{append-nil}
+use Rattle.std.proofs.lemmas.List.Folds.{list_any-append}
+use Rattle.std.specs.Result.{OnOk}
+use Rattle.std.specs.Prelude.{Result, Ok, Err}
+use Rattle.text_model.specs.Texts.{Text, texts_of}
+use Rattle.printed_text.specs.declared.findings.Findings.{Findings}
+use Rattle.kbart_rows.specs.Cells.{Holdings}
+use Rattle.rule_parser.specs.Rules.{RuleSet}
+use Rattle.rule_lint.specs.declared.place.Place.{Place}
+use Rattle.rule_lint.specs.declared.place.Place.TheVariants as place
+use Rattle.rule_lint.specs.Reach.{is_never_reached}
+use Rattle.rule_parser.specs.declared.rule.Rule.{Rule}
+use Rattle.rule_lint.specs.Names.{is_known, is_standard_column, resembled}
+use Rattle.rule_lint.specs.Findings.{Finding, NeverReached, NoColumn, RuleCount, finding_text, findings_text, has_warning, in_guards, in_link, in_name, in_rule, in_rules, is_warning, lint_text, misspelling}
+use Rattle.rule_lint.specs.Private.Adds.{Adds}
+use Rattle.rule_lint.proofs.ListSteps.{flat_map_more}
+
+or_false : (b : Bool) → b ≡ (b || false)
+or_false true = refl
+or_false false = refl
+
+or_assoc : (a b c : Bool) → ((a || b) || c) ≡ (a || (b || c))
+or_assoc true b c = refl
+or_assoc false b c = refl
+
+-- nothing, one finding, and more after these
+pub adds_none : (a : Findings) → Adds a a []
+adds_none a = record { text = sym (append-nil (string_bytes a.text)); warned = or_false a.warned }
+
+pub adds_one : (a b : Findings) (f : Finding) → string_bytes b.text ≡ string_bytes a.text ++ finding_text f → b.warned ≡ (a.warned || is_warning f)
+    → Adds a b (f ∷ [])
+adds_one a b f t w = record {
+  text = t ∙ ap (λ (u : Text). string_bytes a.text ++ u) (sym (append-nil (finding_text f)));
+  warned = w ∙ ap (λ (u : Bool). a.warned || u) (or_false (is_warning f));
+}
+
+-- one finding that is a warning
+or_true : (b : Bool) → true ≡ (b || true)
+or_true true = refl
+or_true false = refl
+
+pub warns_one : (a b : Findings) (f : Finding) → is_warning f ≡ true → string_bytes b.text ≡ string_bytes a.text ++ finding_text f → b.warned ≡ true
+    → Adds a b (f ∷ [])
+warns_one a b f e t w = adds_one a b f t (w ∙ or_true a.warned ∙ ap (λ (u : Bool). a.warned || u) (sym e))
+
+pub adds_more : (a b c : Findings) (xs ys : List Finding) → Adds a b xs → Adds b c ys → Adds a c (xs ++ ys)
+adds_more a b c xs ys h k = record {
+  text =
+      k.text ∙ (ap (λ (t : Text). t ++ findings_text ys) h.text ∙ (append_assoc (string_bytes a.text) (findings_text xs) (findings_text ys)
+      ∙ ap (λ (t : Text). string_bytes a.text ++ t) (sym (flat_map-append finding_text xs ys))));
+  warned =
+      k.warned ∙ (ap (λ (w : Bool). w || list_any is_warning ys) h.warned ∙ (or_assoc a.warned (list_any is_warning xs) (list_any is_warning ys)
+      ∙ ap (λ (w : Bool). a.warned || w) (sym (list_any-append is_warning xs ys))));
+}
+
+-- what is found in one more element of a list
+pub adds_step : {X : Type 0} (f : X → List Finding) (xs : List X) (i : ℕ) (d : X) (a b c : Findings) → i < length xs
+    → Adds a b (flat_map f (take i xs)) → Adds b c (f (get_or xs i d)) → Adds a c (flat_map f (take (i + 1) xs))
+adds_step f xs i d a b c h before at =
+    subst (λ (l : List Finding). Adds a c l) (sym (flat_map_more f xs i d h)) (adds_more a b c (flat_map f (take i xs)) (f (get_or xs i d)) before at)
+
+-- the same under another name of the list
+pub adds_as : (a b : Findings) (xs ys : List Finding) → xs ≡ ys → Adds a b xs → Adds a b ys
+adds_as a b xs ys e h = subst (λ (l : List Finding). Adds a b l) e h
+
+-- a fact under a success
+pub on_ok : {A E : Type 0} (r : Result A E) (P Q : Type 0) → (P → Q) → OnOk r P → OnOk r Q
+on_ok (Ok x) P Q f p = f p
+on_ok (Err e) P Q f p = p
+
+-- ---- names
+
+-- what is made of lent texts
+pub lent : (f : Text → List Finding) (names : List (Bor Text)) → flat_map (λ (y : Bor Text). f y.now) names ≡ flat_map f (texts_of names)
+lent f [] = refl
+lent f (y ∷ names) = ap (λ l. f y.now ++ l) (lent f names)
+
+pub lent_each : (f : Text → Finding) (names : List (Bor Text)) → flat_map (λ (y : Bor Text). f y.now ∷ []) names ≡ map f (texts_of names)
+lent_each f [] = refl
+lent_each f (y ∷ names) = ap (λ l. f y.now ∷ l) (lent_each f names)
+
+pub unknown_column : (rules : RuleSet) (table : Holdings) (at : Place) (name : Text) → is_known rules table name ≡ false
+    → is_standard_column name ≡ true → NoColumn at name ∷ [] ≡ in_name rules table at name
+unknown_column rules table at name e f =
+    let otherwise : Finding = misspelling at name (resembled rules table name) in
+    sym (ap (λ (b : Bool). cond b [] ((cond (is_standard_column name) (NoColumn at name) otherwise) ∷ [])) e
+    ∙ ap (λ (b : Bool). (cond b (NoColumn at name) otherwise) ∷ []) f)
+
+-- ---- a rule
+
+pub unreached : (rules : RuleSet) (table : Holdings) (k number : ℕ) (rule : Rule) → number ≡ k + 1 → is_never_reached rules.rules k ≡ true
+    → NeverReached number ∷ [] ≡ in_rule rules table (k, rule)
+unreached rules table k number rule e f =
+    let otherwise : List Finding = in_guards rules table (k + 1) rule.guards ++ in_link rules table (place.Link (k + 1)) rule.template.parts in
+    ap (λ (n : ℕ). NeverReached n ∷ []) e ∙ sym (ap (λ (b : Bool). cond b (NeverReached (k + 1) ∷ []) otherwise) f)
+
+pub reached : (rules : RuleSet) (table : Holdings) (k number : ℕ) (rule : Rule) → number ≡ k + 1 → is_never_reached rules.rules k ≡ false
+    → in_guards rules table number rule.guards ++ in_link rules table (place.Link number) rule.template.parts ≡ in_rule rules table (k, rule)
+reached rules table k number rule e f =
+    let otherwise : List Finding = in_guards rules table (k + 1) rule.guards ++ in_link rules table (place.Link (k + 1)) rule.template.parts in
+    ap (λ (n : ℕ). in_guards rules table n rule.guards ++ in_link rules table (place.Link n) rule.template.parts) e
+    ∙ sym (ap (λ (b : Bool). cond b (NeverReached (k + 1) ∷ []) otherwise) f)
+
+-- ---- the whole
+
+pub whole : (a b : Findings) (rules : RuleSet) (table : Holdings) → string_bytes a.text ≡ finding_text (RuleCount (length rules.rules))
+    → a.warned ≡ (length rules.rules == 0) → Adds a b (in_rules rules table)
+    → (string_bytes b.text ≡ lint_text rules table) × (b.warned ≡ has_warning rules table)
+whole a b rules table t w h =
+    (h.text ∙ ap (λ (u : Text). u ++ findings_text (in_rules rules table)) t, h.warned ∙ ap (λ (u : Bool). u || list_any is_warning (in_rules rules table)) w)

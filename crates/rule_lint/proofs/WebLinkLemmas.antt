@@ -1,0 +1,108 @@
+-- A text that does not begin a web link, and is not continued as one, is never a web link.
+use Rattle.std.proofs.Common.{◌≡◌, ℕ, ◌==◌, Bool, true, false, not, ◌||◌, ◌&&◌, List, [], ◌∷◌, ◌++◌, ◌⊎◌, inl, inr, refl, sym, ap, ◌∙◌, codes, append_assoc}
+use Rattle.std.specs.Char.{to_ascii_lowercase}
+use Rattle.std.specs.List.{flat_map}
+use Rattle.std.proofs.lemmas.Bool.{false≢true, and_parts, eqb-true, eq-eqb}
+use Rattle.std.proofs.lemmas.List.{append-nil}
+use Rattle.text_model.specs.Texts.{Text}
+use Rattle.environment_model.specs.Environment.{LookUp}
+use Rattle.uri_text.specs.AnyCase.{begins_in_any_case}
+use Rattle.uri_grammar.specs.declared.parts.Part.{Part}
+use Rattle.uri_grammar.specs.declared.parts.Part.TheVariants.{Literal, Expression}
+use Rattle.uri_template.specs.Expansion.{part_text, expansion}
+use Rattle.menu.specs.WebLink.{is_web_link}
+use Rattle.rule_lint.specs.WebLink.{first_text, has_expression, begins_web_links, is_never_web_link}
+
+-- ---- the first text and what follows it
+
+rest_text : LookUp → List Part → Text
+rest_text look [] = []
+rest_text look (Literal text ∷ parts) = rest_text look parts
+rest_text look (Expression op specs ∷ parts) = expansion look (Expression op specs ∷ parts)
+
+first_and_rest : (look : LookUp) (parts : List Part) → expansion look parts ≡ first_text parts ++ rest_text look parts
+unfolding rest_text
+first_and_rest look [] = refl
+first_and_rest look (Literal text ∷ parts) =
+    ap (λ (t : Text). text ++ t) (first_and_rest look parts) ∙ sym (append_assoc text (first_text parts) (rest_text look parts))
+first_and_rest look (Expression op specs ∷ parts) = refl
+
+no_rest : (look : LookUp) (parts : List Part) → has_expression parts ≡ false → rest_text look parts ≡ []
+unfolding rest_text
+no_rest look [] e = refl
+no_rest look (Literal text ∷ parts) e = no_rest look parts e
+no_rest look (Expression op specs ∷ parts) e = absurd (false≢true (sym e))
+
+-- ---- beginnings
+
+-- two bytes that are one letter are one letter the other way round
+turned : (a b : ℕ) → (a == b) ≡ true → (b == a) ≡ true
+turned a b e = eq-eqb b a (sym (eqb-true a b e))
+
+-- a beginning of two texts joined is one of the first, or goes on into the second
+begins_across : (t r s : Text) → begins_in_any_case (t ++ r) s ≡ true → (begins_in_any_case t s ≡ true) ⊎ ((begins_in_any_case s t ≡ true) × (r ≡ [] → ⊥))
+begins_across t r [] e = inl refl
+begins_across [] r (c ∷ s) e = inr (refl, λ none. false≢true (ap (λ (x : Text). begins_in_any_case x (c ∷ s)) (sym none) ∙ e))
+begins_across (b ∷ t) r (c ∷ s) e =
+    let parts = and_parts (to_ascii_lowercase b == to_ascii_lowercase c) (begins_in_any_case (t ++ r) s) e in
+    elim (begins_across t r s parts.1) [
+      | inl h ↦ inl (both _ _ parts.0 h)
+      | inr h ↦ inr (both _ _ (turned (to_ascii_lowercase b) (to_ascii_lowercase c) parts.0) h.0, h.1)
+    ]
+  where
+    both : (a b : Bool) → a ≡ true → b ≡ true → (a && b) ≡ true
+    both a b e f = ap (λ x. x && b) e ∙ f
+
+-- ---- links
+
+-- neither disjunct is true
+neither : (a b : Bool) → not (a || b) ≡ true → (a ≡ false) × (b ≡ false)
+neither true b e = absurd (false≢true e)
+neither false true e = absurd (false≢true e)
+neither false false e = (refl, refl)
+
+or_absurd : (a b : Bool) → (a ≡ true → ⊥) → (b ≡ true → ⊥) → (a || b) ≡ false
+or_absurd true b f g = absurd (f refl)
+or_absurd false true f g = absurd (g refl)
+or_absurd false false f g = refl
+
+in_or_left : (a b : Bool) → (a || b) ≡ false → a ≡ true → ⊥
+in_or_left a b e f = false≢true (sym e ∙ ap (λ x. x || b) f)
+
+in_or_right : (a b : Bool) → (a || b) ≡ false → b ≡ true → ⊥
+in_or_right true b e f = false≢true (sym e)
+in_or_right false b e f = false≢true (sym e ∙ f)
+
+has_rest : (look : LookUp) (parts : List Part) (b : Bool) → has_expression parts ≡ b → (rest_text look parts ≡ [] → ⊥) → b ≡ true
+has_rest look parts true e f = refl
+has_rest look parts false e f = absurd (f (no_rest look parts e))
+
+-- the link does not begin so if neither the first text nor what an expression makes of it does
+not_so : (look : LookUp) (parts : List Part) (s : Text) → (begins_in_any_case (first_text parts) s ≡ true → ⊥)
+    → (has_expression parts ≡ true → begins_in_any_case s (first_text parts) ≡ true → ⊥) → begins_in_any_case (expansion look parts) s ≡ true → ⊥
+not_so look parts s f g e =
+    elim (begins_across (first_text parts) (rest_text look parts) s (ap (λ (x : Text). begins_in_any_case x s) (sym (first_and_rest look parts)) ∙ e)) [
+      | inl h ↦ f h
+      | inr h ↦ g (has_rest look parts (has_expression parts) refl h.1) h.0
+    ]
+
+and_true : (a b : Bool) → (a && b) ≡ false → a ≡ true → b ≡ true → ⊥
+and_true a b e f g = false≢true (sym e ∙ ap (λ x. x && b) f ∙ g)
+
+pub never_a_web_link : (look : LookUp) (parts : List Part) → is_never_web_link parts ≡ true → is_web_link (expansion look parts) ≡ false
+never_a_web_link look parts e =
+    let t = first_text parts in
+    let plain = begins_in_any_case t (codes "http://") in
+    let secure = begins_in_any_case t (codes "https://") in
+    let plain_on = begins_in_any_case (codes "http://") t in
+    let secure_on = begins_in_any_case (codes "https://") t in
+    let none = neither (plain || secure) (has_expression parts && (plain_on || secure_on)) e in
+    or_absurd _ _
+    (not_so look parts (codes "http://") (in_or_left plain secure none.0)
+    (λ h k. and_true (has_expression parts) (plain_on || secure_on) none.1 h (ap (λ x. x || secure_on) k)))
+    (not_so look parts (codes "https://") (in_or_right plain secure none.0)
+    (λ h k. and_true (has_expression parts) (plain_on || secure_on) none.1 h (or_second plain_on secure_on k)))
+  where
+    or_second : (a b : Bool) → b ≡ true → (a || b) ≡ true
+    or_second true b k = refl
+    or_second false b k = k

@@ -1,0 +1,6 @@
+pub mod Names
+pub mod Reach
+pub mod WebLink
+pub mod Host
+pub mod Findings
+pub mod Private

@@ -1,0 +1,24 @@
+//! What is doubtful in the rules of a target: names that nothing defines, rules that are never reached, guards that
+//! never hold, and links whose host a request can set.
+#![tactic(auto)]
+
+mod check;
+mod host;
+mod host_text;
+pub mod laws;
+mod lines;
+mod names;
+mod place;
+mod reach;
+mod resemblance;
+mod review;
+mod target;
+mod template_names;
+#[cfg(test)]
+mod tests;
+mod varchars;
+mod web_link;
+
+pub use place::Place;
+pub use printed_text::Findings;
+pub use review::lint;
