@@ -20,9 +20,8 @@ use std::io::Write;
 use target_commands::print_review;
 
 /// Runs the command that the arguments name, prints its result on `output`, or one line with its error on `errors`, and
-/// returns the exit status: 0 done, 1 no link or an empty menu (and nothing is printed), 2 unknown command or wrong
-/// arguments,
-/// 3 an argument or a file is rejected, 4 memory or a device.
+/// returns the exit status: 0 done, 1 no link or an empty menu (nothing is printed) or a warning (all is printed),
+/// 2 unknown command or wrong arguments, 3 an argument or a file is rejected, 4 memory or a device.
 pub fn command<F: Files, K: KeySource, P: Ports, O: Write, E: Write>(
     rt: &mut System<F, K, P>,
     arguments: &[&str],
@@ -55,7 +54,7 @@ pub fn command<F: Files, K: KeySource, P: Ports, O: Write, E: Write>(
     }
 }
 
-/// Prints the error on `errors`, unless it is that there is no link, and returns the exit status.
+/// Prints the error on `errors`, unless it is that there is no link or a warning, and returns the exit status.
 pub fn report<E: Write>(fault: Fault, errors: &mut E) -> u8
     ensures status { result ≡ status_of fault.entry }
     ensures failed { 1 ≤ result }
