@@ -28,4 +28,4 @@ pub returns : goal.returns
 returns c =
     let inv = c.loop-record.invariant in
     let s = rw c.in-None.is at ((c.next.ensures.steps inv.1 inv.0.trim).0 inv.0.ready) in
-    reading_ends _ _ c.loop-record.record-iterator.rdr c.next.new.self.rdr inv.0 s
+    reading_ends _ _ c.loop-record.record-iterator.rdr c.next.new.self.rdr [] inv.0 s
