@@ -12,8 +12,8 @@ pub plain_character : (c : ℕ) → c ≢ quote → c ≢ backslash → escaped 
 plain_character c h k = escaped_plain_text (encode_utf8 c) (plain_bytes c (rw (ne_eqb c quote h, ne_eqb c backslash k) refl))
 
 -- one more character
-pub escaped_step : (whole before out rest after : Text) (c : ℕ) → out ++ escaped rest ≡ whole → rest ≡ encode_utf8 c ++ after → before ≡ out ++ escaped (encode_utf8 c)
-    → before ++ escaped after ≡ whole
+pub escaped_step : (whole before out rest after : Text) (c : ℕ) → out ++ escaped rest ≡ whole
+    → rest ≡ encode_utf8 c ++ after → before ≡ out ++ escaped (encode_utf8 c) → before ++ escaped after ≡ whole
 escaped_step whole before out rest after c so_far next appended =
     ap (λ (t : Text). t ++ escaped after) appended ∙ append_assoc out (escaped (encode_utf8 c)) (escaped after)
     ∙ ap (λ (t : Text). out ++ t) (sym (escaped-append (encode_utf8 c) after)) ∙ ap (λ (t : Text). out ++ escaped t) (sym next) ∙ so_far
