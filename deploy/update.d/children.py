@@ -1,0 +1,57 @@
+"""Processes that end with this one, even if it is killed; and free ports for them."""
+import ctypes, os, random, signal, socket, subprocess, time
+
+DEATH_SIGNAL = 1  # PR_SET_PDEATHSIG of prctl
+LIBC = ctypes.CDLL(None)
+
+
+def start(words, folder, **how):
+    """Starts a command that gets SIGTERM when this process ends."""
+    parent = os.getpid()
+
+    def tie():
+        LIBC.prctl(DEATH_SIGNAL, signal.SIGTERM)
+        if os.getppid() != parent:
+            os._exit(1)
+
+    return subprocess.Popen(words, cwd=folder, stdin=subprocess.DEVNULL, start_new_session=True, preexec_fn=tie, **how)
+
+
+def stop(child):
+    if child.poll() is None:
+        child.terminate()
+        try:
+            child.wait(10)
+        except subprocess.TimeoutExpired:
+            child.kill()
+            child.wait()
+
+
+def is_open(port):
+    """Whether something listens at a port of this machine."""
+    try:
+        socket.create_connection(("127.0.0.1", port), 1).close()
+        return True
+    except OSError:
+        return False
+
+
+def free_port():
+    """A port at which nothing listens, below those that the system gives to clients (from 32768 on)."""
+    while True:
+        port = random.randrange(20000, 32000)
+        try:
+            socket.create_server(("127.0.0.1", port)).close()
+            return port
+        except OSError:
+            continue
+
+
+def wait_for(port, child, seconds):
+    """Whether a child listens at a port before it ends and before the time is over."""
+    end = time.monotonic() + seconds
+    while time.monotonic() < end and child.poll() is None:
+        if is_open(port):
+            return True
+        time.sleep(0.02)
+    return False

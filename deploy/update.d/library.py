@@ -1,0 +1,139 @@
+"""The folder of the library: complete versions, and the links and names by which a killed run leaves no other.
+
+    versions/STAMP/        a version, never changed; STAMP is the time at which it was made, in UTC
+    versions/STAMP.new/    a version that is being made; the next run removes it
+    current                a link to the version in use, which is moved by a rename
+    before                 only while processes are restarted: a link to the version to go back to, or to `none`
+    trial/                 files of the front door that tries a version; the next run removes it
+    lock                   locked by a run as long as it lives
+"""
+import datetime, fcntl, os, re, shutil
+from outcome import DEVICE, Failure
+
+STAMP = "%Y%m%dT%H%M%SZ"
+VERSION = re.compile(r"versions/(\d{8}T\d{6}Z)")
+NONE = "none"
+
+
+def sync(path):
+    handle = os.open(path, os.O_RDONLY)
+    try:
+        os.fsync(handle)
+    finally:
+        os.close(handle)
+
+
+class Library:
+    def __init__(self, folder):
+        self.folder = os.path.abspath(folder)
+
+    def path(self, *names):
+        return os.path.join(self.folder, *names)
+
+    def lock(self):
+        """Locks the library until this process ends; a Failure if another run has done so."""
+        file = open(self.path("lock"), "a+")
+        try:
+            fcntl.flock(file, fcntl.LOCK_EX | fcntl.LOCK_NB)
+        except BlockingIOError as fault:
+            raise Failure(f"{self.path('lock')}: another run has not ended", DEVICE) from fault
+        return file
+
+    def version_of(self, link):
+        """The version that a link names, or None if there is no such link, or no version for it."""
+        try:
+            text = os.readlink(self.path(link))
+        except FileNotFoundError:
+            return None
+        if text == NONE:
+            return None
+        found = VERSION.fullmatch(text)
+        if not found or not os.path.isdir(self.path(text)):
+            raise Failure(f"{self.path(link)} is a link to {text}, which is no folder versions/STAMP")
+        return found[1]
+
+    def current(self):
+        return self.version_of("current")
+
+    def version(self, stamp):
+        return self.path("versions", stamp)
+
+    def versions(self):
+        """The stamps of all versions, the oldest first."""
+        os.makedirs(self.path("versions"), exist_ok=True)
+        return sorted(name for name in os.listdir(self.path("versions")) if VERSION.fullmatch(f"versions/{name}"))
+
+    def clear(self):
+        """Removes what a killed run left unfinished."""
+        shutil.rmtree(self.path("trial"), ignore_errors=True)
+        for name in os.listdir(self.path("versions")):
+            if re.fullmatch(r"\d{8}T\d{6}Z\.new", name):
+                shutil.rmtree(self.version(name))
+        if os.path.lexists(self.path("current.new")):
+            os.unlink(self.path("current.new"))
+
+    def remove_newer(self):
+        """Removes versions that are newer than the one in use: a run went back from them, or was killed before their use."""
+        current = self.current() or ""
+        for stamp in self.versions():
+            if stamp > current:
+                shutil.rmtree(self.version(stamp))
+
+    def begin(self):
+        """Makes the folder of a new version, and returns its stamp, which is after all others."""
+        stamps = self.versions()
+        time = datetime.datetime.now(datetime.timezone.utc)
+        while stamps and time.strftime(STAMP) <= stamps[-1]:
+            latest = datetime.datetime.strptime(stamps[-1], STAMP).replace(tzinfo=datetime.timezone.utc)
+            time = latest + datetime.timedelta(seconds=1)
+        stamp = time.strftime(STAMP)
+        os.mkdir(self.version(f"{stamp}.new"))
+        return stamp
+
+    def complete(self, stamp):
+        """Gives a finished version its name, once all of it is on the disk."""
+        unfinished = self.version(f"{stamp}.new")
+        for folder, _, names in os.walk(unfinished):
+            for name in names:
+                sync(os.path.join(folder, name))
+            sync(folder)
+        os.rename(unfinished, self.version(stamp))
+        sync(self.path("versions"))
+
+    def move(self, stamp):
+        """Points `current` to a version. There is no moment without the link."""
+        os.symlink(f"versions/{stamp}", self.path("current.new"))
+        os.rename(self.path("current.new"), self.path("current"))
+        sync(self.folder)
+
+    def remember(self, stamp):
+        """Makes `before`: whatever ends this run, the next one goes back to this version (None: to no version)."""
+        os.symlink(f"versions/{stamp}" if stamp else NONE, self.path("before"))
+        sync(self.folder)
+
+    def is_unsettled(self):
+        """Whether a run has begun to move `current` and to restart processes, and has not ended well."""
+        return os.path.lexists(self.path("before"))
+
+    def move_back(self, stamp):
+        """Points `current` to the version before, or removes it if there was none."""
+        try:
+            if stamp is None:
+                os.unlink(self.path("current"))
+            elif self.current() != stamp:
+                self.move(stamp)
+        except FileNotFoundError:
+            pass
+        except OSError:  # not even a link can be made
+            os.rename(self.path("before"), self.path("current"))
+
+    def settle(self):
+        """All processes serve `current`: there is nothing to go back to."""
+        if self.is_unsettled():
+            os.unlink(self.path("before"))
+            sync(self.folder)
+
+    def remove_old(self, most):
+        """Removes the oldest versions, so that `most` remain."""
+        for stamp in self.versions()[:-most]:
+            shutil.rmtree(self.version(stamp))

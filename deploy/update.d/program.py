@@ -1,0 +1,55 @@
+"""Runs the program's commands on files, and reads the warnings of `inspect` and `lint`."""
+import re, subprocess
+from outcome import DEVICE, Failure, Refused
+
+SECONDS = 600  # for a command
+# Lines that are no warning. Every other line is one, so that a kind that is not known here keeps the old files.
+PLAIN = re.compile(r"""rows\ [1-9]\d* | identifiers\ [1-9]\d* | rows\ of\ one\ identifier\ .* | rows\ without\ title_url\ .*
+    | unknown\ column\ "[^"]*"(\.\.\.)? | rules\ [1-9]\d* | rule\ \d+,\ link:\ never\ a\ web\ link""", re.VERBOSE)
+NO_COLUMN = re.compile(r"no column \w+_identifier")
+# The rule, and the guard or link, that a line of `lint` is about.
+PLACE = re.compile(r"rule \d+(, guard \d+:|, link:)? ")
+
+
+def words_of(warning):
+    """The words by which a warning is allowed: those before its first number or quotation mark, without the place."""
+    return re.split(r'[0-9"]', PLACE.sub("", warning, count=1))[0].strip(" :,")
+
+
+def is_allowed(warning, allowed):
+    """Whether the list allows a warning. `rule` allows every warning of `lint`, since a number follows this word."""
+    return words_of(warning) in allowed or (PLACE.match(warning) is not None and "rule" in allowed)
+
+
+def warnings_in(text):
+    """The lines of `inspect` or `lint` that are warnings. That a column of identifiers is missing is one if both are."""
+    lines = text.splitlines()
+    missing = [line for line in lines if NO_COLUMN.fullmatch(line)]
+    return [line for line in lines if not PLAIN.fullmatch(line) and (line not in missing or len(missing) > 1)]
+
+
+class Program:
+    def __init__(self, path, folder):
+        """The program, run in a folder, which the paths of its arguments are relative to."""
+        self.path, self.folder = path, folder
+
+    def run(self, *words, most=0):
+        """What a command prints. Refused if it rejects a file; a Failure if it ends with another status above `most`."""
+        try:
+            done = subprocess.run([self.path, *words], cwd=self.folder, stdin=subprocess.DEVNULL, capture_output=True,
+                                  timeout=SECONDS, start_new_session=True)
+        except OSError as fault:
+            raise Failure(f"{self.path}: {fault.strerror}", DEVICE) from fault
+        except subprocess.TimeoutExpired as fault:
+            raise Failure(f"openlink {words[0]}: no end after {SECONDS} seconds", DEVICE) from fault
+        said = done.stderr.decode("utf-8", "replace").strip().removeprefix("openlink: ")
+        if done.returncode == 3:
+            raise Refused([said])
+        if not 0 <= done.returncode <= most:
+            raise Failure(f"openlink {' '.join(words)} in {self.folder}: status {done.returncode}, {said or 'no message'}", DEVICE)
+        return done.returncode, done.stdout.decode("utf-8", "replace")
+
+    def warnings(self, *words):
+        """The warnings of `inspect` or `lint`."""
+        status, text = self.run(*words, most=1)
+        return warnings_in(text) or [f"openlink {words[0]} has status 1"] if status == 1 else []
