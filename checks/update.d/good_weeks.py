@@ -1,0 +1,118 @@
+"""Weeks in which all goes well, and going back by hand."""
+import os, re
+from counting import expect, expect_lines
+from fixture import Library, Reader
+from weeks import MENUS, tables
+
+ALL = list(tables())
+
+
+def test_good_week():
+    """The whole sample library: every target is new, then some have changed, then none."""
+    with Library(ALL, processes=4) as library:
+        status, said = library.first
+        expect("the first version", (status, library.names(), library.weeks_served()), (0, ALL, {"A"}))
+        expect_lines("the first version", said, "tidal-press: new, 3 rows", "30 probes hold", f"{library.current()} is in use")
+        first = library.current()
+        library.input.deliver("B")
+        with Reader(library, 0) as reader:
+            status, said = library.run()
+        expect("a good week", (status, library.weeks_served(), reader.faults), (0, {"B"}, []))
+        expect_lines("a good week", said, "tidal-press: 1 row added, 0 gone", "coastal-law: rules changed", "30 probes hold")
+        expect("nothing else has changed", re.findall(r"^([\w-]+): ", said, re.M), ["tidal-press", "coastal-law"])
+        moved = [line for line in said.splitlines() if " is now " in line]
+        expect("links that lead elsewhere", moved, ["  coastal-law https://coastal.example.com/journals/rcl is now "
+                                                    "https://coastal.example.com/titles/rcl"])
+        second = library.current()
+        expect("two versions", library.versions(), [first, second])
+        expect("nothing new", library.run(), (0, f"nothing new: {second} stays in use\n"))
+        expect("no other version", (library.versions(), library.left_behind()), ([first, second], []))
+
+
+def test_changes():
+    """Rows added and gone, targets added and gone, links gained and lost, and a trial that changes nothing."""
+    with Library() as library:
+        first = library.current()
+        rows = library.input.read("book-house.txt").splitlines(keepends=True)
+        library.input.write("book-house.txt", b"".join(rows[:1] + rows[2:] + [rows[1].replace(b"\tLi\t", b"\tLee\t")]))
+        library.input.names = [name for name in library.input.names if name != "catalogue"]
+        library.input.write("extra.rules", b"rule\nwhen given rft.atitle\nlink https://extra.example.org/{rft.atitle}\n")
+        library.input.write("extra.txt", library.input.read("doi-resolver.txt"))
+        library.input.names.append("extra")
+        library.input.write_list()
+        library.input.write("probes.tsv", b"sid=google&issn=2901-0012&atitle=Storm&date=2003&volume=12\ttidal-press extra\n")
+        tried = library.run("--dry-run")
+        expect("a trial", (tried[0], library.current(), library.versions()), (0, first, [first]))
+        expect("a trial leaves nothing", library.left_behind(), [])
+        status, said = library.run()
+        lines = ["catalogue: gone, since the list does not name it", "book-house: 1 row added, 1 gone", "extra: new, 1 row",
+                 "  gains extra https://extra.example.org/Storm",
+                 "  loses catalogue https://catalogue.example.org/search?index=number&term=2901-0012"]
+        expect_lines("what has changed", said, *lines, "1 probes hold")
+        expect_lines("what a trial says", tried[1], *lines, "a trial: nothing was put in use")
+        expect("targets", (status, library.names()), (0, ["tidal-press", "coastal-law", "book-house", "doi-resolver", "extra"]))
+
+
+def test_requests():
+    """A thousand requests while versions change."""
+    with Library() as library:
+        with Reader(library, 1000) as reader:
+            week, runs = "A", []
+            while reader.requests < 900 or len(runs) < 3:
+                week = "B" if week == "A" else "A"
+                library.input.deliver(week)
+                runs.append(library.run()[0])
+        expect("runs under a thousand requests", set(runs), {0})
+        expect("each has a reply", (reader.requests >= 1000, reader.faults[:3], reader.weeks), (True, [], set(MENUS)))
+
+
+def test_back():
+    """The version before, by hand, and forward again; old versions go."""
+    with Library() as library:
+        stamps = [library.current()]
+        for week in "BABAB":
+            library.input.deliver(week)
+            expect(f"week {week}", library.run()[0], 0)
+            stamps.append(library.current())
+        expect("four versions are kept", library.versions(), stamps[-4:])
+        expect("back", library.run("--back"), (0, f"{stamps[-2]} is in use again\n"))
+        expect("the version before", (library.current(), library.weeks_served(), library.left_behind()), (stamps[-2], {"A"}, []))
+        expect("forward", library.run()[0], 0)
+        expect("the version after", (library.weeks_served(), stamps[-1] in library.versions()), ({"B"}, False))
+        for _ in range(len(library.versions()) - 1):
+            expect("back again", library.run("--back")[0], 0)
+        status, said = library.run("--back")
+        expect("no version before", status, 3)
+        expect_lines("no version before", said, "deploy/update: there is no version before the one in use")
+
+
+def test_warnings():
+    """A warning that the list allows, by its words; and walls that move with the month."""
+    with Library() as library:
+        library.input.add_row("book-house", b"A book without a number\t\t\t\t\t\t\t\t\thttps://books.example.net/x")
+        status, said = library.run()
+        expect("a warning", status, 1)
+        expect_lines("a warning", said, f"  {library.input.path('book-house.txt')}: rows without an identifier 1, first 2")
+        library.input.allowed["book-house"] = "rows 0; rows without an identifier"
+        library.input.write_list()
+        expect("it is allowed", library.run()[0], 0)
+        row = b"Walls\t3040-0005\t\t2000\t\t\t\t\t\thttps://x.example.org\t\tw\tP1Y\tfulltext"
+        library.input.add_row("tidal-press", row)
+        expect("a wall", library.run()[0], 0)
+        with open(library.path("current", "tables", "tidal-press.txt")) as file:
+            cells = file.read().splitlines()[-1].split("\t")
+        expect("its date", bool(re.fullmatch(r"20\d\d-\d\d", cells[6])) and len(cells) > 12 and cells[12] == "P1Y")
+
+
+def test_wrong_arguments():
+    with Library() as library:
+        expect("an unknown option", library.run("--backwards")[0], 2)
+        expect("two modes", library.run("--back", "--dry-run")[0], 2)
+        os.rename(library.input.path("targets.tsv"), library.input.path("other.tsv"))
+        status, said = library.run()
+        expect("no list", status, 4)
+        expect_lines("no list", said, f"deploy/update: {library.input.path('targets.tsv')}: No such file or directory")
+        expect("a site without ports", library.run("--site", "/dev/null")[0], 4)
+
+
+TESTS = [test_good_week, test_changes, test_requests, test_back, test_warnings, test_wrong_arguments]

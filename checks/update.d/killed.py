@@ -1,0 +1,40 @@
+"""Runs deploy/update and kills it directly before or after one of its renames or links, or the removal of `before`:
+
+    killed.py NUMBER FILE deploy/update OPTION..
+
+The moments are counted from 0. If the run ends first, FILE gets their number.
+"""
+import os, runpy, signal, sys
+
+wanted, file, script = int(sys.argv[1]), sys.argv[2], sys.argv[3]
+sys.argv = sys.argv[3:]
+sys.dont_write_bytecode = True
+moments = 0
+
+
+def pass_moment():
+    global moments
+    if moments == wanted:
+        os.kill(os.getpid(), signal.SIGKILL)
+    moments += 1
+
+
+def watched(call, suffix):
+    def wrapped(*words, **how):
+        is_moment = str(words[0]).endswith(suffix)
+        if is_moment:
+            pass_moment()
+        result = call(*words, **how)
+        if is_moment:
+            pass_moment()
+        return result
+    return wrapped
+
+
+for name, suffix in (("rename", ""), ("symlink", ""), ("unlink", "/before")):
+    setattr(os, name, watched(getattr(os, name), suffix))
+try:
+    runpy.run_path(script, run_name="__main__")
+finally:
+    with open(file, "w") as out:
+        out.write(str(moments))
