@@ -1,6 +1,7 @@
 """What the program says of itself, and arguments that are no command."""
 
-COMMANDS = ["expand", "link", "compile", "verify", "show", "upgrade", "run", "resolve", "serve"]
+COMMANDS = ["expand", "link", "compile", "verify", "show", "upgrade", "run", "inspect", "lint", "explain",
+            "resolve", "serve"]
 
 NO_COMMANDS = [
     [],
