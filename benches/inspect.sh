@@ -15,7 +15,7 @@ rows() {
   printf 'publication_title\tprint_identifier\tonline_identifier\tdate_first_issue_online\ttitle_url\n'
   awk -v print_id="$1" -v online_id="$2" -v date="$3" -v url="$4" 'BEGIN {
     for (row = 0; row < 200000; row++)
-      printf "Title of a journal %06d\t" print_id "\t" online_id "\t" date "\t" url "\n", row, row, row, row, row
+      printf "The journal %06d\t" print_id "\t" online_id "\t" date "\t" url "\n", row, row, row, row, row
   }'
 }
 
