@@ -139,10 +139,10 @@ def words_in(texts, pattern):
 
 
 def test_the_words_of_the_document(program):
-    """The tables of docs/FAULTS.md list each kind of error that is printed, and no other."""
+    """The lists of docs/FAULTS.md have each kind of error that is printed, and no other."""
     with open("docs/FAULTS.md") as document:
-        rows = [line for line in document if line.startswith("| `")]
-    listed = words_in(rows, r"`([A-Z]\w+)`") | words_in(rows, r"^\| `target NAME: ([A-Z]\w+)`")
+        rows = [line for line in document if line.startswith("- `")]
+    listed = words_in(rows, r"`([A-Z]\w+)`") | words_in(rows, r"^- `target NAME: ([A-Z]\w+)`")
     printed = words_in((error for *_, error in cases()), r"\b[A-Z]\w+\b") - {"Template"}
     program.runs += 1
     program.expect("kinds that are listed or printed alone", sorted(listed ^ printed), [])
