@@ -1,0 +1,38 @@
+"""Runs that are killed directly before and after each rename."""
+import signal, sys
+from counting import expect
+from ends import OTHER, served
+from fixture import HERE, Library
+
+
+def killed_at(library, number, *options, **how):
+    """A run that is killed at a rename; the number of such moments, if it ends before that one."""
+    file = library.aside("moments")
+    before = (sys.executable, "-B", f"{HERE}/killed.py", str(number), file)
+    child = library.begin(*options, before=before, **how)
+    child.communicate(timeout=60)
+    if child.returncode == -signal.SIGKILL:
+        return None
+    with open(file) as text:
+        return int(text.read())
+
+
+def test_killed_at_renames():
+    """SIGKILL directly before and after each rename and link of a run that ends well, and of one that goes back. The next run
+    puts it right."""
+    for name, options, wanted in (("forward", {}, 10), ("back", {"restart": "true"}, 14)):
+        with Library(probes=5) as library:
+            week, number, moments = "A", 0, None
+            while moments is None:
+                library.input.deliver(OTHER[week])
+                moments = killed_at(library, number, **options)
+                served(f"{name}, killed at rename {number}", library)
+                number += 1
+                status, said = library.run()
+                week = OTHER[week]
+                expect(f"{name}, the run after {number - 1}: {said}", (status, library.weeks_served(), library.left_behind()),
+                       (0, {week}, []))
+            expect(f"{name}: moments", (moments, number), (wanted, wanted + 1))
+
+
+TESTS = [test_killed_at_renames]
