@@ -6,7 +6,8 @@ ghost use Rattle.text_model.specs.Texts.{Text};
 ghost use Rattle.files.specs.Changes.{Unchanged};
 ghost use Rattle.kev_read.specs.Pairs.{pairs_of};
 ghost use Rattle.kev_read.specs.Refusal.{refusal};
-ghost use Rattle.target_commands.specs.Explain.{Explains, IsExplanation, IsFailure, IsQuery, IsUnexplained, StopsInPart};
+ghost use Rattle.target_commands.specs.Explain.{Explains, IsExplanation, IsFailure, IsQuery};
+ghost use Rattle.target_commands.specs.Explain.{IsUnexplained, StopsInPart};
 ghost use Rattle.target_commands.specs.declared.fault.ReviewFault.TheVariants.{Warning};
 
 use crate::fault::ReviewFault;

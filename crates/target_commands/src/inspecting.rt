@@ -32,7 +32,8 @@ pub(crate) fn inspect<'a, F: Files, K: KeySource, O: Write>(
         × IsInspection K.draws (F.at files.old) keys.old path.now keys.new text false
         × Appends (O.contents output.old) (O.contents output.new) text) }
     ensures not_clean { IfErr result (λ fault.
-        (IsNoTable (F.at files.old path.now) path.now (HasFailed F.fails Read path.now) (K.fails keys.old keys.new) fault
+        (IsNoTable (F.at files.old path.now) path.now (HasFailed F.fails Read path.now) (K.fails keys.old keys.new)
+        fault
         × (output.new ≡ output.old))
         ⊎ ((text : Text) × (warned : Bool)
         × IsInspection K.draws (F.at files.old) keys.old path.now keys.new text warned × IsOutputFault fault)
