@@ -8,7 +8,8 @@ use Rattle.rule_commands.specs.declared.arguments.ExpandArguments.{ExpandArgumen
 use Rattle.target_commands.specs.declared.review.Review.{Review}
 use Rattle.target_commands.specs.declared.review.Review.TheVariants.{Inspect, Lint, Explain}
 use Rattle.commands.specs.declared.arguments.Command.{Command}
-use Rattle.commands.specs.declared.arguments.Command.TheVariants.{Expand, Link, Compile, Verify, Show, Upgrade, Run, Resolve, Serve, Review as OfReview, Help, Version}
+use Rattle.commands.specs.declared.arguments.Command.TheVariants.{Expand, Link, Compile, Verify, Show, Upgrade, Run, Resolve, Serve, Review as OfReview, Help}
+use Rattle.commands.specs.declared.arguments.Command.TheVariants.{Version}
 
 -- the arguments are `expand`, and then those of the expansion
 pub record AreArgumentsOfExpand (arguments : List Text) (e : ExpandArguments) : Type 0 where

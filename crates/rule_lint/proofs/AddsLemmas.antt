@@ -1,5 +1,6 @@
 -- What was found one after another.
-use Rattle.std.proofs.Common.{◌≡◌, ℕ, ◌+◌, ◌<◌, Bool, true, false, ◌||◌, ◌==◌, cond, map, Bor, List, [], ◌∷◌, ◌++◌, length, take, get_or, refl, sym, ap, ◌∙◌, subst, string_bytes, append_assoc}
+use Rattle.std.proofs.Common.{◌≡◌, ℕ, ◌+◌, ◌<◌, Bool, true, false, ◌||◌, ◌==◌, cond, map, Bor, List, [], ◌∷◌, ◌++◌, length, take, get_or, refl, sym, ap, ◌∙◌}
+use Rattle.std.proofs.Common.{subst, string_bytes, append_assoc}
 use Rattle.std.specs.List.{flat_map, list_any}
 use Rattle.std.proofs.lemmas.Grind.{flat_map-append}
 use Rattle.std.proofs.lemmas.List.{append-nil}
@@ -15,7 +16,8 @@ use Rattle.rule_lint.specs.declared.place.Place.TheVariants as place
 use Rattle.rule_lint.specs.Reach.{is_never_reached}
 use Rattle.rule_parser.specs.declared.rule.Rule.{Rule}
 use Rattle.rule_lint.specs.Names.{is_known, is_standard_column, resembled}
-use Rattle.rule_lint.specs.Findings.{Finding, NeverReached, NoColumn, RuleCount, finding_text, findings_text, has_warning, in_guards, in_link, in_name, in_rule, in_rules, is_warning, lint_text, misspelling}
+use Rattle.rule_lint.specs.Findings.{Finding, NeverReached, NoColumn, RuleCount, finding_text, findings_text, has_warning, in_guards, in_link, in_name, in_rule}
+use Rattle.rule_lint.specs.Findings.{in_rules, is_warning, lint_text, misspelling}
 use Rattle.rule_lint.specs.Private.Adds.{Adds}
 use Rattle.rule_lint.proofs.ListSteps.{flat_map_more}
 

@@ -47,7 +47,8 @@ names_of_templates = refl
 
 -- lists, private names, columns and keys
 known : (keys : Keys) → map (is_known (rules_of (codes "by" ∷ []) []) (table_of keys (codes "Title_URL" ∷ []) [])) (
-    codes "by" ∷ codes "rft.au" ∷ codes "rft_id" ∷ codes "x.note" ∷ codes "Title_URL" ∷ codes "rft.eisbn" ∷ codes "title_url" ∷ codes "xnote" ∷ codes "rft.isssn" ∷ [])
+    codes "by" ∷ codes "rft.au" ∷ codes "rft_id" ∷ codes "x.note" ∷ codes "Title_URL" ∷ codes "rft.eisbn"
+    ∷ codes "title_url" ∷ codes "xnote" ∷ codes "rft.isssn" ∷ [])
     ≡ true ∷ true ∷ true ∷ true ∷ true ∷ true ∷ false ∷ false ∷ false ∷ []
 known keys = refl
 
@@ -90,7 +91,8 @@ never_links = refl
 
 -- ---- hosts
 
-hosts : map host_of (codes "http://e.org/a" ∷ codes "https://e.org" ∷ codes "http:///a" ∷ codes "http://e.org?a#b" ∷ codes "http:/e.org" ∷ codes "http://e#//a/" ∷ [])
+hosts : map host_of (codes "http://e.org/a" ∷ codes "https://e.org" ∷ codes "http:///a" ∷ codes "http://e.org?a#b"
+    ∷ codes "http:/e.org" ∷ codes "http://e#//a/" ∷ [])
     ≡ codes "e.org" ∷ codes "e.org" ∷ [] ∷ codes "e.org" ∷ [] ∷ codes "e" ∷ []
 hosts = refl
 

@@ -1,5 +1,6 @@
 -- Guards whose bounds are apart hold nowhere, and no rule is taken after one that always holds.
-use Rattle.std.proofs.Common.{◌≡◌, ℕ, ◌<◌, ◌≤◌, Bool, true, false, ◌||◌, ◌&&◌, cond, List, [], ◌∷◌, ◌++◌, length, take, Option, Some, None, refl, sym, ap, ◌∙◌, arith}
+use Rattle.std.proofs.Common.{◌≡◌, ℕ, ◌<◌, ◌≤◌, Bool, true, false, ◌||◌, ◌&&◌, cond, List, [], ◌∷◌, ◌++◌, length, take, Option, Some, None, refl, sym, ap, ◌∙◌}
+use Rattle.std.proofs.Common.{arith}
 use Rattle.std.specs.Prelude.{nat_le, nat_lt}
 use Rattle.std.specs.List.{list_any, list_all, find}
 use Rattle.std.specs.Option.{option_map, option_and_then}
@@ -70,7 +71,8 @@ found_before look (r ∷ before) xs ys e = by_tests (always_holds r) (guards_hol
   where
     by_tests : (a b : Bool) → always_holds r ≡ a → guards_hold look r ≡ b
         → (list_any always_holds before ≡ true → find (guards_hold look) (before ++ xs) ≡ find (guards_hold look) (before ++ ys))
-        → cond (guards_hold look r) (Some r) (find (guards_hold look) (before ++ xs)) ≡ cond (guards_hold look r) (Some r) (find (guards_hold look) (before ++ ys))
+        → cond (guards_hold look r) (Some r) (find (guards_hold look) (before ++ xs))
+        ≡ cond (guards_hold look r) (Some r) (find (guards_hold look) (before ++ ys))
     by_tests a true f g rest =
         ap (λ t. cond t (Some r) (find (guards_hold look) (before ++ xs))) g ∙ sym (ap (λ t. cond t (Some r) (find (guards_hold look) (before ++ ys))) g)
     by_tests true false f g rest = absurd (false≢true (sym g ∙ unguarded look r.guards f))

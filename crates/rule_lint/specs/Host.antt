@@ -1,5 +1,6 @@
 -- The host of a link (RFC 3986, section 3.2), and the names by which a request can set it.
-use Rattle.std.specs.Prelude.{ℕ, ◌==◌, ◌&&◌, not, nat_eq, Bool, true, false, List, [], ◌∷◌, ◌++◌, codes, filter, map, Option, Some, None, is_some, if◌then◌else◌}
+use Rattle.std.specs.Prelude.{ℕ, ◌==◌, ◌&&◌, not, nat_eq, Bool, true, false, List, [], ◌∷◌, ◌++◌, codes, filter, map, Option, Some, None, is_some}
+use Rattle.std.specs.Prelude.{if◌then◌else◌}
 use Rattle.std.specs.List.{list_any, list_all, before_first}
 use Rattle.std.specs.Option.{option_map_or}
 use Rattle.text_model.specs.Texts.{Text}

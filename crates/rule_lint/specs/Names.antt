@@ -1,5 +1,6 @@
 -- Which names a target has, and which of these another name resembles.
-use Rattle.std.specs.Prelude.{ℕ, ◌==◌, ◌&&◌, ◌||◌, not, nat_eq, nat_le, length, Bool, true, false, List, [], ◌∷◌, ◌++◌, codes, filter, Option, is_some, if◌then◌else◌}
+use Rattle.std.specs.Prelude.{ℕ, ◌==◌, ◌&&◌, ◌||◌, not, nat_eq, nat_le, length, Bool, true, false, List, [], ◌∷◌, ◌++◌, codes, filter, Option, is_some}
+use Rattle.std.specs.Prelude.{if◌then◌else◌}
 use Rattle.std.specs.List.{starts_with, find}
 use Rattle.std.specs.Str.{bytes_eq, str_eq_ignore_ascii_case}
 use Rattle.text_model.specs.Texts.{Text, is_hexadecimal, percent}

@@ -6,7 +6,8 @@ ghost use Rattle.std.specs.Option.{option_copied};
 ghost use Rattle.text_model.specs.Texts.{texts_of};
 ghost use Rattle.rule_lint.specs.Names.{has_one_before as is_longer_by_one, has_one_replaced as is_replaced};
 ghost use Rattle.rule_lint.specs.Names.{has_two_exchanged as is_exchanged, is_edited_first as begins_edited};
-ghost use Rattle.rule_lint.specs.Names.{is_one_edit as is_edited_once, resembles as is_like, adds_prefix as is_prefixed};
+ghost use Rattle.rule_lint.specs.Names.{is_one_edit as is_edited_once, resembles as is_like};
+ghost use Rattle.rule_lint.specs.Names.{adds_prefix as is_prefixed};
 
 fn has_one_before(text: &[u8], longer: &[u8]) -> bool
     ensures { result ≡ is_longer_by_one text.now longer.now }

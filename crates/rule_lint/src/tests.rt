@@ -19,8 +19,13 @@ fn requests_that_choose_the_host(rt: HostRuntime) -> Result<(), Fail> {
         b"rule\nwhen given rft.isssn\nlink https://e.org{x}\nrule\nlink {+title_url}\nrule\nlink none:\n";
     let table = b"print_identifier\ttitle_url\n1234-5679\thttp://e.org/a\n2049-3630\t\n";
     let (text, warned) = review(rt.alloc(), rules, table)?;
-    let printed =
-        "rules 3\nrule 1, guard 1: unknown name rft.isssn, did you mean rft.issn\nrule 1, link: unknown name x\nrule 1, link: a request can set the host by x\nrule 2, link: a request can set the host by title_url\nrule 3 is never reached\n";
+    let printed = "\
+rules 3\n\
+rule 1, guard 1: unknown name rft.isssn, did you mean rft.issn\n\
+rule 1, link: unknown name x\n\
+rule 1, link: a request can set the host by x\n\
+rule 2, link: a request can set the host by title_url\n\
+rule 3 is never reached\n";
     assert_eq!(rt; text.as_str(), printed);
     assert!(rt; warned);
     Ok(())
@@ -33,8 +38,13 @@ fn no_link_before_the_last_rule(rt: HostRuntime) -> Result<(), Fail> {
     let table =
         b"print_identifier\ttitle_url\n1234-5679\thttp://e.org/a\n2049-3630\thttp://e.org/b\n";
     let (text, warned) = review(rt.alloc(), rules, table)?;
-    let printed =
-        "rules 3\nrule 1, guard 1: unknown name rft.isssn, did you mean rft.issn\nrule 1, link: unknown name x\nrule 1, link: a request can set the host by x\nrule 2, link: never a web link\nrule 3 is never reached\n";
+    let printed = "\
+rules 3\n\
+rule 1, guard 1: unknown name rft.isssn, did you mean rft.issn\n\
+rule 1, link: unknown name x\n\
+rule 1, link: a request can set the host by x\n\
+rule 2, link: never a web link\n\
+rule 3 is never reached\n";
     assert_eq!(rt; text.as_str(), printed);
     assert!(rt; warned);
     Ok(())
@@ -43,8 +53,10 @@ fn no_link_before_the_last_rule(rt: HostRuntime) -> Result<(), Fail> {
 // Each set of rules for one table, and what is printed of it.
 #[test]
 fn one_line_each(rt: HostRuntime) -> Result<(), Fail> {
-    let table =
-        b"print_identifier\ttitle_url\ttitle_id\tTitle_Name\trft.au\n1234-5679\thttp://e.org/a\tj1\tA\tB\n2049-3630\thttp://e.org/b\tj2\tA\tB\n";
+    let table = b"\
+print_identifier\ttitle_url\ttitle_id\tTitle_Name\trft.au\n\
+1234-5679\thttp://e.org/a\tj1\tA\tB\n\
+2049-3630\thttp://e.org/b\tj2\tA\tB\n";
     let cases = [
         ("", "rules 0\n", true),
         ("rule\nlink http://e.org/{x.y}", "rules 1\n", false),
@@ -55,7 +67,10 @@ fn one_line_each(rt: HostRuntime) -> Result<(), Fail> {
         ),
         (
             "rule\nwhen has title_name\nlink http://e.org/{num_first_vol_online}",
-            "rules 1\nrule 1, guard 1: unknown name title_name, did you mean Title_Name\nrule 1, link: no column num_first_vol_online\n",
+            "\
+rules 1\n\
+rule 1, guard 1: unknown name title_name, did you mean Title_Name\n\
+rule 1, link: no column num_first_vol_online\n",
             true,
         ),
         (

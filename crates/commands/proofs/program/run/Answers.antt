@@ -28,7 +28,7 @@ returns-in-Some-Serve-clause-done g c =
 pub returns-in_err-print_review-in-Some-Review-clause-failed : goal.returns-in_err-print_review-in-Some-Review-clause-failed
 returns-in_err-print_review-in-Some-Review-clause-failed g c =
     let made = err_from_is_err_and c.from_residual-in_err-print_review-in-Some-Review.result
-        c.from_residual-in_err-print_review-in-Some-Review.ensures.1 in
+    c.from_residual-in_err-print_review-in-Some-Review.ensures.1 in
     let given = rw c.in-Some-Review.field-0-is at c.in-Some-Review.ensures.some in
     let same = c.in_err-print_review-in-Some-Review.ensures.same in
     rw (made.1, made.2) (elim c.in_err-print_review-in-Some-Review.ensures.not_clean [

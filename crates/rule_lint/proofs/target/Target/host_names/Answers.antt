@@ -26,7 +26,8 @@ loop-part-preserved c =
       inv.0 ++ open_names target.rules.now target.table.now before part,
       c.in_ok-add_open_names.ensures inv.0 inv.1
           ∙ ap (λ (t : Text). each_once (inv.0 ++ open_names target.rules.now target.table.now t part)) c.as_str.ensures.value,
-      names_step target.rules.now target.table.now inv.0 _ before _ part _ _ (rest_at c.args.parts.now c.loop-part.part-index part c.loop-part-test.true c.part-item.is)
+      names_step target.rules.now target.table.now inv.0 _ before _ part _ _
+          (rest_at c.args.parts.now c.loop-part.part-index part c.loop-part-test.true c.part-item.is)
           inv.2 fixed c.in_ok-push_known.ensures,
     )
 
