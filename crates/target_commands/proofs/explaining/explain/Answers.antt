@@ -11,6 +11,6 @@ returns-clause-not_clean g c =
       | inl refused ↦ inl (inr (record { rules = rules; table = table; target = target; cause = refused.0 }), refused.1)
       | inr rest ↦ elim rest [
         | inl failed ↦ inr (inl (record { rules = rules; table = table; target = target; request = failed.0; cause = failed.1 }))
-        | inr printed ↦ inr (inr (printed.0, record { rules = rules; table = table; target = target; explained = printed.1 }, printed.2))
+        | inr printed ↦ inr (inr (printed.0, record { rules = rules; table = table; target = target; explained = printed.1 }, printed.2, printed.3))
       ]
     ]) c.explain_query.ensures.not_clean
