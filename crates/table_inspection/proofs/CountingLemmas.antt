@@ -17,7 +17,8 @@ use Rattle.table_inspection.specs.Private.Counting.{AreCounts, is_id, new_among}
 
 -- ---- different texts
 
-left_of : (t x : Text) (before : Bool) → filter (λ other. not (bytes_eq other t)) (if before then [] else x ∷ []) ≡ (if bytes_eq x t || before then [] else x ∷ [])
+left_of : (t x : Text) (before : Bool) → filter (λ other. not (bytes_eq other t)) (if before then [] else x ∷ [])
+    ≡ (if bytes_eq x t || before then [] else x ∷ [])
 left_of t x true = elim (bytes_eq x t) as (λ b. [] ≡ (if b || true then [] else x ∷ [])) [ true ↦ refl | false ↦ refl ]
 left_of t x false = elim (bytes_eq x t) as (λ b. cond (not b) (x ∷ []) [] ≡ (if b || false then [] else x ∷ [])) [ true ↦ refl | false ↦ refl ]
 
@@ -34,7 +35,8 @@ pub distinct_option : (texts : List Text) (id : Option Text)
 distinct_option texts None = ap (λ xs. length (distinct xs)) (append-nil texts) ∙ omega arith
 distinct_option texts (Some x) =
     ap length (distinct_more texts x) ∙ length-append (distinct texts) (if list_any (bytes_eq x) texts then [] else x ∷ [])
-    ∙ elim (list_any (bytes_eq x) texts) as (λ b. length (distinct texts) + length (if b then [] else x ∷ []) ≡ length (distinct texts) + (if b then 0 else 1)) [
+    ∙ elim (list_any (bytes_eq x) texts) as
+    (λ b. length (distinct texts) + length (if b then [] else x ∷ []) ≡ length (distinct texts) + (if b then 0 else 1)) [
       | true ↦ refl
       | false ↦ refl
     ]
@@ -91,7 +93,8 @@ either id first second =
     list_any-append (bytes_eq id) (option_to_list first) (option_to_list second)
     ∙ ap (λ a. a || list_any (bytes_eq id) (option_to_list second)) (is_in_option id first) ∙ ap (λ b. is_id id first || b) (is_in_option id second)
 
-pub row_counted : (columns : List (Option ℕ)) (rows : List Row) (cells : Row) (first second : Option Text) (number new_number : Text → ℕ) (known new_known : Text → Bool)
+pub row_counted : (columns : List (Option ℕ)) (rows : List Row) (cells : Row) (first second : Option Text) (number new_number : Text → ℕ)
+    (known new_known : Text → Bool)
     (count new_count : ℕ) → row_identifiers columns cells ≡ option_to_list first ++ option_to_list second → AreCounts columns rows number known count
     → ((id : Text) → new_number id ≡ number id + (if is_id id first || is_id id second then 1 else 0))
     → ((id : Text) → new_known id ≡ (known id || (is_id id first || is_id id second)))

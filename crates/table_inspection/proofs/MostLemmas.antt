@@ -12,7 +12,8 @@ use Rattle.table_inspection.specs.Private.Counting.{IsMost, none, some}
 
 -- ---- one text more
 
-pub most_of_none : (number : Text → ℕ) (texts : List Text) (second : Option Text) → IsMost number texts None → IsMost number (texts ++ option_to_list second) second
+pub most_of_none : (number : Text → ℕ) (texts : List Text) (second : Option Text) → IsMost number texts None
+    → IsMost number (texts ++ option_to_list second) second
 most_of_none number texts None (none empty) = none (append-nil texts ∙ empty)
 most_of_none number texts (Some text) (none empty) =
     some [] text [] (ap (λ texts. texts ++ text ∷ []) empty) (All-nil (λ other. number other < number text)) (All-nil (λ other. number other ≤ number text))
@@ -26,7 +27,8 @@ most_is_later number texts first second less (some front _ back is below above) 
     let P : Text → Type 0 = λ other. number other < number second in
     let before = All-weaker (λ other. number other < number first) P (λ other low. omega (arith, low, less)) front below in
     let after = All-weaker (λ other. number other ≤ number first) P (λ other low. omega (arith, low, less)) back above in
-    some texts second [] refl (rw is (All-append P front (first ∷ back) before (All-cons P first back less after))) (All-nil (λ other. number other ≤ number second))
+    some texts second [] refl (rw is (All-append P front (first ∷ back) before (All-cons P first back less after)))
+    (All-nil (λ other. number other ≤ number second))
 
 pub most_stays : (number : Text → ℕ) (texts : List Text) (first second : Text) → number second ≤ number first → IsMost number texts (Some first)
     → IsMost number (texts ++ second ∷ []) (Some first)
@@ -72,13 +74,15 @@ most_is_first number texts (Some text) (some front _ back is below above) =
     let all = All-append P front (text ∷ back) (All-weaker (λ other. number other < number text) P (λ other low. omega (arith, low)) front below)
     (All-cons P text back (omega arith) above) in
     rw is (find_at test front text back
-    (All-weaker (λ other. number other < number text) (λ other. test other ≡ false) (λ other low. not_all number (number other) front text back low) front below)
+    (All-weaker (λ other. number other < number text) (λ other. test other ≡ false)
+    (λ other low. not_all number (number other) front text back low) front below)
     (all_from number (number text) parts all))
 
 pub same_most : (f g : Text → ℕ) (texts : List Text) (most : Option Text) → ((text : Text) → f text ≡ g text) → IsMost f texts most → IsMost g texts most
 same_most f g texts None same (none empty) = none empty
 same_most f g texts (Some text) same (some front _ back is below above) =
-    some front text back is (All-weaker (λ other. f other < f text) (λ other. g other < g text) (λ other low. omega (arith, low, same other, same text)) front below)
+    some front text back is
+    (All-weaker (λ other. f other < f text) (λ other. g other < g text) (λ other low. omega (arith, low, same other, same text)) front below)
     (All-weaker (λ other. f other ≤ f text) (λ other. g other ≤ g text) (λ other low. omega (arith, low, same other, same text)) back above)
 
 pub finding_is : (f g : Text → ℕ) (texts : List Text) (most : Option Text) → ((text : Text) → f text ≡ g text) → IsMost f texts most → (found : Option Text)

@@ -1,5 +1,6 @@
 -- Going over the names of the standard.
-use Rattle.std.proofs.Common.{Bor, ◌≡◌, ℕ, ◌+◌, ◌<◌, ◌&&◌, ◌||◌, Bool, true, false, zero, suc, List, [], ◌∷◌, length, take, get_or, Some, None, refl, sym, ap, ◌∙◌, arith}
+use Rattle.std.proofs.Common.{Bor, ◌≡◌, ℕ, ◌+◌, ◌<◌, ◌&&◌, ◌||◌, Bool, true, false, zero, suc, List, [], ◌∷◌, length, take, get_or, Some, None, refl}
+use Rattle.std.proofs.Common.{sym, ap, ◌∙◌, arith}
 use Rattle.std.proofs.Common.{cond}
 use Rattle.std.proofs.lemmas.Option.{none-some}
 use Rattle.std.specs.List.{find, list_any}

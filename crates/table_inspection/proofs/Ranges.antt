@@ -1,5 +1,6 @@
 -- What is gathered from rows or columns one after the other.
-use Rattle.std.proofs.Common.{◌≡◌, ℕ, ◌+◌, ◌&&◌, ◌==◌, ◌<◌, ◌≤◌, zero, suc, Bool, true, false, List, [], ◌∷◌, ◌++◌, length, take, get_or, filter, refl, sym, ap, ◌∙◌, arith}
+use Rattle.std.proofs.Common.{◌≡◌, ℕ, ◌+◌, ◌&&◌, ◌==◌, ◌<◌, ◌≤◌, zero, suc, Bool, true, false, List, [], ◌∷◌, ◌++◌, length, take, get_or, filter}
+use Rattle.std.proofs.Common.{refl, sym, ap, ◌∙◌, arith}
 use Rattle.std.proofs.Common.{if◌then◌else◌, append-nil, length-append}
 use Rattle.std.proofs.lemmas.Bool.Decides.{nat_tests}
 use Rattle.std.proofs.lemmas.Grind.{flat_map-append}
@@ -105,10 +106,11 @@ nothing_of_rows finding (row ∷ rows) count first are none = absurd (omega (ari
 pub finding_of_rows : (finding : ℕ → ℕ → Finding) (rows : List ℕ) (count first : ℕ) → AreRows rows count first → (count ≡ 0 → ⊥)
     → of_rows finding rows ≡ finding count first ∷ []
 finding_of_rows finding [] count first are some = absurd (some are.counts)
-finding_of_rows finding (row ∷ rows) count first are some = sym (ap (λ n. finding n first ∷ []) are.counts ∙ ap (λ r. finding (length (row ∷ rows)) r ∷ []) are.starts)
+finding_of_rows finding (row ∷ rows) count first are some = sym
+    (ap (λ n. finding n first ∷ []) are.counts ∙ ap (λ r. finding (length (row ∷ rows)) r ∷ []) are.starts)
 
-pub nothing_of_cells : (finding : ℕ → ℕ → List ℕ → Finding) (cells : List CellAt) (count first : ℕ) (text : List ℕ) → AreCells cells count first text → count ≡ 0
-    → of_cells finding cells ≡ []
+pub nothing_of_cells : (finding : ℕ → ℕ → List ℕ → Finding) (cells : List CellAt) (count first : ℕ) (text : List ℕ) → AreCells cells count first text
+    → count ≡ 0 → of_cells finding cells ≡ []
 nothing_of_cells finding [] count first text are none = refl
 nothing_of_cells finding (cell ∷ cells) count first text are none = absurd (omega (arith, are.counts, none))
 

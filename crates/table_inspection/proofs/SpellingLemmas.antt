@@ -1,5 +1,6 @@
 -- Spelling a name byte by byte.
-use Rattle.std.proofs.Common.{◌≡◌, ℕ, ◌+◌, ◌&&◌, ◌||◌, ◌==◌, ◌<◌, ◌≤◌, zero, suc, ◌++◌, Bool, true, false, not, List, [], ◌∷◌, length, drop, get_or, refl, sym, ap, ◌∙◌, arith}
+use Rattle.std.proofs.Common.{◌≡◌, ℕ, ◌+◌, ◌&&◌, ◌||◌, ◌==◌, ◌<◌, ◌≤◌, zero, suc, ◌++◌, Bool, true, false, not, List, [], ◌∷◌, length, drop, get_or}
+use Rattle.std.proofs.Common.{refl, sym, ap, ◌∙◌, arith}
 use Rattle.std.proofs.Common.{if◌then◌else◌, append-nil, append_assoc}
 use Rattle.std.proofs.lemmas.Bool.Decides.{nat_tests}
 use Rattle.std.specs.Char.{is_ascii_alphabetic, to_ascii_lowercase}
@@ -14,7 +15,8 @@ not_underscore b letter = grind (arith, nat_tests)
 other_twice : (text : Text) → underscored (underscored text) ≡ underscored text
 other_twice [] = refl
 other_twice (c ∷ rest) =
-    elim (c == underscore) as (λ b. (b ≡ (c == underscore)) → underscored (if b then c ∷ rest else underscore ∷ c ∷ rest) ≡ (if b then c ∷ rest else underscore ∷ c ∷ rest)) [
+    elim (c == underscore) as
+    (λ b. (b ≡ (c == underscore)) → underscored (if b then c ∷ rest else underscore ∷ c ∷ rest) ≡ (if b then c ∷ rest else underscore ∷ c ∷ rest)) [
       | true ↦ λ is. rw (← is) refl
       | false ↦ λ is. refl
     ] refl
@@ -22,7 +24,8 @@ other_twice (c ∷ rest) =
 first_other : (text : Text) → without_first_underscore (underscored text) ≡ without_first_underscore text
 first_other [] = refl
 first_other (c ∷ rest) =
-    elim (c == underscore) as (λ b. (b ≡ (c == underscore)) → without_first_underscore (if b then c ∷ rest else underscore ∷ c ∷ rest) ≡ (if b then rest else c ∷ rest)) [
+    elim (c == underscore) as
+    (λ b. (b ≡ (c == underscore)) → without_first_underscore (if b then c ∷ rest else underscore ∷ c ∷ rest) ≡ (if b then rest else c ∷ rest)) [
       | true ↦ λ is. rw (← is) refl
       | false ↦ λ is. refl
     ] refl
@@ -38,8 +41,8 @@ letter_step (n ∷ name) false l rest letter =
     let some = not_none (length name) in
     rw some (sym (append_assoc (n ∷ name) (l ∷ []) rest))
 
-later : (name : Text) (l : ℕ) (after : Bool) (rest : Text) → continued (if after && not (is_empty name) then (name ++ underscore ∷ []) ++ l ∷ [] else name ++ l ∷ []) false rest
-    ≡ rest
+later : (name : Text) (l : ℕ) (after : Bool) (rest : Text)
+    → continued (if after && not (is_empty name) then (name ++ underscore ∷ []) ++ l ∷ [] else name ++ l ∷ []) false rest ≡ rest
 later [] l true rest = refl
 later [] l false rest = refl
 later (n ∷ name) l true rest =
@@ -60,16 +63,20 @@ other_step (n ∷ name) false rest =
     rw some refl
 
 pub spelled_step : (name : Text) (after : Bool) (b : ℕ) (rest : Text)
-    → name ++ continued name after (spelled (b ∷ rest)) ≡ next_name name after b ++ continued (next_name name after b) (not (is_ascii_alphabetic b)) (spelled rest)
+    → name ++ continued name after (spelled (b ∷ rest)) ≡ next_name name after b
+    ++ continued (next_name name after b) (not (is_ascii_alphabetic b)) (spelled rest)
 unfolding spelled
 spelled_step name after b rest =
     elim (is_ascii_alphabetic b) as (λ letter. (letter ≡ is_ascii_alphabetic b)
     → name ++ continued name after (if letter then to_ascii_lowercase b ∷ spelled rest else underscored (spelled rest))
-    ≡ (if letter then (if after && not (is_empty name) then (name ++ underscore ∷ []) ++ to_ascii_lowercase b ∷ [] else name ++ to_ascii_lowercase b ∷ []) else name)
-    ++ continued (if letter then (if after && not (is_empty name) then (name ++ underscore ∷ []) ++ to_ascii_lowercase b ∷ [] else name ++ to_ascii_lowercase b ∷ []) else name)
+    ≡ (if letter then
+    (if after && not (is_empty name) then (name ++ underscore ∷ []) ++ to_ascii_lowercase b ∷ [] else name ++ to_ascii_lowercase b ∷ []) else name)
+    ++ continued (if letter then
+    (if after && not (is_empty name) then (name ++ underscore ∷ []) ++ to_ascii_lowercase b ∷ [] else name ++ to_ascii_lowercase b ∷ []) else name)
     (not letter) (spelled rest)) [
       | true ↦ λ is. letter_step name after (to_ascii_lowercase b) (spelled rest) (not_underscore b (sym is))
-          ∙ ap (λ last. (if after && not (is_empty name) then (name ++ underscore ∷ []) ++ to_ascii_lowercase b ∷ [] else name ++ to_ascii_lowercase b ∷ []) ++ last)
+          ∙ ap (λ last. (if after && not (is_empty name) then (name ++ underscore ∷ []) ++ to_ascii_lowercase b ∷ [] else name ++ to_ascii_lowercase b ∷ [])
+          ++ last)
           (sym (later name (to_ascii_lowercase b) after (spelled rest)))
       | false ↦ λ is. ap (λ last. name ++ last) (other_step name after (spelled rest))
     ] refl

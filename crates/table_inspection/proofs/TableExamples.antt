@@ -64,7 +64,8 @@ counts_of_no_rows : map is_warning (RowCount 0 ∷ RowCount 1 ∷ IdentifierCoun
 counts_of_no_rows = refl
 
 -- two forms of one identifier are one; a cell of hyphens has none, and neither has a cell past the header
-different_identifiers : counts (table (codes "print_identifier" ∷ []) ((codes "1234-567x" ∷ codes "1111-1111" ∷ []) ∷ (codes "1234567X" ∷ []) ∷ (codes "-" ∷ []) ∷ []))
+different_identifiers : counts
+    (table (codes "print_identifier" ∷ []) ((codes "1234-567x" ∷ codes "1111-1111" ∷ []) ∷ (codes "1234567X" ∷ []) ∷ (codes "-" ∷ []) ∷ []))
     ≡ RowCount 3 ∷ IdentifierCount 1 ∷ []
 unfolding on_literals
 different_identifiers = refl
@@ -77,7 +78,8 @@ second_columns = refl
 
 -- ---- columns
 
-missing_both : missing_columns (codes "Print_identifier" ∷ []) ≡ MissingColumn (codes "print_identifier") true ∷ MissingColumn (codes "online_identifier") true ∷ []
+missing_both : missing_columns (codes "Print_identifier" ∷ []) ≡ MissingColumn (codes "print_identifier") true
+    ∷ MissingColumn (codes "online_identifier") true ∷ []
 unfolding on_literals
 missing_both = refl
 
@@ -127,7 +129,8 @@ identifier_of_most_rows = refl
 
 -- ---- values
 
-first_bad_date : map (bad_dates (codes "d")) (table (codes "d" ∷ codes "d" ∷ []) ((codes "2009" ∷ codes "x" ∷ []) ∷ [] ∷ (codes "2009-13" ∷ []) ∷ (codes "y" ∷ []) ∷ [])
+first_bad_date : map (bad_dates (codes "d"))
+    (table (codes "d" ∷ codes "d" ∷ []) ((codes "2009" ∷ codes "x" ∷ []) ∷ [] ∷ (codes "2009-13" ∷ []) ∷ (codes "y" ∷ []) ∷ [])
     ∷ table (codes "x" ∷ []) ((codes "y" ∷ []) ∷ []) ∷ [])
     ≡ (NotDates (codes "d") 2 2 (codes "2009-13") ∷ []) ∷ [] ∷ []
 unfolding on_literals
@@ -145,7 +148,8 @@ unfolding on_literals
 rows_without_a_link = refl
 
 -- empty cells past the header's do not count
-rows_past_the_header : map long_rows (table (codes "a" ∷ []) ((codes "1" ∷ []) ∷ (codes "1" ∷ [] ∷ []) ∷ (codes "1" ∷ [] ∷ codes "2" ∷ []) ∷ ([] ∷ codes "2" ∷ []) ∷ [])
+rows_past_the_header : map long_rows
+    (table (codes "a" ∷ []) ((codes "1" ∷ []) ∷ (codes "1" ∷ [] ∷ []) ∷ (codes "1" ∷ [] ∷ codes "2" ∷ []) ∷ ([] ∷ codes "2" ∷ []) ∷ [])
     ∷ table (codes "a" ∷ codes "b" ∷ []) ((codes "1" ∷ codes "2" ∷ []) ∷ []) ∷ [])
     ≡ (LongRows 2 2 ∷ []) ∷ [] ∷ []
 unfolding on_literals
@@ -153,7 +157,8 @@ rows_past_the_header = refl
 
 -- ---- lines
 
-lines : lines_of (MissingColumn (codes "a") true ∷ UnknownColumn (codes "b\\x") ∷ MisspelledColumn (codes "c") (codes "d") ∷ IgnoredColumn (repeat 60 (codes "e"))
+lines : lines_of
+    (MissingColumn (codes "a") true ∷ UnknownColumn (codes "b\\x") ∷ MisspelledColumn (codes "c") (codes "d") ∷ IgnoredColumn (repeat 60 (codes "e"))
     ∷ [])
     ≡ line (codes "no column a") ++ (line (codes "unknown column \"b\\x5cx\"") ++ (line (codes "unknown column \"c\", did you mean d")
     ++ line (codes "ignored column \"" ++ (repeat 60 (codes "e") ++ codes "\""))))
@@ -164,7 +169,8 @@ long_texts : line_of (IgnoredColumn (repeat 61 (codes "e"))) ≡ line (codes "ig
 unfolding on_literals
 long_texts = refl
 
-counted_lines : lines_of (RowsWithoutIdentifier 1 2 ∷ NotNumbers 3 4 (codes "f") ∷ RowsOfOneIdentifier 5 (codes "g") ∷ NotDates (codes "h") 6 7 (codes "i") ∷ [])
+counted_lines : lines_of
+    (RowsWithoutIdentifier 1 2 ∷ NotNumbers 3 4 (codes "f") ∷ RowsOfOneIdentifier 5 (codes "g") ∷ NotDates (codes "h") 6 7 (codes "i") ∷ [])
     ≡ line (codes "rows without an identifier 1, first 2") ++ (line (codes "not an ISSN or ISBN 3, first 4 \"f\"")
     ++ (line (codes "rows of one identifier 5, \"g\"") ++ line (codes "h not a date 6, first 7 \"i\"")))
 unfolding on_literals
@@ -176,7 +182,8 @@ more_counted_lines : lines_of (NotWebLinks 1 2 (codes "j") ∷ RowsWithoutLink 1
 unfolding on_literals
 more_counted_lines = refl
 
-warnings : map is_warning (MissingColumn [] true ∷ MissingColumn [] false ∷ UnknownColumn [] ∷ MisspelledColumn [] [] ∷ IgnoredColumn [] ∷ RowsWithoutIdentifier 1 0
+warnings : map is_warning
+    (MissingColumn [] true ∷ MissingColumn [] false ∷ UnknownColumn [] ∷ MisspelledColumn [] [] ∷ IgnoredColumn [] ∷ RowsWithoutIdentifier 1 0
     ∷ NotNumbers 1 0 [] ∷ RowsOfOneIdentifier 1 [] ∷ NotDates [] 1 0 [] ∷ NotWebLinks 1 0 [] ∷ RowsWithoutLink 1 0 ∷ LongRows 1 0 ∷ [])
     ≡ true ∷ false ∷ false ∷ true ∷ true ∷ true ∷ true ∷ false ∷ true ∷ true ∷ false ∷ true ∷ []
 warnings = refl

@@ -52,7 +52,8 @@ no_numbers_either = refl
 
 -- ---- names
 
-spellings : map spelling (codes "Print Identifier" ∷ codes "  print -- IDENTIFIER!" ∷ codes "_print_identifier_" ∷ codes "PrintIdentifier" ∷ codes "1" ∷ [] ∷ [])
+spellings : map spelling
+    (codes "Print Identifier" ∷ codes "  print -- IDENTIFIER!" ∷ codes "_print_identifier_" ∷ codes "PrintIdentifier" ∷ codes "1" ∷ [] ∷ [])
     ≡ codes "print_identifier" ∷ codes "print_identifier" ∷ codes "print_identifier" ∷ codes "printidentifier" ∷ [] ∷ [] ∷ []
 unfolding on_literals
 spellings = refl

@@ -1,6 +1,7 @@
 //! Cells that do not have the form that they should have.
 
-ghost use Rattle.std.specs.Prelude.{codes, ◌≡◌, ◌==◌, ◌&&◌, ◌++◌, ◌∷◌, [], ◌<◌, ◌≤◌, ◌+◌, List, IfOk, OnOk, if◌then◌else◌};
+ghost use Rattle.std.specs.Prelude.{codes, ◌≡◌, ◌==◌, ◌&&◌, ◌++◌, ◌∷◌, [], ◌<◌, ◌≤◌, ◌+◌, List, IfOk, OnOk};
+ghost use Rattle.std.specs.Prelude.{if◌then◌else◌};
 ghost use Rattle.kbart_rows.specs.Cells.{column_of};
 ghost use Rattle.kbart_rows.specs.Identifiers.{identifier_columns};
 ghost use Rattle.table_inspection.specs.Cells as spec;

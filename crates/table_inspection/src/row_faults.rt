@@ -1,6 +1,7 @@
 //! Rows that are not as they should be.
 
-ghost use Rattle.std.specs.Prelude.{◌≡◌, ◌==◌, ◌&&◌, [], ◌<◌, ◌+◌, IfOk, OnOk, count_by, drop, get_or, length, not, if◌then◌else◌};
+ghost use Rattle.std.specs.Prelude.{◌≡◌, ◌==◌, ◌&&◌, [], ◌<◌, ◌+◌, IfOk, OnOk, count_by, drop, get_or};
+ghost use Rattle.std.specs.Prelude.{length, not, if◌then◌else◌};
 ghost use Rattle.std.specs.List.{list_any};
 ghost use Rattle.kbart_rows.specs.Cells.{tab};
 ghost use Rattle.kbart_rows.specs.Lines.{cells_in};

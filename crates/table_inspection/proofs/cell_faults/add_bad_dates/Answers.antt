@@ -11,12 +11,14 @@ pub returns-then-cells-eq0 : goal.returns-then-cells-eq0
 unfolding bad_dates
 returns-then-cells-eq0 c =
     let table = c.args.table.now in
-    let none = nothing_of_cells (NotDates c.args.column.now) (cell_faults is_date (column_of table.header c.args.column.now ∷ []) table) _ _ _ c.in_ok-cells.ensures c.if-cells-eq0.true in
+    let none = nothing_of_cells (NotDates c.args.column.now)
+    (cell_faults is_date (column_of table.header c.args.column.now ∷ []) table) _ _ _ c.in_ok-cells.ensures c.if-cells-eq0.true in
     rw none (adds_none _)
 
 pub returns : goal.returns
 unfolding bad_dates
 returns c =
     let table = c.args.table.now in
-    let some = finding_of_cells (NotDates c.args.column.now) (cell_faults is_date (column_of table.header c.args.column.now ∷ []) table) _ _ _ c.in_ok-cells.ensures c.if-cells-eq0.false in
+    let some = finding_of_cells (NotDates c.args.column.now)
+    (cell_faults is_date (column_of table.header c.args.column.now ∷ []) table) _ _ _ c.in_ok-cells.ensures c.if-cells-eq0.false in
     rw some (adds_one _ _ (NotDates c.args.column.now _ _ _) (rw c.requires at c.in_ok-add_cells.ensures))

@@ -19,7 +19,8 @@ loop-row-preserved c =
     let online = column_of table.header (codes "online_identifier") in
     let more = flat_more (faults_in_row is_numbered (identifier_columns table.header) table) row in
     let both = two_columns is_numbered print online table row in
-    let joined = append_assoc (flat_map (faults_in_row is_numbered (identifier_columns table.header) table) (range_with_len 0 row)) (faults_in_row is_numbered (print ∷ []) table row) (faults_in_row is_numbered (online ∷ []) table row) in
+    let joined = append_assoc (flat_map (faults_in_row is_numbered (identifier_columns table.header) table) (range_with_len 0 row))
+    (faults_in_row is_numbered (print ∷ []) table row) (faults_in_row is_numbered (online ∷ []) table row) in
     record {
       gathered = rw (more, both, ← joined) (c.in_ok-add_cell-2.ensures.added _ (c.in_ok-add_cell.ensures.added _ inv.gathered));
       few = omega (arith, c.in_ok-add_cell.ensures.small, c.in_ok-add_cell-2.ensures.small, inv.few);

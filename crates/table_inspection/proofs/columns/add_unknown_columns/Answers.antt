@@ -26,7 +26,8 @@ add_if_unknown-requires c =
     let inv = c.loop-name.invariant in
     let header = c.args.table.now.header in
     let column = c.loop-name.column in
-    let at : slice_get header column ≡ Some c.in-Some.name.now = sym (c.in-Some.ensures.cell ∙ ap (λ (cells : Row). slice_get cells c.loop-name.names.column) inv.names
+    let at : slice_get header column ≡ Some c.in-Some.name.now =
+    sym (c.in-Some.ensures.cell ∙ ap (λ (cells : Row). slice_get cells c.loop-name.names.column) inv.names
     ∙ ap (λ (place : _). slice_get header place) (sym inv.column)) in
     sym (get_or_from_slice_get header column c.in-Some.name.now _ at)
 
@@ -35,7 +36,8 @@ loop-name-preserved c =
     let inv = c.loop-name.invariant in
     let header = c.args.table.now.header in
     let column = c.loop-name.column in
-    let at : slice_get header column ≡ Some c.in-Some.name.now = sym (c.in-Some.ensures.cell ∙ ap (λ (cells : Row). slice_get cells c.loop-name.names.column) inv.names
+    let at : slice_get header column ≡ Some c.in-Some.name.now =
+    sym (c.in-Some.ensures.cell ∙ ap (λ (cells : Row). slice_get cells c.loop-name.names.column) inv.names
     ∙ ap (λ (place : _). slice_get header place) (sym inv.column)) in
     let next = c.in-Some.ensures.some in
     let inside = slice_get_within header column c.in-Some.name.now at in

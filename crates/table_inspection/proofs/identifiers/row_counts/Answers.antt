@@ -32,7 +32,8 @@ loop-row-preserved c =
     ≡ option_to_list (option_map string_bytes c.in_ok-print.print) ++ option_to_list (option_map string_bytes c.in_ok-online.online) =
     identifiers_of_row (column_of table.header (codes "print_identifier")) (column_of table.header (codes "online_identifier")) cells
     ∙ sym (ap (λ (a : _). option_to_list a ++ option_to_list (option_map string_bytes c.in_ok-online.online)) first
-    ∙ ap (λ (b : _). option_to_list (option_and_then defined (identifier_in cells (column_of table.header (codes "print_identifier")))) ++ option_to_list b) second)
+    ∙ ap (λ (b : _). option_to_list (option_and_then defined (identifier_in cells (column_of table.header (codes "print_identifier"))))
+    ++ option_to_list b) second)
     in
     rw more (row_counted (identifier_columns table.header) (take row table.rows) cells (option_map string_bytes c.in_ok-print.print)
     (option_map string_bytes c.in_ok-online.online) _ _ _ _ _ _ is c.loop-row.invariant c.in_ok-count_row.ensures.numbers c.in_ok-count_row.ensures.known

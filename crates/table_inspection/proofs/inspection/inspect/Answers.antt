@@ -7,13 +7,15 @@ use Rattle.table_inspection.proofs.inspection.inspect.Goals as goal
 pub returns-clause-text : goal.returns-clause-text
 unfolding findings_of inspection_text
 returns-clause-text c =
-    let all = adds_both _ _ _ _ _ c.in_ok-add_counts.ensures (adds_both _ _ _ _ _ c.in_ok-add_columns.ensures (adds_both _ _ _ _ _ c.in_ok-add_identifiers.ensures
+    let all = adds_both _ _ _ _ _ c.in_ok-add_counts.ensures
+    (adds_both _ _ _ _ _ c.in_ok-add_columns.ensures (adds_both _ _ _ _ _ c.in_ok-add_identifiers.ensures
     c.in_ok-add_values.ensures)) in
     all.text ∙ ap (λ (text : _). text ++ lines_of (findings_of c.args.table.now)) c.new-text.ensures.bytes
 
 pub returns-clause-warned : goal.returns-clause-warned
 unfolding findings_of has_warning
 returns-clause-warned c =
-    let all = adds_both _ _ _ _ _ c.in_ok-add_counts.ensures (adds_both _ _ _ _ _ c.in_ok-add_columns.ensures (adds_both _ _ _ _ _ c.in_ok-add_identifiers.ensures
+    let all = adds_both _ _ _ _ _ c.in_ok-add_counts.ensures
+    (adds_both _ _ _ _ _ c.in_ok-add_columns.ensures (adds_both _ _ _ _ _ c.in_ok-add_identifiers.ensures
     c.in_ok-add_values.ensures)) in
     all.warned

@@ -13,7 +13,8 @@ unfolding most_rows
 returns-in_default c =
     let table = c.args.table.now in
     let columns = identifier_columns table.header in
-    let is = finding_is (number_in c.args.counts.now) (rows_having columns table.rows) (identifiers_of columns table.rows) _ c.requires c.in_ok-most.ensures None
+    let is = finding_is (number_in c.args.counts.now) (rows_having columns table.rows)
+    (identifiers_of columns table.rows) _ c.requires c.in_ok-most.ensures None
     (ap (option_map string_bytes) c.in_default.is) in
     rw is (adds_none _)
 
@@ -23,7 +24,8 @@ returns c =
     let table = c.args.table.now in
     let columns = identifier_columns table.header in
     let id = string_bytes c.in-Some.id in
-    let is = finding_is (number_in c.args.counts.now) (rows_having columns table.rows) (identifiers_of columns table.rows) _ c.requires c.in_ok-most.ensures (Some id)
+    let is = finding_is (number_in c.args.counts.now) (rows_having columns table.rows) (identifiers_of columns table.rows) _ c.requires c.in_ok-most.ensures
+    (Some id)
     (ap (option_map string_bytes) c.in-Some.is) in
     let text = c.as_str-id.ensures.value in
     let count = c.count_of-rows.ensures ∙ c.requires c.as_str-id.result.now in

@@ -23,10 +23,12 @@ loop-row-preserved c =
     let first = c.in_ok-print.ensures ∙ ap (λ (cell : _). option_and_then defined (option_map normalised cell)) c.cell-print_cell.ensures in
     let second = c.in_ok-online.ensures ∙ ap (λ (cell : _). option_and_then defined (option_map normalised cell)) c.cell-online_cell.ensures in
     let ids = identifiers_of columns (take row table.rows) in
-    let is : row_identifiers columns cells ≡ option_to_list (option_map string_bytes c.in_ok-print.print) ++ option_to_list (option_map string_bytes c.in_ok-online.online) =
+    let is : row_identifiers columns cells ≡ option_to_list (option_map string_bytes c.in_ok-print.print)
+    ++ option_to_list (option_map string_bytes c.in_ok-online.online) =
     identifiers_of_row (column_of table.header (codes "print_identifier")) (column_of table.header (codes "online_identifier")) cells
     ∙ sym (ap (λ (a : _). option_to_list a ++ option_to_list (option_map string_bytes c.in_ok-online.online)) first
-    ∙ ap (λ (b : _). option_to_list (option_and_then defined (identifier_in cells (column_of table.header (codes "print_identifier")))) ++ option_to_list b) second)
+    ∙ ap (λ (b : _). option_to_list (option_and_then defined (identifier_in cells (column_of table.header (codes "print_identifier"))))
+    ++ option_to_list b) second)
     in
     let all : identifiers_of columns (take (row + 1) table.rows)
     ≡ (ids ++ option_to_list (option_map string_bytes c.in_ok-print.print)) ++ option_to_list (option_map string_bytes c.in_ok-online.online) =

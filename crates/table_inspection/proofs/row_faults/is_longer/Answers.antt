@@ -12,7 +12,8 @@ returns-then-is_past c =
     let inv = c.loop-cell.invariant in
     let cells = cells_in c.args.line.now in
     let column = c.loop-cell.cells.column in
-    let at : slice_get cells column ≡ Some c.in-Some.cell.now = sym (c.in-Some.ensures.cell ∙ ap (λ (line : Text). slice_get (cells_in line) column) inv.line) in
+    let at : slice_get cells column ≡ Some c.in-Some.cell.now =
+    sym (c.in-Some.ensures.cell ∙ ap (λ (line : Text). slice_get (cells_in line) column) inv.line) in
     let left = left_at cells column c.in-Some.cell.now at in
     sym (inv.same ∙ ap (λ (rest : Row). any_text (drop c.loop-cell.left rest)) left
     ∙ past_found c.loop-cell.left c.in-Some.cell.now (drop (column + 1) cells) (sym c.is_past.ensures ∙ c.if-is_past.true))
@@ -22,7 +23,8 @@ loop-cell-smaller c =
     let inv = c.loop-cell.invariant in
     let cells = cells_in c.args.line.now in
     let column = c.loop-cell.cells.column in
-    let at : slice_get cells column ≡ Some c.in-Some.cell.now = sym (c.in-Some.ensures.cell ∙ ap (λ (line : Text). slice_get (cells_in line) column) inv.line) in
+    let at : slice_get cells column ≡ Some c.in-Some.cell.now =
+    sym (c.in-Some.ensures.cell ∙ ap (λ (line : Text). slice_get (cells_in line) column) inv.line) in
     omega (arith, slice_get_within cells column c.in-Some.cell.now at, c.in-Some.ensures.some)
 
 pub loop-cell-preserved : goal.loop-cell-preserved
@@ -30,7 +32,8 @@ loop-cell-preserved c =
     let inv = c.loop-cell.invariant in
     let cells = cells_in c.args.line.now in
     let column = c.loop-cell.cells.column in
-    let at : slice_get cells column ≡ Some c.in-Some.cell.now = sym (c.in-Some.ensures.cell ∙ ap (λ (line : Text). slice_get (cells_in line) column) inv.line) in
+    let at : slice_get cells column ≡ Some c.in-Some.cell.now =
+    sym (c.in-Some.ensures.cell ∙ ap (λ (line : Text). slice_get (cells_in line) column) inv.line) in
     let left = left_at cells column c.in-Some.cell.now at in
     let next = c.in-Some.ensures.some in
     record {
