@@ -1,12 +1,10 @@
 -- Lines that are added one after the other.
 use Rattle.std.proofs.Common.{◌≡◌, ◌||◌, ◌++◌, Bool, true, false, List, [], ◌∷◌, refl, sym, ap, ◌∙◌, append-nil, append_assoc, if◌then◌else◌}
 use Rattle.std.specs.Prelude.{string_bytes}
-use Rattle.std.specs.List.{flat_map, list_any}
 use Rattle.std.proofs.lemmas.Grind.{flat_map-append}
 use Rattle.std.proofs.lemmas.List.Folds.{list_any-append}
-use Rattle.text_model.specs.Texts.{Text}
 use Rattle.printed_text.specs.declared.findings.Findings.{Findings}
-use Rattle.table_inspection.specs.Findings.{Finding, text_of, is_warning, line_of, line_feed, lines_of, have_warning}
+use Rattle.table_inspection.specs.Findings.{Finding, text_of, is_warning, line_of, lines_of, have_warning}
 use Rattle.table_inspection.specs.Private.Adding.{AddsLine, Adds}
 
 or_false : (x : Bool) → x ≡ (x || false)

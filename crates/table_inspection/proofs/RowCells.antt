@@ -1,11 +1,10 @@
 -- The cells of a row in one column, and in two.
-use Rattle.std.proofs.Common.{◌≡◌, ℕ, ◌++◌, Bool, true, false, not, cond, List, [], ◌∷◌, get_or, Option, None, Some, refl, sym, ap, ◌∙◌, append-nil}
+use Rattle.std.proofs.Common.{◌≡◌, ℕ, ◌++◌, Bool, not, cond, List, [], ◌∷◌, get_or, Option, None, Some, refl, sym, ap, ◌∙◌}
 use Rattle.std.specs.Prelude.{filter, map}
-use Rattle.std.specs.List.{cons_option, filter_map}
-use Rattle.std.proofs.lemmas.List.{map-append}
+use Rattle.std.specs.List.{cons_option}
 use Rattle.std.proofs.lemmas.List.Elements.{filter-append}
 use Rattle.text_model.specs.Texts.{Text}
-use Rattle.kbart_rows.specs.Cells.{Row, Holdings, cell_in}
+use Rattle.kbart_rows.specs.Cells.{Holdings, cell_in}
 use Rattle.table_inspection.specs.Cells.{CellAt, faults_in_row}
 use Rattle.table_inspection.proofs.Ranges.{cell_if}
 

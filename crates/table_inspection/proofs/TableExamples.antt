@@ -1,5 +1,5 @@
 -- What is found in small tables.
-use Rattle.std.proofs.Common.{◌≡◌, ◌++◌, ℕ, Bool, true, false, List, [], ◌∷◌, refl, codes}
+use Rattle.std.proofs.Common.{◌≡◌, ◌++◌, true, false, List, [], ◌∷◌, refl, codes}
 use Rattle.std.specs.Prelude.{map}
 use Rattle.std.specs.List.{repeat}
 use Rattle.std.specs.Hash.DefaultHasher.{initial}
@@ -7,7 +7,7 @@ use Rattle.text_model.specs.Texts.{Text}
 use Rattle.kbart_rows.specs.Cells.{Row, Holdings}
 use Rattle.table_inspection.specs.Cells.{bad_numbers, bad_dates, bad_links, unidentified, unlinked, long_rows}
 use Rattle.table_inspection.specs.Columns.{missing_columns, unknown_columns, ignored_columns}
-use Rattle.table_inspection.specs.Findings.{Finding, MissingColumn, UnknownColumn, MisspelledColumn, IgnoredColumn, line_of, have_warning, is_warning}
+use Rattle.table_inspection.specs.Findings.{MissingColumn, UnknownColumn, MisspelledColumn, IgnoredColumn, line_of, is_warning}
 use Rattle.table_inspection.specs.Findings.{RowsWithoutIdentifier, NotNumbers, RowsOfOneIdentifier, NotDates, NotWebLinks, RowsWithoutLink, LongRows}
 use Rattle.table_inspection.specs.Findings.{RowCount, IdentifierCount, lines_of}
 use Rattle.table_inspection.specs.Identifiers.{most_rows}

@@ -1,12 +1,10 @@
 -- Which texts are dates, numbers and web links, and which names resemble each other.
-use Rattle.std.proofs.Common.{◌≡◌, ◌++◌, Bool, true, false, List, [], ◌∷◌, refl, codes}
-use Rattle.std.specs.Prelude.{map, filter, not, Some, None}
+use Rattle.std.proofs.Common.{◌≡◌, ◌++◌, true, false, [], ◌∷◌, refl, codes}
+use Rattle.std.specs.Prelude.{map, Some, None}
 use Rattle.std.specs.List.{list_all, list_any}
-use Rattle.text_model.specs.Texts.{Text}
-use Rattle.kbart_rows.specs.Identifiers.{normalised}
 use Rattle.standard_names.specs.Columns.{column_names}
 use Rattle.table_inspection.specs.Cells.{is_date, is_numbered}
-use Rattle.table_inspection.specs.Columns.{spelling, resembles, meant}
+use Rattle.table_inspection.specs.Columns.{spelling, meant}
 use Rattle.table_inspection.proofs.OnLiterals.{on_literals}
 
 -- ---- dates

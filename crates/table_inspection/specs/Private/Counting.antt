@@ -1,12 +1,11 @@
 -- How the rows of each identifier are counted, and the identifier with the most rows is found.
-use Rattle.std.specs.Prelude.{◌≡◌, ℕ, ◌+◌, ◌<◌, ◌≤◌, ◌||◌, Bool, false, List, [], ◌∷◌, ◌++◌, All, length, is_some, Option, None, Some, String, if◌then◌else◌}
+use Rattle.std.specs.Prelude.{◌≡◌, ℕ, ◌<◌, ◌≤◌, Bool, false, List, [], ◌∷◌, ◌++◌, All, length, is_some, Option, None, Some, String, if◌then◌else◌}
 use Rattle.std.specs.HashMap.{HashMap, get_by_text}
 use Rattle.std.specs.List.{list_any}
 use Rattle.std.specs.Option.{option_map_or, unwrap_or}
 use Rattle.std.specs.Str.{bytes_eq}
 use Rattle.text_model.specs.Texts.{Text}
-use Rattle.kbart_rows.specs.Cells.{Row, Holdings, cell_of, defined}
-use Rattle.kbart_rows.specs.Identifiers.{normalised}
+use Rattle.kbart_rows.specs.Cells.{Row}
 use Rattle.table_inspection.specs.Identifiers.{identifiers_of, distinct, rows_having}
 
 -- the text is this identifier, where there is one

@@ -1,4 +1,4 @@
-use Rattle.std.proofs.Common.{◌≡◌, [], ◌∷◌, codes, sym, ◌∙◌, arith}
+use Rattle.std.proofs.Common.{[], ◌∷◌}
 use Rattle.kbart_rows.specs.Cells.{column_of}
 use Rattle.table_inspection.specs.Cells.{is_date}
 use Rattle.table_inspection.specs.Cells.{bad_dates, cell_faults}

@@ -1,4 +1,4 @@
-use Rattle.std.proofs.Common.{◌≡◌, [], ◌∷◌, codes, sym, ◌∙◌, arith}
+use Rattle.std.proofs.Common.{[], ◌∷◌, codes}
 use Rattle.kbart_rows.specs.Cells.{column_of}
 use Rattle.menu.specs.WebLink.{is_web_link}
 use Rattle.table_inspection.specs.Cells.{bad_links, cell_faults}

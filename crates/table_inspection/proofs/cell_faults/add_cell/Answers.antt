@@ -1,8 +1,8 @@
-use Rattle.std.proofs.Common.{[], get_or, ap, sym, ◌∙◌, ◌++◌, arith, append-nil}
+use Rattle.std.proofs.Common.{[], get_or, sym}
 use Rattle.kbart_rows.specs.Cells.{cell_of}
 use Rattle.table_inspection.specs.Private.Forms.{fits}
 use Rattle.table_inspection.proofs.Ranges.{cell_step, at_most_one_more}
-use Rattle.table_inspection.proofs.RowCells.{no_fault, fault_if}
+use Rattle.table_inspection.proofs.RowCells.{fault_if}
 use Rattle.table_inspection.proofs.cell_faults.add_cell.Goals as goal
 
 pub returns-clause-added : goal.returns-clause-added

@@ -1,4 +1,4 @@
-use Rattle.std.proofs.Common.{◌≡◌, [], ◌∷◌, length, ◌∙◌, arith}
+use Rattle.std.proofs.Common.{◌≡◌, [], ◌∷◌, length, arith}
 use Rattle.kbart_rows.specs.Cells.{column_of}
 use Rattle.table_inspection.specs.Cells.{cell_faults, faults_in_row}
 use Rattle.table_inspection.specs.Private.Forms.{fits}

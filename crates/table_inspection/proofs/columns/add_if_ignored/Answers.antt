@@ -1,4 +1,4 @@
-use Rattle.std.proofs.Common.{◌≡◌, true, false, [], ◌∷◌, get_or, sym, ap, ◌∙◌}
+use Rattle.std.proofs.Common.{◌≡◌, true, false, [], ◌∷◌, get_or, sym, ◌∙◌}
 use Rattle.table_inspection.specs.Columns.{is_ignored}
 use Rattle.table_inspection.specs.Findings.{IgnoredColumn}
 use Rattle.table_inspection.proofs.AddingLemmas.{adds_one, adds_if_true, adds_if_false}

@@ -1,4 +1,4 @@
-use Rattle.std.proofs.Common.{◌≡◌, true, false, [], ◌∷◌, get_or, sym, ap, ◌∙◌}
+use Rattle.std.proofs.Common.{◌≡◌, true, false, [], ◌∷◌, get_or, sym, ◌∙◌}
 use Rattle.table_inspection.specs.Columns.{is_unknown, column_finding, meant}
 use Rattle.table_inspection.proofs.AddingLemmas.{adds_if_true, adds_if_false}
 use Rattle.table_inspection.proofs.columns.add_if_unknown.Goals as goal

@@ -1,10 +1,9 @@
-use Rattle.std.proofs.Common.{◌≡◌, ◌+◌, ◌≤◌, ◌<◌, Some, None, length, get_or, sym, ap, ◌∙◌, arith}
+use Rattle.std.proofs.Common.{◌≡◌, Some, None, length, sym, ap, ◌∙◌, arith}
 use Rattle.std.proofs.lemmas.Option.{get_or_from_slice_get, slice_get_within}
-use Rattle.std.specs.List.{flat_map, range_with_len, slice_get}
+use Rattle.std.specs.List.{slice_get}
 use Rattle.kbart_rows.specs.Cells.{Row}
 use Rattle.kbart_rows.specs.Lines.{cells_in, CursorValue}
 use Rattle.table_inspection.specs.Columns.{ignored_column, ignored_columns}
-use Rattle.table_inspection.specs.Private.Adding.{Adds}
 use Rattle.table_inspection.proofs.AddingLemmas.{adds_both, adds_none}
 use Rattle.table_inspection.proofs.CellLemmas.{few_cells, header_end}
 use Rattle.table_inspection.proofs.Ranges.{flat_more}

@@ -1,10 +1,10 @@
-use Rattle.std.proofs.Common.{◌≡◌, ◌&&◌, [], ◌∷◌, None, Some, string_bytes, sym, ap, ◌∙◌}
+use Rattle.std.proofs.Common.{◌≡◌, ◌&&◌, None, Some, sym, ap, ◌∙◌}
 use Rattle.std.specs.List.{find}
 use Rattle.std.specs.Option.{option_copied}
 use Rattle.std.specs.Str.{bytes_eq}
 use Rattle.text_model.specs.Texts.{Text}
 use Rattle.standard_names.specs.Columns.{column_names}
-use Rattle.table_inspection.specs.Columns.{column_finding, is_missing, meant}
+use Rattle.table_inspection.specs.Columns.{is_missing, meant}
 use Rattle.table_inspection.specs.Findings.{UnknownColumn, MisspelledColumn}
 use Rattle.table_inspection.proofs.AddingLemmas.{adds_one}
 use Rattle.table_inspection.proofs.NameLemmas.{meant_is}

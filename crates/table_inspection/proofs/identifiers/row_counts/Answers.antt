@@ -1,4 +1,4 @@
-use Rattle.std.proofs.Common.{◌≡◌, ◌<◌, ◌++◌, [], ◌∷◌, length, take, get_or, codes, string_bytes, refl, sym, ap, ◌∙◌, arith}
+use Rattle.std.proofs.Common.{◌≡◌, ◌<◌, ◌++◌, [], length, take, get_or, codes, string_bytes, sym, ap, ◌∙◌, arith}
 use Rattle.std.proofs.lemmas.List.{take_all, take_more, length-take-le}
 use Rattle.std.specs.Option.{option_and_then, option_map, option_to_list}
 use Rattle.kbart_rows.specs.Cells.{column_of, defined}
@@ -8,7 +8,6 @@ use Rattle.std.specs.Option.{unwrap_or}
 use Rattle.std.specs.Prelude.{is_some}
 use Rattle.std.specs.Str.{bytes_eq}
 use Rattle.table_inspection.specs.Identifiers.{distinct, identifiers_of, rows_having, row_identifiers}
-use Rattle.table_inspection.specs.Private.Counting.{AreCounts, is_in, number_in}
 use Rattle.table_inspection.proofs.CountingLemmas.{having_few, identifiers_of_row, row_counted}
 use Rattle.table_inspection.proofs.identifiers.row_counts.Goals as goal
 

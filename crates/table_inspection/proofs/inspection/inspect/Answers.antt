@@ -1,4 +1,4 @@
-use Rattle.std.proofs.Common.{◌≡◌, ◌++◌, [], refl, ap, ◌∙◌}
+use Rattle.std.proofs.Common.{◌++◌, ap, ◌∙◌}
 use Rattle.table_inspection.specs.Findings.{lines_of}
 use Rattle.table_inspection.specs.Inspection.{findings_of, inspection_text, has_warning}
 use Rattle.table_inspection.proofs.AddingLemmas.{adds_both}

@@ -1,4 +1,4 @@
-use Rattle.std.proofs.Common.{◌≡◌, [], ◌∷◌, None, Some, string_bytes, sym, ap, ◌∙◌}
+use Rattle.std.proofs.Common.{None, Some, string_bytes, ap, ◌∙◌}
 use Rattle.std.specs.Option.{option_map}
 use Rattle.kbart_rows.specs.Identifiers.{identifier_columns}
 use Rattle.table_inspection.specs.Findings.{RowsOfOneIdentifier}

@@ -1,10 +1,10 @@
-use Rattle.std.proofs.Common.{◌≡◌, ◌+◌, ◌<◌, ◌++◌, [], ◌∷◌, length, take, get_or, codes, string_bytes, refl, sym, ap, ◌∙◌, arith, append_assoc}
+use Rattle.std.proofs.Common.{◌≡◌, ◌+◌, ◌<◌, ◌++◌, [], length, take, get_or, codes, string_bytes, refl, sym, ap, ◌∙◌, arith, append_assoc}
 use Rattle.std.proofs.lemmas.List.{take_all, take_more}
 use Rattle.std.specs.Option.{option_and_then, option_map, option_to_list}
 use Rattle.kbart_rows.specs.Cells.{column_of, defined}
 use Rattle.kbart_rows.specs.Identifiers.{identifier_columns, identifier_in, normalised}
 use Rattle.table_inspection.specs.Identifiers.{identifiers_of, row_identifiers}
-use Rattle.table_inspection.specs.Private.Counting.{IsMost, none, number_in}
+use Rattle.table_inspection.specs.Private.Counting.{none}
 use Rattle.table_inspection.proofs.CountingLemmas.{identifiers_more, identifiers_of_row}
 use Rattle.table_inspection.proofs.most_rows.most_of_all.Goals as goal
 

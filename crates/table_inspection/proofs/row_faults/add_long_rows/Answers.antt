@@ -1,4 +1,3 @@
-use Rattle.std.proofs.Common.{◌≡◌, [], ◌∷◌, sym, ◌∙◌, arith}
 use Rattle.table_inspection.specs.Cells.{long_rows, is_long, row_faults}
 use Rattle.table_inspection.specs.Findings.{LongRows}
 use Rattle.table_inspection.proofs.AddingLemmas.{adds_none, adds_one}

@@ -1,4 +1,3 @@
-use Rattle.std.proofs.Common.{◌≡◌, [], ◌∷◌, sym, ◌∙◌, arith}
 use Rattle.table_inspection.specs.Cells.{unidentified, has_no_identifier, row_faults}
 use Rattle.table_inspection.specs.Findings.{RowsWithoutIdentifier}
 use Rattle.table_inspection.proofs.AddingLemmas.{adds_none, adds_one}

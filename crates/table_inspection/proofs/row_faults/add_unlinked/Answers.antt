@@ -1,4 +1,4 @@
-use Rattle.std.proofs.Common.{◌≡◌, true, false, [], ◌∷◌, codes, is_some, not, sym, ap, ◌∙◌, arith}
+use Rattle.std.proofs.Common.{codes, is_some, not, sym, ap, ◌∙◌}
 use Rattle.kbart_rows.specs.Cells.{column_of}
 use Rattle.table_inspection.specs.Cells.{unlinked, has_no_link, of_rows, row_faults}
 use Rattle.table_inspection.specs.Findings.{RowsWithoutLink}

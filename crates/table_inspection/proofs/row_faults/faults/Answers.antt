@@ -1,4 +1,4 @@
-use Rattle.std.proofs.Common.{◌≡◌, [], length, get_or, ◌∙◌, arith}
+use Rattle.std.proofs.Common.{◌≡◌, [], length, get_or, arith}
 use Rattle.table_inspection.specs.Cells.{row_faults}
 use Rattle.table_inspection.specs.Private.Forms.{row_has}
 use Rattle.table_inspection.proofs.Ranges.{no_rows, row_step, at_most_one_more}

@@ -1,4 +1,4 @@
-use Rattle.std.proofs.Common.{get_or, string_bytes, not, ap, ◌∙◌, length, arith}
+use Rattle.std.proofs.Common.{get_or, string_bytes, not, ap, length, arith}
 use Rattle.table_inspection.proofs.SpellingLemmas.{spelled_next, spelled_all}
 use Rattle.table_inspection.proofs.spelling.spelling.Goals as goal
 
