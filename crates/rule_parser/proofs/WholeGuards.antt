@@ -1,6 +1,6 @@
 -- Guards.
 
-use Rattle.std.proofs.Common.{◌≡◌, [], ◌∷◌, ◌++◌, Option, Some, None, inl, inr, ap, subst, sym, codes}
+use Rattle.std.proofs.Common.{◌≡◌, ◌∷◌, ◌++◌, Option, Some, None, inl, inr, ap, subst, sym, codes}
 use Rattle.text_model.specs.Texts.{Text}
 use Rattle.uri_grammar.specs.Names.{IsName}
 use Rattle.rule_parser.specs.declared.rule.Bound.{Bound}
