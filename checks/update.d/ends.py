@@ -35,7 +35,7 @@ def test_killed():
             child.communicate()
             ended.append(child.returncode)
             week = served(f"killed at moment {moment}", library)
-        expect("runs that were killed", ended.count(-signal.SIGKILL) > MOMENTS // 3)
+        expect("runs that were killed", ended.count(-signal.SIGKILL) > MOMENTS // 2)
         library.input.deliver(OTHER[week])
         status, said = library.run()
         expect(f"the run after all: {said}", (status, library.weeks_served(), library.left_behind()), (0, {OTHER[week]}, []))
