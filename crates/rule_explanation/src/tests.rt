@@ -163,7 +163,7 @@ fn hundred_rows_are_detailed(rt: HostRuntime) -> Result<(), Fail> {
     Ok(())
 }
 
-/// A writer that has room for so many bytes.
+/// A writer that takes this number of bytes, and then fails.
 #[derive(Drop)]
 struct Room(usize);
 
