@@ -1,6 +1,6 @@
 //! Commands over files in memory, with each call that they make failing in turn.
 
-use crate::outside::{bytes, gives, outside};
+use crate::{bytes, gives, outside};
 use std::test::Fail;
 use streams_in_memory::Peers;
 

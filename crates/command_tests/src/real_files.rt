@@ -1,6 +1,6 @@
 //! A command over real files.
 
-use crate::outside::{KnownKeys, OnePort};
+use crate::known_system::{KnownKeys, OnePort};
 use commands::{System, command};
 use files::SystemFiles;
 use std::fs;

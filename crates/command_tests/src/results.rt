@@ -1,6 +1,7 @@
 //! What commands print of files, with which status, and which fault comes first.
 
-use crate::outside::{Outside, bytes, gives, outside};
+use crate::known_system::Outside;
+use crate::{bytes, gives, outside};
 use commands::command;
 use files_in_memory::Content;
 use std::alloc::{AllocError, Global};

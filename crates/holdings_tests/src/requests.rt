@@ -7,7 +7,7 @@ use std::test::Fail;
 use target_vars::{Env, VarsError};
 
 /// A query's request, without what the contract says of it.
-pub(crate) fn read(alloc: Global, query: &[u8]) -> Result<Request, KevError> {
+fn read(alloc: Global, query: &[u8]) -> Result<Request, KevError> {
     read_kev(alloc, query)
 }
 

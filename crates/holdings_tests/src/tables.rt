@@ -1,12 +1,16 @@
 //! Holdings tables: the rows of a title, cells, and limits.
 
-use crate::requests::read as read_query;
 use crate::{enter, has_texts, nearly_full};
 use kbart_rows::{ColumnNames, Ids, Keys, RowCursor, Table, TableError};
-use kev_read::Request;
+use kev_read::{KevError, Request, read_kev};
 use std::alloc::{AllocError, Global};
 use std::test::Fail;
 use target_vars::{Env, VarsError};
+
+/// A query's request, without what the contract says of it.
+fn read_query(alloc: Global, query: &[u8]) -> Result<Request, KevError> {
+    read_kev(alloc, query)
+}
 
 /// A table, without what the contract says of it.
 fn read(alloc: Global, bytes: &[u8]) -> Result<Table, TableError> {

@@ -1,11 +1,11 @@
 //! The menu of a small registry, and what a watch is shown until it is there.
 
-use crate::codes::{ISSN_CODE, LIST_CODE, twenty_texts};
+use crate::codes::{ISSN_CODE, LIST_CODE};
 use crate::{add, lists};
 use kev_read::read_kev;
 use link_menu::{Shown, resolve, resolve_watched};
 use registry::Registry;
-use std::alloc::Global;
+use std::alloc::{AllocError, Global};
 use std::test::Fail;
 
 /// A target whose link is none of the web, and one that has its link after eight steps.
@@ -38,6 +38,20 @@ fn resolved(alloc: Global, query: &str) -> Result<String, Fail> {
 }
 
 /// The later rounds are without the target that has its link.
+/// The text `x` twenty times, or nothing: TEXT r2 n0, UNDEF r2 22, twenty times PUT r2 u, HALT.
+fn twenty_texts(alloc: Global) -> Result<Vec<u8>, AllocError> {
+    let mut code = Vec::from_slice(
+        alloc,
+        b"OLK1\x00\x01\x00\x00\x00\x17\x00\x01x\
+        \x04\x02\x00\x00\x00\x00\x00\x00\x08\x02\x00\x00\x00\x00\x00\x16",
+    )?;
+    for _time in 0..20 {
+        code.extend_from_slice(b"\x0e\x02\x00\x00\x00\x00\x00\x00")?;
+    }
+    code.extend_from_slice(b"\x01\x00\x00\x00\x00\x00\x00\x00")?;
+    Ok(code)
+}
+
 #[test]
 fn rounds(rt: HostRuntime) -> Result<(), Fail> {
     let members = "&list=a".repeat(rt.alloc(), 40)?;

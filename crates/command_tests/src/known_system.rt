@@ -1,0 +1,54 @@
+//! What commands find outside: files in memory, keys that are known, and one port.
+
+use commands::System;
+use files_in_memory::Memory;
+use http_streams::{Listener, Ports};
+use kbart_rows::Keys;
+use registry_file::{KeySource, NoKeys};
+use std::io::{self, ErrorKind};
+use streams_in_memory::Peers;
+
+/// The keys of two numbers, if there are any.
+#[derive(Drop)]
+pub struct KnownKeys {
+    pub numbers: Option<(u64, u64)>,
+}
+
+impl KeySource for KnownKeys {
+    ghost use Rattle.std.specs.Prelude.{◌≡◌, Some, None};
+
+    ghost draws = { λ old first second _. old.numbers ≡ Some (first, second) };
+
+    ghost fails = { λ old _. old.numbers ≡ None };
+
+    fn draw(&mut self) -> Result<Keys, NoKeys> {
+        match self.numbers {
+            Some((first, second)) => Ok(Keys::new(first, second)),
+            None => Err(NoKeys),
+        }
+    }
+}
+
+/// A port at which these peers come, until it is bound; a free port has the number 4096.
+#[derive(Drop)]
+pub struct OnePort {
+    pub peers: Option<Peers>,
+}
+
+impl Ports for OnePort {
+    type Bound = Peers;
+
+    ghost binds = { λ _ _ _ _. Unit {0} };
+
+    ghost fails = { λ _ _ _. Unit {0} };
+
+    fn bind(&mut self, port: u16) -> io::Result<(Peers, u16)> {
+        let port = if port == 0 { 4096 } else { port };
+        match self.peers.take() {
+            Some(peers) => Ok((peers, port)),
+            None => Err(io::Error::from(ErrorKind::AddrInUse)),
+        }
+    }
+}
+
+pub type Outside = System<Memory, KnownKeys, OnePort>;
