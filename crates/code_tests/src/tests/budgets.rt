@@ -1,6 +1,6 @@
 //! Budgets of any code, accepted or not, and the numbers that they give.
 
-use super::assembler::file;
+use super::file;
 use super::tables::{LIST_CODE, RULE};
 use budget::{Budget, budget_of};
 use code_file::Code;

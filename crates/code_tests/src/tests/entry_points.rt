@@ -1,8 +1,7 @@
 //! Code files, rules and rule files, run by one call.
 
-use super::assembler::file;
 use super::tables::{LIST_FILE, OPTIONAL, VARIABLES};
-use super::{Entry, environment, shown};
+use super::{Entry, environment, file, shown};
 use end_to_end::{run_file, run_rule_file, run_rules};
 use rule_parser::Rules;
 use std::alloc::Global;

@@ -1,10 +1,9 @@
 //! The checked machine, on any code; and accepted code, which runs as it does.
 
-use super::assembler::file;
 use super::tables::{
     BRANCHES, EFFECTS, FIRST, LIST_CODE, LIST_FILE, OPTIONAL, RULE, SECOND, STUCK, TEXTS, VARIABLES,
 };
-use super::{Entry, checked, environment, shown};
+use super::{Entry, checked, environment, file, shown};
 use compiler::compile;
 use interpreter::{Run, prepare};
 use rule_parser::Rules;

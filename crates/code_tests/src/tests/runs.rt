@@ -1,8 +1,7 @@
 //! The state of a run of accepted code after its turns.
 
-use super::assembler::file;
 use super::tables::{LIST_CODE, OPTIONAL, TEXTS};
-use super::{Entry, environment, shown};
+use super::{Entry, environment, file, shown};
 use interpreter::{Run, Step, prepare, step};
 use std::alloc::{AllocError, Global};
 use std::test::Fail;

@@ -1,6 +1,6 @@
 //! What is read of accepted code.
 
-use super::assembler::file;
+use super::file;
 use code_model::Instruction::{self, Put};
 use std::test::Fail;
 use verifier::{Verified, load};
