@@ -1,4 +1,4 @@
--- The definitions computed: what becomes of small queries is written out here, and the checker compares.
+-- The definitions computed: the results for small queries are written out here, and the checker compares.
 use Rattle.std.proofs.Common.{◌≡◌, ℕ, Bool, true, false, List, [], ◌∷◌, ◌++◌, Some, None, refl, codes, bytes_eq}
 use Rattle.std.specs.Prelude.{map, filter, not}
 use Rattle.std.specs.List.{range_with_len, repeat}
@@ -33,18 +33,18 @@ only_ampersands_part_pairs : pairs_of (codes "?a=1;b=2#c") ≡ pair (codes "?a")
 unfolding kev_read_on_literals
 only_ampersands_part_pairs = refl
 
--- what parts a query is looked for before it is decoded
+-- the query is split before it is decoded
 keys_and_values_are_decoded : pairs_of (codes "%61+b=c+%2B%26%3D&%3D=%25") ≡ pair (codes "a b") (codes "c +&=") ∷ pair (codes "=") (codes "%") ∷ []
 unfolding kev_read_on_literals
 keys_and_values_are_decoded = refl
 
 -- ---- texts
 
--- whether it is not decoded to these bytes
+-- whether the bytes are not decoded to this text
 abbrev decodes_otherwise : List ℕ → Text → Bool
 decodes_otherwise bytes text = not (bytes_eq (decoded bytes) text)
 
--- which is decoded to a space
+-- a `+` is decoded to a space
 of_ascii_only_plus_is_no_text : filter (λ b. decodes_otherwise (b ∷ []) (b ∷ [])) (range_with_len 0 128) ≡ codes "+"
 unfolding kev_read_on_literals
 of_ascii_only_plus_is_no_text = refl
@@ -66,7 +66,7 @@ bad_triplets_stay : map decoded (codes "%" ∷ codes "%4" ∷ codes "%zz" ∷ co
 unfolding kev_read_on_literals
 bad_triplets_stay = refl
 
--- a `+` in a triplet is one
+-- a `+` that is written as a triplet stays a `+`
 decoded_once : map decoded (codes "a+b" ∷ codes "a%2Bb" ∷ codes "a%2bb" ∷ codes "%2541" ∷ codes "%20" ∷ []) ≡ codes "a b" ∷ codes "a+b" ∷ codes "a+b" ∷ codes
     "%41" ∷ codes " " ∷ []
 unfolding kev_read_on_literals
@@ -109,7 +109,7 @@ other_keys_have_no_value = refl
 keys_are_not_counted : value_bytes (pair (codes "abc") (codes "de") ∷ pair [] (codes "f") ∷ pair (codes "abc") [] ∷ []) ≡ 3
 keys_are_not_counted = refl
 
--- ---- why a query is refused
+-- ---- why a query is rejected
 
 one_version_is_read : map is_other_version (None ∷ Some (codes "Z39.88-2004") ∷ Some (codes "z39.88-2004") ∷ Some (codes "Z39.88-2005") ∷ Some
     (codes "Z39.88-2004 ") ∷ Some (codes "Z39.88") ∷ Some [] ∷ [])

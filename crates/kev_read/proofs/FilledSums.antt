@@ -1,18 +1,19 @@
--- What each pair adds to E and M, where no list is declared.
-use Rattle.std.proofs.Common.{◌≡◌, ℕ, ◌+◌, ◌||◌, Bool, true, false, cond, not, List, [], ◌∷◌, ◌++◌, length, take, is_some, Some, bytes_eq, slice_get, refl}
+-- What each pair adds to E and M if no list is declared.
+use Rattle.std.proofs.Common.{◌≡◌, ℕ, ◌+◌, ◌||◌, Bool, true, false, cond, not, List, [], ◌∷◌, length, take, is_some, Some, bytes_eq, slice_get, refl}
 use Rattle.std.proofs.Common.{sym, ap, ◌∙◌, arith}
 use Rattle.std.specs.Prelude.{if◌then◌else◌}
 use Rattle.std.specs.List.{list_any}
 use Rattle.std.proofs.lemmas.Slice.Eq.{bytes_eq-Decides}
 use Rattle.text_model.specs.Texts.{Text}
-use Rattle.environment_model.specs.Environment.{Environment, Single, look_up, is_there, text_in, text_of, byte_count, member_count, with_text, with_member}
+use Rattle.environment_model.specs.Environment.{Environment, Single, is_there, text_in, text_of, byte_count, member_count, with_text, with_member}
 use Rattle.environment_model.specs.Lists.{is_list}
-use Rattle.environment_model.proofs.Environments.{look_up-empty, look_up-same, look_up-other, look_up-append, with_text-new, with_text-known}
+use Rattle.environment_model.proofs.Environments.{look_up-empty, look_up-same, look_up-append, with_text-new, with_text-known}
+use Rattle.environment_model.proofs.OtherNames.{with_text-differs, with_member-differs}
 use Rattle.environment_model.proofs.Environments.{byte_count-with_text, byte_count-with_member, member_count-with_text, member_count-with_member}
 use Rattle.kev_read.specs.Pairs.{KeyValue, has_key}
 use Rattle.kev_read.specs.Filling.{fill_one, filled}
 use Rattle.kev_read.proofs.FillingLemmas.{filled_more}
-use Rattle.kev_read.proofs.GatheredValues.{with_member-own, with_member-differs, same_text}
+use Rattle.kev_read.proofs.GatheredValues.{with_member-own, same_text}
 
 or_false : (b : Bool) → (b || false) ≡ b
 or_false true = refl
@@ -38,28 +39,6 @@ text_there env key t = by_test (is_there env key) refl
         ∙ ap is_some (look_up-append env (record { name = key; meaning = Single t } ∷ []) key new
         ∙ look_up-same (record { name = key; meaning = Single t }) [] key ((bytes_eq-Decides key key).1 refl))
 
-text_elsewhere : (env : Environment) (key t other : Text) → bytes_eq key other ≡ false → look_up (with_text env key t) other ≡ look_up env other
-text_elsewhere env key t other differs = by_test (is_there env key) refl
-  where
-    last : Environment
-    last = record { name = key; meaning = Single t } ∷ []
-
-    none_last : look_up last other ≡ look_up [] other
-    none_last = look_up-other (record { name = key; meaning = Single t }) [] other differs
-
-    appended : (es : Environment) → look_up (es ++ last) other ≡ look_up es other
-    appended [] = none_last
-    appended (e ∷ es) = by_name (bytes_eq e.name other) refl (appended es)
-      where
-        by_name : (b : Bool) → bytes_eq e.name other ≡ b → look_up (es ++ last) other ≡ look_up es other → look_up (e ∷ (es ++ last)) other
-            ≡ look_up (e ∷ es) other
-        by_name true same others = look_up-same e (es ++ last) other same ∙ sym (look_up-same e es other same)
-        by_name false is_not others = look_up-other e (es ++ last) other is_not ∙ others ∙ sym (look_up-other e es other is_not)
-
-    by_test : (b : Bool) → is_there env key ≡ b → look_up (with_text env key t) other ≡ look_up env other
-    by_test true known = ap (λ es. look_up es other) (with_text-known env key t known)
-    by_test false new = ap (λ es. look_up es other) (with_text-new env key t new) ∙ appended env
-
 added_there : (list : Bool) (env : Environment) (pair : KeyValue) (key : Text)
     → is_there (cond list (with_member env pair.key pair.value) (with_text env pair.key pair.value)) key ≡ (is_there env key || bytes_eq pair.key key)
 added_there list env pair key = by_key (bytes_eq pair.key key) refl list
@@ -73,7 +52,7 @@ added_there list env pair key = by_key (bytes_eq pair.key key) refl list
         ap (is_there (with_text env pair.key pair.value)) (sym ((bytes_eq-Decides pair.key key).0 same))
         ∙ text_there env pair.key pair.value ∙ sym (or_true (is_there env key))
     by_key false differs true = ap is_some (with_member-differs env pair.key pair.value key differs) ∙ sym (or_false (is_there env key))
-    by_key false differs false = ap is_some (text_elsewhere env pair.key pair.value key differs) ∙ sym (or_false (is_there env key))
+    by_key false differs false = ap is_some (with_text-differs env pair.key pair.value key differs) ∙ sym (or_false (is_there env key))
 
 filled_there : (lists : List Text) (env : Environment) (pairs : List KeyValue) (key : Text)
     → is_there (filled lists env pairs) key ≡ (is_there env key || list_any (has_key key) pairs)
@@ -96,7 +75,7 @@ list_text lists env pair key list = by_list (is_list lists pair.key) refl
     by_list : (b : Bool) → is_list lists pair.key ≡ b → text_of (cond b (with_member env pair.key pair.value) (with_text env pair.key pair.value)) key
         ≡ text_of env key
     by_list true is = same_text env pair key
-    by_list false is = ap text_in (text_elsewhere env pair.key pair.value key (differs (bytes_eq pair.key key) refl is))
+    by_list false is = ap text_in (with_text-differs env pair.key pair.value key (differs (bytes_eq pair.key key) refl is))
 
 lists_text : (lists : List Text) (env : Environment) (pairs : List KeyValue) (key : Text) → is_list lists key ≡ true → text_of (filled lists env pairs) key
     ≡ text_of env key

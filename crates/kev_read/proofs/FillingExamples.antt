@@ -1,4 +1,4 @@
--- What small queries make of an environment, computed, and what the limits of an environment refuse.
+-- Environments after the pairs of small queries are added, computed, and what the limits of an environment reject.
 use Rattle.std.proofs.Common.{◌≡◌, ℕ, true, false, List, [], ◌∷◌, ◌++◌, length, refl, codes, arith, inl, inr, true≢false}
 use Rattle.std.specs.Prelude.{map, sum_by}
 use Rattle.std.specs.List.{repeat}
@@ -45,7 +45,7 @@ other_keys_are_texts = refl
 abbrev before : Environment
 before = text (codes "t") (codes "0") ∷ list (codes "l") (codes "0" ∷ []) ∷ []
 
--- the text also where its key is declared as a list, and the list where it is not
+-- the text stays even if its key is declared as a list, and the list stays if it is not
 what_was_there_stays : filled (codes "t" ∷ []) before (pairs_of (codes "t=1&l=2&n=3")) ≡ before ++ text (codes "n") (codes "3") ∷ []
 unfolding kev_read_on_literals
 what_was_there_stays = refl
@@ -55,7 +55,7 @@ list_that_was_there_grows : filled (codes "l" ∷ []) before (pairs_of (codes "l
 unfolding kev_read_on_literals
 list_that_was_there_grows = refl
 
--- of a text, a list and a new name
+-- whether a member is added to a text, to a list and under a new name
 added_members : map (λ key. is_added true before (pair key [])) (codes "t" ∷ codes "l" ∷ codes "n" ∷ []) ≡ false ∷ true ∷ true ∷ []
 unfolding kev_read_on_literals
 added_members = refl
@@ -99,7 +99,7 @@ last_member_fits members many empty = (λ large. omega (arith, many, empty, larg
 text_is_no_member : (members : List Text) → length members ≡ 65535 → sum_by length members ≡ 0 → ¬ (TextIsTooLarge (one_list members) (pair (codes "n") []))
 text_is_no_member members many empty large = omega (arith, empty, large.1)
 
--- the first of three pairs fits, and the second is refused
+-- the first of three pairs fits, and the second is rejected
 filling_stops_at_a_refused_pair : (t : Text) → length t ≡ 1048575
     → StopsAtPair (codes "l" ∷ []) (one_text t) (pairs_of (codes "x=1&y=2&z=")) (one_text t ++ text (codes "x") (codes "1") ∷ []) TooLarge
 unfolding kev_read_on_literals
@@ -113,7 +113,7 @@ filling_stops_at_a_refused_pair t long = record {
   too_large = (λ _. (refl, omega (arith, long)), λ _. refl);
 }
 
--- ---- what holds of every request that is read
+-- ---- what holds for every request that is read
 
 abbrev request_of : ℕ → List KeyValue → ReadQuery
 request_of query_bytes pairs = record { pairs = pairs; query_bytes = query_bytes }

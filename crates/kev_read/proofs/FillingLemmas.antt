@@ -64,7 +64,7 @@ filled_more lists old pairs index pair is =
     fold_more (fill_one lists) old pairs index pair (slice_get_within pairs index pair is)
     ∙ ap (fill_one lists (filled lists old (take index pairs))) (get_or_from_slice_get pairs index pair pair is)
 
--- a pair is refused after those before it were added
+-- a pair is rejected after those before it were added
 pub stops_at : (lists : List Text) (old now new : Environment) (pairs : List KeyValue) (index : ℕ) (pair : KeyValue) (list : Bool) (e : VarsError)
     → slice_get pairs index ≡ Some pair → list ≡ is_list lists pair.key → now ≡ filled lists old (take index pairs) → new ≡ now → is_added list now pair ≡ true
     → ((◌≡◌ {A = Result (Unit {0}) VarsError} (Err e) (Err TooLarge)) ↔ IsTooLarge list now pair) → StopsAtPair lists old pairs new e
@@ -80,12 +80,12 @@ stops_at lists old now new pairs index pair list e is marked so_far unchanged ad
   too_large = rw (unchanged, ← marked) ((λ same. too_large.0 (ap Err same)), (λ over. let same = too_large.1 over in cc));
 }
 
--- what holds of the error that `?` passes on holds of the error that it returns
+-- what holds for an error that `?` passes on holds for the error that the function returns
 pub IfErr_passed_on : {T E : Type 0} (P : E → Type 0) (r : Result T E) (e : E) → IsErrAnd r (λ passed. passed ≡ e) → P e → IfErr r P
 IfErr_passed_on P (Ok x) e is holds = tt
 IfErr_passed_on P (Err passed) e is holds = subst P (sym is) holds
 
--- ---- what follows from how far it came
+-- ---- what follows from how far the filling came
 
 -- the environment is as the first pairs left it
 pub record Reaches (lists : List Text) (old : Environment) (pairs : List KeyValue) (new : Environment) : Type 0 where
@@ -117,7 +117,7 @@ passes_limit : (list : Bool) (env : Environment) (pair : KeyValue) → MatchBool
 passes_limit true env pair h = h.1
 passes_limit false env pair h = inl h.1
 
--- no pair passes a limit where all of them fit
+-- no pair exceeds a limit if all of them fit
 pub only_memory : {T : Type 0} (lists : List Text) (old : Environment) (pairs : List KeyValue) (new : Environment) (r : Result T VarsError)
     → IfErr r (StopsAtPair lists old pairs new) → byte_count old + value_bytes pairs ≤ MAX_BYTES → member_count old + length pairs ≤ MAX_MEMBERS
     → IfErr r (λ e. e ≡ NoMemory)

@@ -1,4 +1,4 @@
--- The values of pairs as members of lists, each of the name of its key.
+-- The values of pairs as members of lists that have the names of the keys.
 use Rattle.std.proofs.Common.{◌≡◌, Bool, true, false, List, [], ◌∷◌, ◌++◌, Option, Some, None, is_some, bytes_eq, refl}
 use Rattle.std.proofs.Common.{sym, ap, ◌∙◌, append_assoc, append-nil}
 use Rattle.std.specs.Prelude.{fold}
@@ -6,13 +6,12 @@ use Rattle.std.proofs.lemmas.Slice.Eq.{bytes_eq-Decides}
 use Rattle.text_model.specs.Texts.{Text}
 use Rattle.environment_model.specs.Environment.{Environment, Meaning, Single, Several, look_up, text_in, text_of, members_in, members_of, with_member, more}
 use Rattle.environment_model.proofs.Environments.{look_up-empty, look_up-same, look_up-other, with_member-empty, with_member-same, with_member-other}
+use Rattle.environment_model.proofs.NameTests.{itself}
+use Rattle.environment_model.proofs.OtherNames.{with_member-differs}
 use Rattle.kev_read.specs.Pairs.{KeyValue, all_of}
 use Rattle.kev_read.specs.Private.Gathered.{gather_one, gathered}
 
--- ---- one member more
-
-itself : (name : Text) → bytes_eq name name ≡ true
-itself name = (bytes_eq-Decides name name).1 refl
+-- ---- one more member
 
 -- what a name is bound to after one more member
 abbrev grown : Option Meaning → Text → Meaning
@@ -35,23 +34,6 @@ with_member-own (e ∷ env) key t = by_name (bytes_eq e.name key) refl (with_mem
     by_name false other in_others =
         ap (λ es. look_up es key) (with_member-other e env key t other) ∙ look_up-other e (with_member env key t) key other
         ∙ in_others ∙ ap (λ found. Some (grown found t)) (sym (look_up-other e env key other))
-
-pub with_member-differs : (env : Environment) (key t other : Text) → bytes_eq key other ≡ false → look_up (with_member env key t) other ≡ look_up env other
-with_member-differs [] key t other differs =
-    ap (λ es. look_up es other) (with_member-empty key t) ∙ look_up-other (record { name = key; meaning = Several (t ∷ []) }) [] other differs
-with_member-differs (e ∷ env) key t other differs = by_name (bytes_eq e.name key) refl (with_member-differs env key t other differs)
-  where
-    by_name : (b : Bool) → bytes_eq e.name key ≡ b → look_up (with_member env key t) other ≡ look_up env other
-        → look_up (with_member (e ∷ env) key t) other ≡ look_up (e ∷ env) other
-    by_name true same in_others =
-        let not_other : bytes_eq e.name other ≡ false = ap (λ n. bytes_eq n other) ((bytes_eq-Decides e.name key).0 same) ∙ differs in
-        ap (λ es. look_up es other) (with_member-same e env key t same)
-        ∙ look_up-other (record { name = e.name; meaning = more e.meaning t }) env other not_other ∙ sym (look_up-other e env other not_other)
-    by_name false not_key in_others = ap (λ es. look_up es other) (with_member-other e env key t not_key) ∙ by_other (bytes_eq e.name other) refl
-      where
-        by_other : (b : Bool) → bytes_eq e.name other ≡ b → look_up (e ∷ with_member env key t) other ≡ look_up (e ∷ env) other
-        by_other true is = look_up-same e (with_member env key t) other is ∙ sym (look_up-same e env other is)
-        by_other false is_not = look_up-other e (with_member env key t) other is_not ∙ in_others ∙ sym (look_up-other e env other is_not)
 
 -- ---- all pairs
 

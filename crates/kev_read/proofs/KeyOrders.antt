@@ -4,13 +4,12 @@ use Rattle.std.proofs.Common.{Option, Some, None, refl, sym, ap}
 use Rattle.std.proofs.Common.{◌∙◌, subst, arith, length-drop}
 use Rattle.std.proofs.Math.Logic.{⊎_elim}
 use Rattle.std.proofs.lemmas.Bool.{cases_lt, eqb-true, eq-eqb}
-use Rattle.std.proofs.lemmas.Cmp.{nat_list_cmp_total, nat_list_eq_equiv}
+use Rattle.std.proofs.lemmas.Cmp.{nat_list_eq_equiv}
 use Rattle.std.proofs.lemmas.List.{get_or_default, get_or-drop, get_or-take, length-take-le, length-map, take-append-drop}
 use Rattle.std.proofs.lemmas.List.Elements.{All-from_get_or, All-head, All-tail, filter-append}
 use Rattle.std.proofs.lemmas.List.Folds.{Any-from_list_any, list_any_at}
 use Rattle.std.proofs.lemmas.List.FromFn.{length-range_with_len, get_or-range_with_len}
 use Rattle.std.proofs.lemmas.List.Sorted.{All-permutation, list_any-IsPermutation, searchable_from_sorted, sum_by-IsPermutation}
-use Rattle.std.proofs.lemmas.Map.Text.{is_eq-slice_cmp}
 use Rattle.std.proofs.lemmas.Option.{slice_get_past}
 use Rattle.std.specs.Cmp.{both_ways}
 use Rattle.std.specs.Cmp.Lexicographic.{options_total}
@@ -24,11 +23,12 @@ use Rattle.std.specs.declared.cmp.Ordering.TheVariants.{Less, Equal, Greater}
 use Rattle.text_model.specs.Texts.{Text}
 use Rattle.kev_read.specs.Pairs.{KeyValue}
 use Rattle.kev_read.specs.Private.KeyOrder.{key_at, passes_at, compared, has_index, has_key_at, IsKeyOrder}
+use Rattle.kev_read.proofs.KeyMarks.{is_eq-compared_keys, keys_total}
 use Rattle.kev_read.proofs.StableKeys.{key_lt, stable_keys}
 
 -- ---- the order
 
--- what a sort of all indices gives
+-- the result of sorting all indices
 pub key_order_from_sort : (pairs : List KeyValue) (from to : List ℕ) → from ≡ range_with_len 0 (length pairs) → IsPermutation from to
     → IsSortedBy (key_lt pairs) to → IsStableBy (key_lt pairs) from to → IsKeyOrder pairs to
 key_order_from_sort pairs from to all moved sorted stable =
@@ -46,13 +46,13 @@ key_order_from_sort pairs from to all moved sorted stable =
       stable = λ key. stable_keys pairs from to moved stable key ∙ ap (filter (has_key_at key pairs)) all;
     }
 
--- ---- a key against the order
+-- ---- a key compared with the order
 
 -- how the key of the pair at an index compares with the key
 abbrev pub compared_at : List KeyValue → Text → ℕ → Ordering
 compared_at pairs key index = compared (key_at pairs index) (Some key)
 
--- the test passes nothing after what it fails
+-- once the test fails, it fails for all later elements
 abbrev pub Falls : (Ordering → Bool) → Type 0
 Falls test = (a b : Ordering) → ordering_index a ≤ ordering_index b → test b ≡ true → test a ≡ true
 
@@ -74,13 +74,13 @@ is_le-Falls Greater Greater le h = h
 
 pub rises : (pairs : List KeyValue) (order : List ℕ) (key : Text) → IsKeyOrder pairs order
     → IsNonDecreasingBy (λ index. ordering_index (compared_at pairs key index)) order
-rises pairs order key ordered = searchable_from_sorted (options_total nat_list_cmp_total) (key_at pairs) order (Some key) ordered.sorted
+rises pairs order key ordered = searchable_from_sorted (options_total keys_total) (key_at pairs) order (Some key) ordered.sorted
 
 pub splits : (test : Ordering → Bool) → Falls test → (pairs : List KeyValue) (indices : List ℕ) (key : Text)
     → IsNonDecreasingBy (λ index. ordering_index (compared_at pairs key index)) indices → IsPartitionedBy (λ index. test (compared_at pairs key index)) indices
 splits test falls pairs indices key rise i j d le below h = falls _ _ (rise i j d le below) h
 
--- where the element at a place fails a test that passes nothing after what it fails, all from there on fail it
+-- if the element at a place fails such a test, all from there on fail it
 pub none_past : (test : ℕ → Bool) (xs : List ℕ) (i : ℕ) → IsPartitionedBy test xs → (i < length xs → test (get_or xs i 0) ≡ false)
     → AllWithin (λ x. test x ≡ false) xs i (length xs)
 none_past test xs i splits fails k d from below = by_value (test (get_or xs k d)) refl
@@ -92,7 +92,7 @@ none_past test xs i splits fails k d from below = by_value (test (get_or xs k d)
         let clash : true ≡ false = sym (splits i k d from below h) ∙ ap test (get_or_default xs i d 0 within) ∙ fails within in
         absurd (cc)
 
--- what the first of a list passes, all before the second pass
+-- if the first element of a list passes a test, all before the second do
 pub first_alone : (test : ℕ → Bool) (xs : List ℕ) → 0 < length xs → test (get_or xs 0 0) ≡ true → AllWithin (λ x. test x ≡ true) xs 0 1
 first_alone test xs within passes k d from below =
     let first : k ≡ 0 = omega arith in
@@ -120,7 +120,7 @@ equal_le Greater eq le = cc
 
 passes_equal : (other : Option Text) (key : Text) → option_map_or (bytes_eq key) other false ≡ is_eq (compared other (Some key))
 passes_equal None key = refl
-passes_equal (Some other) key = nat_list_eq_equiv.symm key other ∙ sym (is_eq-slice_cmp other key)
+passes_equal (Some other) key = nat_list_eq_equiv.symm key other ∙ sym (is_eq-compared_keys other key)
 
 within_pairs : (pairs : List KeyValue) (key : Text) (index : ℕ) → is_eq (compared_at pairs key index) ≡ true → index < length pairs
 within_pairs pairs key index equal =
@@ -146,7 +146,7 @@ has_key_equal pairs key index = by_key (key_at pairs index)
   where
     by_key : (other : Option Text) → option_map_or (λ k. bytes_eq k key) other false ≡ is_eq (compared other (Some key))
     by_key None = refl
-    by_key (Some other) = sym (is_eq-slice_cmp other key)
+    by_key (Some other) = sym (is_eq-compared_keys other key)
 
 lt_not_equal : (o : Ordering) → is_lt o ≡ true → is_eq o ≡ false
 lt_not_equal Less lt = refl
@@ -158,7 +158,7 @@ gt_not_equal Less le = absurd (cc)
 gt_not_equal Equal le = absurd (cc)
 gt_not_equal Greater le = refl
 
--- what a filter of the whole order keeps
+-- the indices that a filter of the whole order keeps
 pub run_is : (pairs : List KeyValue) (order : List ℕ) (key : Text) (start count : ℕ) → start ≤ length order → count ≤ length (drop start order)
     → SplitsAt is_lt pairs key order start → SplitsAt is_le pairs key (drop start order) count
     → take count (drop start order) ≡ filter (has_key_at key pairs) order

@@ -1,4 +1,4 @@
--- In the order of the keys a pair of a key that came before comes right after another of that key.
+-- In the order of the keys, a pair whose key came before is directly after another pair with the same key.
 use Rattle.std.proofs.Common.{◌≡◌, ℕ, suc, ◌≤◌, ◌<◌, true, List, length, take, get_or, bytes_eq, refl, sym, ap, ◌∙◌}
 use Rattle.std.proofs.Common.{arith}
 use Rattle.std.proofs.lemmas.List.{get_or-take, get_or-map, length-map, length-take-le}
@@ -30,7 +30,7 @@ module _ (pairs : List KeyValue) (order : List ℕ) (ordered : IsKeyOrder pairs 
   abbrev at : ℕ → KeyValue
   at i = pair_at pairs (get_or order i 0)
 
-  -- how the test of a key goes at a place of the order
+  -- the test of a key at a place of the order
   key_test : (key : Text) (i : ℕ) → i < length order → has_key key (at i) ≡ is_eq (compared_at pairs key (get_or order i 0))
   key_test key i within =
       same_test pairs key (get_or order i 0) (All-get_or (λ index. index < length pairs) order i 0 within ordered.within)

@@ -1,4 +1,4 @@
--- The values of a request in the order of their keys, and where they lie in one text.
+-- The values of a request in the order of their keys, and where they are in one text.
 use Rattle.std.proofs.Common.{◌≡◌, ℕ, ◌+◌, ◌*◌, ◌≤◌, List, [], ◌∷◌, ◌++◌, All, Some, length, map, take, drop, refl, sym, ap, ◌∙◌, arith, length-append}
 use Rattle.std.proofs.Common.{length-drop, slice_get, subst, take_all}
 use Rattle.std.proofs.Math.Seq.{drop-append_seam}
@@ -30,7 +30,7 @@ pieces_stay text more (at ∷ spans) inside =
     rw (piece_stays text more at (All-head (IsIn text) at spans inside))
     (ap (λ ts. piece_at text at ∷ ts) (pieces_stay text more spans (All-tail (IsIn text) at spans inside)))
 
--- one value more, at the end of the text
+-- one more value, at the end of the text
 pub value_added : (text value : Text) (spans : List (ℕ × ℕ)) (pairs : List KeyValue) (pair : KeyValue) → pair.value ≡ value → AreSpans text spans pairs
     → AreSpans (text ++ value) (spans ++ (length text, length value) ∷ []) (pairs ++ pair ∷ [])
 value_added text value spans pairs pair is so_far =
@@ -74,7 +74,7 @@ module _ (pairs : List KeyValue) (order : List ℕ) (text : Text) (spans : List 
       ∙ ap cut (sym kept.values.are)
       ∙ ap (take count) (drop-map (piece_at text) first spans) ∙ take-map (piece_at text) count (drop first spans)
 
--- ---- one pair more
+-- ---- one more pair
 
 pub more_pairs : (pairs : List KeyValue) (n : ℕ) (pair : KeyValue) → slice_get pairs n ≡ Some pair → take (n + 1) pairs ≡ take n pairs ++ pair ∷ []
 more_pairs pairs n pair is =

@@ -8,6 +8,7 @@ pub mod ValuesOfKey
 pub mod FillingLemmas
 pub mod GatheredValues
 pub mod PairsInText
+pub mod KeyMarks
 pub mod StableKeys
 pub mod KeyOrders
 pub mod PairsByKey

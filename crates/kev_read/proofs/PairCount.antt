@@ -14,7 +14,7 @@ onto_first_count : (b : ℕ) (pieces : List (List ℕ)) → 0 < length pieces �
 onto_first_count b [] some = omega arith
 onto_first_count b (piece ∷ pieces) some = omega arith
 
--- each byte is one of a piece, or parts two of them
+-- each byte belongs to a piece, or separates two of them
 record IsParted (bytes : ℕ) (pieces : List (List ℕ)) : Type 0 where
   some : 0 < length pieces
   whole : sum_by length pieces + length pieces ≡ bytes + 1
@@ -35,7 +35,7 @@ split_parts separator (b ∷ bs) =
       }
     ]
 
--- the pieces have no byte more than the query
+-- the pieces have at most as many bytes as the query
 pub split_bytes : (separator : ℕ) (bs : List ℕ) → sum_by length (form.split separator bs) ≤ length bs
 split_bytes separator bs = let parts = split_parts separator bs in let whole = parts.whole in let some = parts.some in omega arith
 
@@ -48,7 +48,7 @@ few_nonempty (piece ∷ pieces) = by_test (form.is_nonempty piece) refl (few_non
     by_test true has_bytes later = let some = ltb-true 0 (length piece) has_bytes in rw has_bytes (omega (arith, sum_by-cons length piece pieces))
     by_test false none later = rw none (omega (arith, sum_by-cons length piece pieces))
 
--- a pair takes a byte, and another one parts it from the next
+-- a pair has at least one byte, and another byte separates it from the next
 pub two_bytes_a_pair : (query : List ℕ) → 2 * length (pairs_of query) ≤ length query + 1
 unfolding form.raw_pairs
 two_bytes_a_pair query =

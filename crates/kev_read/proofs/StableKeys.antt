@@ -1,21 +1,20 @@
 -- A stable sort of the indices by their keys keeps the indices of each key in their order.
 use Rattle.std.proofs.Common.{◌≡◌, ℕ, Bool, true, false, ◌&&◌, List, [], ◌∷◌, filter, not, Option, Some, None, refl, sym, ap, ◌∙◌, bytes_eq}
-use Rattle.std.proofs.lemmas.Cmp.{nat_list_cmp_total}
 use Rattle.std.proofs.lemmas.List.Elements.{filter_agree}
 use Rattle.std.proofs.lemmas.List.Folds.{Any-from_list_any}
 use Rattle.std.proofs.lemmas.List.Sorted.{list_any-IsPermutation}
-use Rattle.std.proofs.lemmas.Map.Text.{is_eq-slice_cmp}
 use Rattle.std.proofs.lemmas.Slice.Eq.{bytes_eq-Decides}
-use Rattle.std.specs.Cmp.Lexicographic.{slice_cmp}
 use Rattle.std.specs.List.{list_any}
 use Rattle.std.specs.List.Sorted.{IsPermutation, IsStableBy, ties}
 use Rattle.std.specs.Option.{option_map_or}
-use Rattle.std.specs.Ordering.{is_lt, is_eq, nat_cmp, ordering_reverse}
+use Rattle.std.specs.Ordering.{is_lt, is_eq, ordering_reverse}
 use Rattle.std.specs.declared.cmp.Ordering.{Ordering}
 use Rattle.std.specs.declared.cmp.Ordering.TheVariants.{Less, Equal, Greater}
 use Rattle.text_model.specs.Texts.{Text}
 use Rattle.kev_read.specs.Pairs.{KeyValue}
+use Rattle.kev_read.specs.Private.KeyMarks.{compared_keys}
 use Rattle.kev_read.specs.Private.KeyOrder.{compared, has_key_at, key_at}
+use Rattle.kev_read.proofs.KeyMarks.{is_eq-compared_keys, keys_total}
 
 -- the key of one index comes before that of another
 abbrev pub key_lt : List KeyValue → ℕ → ℕ → Bool
@@ -26,13 +25,13 @@ neither Less = refl
 neither Equal = refl
 neither Greater = refl
 
--- neither key comes before the other just where they are the same
+-- neither key comes before the other exactly if they are the same
 same_key : (key : Text) (other : Option Text)
     → (not (is_lt (compared (Some key) other)) && not (is_lt (compared other (Some key)))) ≡ option_map_or (λ k. bytes_eq k key) other false
 same_key key None = refl
 same_key key (Some other) =
-    ap (λ o. not (is_lt o) && not (is_lt (slice_cmp nat_cmp other key))) (nat_list_cmp_total.antisymm key other)
-    ∙ neither (slice_cmp nat_cmp other key) ∙ is_eq-slice_cmp other key
+    ap (λ o. not (is_lt o) && not (is_lt (compared_keys other key))) (keys_total.antisymm key other)
+    ∙ neither (compared_keys other key) ∙ is_eq-compared_keys other key
 
 ties_by_key : (pairs : List KeyValue) (key : Text) (x : ℕ) → key_at pairs x ≡ Some key → (y : ℕ) → ties (key_lt pairs) x y ≡ has_key_at key pairs y
 ties_by_key pairs key x is y =

@@ -1,4 +1,4 @@
--- What the pairs of a request make of an environment.
+-- An environment after the pairs of a request are added.
 use Rattle.std.specs.Prelude.{◌≡◌, ◌↔◌, ◌⊎◌, ◌+◌, ◌<◌, Bool, true, false, not, MatchBool, List, ◌∷◌, ◌++◌, length, fold, if◌then◌else◌}
 use Rattle.text_model.specs.Texts.{Text}
 use Rattle.environment_model.specs.Environment.{Environment, is_there, byte_count, member_count, with_text, with_member}
@@ -19,7 +19,7 @@ added list env pair = if list then with_member env pair.key pair.value else with
 abbrev pub is_added : Bool → Environment → KeyValue → Bool
 is_added list env pair = if list then not (stands_for_text env pair.key) else not (is_there env pair.key)
 
--- the pair would be added, and pass a limit of the environment
+-- the pair would be added, and exceed a limit of the environment
 abbrev pub MemberIsTooLarge : Environment → KeyValue → Type 0
 MemberIsTooLarge env pair =
     (stands_for_text env pair.key ≡ false)
@@ -33,7 +33,7 @@ IsTooLarge list env pair = MatchBool list (MemberIsTooLarge env pair) (TextIsToo
 
 -- ---- all pairs
 
--- the environment after one pair, where these lists are declared
+-- the environment after one pair, if these lists are declared
 abbrev pub fill_one : List Text → Environment → KeyValue → Environment
 fill_one lists env pair = added (is_list lists pair.key) env pair
 
@@ -41,7 +41,7 @@ fill_one lists env pair = added (is_list lists pair.key) env pair
 abbrev pub filled : List Text → Environment → List KeyValue → Environment
 filled lists env pairs = fold (fill_one lists) env pairs
 
--- the environment is as the pairs before a refused one left it, and the refused one would have been added
+-- the environment has the pairs before a rejected one, which would otherwise have been added
 pub record StopsAtPair (lists : List Text) (old : Environment) (pairs : List KeyValue) (new : Environment) (e : VarsError) : Type 0 where
   pub before : List KeyValue
   pub refused : KeyValue

@@ -1,4 +1,4 @@
--- Why a query is refused.
+-- Why a query is rejected.
 use Rattle.std.specs.Prelude.{ℕ, Bool, false, ◌||◌, not, List, length, codes, Option, Some, None, nat_lt, if◌then◌else◌}
 use Rattle.std.specs.Option.{option_map_or}
 use Rattle.std.specs.Str.{bytes_eq}
@@ -8,7 +8,7 @@ use Rattle.kev_read.specs.declared.read.TheConstants.{MAX_PAIRS, MAX_QUERY_BYTES
 use Rattle.kev_read.specs.declared.error.KevError.{KevError}
 use Rattle.kev_read.specs.declared.error.KevError.TheVariants.{TooLong, TooManyPairs, WrongVersion}
 
--- a version is stated, and it is not the one that is read
+-- a version is stated, and it is not the supported one
 abbrev pub is_other_version : Option Text → Bool
 is_other_version stated = option_map_or (λ version. not (bytes_eq version (codes "Z39.88-2004"))) stated false
 

@@ -3,8 +3,8 @@
 use std::alloc::{AllocError, AllocFailed};
 use thiserror::Error;
 
-/// Why a query is refused, in the order in which it is decided. `NoMemory` can come in place of
-/// `WrongVersion`, and never of the refusals before it, which take no memory.
+/// Why a query is rejected, in the order in which it is checked. `NoMemory` can be returned instead of `WrongVersion`,
+/// but never instead of the errors before it, which need no allocation.
 #[derive(Clone, Copy, Debug, PartialEq, Eq, Error)]
 pub enum KevError {
     /// The query has more than [`MAX_QUERY_BYTES`](crate::MAX_QUERY_BYTES) bytes.
@@ -16,6 +16,7 @@ pub enum KevError {
     /// The first `ctx_ver` or the first `url_ver` is not `Z39.88-2004`.
     #[error("WrongVersion")]
     WrongVersion,
+    /// An allocation failed.
     #[error("NoMemory")]
     NoMemory,
 }

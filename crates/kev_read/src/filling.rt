@@ -11,10 +11,11 @@ use crate::pairs::{Pair, Pairs};
 use crate::read::MAX_PAIRS;
 use target_vars::{Env, VarsError};
 
-/// The number of pairs for which short marks suffice, which take less time to unset than those of all pairs.
+/// A request of up to this number of pairs has short marks, which take less time to clear than marks for the maximum
+/// number of pairs.
 const USUAL_PAIRS: usize = 64;
 
-/// Adds each pair to the environment, up to the first that is refused.
+/// Adds each pair to the environment, up to the first that is rejected.
 pub(crate) fn fill(
     pairs: &Pairs,
     order: &[u16],

@@ -1,4 +1,4 @@
-//! How many bytes and members a request has, without lists that a code declares.
+//! How many bytes and members a request has if no further lists are declared.
 
 ghost use Rattle.std.specs.Prelude.{◌≡◌, ◌≤◌, ◌*◌, ◌<◌, ◌||◌, [], false, length, not, take, get_or, if◌then◌else◌};
 ghost use Rattle.std.specs.List.{list_any};
@@ -11,7 +11,8 @@ ghost use Rattle.kev_read.specs.declared.read.TheConstants.{MAX_PAIRS, MAX_QUERY
 use crate::list_keys::is_standard_list;
 use crate::pairs::Pairs;
 
-/// E and M of the pairs where no list is declared. The order of the keys shows which values are the first of their key.
+/// E (bytes) and M (members) of the pairs if no list is declared. The order of the keys shows which values are the
+/// first of their key.
 pub(crate) fn sums(pairs: &Pairs, order: &[u16]) -> (usize, usize)
     requires order { IsKeyOrder pairs.now order.now }
     requires few { length pairs.now ≤ MAX_PAIRS }

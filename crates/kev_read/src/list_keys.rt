@@ -1,4 +1,4 @@
-//! Which keys have lists.
+//! Which keys name lists.
 
 ghost use Rattle.std.specs.Prelude.{◌≡◌, ◌||◌, ◌<◌, ◌≤◌, ℕ, [], false, All, length, slice_index_or};
 ghost use Rattle.environment_model.specs.Environment.{is_among};
@@ -20,7 +20,7 @@ pub fn is_standard_list(name: &str) -> bool
     name == AUTHORS || name == IDENTIFIERS
 }
 
-/// Marks each pair whose key names a list, where none is marked yet. The work grows with the number of lists times the
+/// Marks each pair whose key names a list; before, no pair is marked. The time grows with the number of lists times the
 /// logarithm of the number of pairs, and with the number of marked pairs. It allocates nothing.
 pub(crate) fn mark_lists(pairs: &Pairs, order: &[u16], declared: &[&str], marks: &mut [bool])
     requires order { IsKeyOrder pairs.now order.now }

@@ -1,10 +1,11 @@
 //! Pairs of key and value, kept in one text.
 
 ghost use Rattle.std.specs.Prelude.{◌≡◌, ◌<◌, ◌++◌, ◌∷◌, [], length, slice_get, IfOk, OnOk, Some};
-ghost use Rattle.std.specs.Option.{option_copied};
+ghost use Rattle.std.specs.Option.{option_map};
 ghost use Rattle.kev_read.specs.Private.KeyOrder.{key_at};
-ghost use Rattle.kev_read.specs.Private.Layout.{key_value};
+ghost use Rattle.kev_read.specs.Private.Layout.{key_text, key_value};
 
+use crate::marked_key::{MarkedKey, mark};
 use std::alloc::{AllocError, Global};
 use std::marker::Model;
 
@@ -15,15 +16,16 @@ pub(crate) struct Pair<'a> {
     pub(crate) value: &'a str,
 }
 
-/// Where a pair lies in a text, in bytes: its key, and right after it its value.
+/// Where a pair is in a text, in bytes: its key, and directly after it its value. The mark is that of the key.
 #[derive(Clone, Copy)]
 pub(crate) struct Place {
     start: usize,
     middle: usize,
     end: usize,
+    mark: u64,
 }
 
-/// Pairs of key and value, which lie one after another in one text; contracts see the pairs.
+/// Pairs of key and value, which are one after another in one text; contracts see the pairs.
 #[derive(Drop)]
 pub(crate) struct Pairs {
     text: String,
@@ -63,7 +65,13 @@ impl Pairs {
         let middle = self.text.len();
         self.text.push_str(value)?;
         let end = self.text.len();
-        self.places.push(Place { start, middle, end })?;
+        let mark = mark(key);
+        self.places.push(Place {
+            start,
+            middle,
+            end,
+            mark,
+        })?;
         Ok(())
     }
 
@@ -90,12 +98,15 @@ impl Pairs {
         }
     }
 
-    /// The key of the pair at the index; `None` where there is no such pair.
-    pub(crate) fn key(&self, index: usize) -> Option<&str>
-        ensures { option_copied result ≡ key_at self.now index }
+    /// The key of the pair at the index; `None` if there is no such pair.
+    pub(crate) fn key(&self, index: usize) -> Option<MarkedKey<'_>>
+        ensures { option_map key_text result ≡ key_at self.now index }
     {
         if index < self.len() {
-            Some(self.at(index).key)
+            Some(MarkedKey {
+                mark: self.places[index].mark,
+                text: self.at(index).key,
+            })
         } else {
             None
         }

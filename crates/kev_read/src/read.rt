@@ -1,4 +1,4 @@
-//! A query is read: its limits, pairs and versions.
+//! Reading a query: its limits, pairs and versions.
 
 ghost use Rattle.std.specs.Prelude.{◌≡◌, ◌≤◌, ◌<◌, ◌↔◌, ◌⊎◌, length, IfOk, IfErr, IsTrue, Some, None};
 ghost use Rattle.kev_read.specs.Pairs.{pairs_of};
@@ -13,10 +13,10 @@ use crate::version::states_other_version;
 use form_urlencoded::{parse, raw_pairs};
 use std::alloc::{AllocError, Global};
 
-/// The largest query that is read, in bytes.
+/// The maximum size of a query, in bytes.
 pub const MAX_QUERY_BYTES: usize = 65_536;
 
-/// The largest number of pairs in a request.
+/// The maximum number of pairs in a request.
 pub const MAX_PAIRS: usize = 4_096;
 
 /// Reads a query in the key/encoded-value form of ANSI/NISO Z39.88-2004.
@@ -31,10 +31,10 @@ pub const MAX_PAIRS: usize = 4_096;
 /// - Texts are read as UTF-8 whatever `ctx_enc` says; bytes that are not UTF-8 become U+FFFD (`test_first_values`).
 /// - Nothing is fetched: a description by reference, such as `rft_ref`, is a text like any other
 ///   (`test_first_values`).
-/// - No key is checked against a metadata format; each is kept under its own name, also `rft_val_fmt`
+/// - No key is checked against a metadata format; each is kept under its own name, even `rft_val_fmt`
 ///   (`test_first_values`).
-/// - Only `rft.au`, `rft_id` and declared keys are lists (`test_lists`). Of any other key the first value counts, also
-///   of identifiers such as `svc_id` (`test_first_values`).
+/// - Only `rft.au`, `rft_id` and declared keys are lists (`test_lists`). For any other key the first value counts, even
+///   for identifiers such as `svc_id` (`test_first_values`).
 /// - An empty value is a value, and a key without `=` has an empty value (`test_first_values`).
 /// - A query has at most 65,536 bytes, and 4,096 pairs that are not empty (`test_refused_queries`).
 pub fn read_kev(alloc: Global, query: &[u8]) -> Result<Request, KevError>
@@ -44,7 +44,7 @@ pub fn read_kev(alloc: Global, query: &[u8]) -> Result<Request, KevError>
     ensures bounded { IfOk result IsBounded }
     ensures refused { IfErr result (λ e. (e ≡ KevError.NoMemory) ⊎ (refusal query.now ≡ Some e)) }
 
-    // However little memory there is.
+    // Even if memory has run out.
     ensures too_long { (result ≡ Err KevError.TooLong) ↔ (MAX_QUERY_BYTES < length query.now) }
     ensures too_many { (result ≡ Err KevError.TooManyPairs)
         ↔ ((length query.now ≤ MAX_QUERY_BYTES) × (MAX_PAIRS < length (pairs_of query.now))) }
@@ -83,8 +83,7 @@ fn pair_count(query: &[u8]) -> usize
     count
 }
 
-/// The pairs of a query. Their text is seldom longer than the query: only where U+FFFD replaces bytes
-/// that are not UTF-8.
+/// The pairs of a query. Their text is longer than the query only if U+FFFD replaces bytes that are not UTF-8.
 fn read_pairs(alloc: Global, query: &[u8]) -> Result<Pairs, AllocError>
     ensures { IfOk result (λ pairs. pairs ≡ pairs_of query.now) }
 {

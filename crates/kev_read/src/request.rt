@@ -23,12 +23,12 @@ use target_vars::{Env, VarsError};
 /// An OpenURL request: its pairs of key and value (ANSI/NISO Z39.88-2004, key/encoded-value form), in
 /// the order of the query.
 ///
-/// Every key is kept, under its own name; a pair without `=` has the empty value. Contracts also see
-/// how many bytes the query had.
+/// Every key is kept under its own name; a pair without `=` has the empty value. Contracts also see how many bytes the
+/// query had.
 #[derive(Drop)]
 pub struct Request {
     pairs: Pairs,
-    // The indices of the pairs in the order of their keys, and of the query where keys are the same.
+    // The indices of the pairs in the order of their keys; pairs with the same key are in the order of the query.
     order: Vec<u16>,
     // Bounds what the pairs add to an environment.
     query_bytes: usize,
@@ -62,7 +62,7 @@ impl Request {
         }
     }
 
-    /// The first value of a key; `None` where no pair has the key.
+    /// The first value of a key; `None` if no pair has the key.
     pub fn first(&self, key: &str) -> Option<&str>
         ensures { option_copied result ≡ spec.first_of self.now.pairs key.now }
     {
@@ -95,8 +95,8 @@ impl Request {
         (pair.key, pair.value)
     }
 
-    /// The values of each key as the list of that name, in the order of the query, whichever keys name lists
-    /// elsewhere.
+    /// The values of each key, in the order of the query, as a list with the name of the key, no matter which keys are
+    /// declared as lists.
     ///
     /// `AllocError` if an allocation failed.
     pub fn values_by_key(&self, alloc: Global) -> Result<KeyValues<'_>, AllocError>
@@ -108,27 +108,27 @@ impl Request {
         values_by_key(alloc, &self.pairs, &self.order)
     }
 
-    /// E and M of the request where no list is declared: the bytes of all texts and members, and the number of members.
+    /// E and M of the request if no list is declared: the bytes of all texts and members, and the number of members.
     pub fn sums(&self) -> (usize, usize)
         ensures { AreSums self.now.pairs result.0 result.1 }
     {
         sums(&self.pairs, &self.order)
     }
 
-    /// Adds each pair to the environment, in order: as a member of its key's list where the key is
-    /// `rft.au`, `rft_id` or one of `lists`, and otherwise as a text, of which the first of a key stays.
+    /// Adds each pair to the environment, in order: if the key is `rft.au`, `rft_id` or one of `lists`, as a member of
+    /// that list, and otherwise as a text, unless the environment already has the key.
     ///
-    /// `TooLarge` if a pair would exceed a limit of the environment, `NoMemory` if an allocation failed. The
-    /// pairs before the refused one stay added, and the refused one would have changed the environment.
+    /// `TooLarge` if a pair would exceed a limit of the environment, `NoMemory` if an allocation failed. The pairs
+    /// before the rejected one stay added, and the rejected one would have changed the environment.
     pub fn fill(&self, lists: &[&str], env: &mut Env) -> Result<(), VarsError>
         ensures ok { OnOk result (env.new.entries ≡ filled (texts_of lists.now) env.old.entries self.now.pairs) }
         ensures err { IfErr result (StopsAtPair (texts_of lists.now) env.old.entries self.now.pairs env.new.entries) }
 
-        // What the environment grows by at most, whatever the answer.
+        // How much the environment grows at most, whatever the result.
         ensures bytes { byte_count env.new.entries ≤ byte_count env.old.entries + 3 * self.now.query_bytes }
         ensures members { member_count env.new.entries ≤ member_count env.old.entries + length self.now.pairs }
 
-        // Where that fits, only memory can be missing; into an empty environment it always fits.
+        // If there is room for that, the only possible error is out of memory. An empty environment always has room.
         ensures room { byte_count env.old.entries + 3 * self.now.query_bytes ≤ MAX_BYTES
             → member_count env.old.entries + length self.now.pairs ≤ MAX_MEMBERS
             → IfErr result (λ e. e ≡ VarsError.NoMemory) }

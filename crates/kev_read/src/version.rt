@@ -7,10 +7,10 @@ ghost use Rattle.kev_read.specs.Refusal as spec;
 use crate::pairs::Pairs;
 use crate::values::Values;
 
-/// The version of OpenURL that is read.
+/// The only version of OpenURL that is accepted.
 const VERSION: &str = "Z39.88-2004";
 
-/// The first version of the context object, or the first of the transport, is another one.
+/// Whether the first `ctx_ver` (of the context object) or the first `url_ver` (of the transport) is another version.
 pub(crate) fn states_other_version(pairs: &Pairs) -> bool
     ensures { result ≡ spec.states_other_version pairs.now }
 {

@@ -1,4 +1,4 @@
--- The values of pairs as members of lists, each of the name of its key.
+-- The values of pairs as members of lists that have the names of the keys.
 use Rattle.std.specs.Prelude.{◌≡◌, ℕ, ◌+◌, ◌*◌, ◌≤◌, List, [], All, fold, length, map}
 use Rattle.text_model.specs.Texts.{Text}
 use Rattle.environment_model.specs.Environment.{Environment, with_member}

@@ -1,16 +1,16 @@
 -- The order of the pairs of a request by their keys.
 use Rattle.std.specs.Prelude.{◌≡◌, ℕ, ◌<◌, ◌≤◌, ◌+◌, ◌==◌, Bool, true, false, List, [], All, filter, get_or, length, map, take, drop, sum_by, Option, slice_get}
 use Rattle.std.specs.declared.cmp.Ordering.{Ordering}
-use Rattle.std.specs.Ordering.{nat_cmp, is_lt}
+use Rattle.std.specs.Ordering.{is_lt}
 use Rattle.std.specs.Option.{option_cmp, option_map_or}
-use Rattle.std.specs.Cmp.Lexicographic.{slice_cmp}
 use Rattle.std.specs.List.{list_any, range_with_len}
 use Rattle.std.specs.List.Sorted.{IsSortedBy}
 use Rattle.std.specs.Str.{bytes_eq}
 use Rattle.text_model.specs.Texts.{Text}
 use Rattle.kev_read.specs.Pairs.{KeyValue}
+use Rattle.kev_read.specs.Private.KeyMarks.{compared_keys}
 
--- the key of the pair at the index, where there is one
+-- the key of the pair at the index, if there is one
 abbrev pub key_at : List KeyValue → ℕ → Option Text
 key_at pairs index = slice_get (map (λ pair. pair.key) pairs) index
 
@@ -18,9 +18,9 @@ key_at pairs index = slice_get (map (λ pair. pair.key) pairs) index
 abbrev pub passes_at : (Text → Bool) → List KeyValue → ℕ → Bool
 passes_at test pairs index = option_map_or test (key_at pairs index) false
 
--- how keys compare, by their bytes
+-- how keys compare; no key comes before every key
 abbrev pub compared : Option Text → Option Text → Ordering
-compared = option_cmp (slice_cmp nat_cmp)
+compared = option_cmp compared_keys
 
 abbrev pub has_index : ℕ → List ℕ → Bool
 has_index index indices = list_any (λ other. other == index) indices
@@ -37,7 +37,7 @@ pairs_at pairs indices = map (pair_at pairs) indices
 abbrev pub has_key_at : Text → List KeyValue → ℕ → Bool
 has_key_at key pairs index = passes_at (λ other. bytes_eq other key) pairs index
 
--- the indices of all pairs, in the order of their keys, and of the query where keys are the same
+-- the indices of all pairs, in the order of their keys; pairs with the same key are in the order of the query
 pub record IsKeyOrder (pairs : List KeyValue) (order : List ℕ) : Type 0 where
   pub sorted : IsSortedBy (λ a b. is_lt (compared (key_at pairs a) (key_at pairs b))) order
   pub every : (index : ℕ) → index < length pairs → has_index index order ≡ true

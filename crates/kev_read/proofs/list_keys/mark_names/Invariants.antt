@@ -4,7 +4,7 @@ use Rattle.environment_model.specs.Environment.{is_among}
 use Rattle.kev_read.specs.Private.KeyOrder.{passes_at}
 use Rattle.kev_read.proofs.list_keys.mark_names.Given as goal
 
--- the names so far were looked for
+-- the names so far were searched
 abbrev pub invariant-loop-name : goal.invariant-loop-name
 invariant-loop-name l =
     (i : ℕ) → slice_index_or l.marks i false

@@ -3,7 +3,7 @@ use Rattle.form_urlencoded.specs.Form.{raw_pairs}
 use Rattle.form_urlencoded.specs.Parse.{raw_pairs_left}
 use Rattle.kev_read.proofs.read.pair_count.Given as goal
 
--- what was counted, with what is left, is the whole
+-- the count so far, with the pairs that are left, is the whole
 abbrev pub invariant-loop : goal.invariant-loop
 invariant-loop l = record {
   whole : l.count + length (raw_pairs_left l.iterator') ≡ length (raw_pairs l.query);

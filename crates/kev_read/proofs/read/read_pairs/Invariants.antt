@@ -3,6 +3,6 @@ use Rattle.form_urlencoded.specs.Parse.{pairs_left}
 use Rattle.kev_read.specs.Pairs.{pairs_of, decoded_pair}
 use Rattle.kev_read.proofs.read.read_pairs.Given as goal
 
--- what was read, with what is left, is the whole
+-- the pairs so far, with those that are left, are all pairs
 abbrev pub invariant-loop-pair : goal.invariant-loop-pair
 invariant-loop-pair l = l.pairs ++ map decoded_pair (pairs_left l.pair-iterator) ≡ pairs_of l.query

@@ -21,11 +21,12 @@ invariant_of-self-in_err-push c =
 
 -- the place is that of the key and the value after the text
 appended : (c : goal.In_ok-push) → IsAppended (string_bytes c.self.inside.text) c.args.key.now c.args.value.now
-    (record { start = c.len-start.result; middle = c.len-middle.result; end = c.len-end.result })
+    (record { start = c.len-start.result; middle = c.len-middle.result; end = c.len-end.result; mark = c.mark-mark.result })
 appended c = record {
   starts = search rules;
   middle = search rules;
   ends = search rules;
+  mark = search rules;
 }
 
 pub invariant_of-self-2 : goal.invariant_of-self-2
