@@ -1,9 +1,10 @@
-"""Cells of tables with spaces at their ends, what they count, and the limit of a table's bytes."""
+"""Cells of tables with spaces at their ends, what they count, the limit of a table's bytes, and rows that are much shorter
+than the header."""
 from assembler import code
 from service import expect_replies, reply_of, request_of
 from targets import ANY_LINK, write_registry
 
-# Writes 1,048,576 bytes, as many as a link may have, and a text: 3 bytes for each of the row and the request.
+# Writes 1,048,576 bytes, the most that a link may have, and a text: 3 bytes for each byte of the row and the request.
 SCALE = code([("text", "a")], [("link", "l" * 32768)],
              ["EMIT l0"] * 32 + ["TEXT r0 n0", "UNDEF r0 35", "PUT r0 u", "HALT"])
 
@@ -62,3 +63,11 @@ def test_limit_of_bytes(program):
         program.fails(["resolve", "registry", "rft.issn=1"], 3, f"target alpha: table: {fault}")
     write_registry(program, [("alpha", ANY_LINK, MARK + b"print_identifier\n1\n" + b"\n" * (MOST - 22))])
     program.prints(["resolve", "registry", "rft.issn=1"], "alpha\thttp://e.org/")
+
+
+def test_short_rows_of_a_wide_table(program):
+    """With a step for each column of each row, this would take longer than a run may take."""
+    columns = "\t".join(["print_identifier"] + ["c"] * 32_000 + ["online_identifier", "last"])
+    table = columns + "\n" + "1\n" * 199_999 + "1" + "\t" * 32_002 + "x\n"
+    write_registry(program, [("wide", "rule\nwhen given last\nlink http://e.org/{last}\n", table)])
+    program.prints(["resolve", "registry", "rft.issn=1"], "wide\thttp://e.org/x")

@@ -1,4 +1,4 @@
--- The cells of small tables, and what they make of an environment, computed.
+-- The cells of small tables, and an environment after they are added, computed.
 use Rattle.std.proofs.Common.{◌≡◌, [], ◌∷◌, ◌++◌, length, Some, None, refl, codes, arith, ap}
 use Rattle.std.specs.Prelude.{map, filter, ◌==◌}
 use Rattle.std.specs.List.{range_with_len}
@@ -56,7 +56,7 @@ cells_of_columns : map (cell_in (codes "1" ∷ [] ∷ codes "3" ∷ [])) (Some 0
     ≡ Some (codes "1") ∷ None ∷ Some (codes "3") ∷ None ∷ None ∷ []
 cells_of_columns = refl
 
--- the first column of a name counts, also where its cell is empty
+-- the first column with a name counts, even if its cell is empty
 cells_of_names : map (λ cells. map (cell_of header cells) (codes "a" ∷ codes "b" ∷ [] ∷ codes "c" ∷ []))
     ((codes "1" ∷ codes "2" ∷ codes "3" ∷ codes "4" ∷ codes "5" ∷ codes "6" ∷ []) ∷ ([] ∷ codes "2" ∷ codes "3" ∷ []) ∷ [] ∷ [])
     ≡ (Some (codes "1") ∷ Some (codes "2") ∷ Some (codes "4") ∷ None ∷ []) ∷ (None ∷ Some
@@ -68,7 +68,7 @@ cells_of_names = refl
 abbrev cell : Text → Text → NamedCell
 cell name text = record { name = name; text = text }
 
--- of each name the first column, and none past the header
+-- the first column of each name, and no column beyond the header
 named_cells_of_rows : map (named_cells header)
     ((codes "1" ∷ codes "2" ∷ codes "3" ∷ codes "4" ∷ codes "5" ∷ codes "6" ∷ []) ∷ ([] ∷ codes "2" ∷ codes "3" ∷ []) ∷ [] ∷ [])
     ≡ (cell (codes "a") (codes "1") ∷ cell (codes "b") (codes "2") ∷ cell [] (codes "4") ∷ []) ∷ (cell (codes "b") (codes "2") ∷ []) ∷ [] ∷ []
@@ -116,7 +116,7 @@ other_names_are_new = refl
 abbrev long : Text → Environment
 long t = text (codes "t") t ∷ []
 
--- the first cell fits, the second is there already, and the third is refused
+-- the first cell fits, the name of the second is already defined, and the third is rejected
 filling_stops_at_a_refused_cell : (t : Text) → length t ≡ 1048575
     → StopsAtCell (long t) (cell (codes "x") (codes "1") ∷ cell (codes "t") (codes "2") ∷ cell (codes "y") (codes "3") ∷ cell (codes "z") (codes "4") ∷ [])
     (long t ++ text (codes "x") (codes "1") ∷ []) TooLarge

@@ -1,6 +1,6 @@
 -- What filling an environment adds to it, and where it stops.
 use Rattle.std.proofs.Common.{◌≡◌, ℕ, ◌+◌, ◌-◌, ◌≤◌, ◌<◌, zero, suc, cond, true, false, List, [], ◌∷◌, ◌++◌, length, get_or, take, drop, Option, Some, None}
-use Rattle.std.proofs.Common.{Result, Ok, Err, OnOk, IfErr, IsErrAnd, subst, refl, sym, ap, ◌∙◌, arith, append-nil}
+use Rattle.std.proofs.Common.{Result, Ok, Err, OnOk, IfErr, refl, sym, ap, ◌∙◌, arith, append-nil}
 use Rattle.std.proofs.lemmas.List.Sums.{sum_by-cons, sum_by-append, fold-append}
 use Rattle.std.proofs.lemmas.List.{get_or-drop, take-append-drop}
 use Rattle.std.proofs.lemmas.List.Elements.{filter_map-append}
@@ -32,7 +32,7 @@ filled_members : (env : Environment) (cells : List NamedCell) → member_count (
 filled_members env [] = refl
 filled_members env (cell ∷ cells) = filled_members (fill_one env cell) cells ∙ member_count-with_text env cell.name cell.text
 
--- ---- what follows from how far it came
+-- ---- what follows from how far the filling came
 
 -- the environment is as the first cells left it
 pub record Reaches (old : Environment) (cells : List NamedCell) (new : Environment) : Type 0 where
@@ -57,7 +57,7 @@ reached_bytes old cells new h =
 pub reached_members : (old : Environment) (cells : List NamedCell) (new : Environment) → Reaches old cells new → member_count new ≡ member_count old
 reached_members old cells new h = ap member_count h.reached ∙ filled_members old h.before
 
--- no cell passes the limit where all of them fit
+-- no cell exceeds the limit if all of them fit
 pub only_memory : {T : Type 0} (old : Environment) (cells : List NamedCell) (new : Environment) (r : Result T VarsError)
     → IfErr r (StopsAtCell old cells new) → byte_count old + cell_bytes cells ≤ MAX_BYTES → IfErr r (λ e. e ≡ NoMemory)
 only_memory old cells new (Ok x) err fits = tt
@@ -70,18 +70,13 @@ only_memory old cells new (Err TooLarge) err fits =
     let over = err.too_large.0 refl in
     absurd (omega arith)
 
--- what holds of the error that `?` passes on holds of the error that it returns
-pub IfErr_passed_on : {T E : Type 0} (P : E → Type 0) (r : Result T E) (e : E) → IsErrAnd r (λ passed. passed ≡ e) → P e → IfErr r P
-IfErr_passed_on P (Ok x) e is holds = tt
-IfErr_passed_on P (Err passed) e is holds = subst P (sym is) holds
-
 -- ---- column by column
 
 one_cell : (env : Environment) (cell : Option NamedCell) → filled env (cons_option cell []) ≡ with_defined env cell
 one_cell env None = refl
 one_cell env (Some cell) = refl
 
--- the cell of one column more
+-- the cell of one more column
 pub filled_more : (old : Environment) (header cells : Row) (column : ℕ)
     → with_defined (filled old (filter_map (named_cell header cells) (range_with_len 0 column))) (named_cell header cells column)
     ≡ filled old (filter_map (named_cell header cells) (range_with_len 0 (column + 1)))
@@ -94,7 +89,7 @@ filled_more old header cells column =
     ∙ ap (filled old) (sym (filter_map-append (named_cell header cells) (range_with_len 0 column) ((0 + column) ∷ [])))
     ∙ ap (λ columns. filled old (filter_map (named_cell header cells) columns)) (sym (range_more 0 column))
 
--- the cell that the columns give is that of the definition
+-- the cell that the program finds is that of the definition
 cell_is : (header cells : Row) (column : ℕ) (name cell : Text) (found : Option ℕ) → get_or header column [] ≡ name → get_or cells column [] ≡ cell
     → found ≡ column_of header name
     → cell_at_first found column name cell ≡ named_cell header cells column
@@ -122,7 +117,7 @@ column_at header row column name cell other_names cells found names_left cells_l
       is = cell_is header row column name cell found (at.is []) cell_there is_found;
     }
 
--- a cell is refused after those before it were added
+-- a cell is rejected after those before it were added
 pub stops_at : (old now new : Environment) (header cells : Row) (column : ℕ) (cell : Option NamedCell) (e : VarsError) → column < length header
     → cell ≡ named_cell header cells column → now ≡ filled old (filter_map (named_cell header cells) (range_with_len 0 column)) → new ≡ now
     → IsRefusedCell now cell e

@@ -1,4 +1,4 @@
--- Going over the names of a header: the first column of each.
+-- A walk over the names of a header: the first column of each.
 use Rattle.std.proofs.Common.{◌≡◌, ℕ, ◌+◌, ◌≤◌, ◌<◌, ◌||◌, Bool, true, false, zero, suc, List, [], ◌∷◌, ◌++◌, length, take, drop, get_or, Option, Some, None}
 use Rattle.std.proofs.Common.{is_some, refl, sym, ap, ◌∙◌, arith, if◌then◌else◌}
 use Rattle.std.proofs.lemmas.Iterator.Adapters.{position_from-zero}
@@ -47,7 +47,7 @@ past_end [] place none = omega arith
 past_end (x ∷ xs) zero none = absurd (none-some x (sym none))
 past_end (x ∷ xs) (suc place) none = omega (arith, past_end xs place none)
 
--- ---- one name more
+-- ---- one more name
 
 abbrev or_else : Option ℕ → Option ℕ → Option ℕ
 or_else None other = other
@@ -72,7 +72,7 @@ column_more names name other =
     ∙ ap (λ place. or_else (position_from (bytes_eq other) 0 names) (if bytes_eq other name then Some place else None)) size
     ∙ ap (λ found. or_else found (if bytes_eq other name then Some (length names) else None)) (sym (position_from-zero (bytes_eq other) names))
 
--- whether it has the name
+-- whether the next column has the name
 pub name_known : (header : Row) (column : ℕ) (name other : Text) → slice_get header column ≡ Some name
     → is_some (column_of (take (column + 1) header) other) ≡ (is_some (column_of (take column header) other) || bytes_eq other name)
 name_known header column name other at =

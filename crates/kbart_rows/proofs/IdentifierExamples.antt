@@ -18,7 +18,7 @@ only_space_and_hyphen_are_dropped : filter (λ b. length (normalised (b ∷ []))
 unfolding kbart_rows_on_literals
 only_space_and_hyphen_are_dropped = refl
 
--- space and hyphen are dropped, and small letters raised
+-- spaces and hyphens are dropped, and letters are changed to upper case
 changed_characters : filter (λ b. not (bytes_eq (normalised (b ∷ [])) (b ∷ []))) (range_with_len 0 128) ≡ codes " -abcdefghijklmnopqrstuvwxyz"
 unfolding kbart_rows_on_literals
 changed_characters = refl
@@ -52,7 +52,7 @@ no_columns_of_identifiers = refl
 keys_of_identifiers : identifier_keys ≡ codes "rft.issn" ∷ codes "rft.eissn" ∷ codes "rft.isbn" ∷ []
 keys_of_identifiers = refl
 
--- an empty cell and a missing one have none; a cell of hyphens has an empty one, which no request has
+-- an empty or missing cell has no identifier; a cell of hyphens has an empty one, which no request has
 identifiers_of_rows : map (identifiers_in (Some 0 ∷ Some 2 ∷ None ∷ []))
     ((codes "0028-0836" ∷ codes "x" ∷ codes "1234-567x" ∷ []) ∷ ([] ∷ codes "x" ∷ []) ∷ (codes "-" ∷ []) ∷ [])
     ≡ (codes "00280836" ∷ codes "1234567X" ∷ []) ∷ [] ∷ ([] ∷ []) ∷ []

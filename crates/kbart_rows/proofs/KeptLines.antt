@@ -1,4 +1,4 @@
--- Lines that lie one after another in a text.
+-- Lines that are one after another in a text.
 use Rattle.std.proofs.Common.{◌≡◌, ℕ, ◌+◌, ◌≤◌, ◌<◌, zero, suc, List, [], ◌∷◌, ◌++◌, length, map, drop, get_or, slice_range, All, IsUtf8}
 use Rattle.std.proofs.Common.{IsCharBoundary, Some, refl, sym, ap, ◌∙◌, arith, length-append, drop_at}
 use Rattle.std.proofs.lemmas.List.{take-append-le, length-map, map-append}

@@ -12,3 +12,4 @@ pub mod FillingLemmas
 pub mod Rows
 pub mod RowSums
 pub mod Matches
+pub mod RowOrder

@@ -1,4 +1,4 @@
--- How a row's cells lie in its line.
+-- Where a row's cells are in its line.
 use Rattle.std.proofs.Common.{Bor, ◌≡◌, ◌≢◌, ℕ, ◌+◌, ◌-◌, ◌==◌, ◌≤◌, ◌<◌, true, false, zero, suc, List, [], ◌∷◌, ◌++◌, length, map, take, get_or, All, Option}
 use Rattle.std.proofs.Common.{Some, None, refl, sym, ap, ◌∙◌, arith, append_assoc, length-append, if◌then◌else◌}
 use Rattle.std.proofs.lemmas.Bool.Decides.{nat_tests}
@@ -29,7 +29,7 @@ first_cell (b ∷ cell) rest plain =
     let other = is_no_tab b (All-head (λ b. b ≢ tab) b cell plain) in
     rw other (ap (prepended b) (first_cell cell rest (All-tail (λ b. b ≢ tab) b cell plain)))
 
--- what no tab follows is no cell
+-- bytes without a tab after them are not a cell
 pub no_cell : (line : Text) → HasNoTab line → cells_in line ≡ []
 unfolding cells_in
 no_cell [] plain = refl
@@ -45,6 +45,10 @@ cells_of_line (cell ∷ cells) plain =
     ∙ first_cell cell (line_of cells) (All-head HasNoTab cell cells plain)
     ∙ ap (λ rest. cell ∷ rest) (cells_of_line cells (All-tail HasNoTab cell cells plain))
 
+pub prepended_cells : (b : ℕ) (cells : Row) → length (prepended b cells) ≡ length cells
+prepended_cells b [] = refl
+prepended_cells b (cell ∷ cells) = refl
+
 -- a tab makes a cell
 pub few_cells : (line : Text) → length (cells_in line) ≤ length line
 unfolding cells_in
@@ -54,10 +58,6 @@ few_cells (b ∷ line) =
       | true ↦ omega (arith, few_cells line)
       | false ↦ omega (arith, few_cells line, prepended_cells b (cells_in line))
     ]
-  where
-    prepended_cells : (b : ℕ) (cells : Row) → length (prepended b cells) ≡ length cells
-    prepended_cells b [] = refl
-    prepended_cells b (cell ∷ cells) = refl
 
 -- the cells are bytes of the line
 pub cells_fit : (line : Text) → sum_by length (cells_in line) ≤ length line

@@ -1,6 +1,6 @@
 -- What is left of a line after some of its columns.
-use Rattle.std.proofs.Common.{◌≡◌, ℕ, ◌+◌, ◌≤◌, ◌<◌, zero, suc, [], ◌∷◌, ◌++◌, length, drop, Some, None, refl, sym, ap, ◌∙◌, arith, append_assoc}
-use Rattle.std.proofs.lemmas.List.{length-drop}
+use Rattle.std.proofs.Common.{◌≡◌, ℕ, ◌+◌, ◌≤◌, ◌<◌, zero, suc, [], ◌∷◌, ◌++◌, length, drop, get_or, Some, None, refl, sym, ap, ◌∙◌, arith, append_assoc}
+use Rattle.std.proofs.lemmas.List.{get_or_past, length-drop}
 use Rattle.std.proofs.lemmas.Option.{slice_get-get_or, slice_get_past}
 use Rattle.std.specs.List.{slice_get}
 use Rattle.text_model.specs.Texts.{Text}
@@ -25,7 +25,7 @@ next_cell_is line rest cell others column left cells =
 pub next_cell_within : (line rest cell others : Text) (column : ℕ) → IsRest line column rest → cells_in rest ≡ cell ∷ cells_in others → column < length line
 next_cell_within line rest cell others column left cells = omega (arith, (next_cell_at line rest cell others column left cells).inside, few_cells line)
 
--- one column more
+-- one more column
 pub cell_passed : (line rest cell others : Text) (column next : ℕ) → IsRest line column rest → cells_in rest ≡ cell ∷ cells_in others
     → rest ≡ cell ++ tab ∷ others → next ≡ column + 1 → IsRest line next others
 cell_passed line rest cell others column next left cells parts more = record {
@@ -58,3 +58,8 @@ none_passed line rest column next left none more = record {
   parts = left.parts;
   left = none ∙ (none_after (cells_in line) column next (sym none ∙ left.left) more).1;
 }
+
+-- once no cell is left, the cell of every later column is empty
+pub cell_past_end : (cells : Row) (passed column : ℕ) → [] ≡ drop passed cells → passed ≤ column → [] ≡ get_or cells column []
+cell_past_end cells passed column none within =
+    sym (get_or_past cells column [] (omega (arith, (none_after cells passed column none within).0, within)))

@@ -15,7 +15,7 @@ matches columns rows ids = filter (λ row. is_match columns ids (get_or rows row
 pub no_match : (columns : List (Option ℕ)) (rows : List Row) (from : ℕ) → first_from from (matches columns rows []) ≡ None
 no_match columns rows from = none_pass (λ row. is_match columns [] (get_or rows row [])) (λ row. refl) from 0 (length rows)
 
--- one identifier more
+-- one more identifier
 pub match_more : (columns : List (Option ℕ)) (rows : List Row) (from : ℕ) (ids : List Text) (id : Text)
     → lesser_of (first_from from (matches columns rows ids)) (first_from from (rows_with columns rows id))
     ≡ first_from from (matches columns rows (ids ++ id ∷ []))

@@ -1,4 +1,4 @@
--- The cells that are read of a tab separated table have no tab.
+-- The cells that are read from a tab-separated table have no tab.
 use Rattle.std.proofs.Common.{◌≡◌, ◌≢◌, ℕ, ◌==◌, Bool, true, false, List, [], ◌∷◌, ◌++◌, All, Option, Some, refl, arith, if◌then◌else◌, length}
 use Rattle.std.proofs.lemmas.Bool.Decides.{nat_tests}
 use Rattle.std.specs.Bool.{⊤}
@@ -30,7 +30,7 @@ IsPlain state.InEscape = ⊥
 IsPlain state.AfterQuote = ⊥
 IsPlain state.InComment = ⊥
 
--- the state is plain, and no tab joins the cell
+-- the state is plain, and no tab is added to the cell
 abbrev PlainStep : ℕ → State × Action → Type 0
 PlainStep c after = IsPlain after.0 × (after.1 ≡ action.Copy → c ≢ tab)
 
@@ -120,7 +120,7 @@ plain_records (cells ∷ records) s s2 xs ys plain reached =
     let here : All HasNoTab cells = rw reached.2 next.1 in
     All-cons (All HasNoTab) cells records here (plain_records records read.1 s2 read.2 ys next.0 reached.3)
 
--- of the record that came last
+-- for the last record
 pub last_is_plain : (records : List Row) (cells : Row) (s : State) (xs ys : Text) → Reached tab_separated state.StartRecord xs (records ++ cells ∷ []) s ys
     → All HasNoTab cells
 last_is_plain records cells s xs ys reached =

@@ -1,4 +1,4 @@
--- What small tables are read as, and why bytes are no table: the lines are written out here, and the checker compares.
+-- How small tables are read, and why bytes are not a table: the lines are written out here, and the checker compares.
 use Rattle.std.proofs.Common.{◌≡◌, ◌≤◌, List, [], ◌∷◌, ◌++◌, length, None, refl, sym, ap, subst, ◌∙◌, codes, arith, true≢false}
 use Rattle.std.specs.Hash.DefaultHasher.{initial}
 use Rattle.std.proofs.lemmas.Str.{IsUtf8-from_is_utf8, is_utf8-from_IsUtf8}
@@ -24,7 +24,7 @@ last_line_needs_no_end : AreLines (codes "a\n1") ((codes "a" ∷ []) ∷ (codes 
 unfolding kbart_rows_on_literals Reached
 last_line_needs_no_end = (_, _, (_, refl, refl, (_, refl, refl, (refl, refl))), refl)
 
--- also after the last tab of a text
+-- even after the last tab of a text
 cells_may_be_empty : AreLines (codes "\ta\t\n\t") (([] ∷ codes "a" ∷ [] ∷ []) ∷ ([] ∷ [] ∷ []) ∷ [])
 unfolding kbart_rows_on_literals Reached
 cells_may_be_empty = (_, _, (_, refl, refl, (_, refl, refl, (refl, refl))), refl)
@@ -126,7 +126,7 @@ no_characters = (
   (omega arith, λ utf8. true≢false (sym (is_utf8-from_IsUtf8 _ utf8))),
 )
 
--- neither text nor lines are missing where bytes are not UTF-8
+-- bytes that are not UTF-8 are rejected before they are split into lines
 characters_before_lines : ¬ (IsFault (0xFF ∷ []) NoHeader) × ¬ (IsFault (codes "\n") NotUtf8)
 unfolding kbart_rows_on_literals
 characters_before_lines = (

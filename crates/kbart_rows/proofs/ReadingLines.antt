@@ -7,7 +7,7 @@ use Rattle.csv.specs.declared.reader.Trim.TheVariants as trim
 use Rattle.csv.proofs.ReadFacts.{rows-end, rows-more}
 use Rattle.text_model.specs.Texts.{Text}
 use Rattle.kbart_rows.specs.Cells.{Row}
-use Rattle.kbart_rows.specs.Private.Kept.{IsLineTooLong, IsRefusedLine, rest_of}
+use Rattle.kbart_rows.specs.Private.Kept.{IsRefusedLine, rest_of}
 use Rattle.kbart_rows.specs.Private.Line.{HasNoTab}
 use Rattle.kbart_rows.specs.Reading.{tab_separated, AreLines, AreFirstLines, AllFit, IsFreshReader, IsLineFault}
 use Rattle.kbart_rows.specs.declared.error.TableError.{TableError}
@@ -15,7 +15,7 @@ use Rattle.kbart_rows.specs.declared.error.TableError.TheVariants.{TooLong, NotU
 use Rattle.kbart_rows.specs.declared.read.TheConstants.{MAX_ROWS}
 use Rattle.kbart_rows.proofs.PlainCells.{last_is_plain}
 
--- the reader took these lines of the bytes
+-- the reader has read these lines of the bytes
 pub record IsReading (bytes : Text) (lines : List Row) (reader : Reader (Bor (List ℕ))) : Type 0 where
   pub trim : reader.trim ≡ trim.None
   pub ready : Ready reader
@@ -62,7 +62,7 @@ pub no_tab_in_last : (bytes : Text) (lines : List Row) (cells : Row) (reader : R
     → All HasNoTab cells
 no_tab_in_last bytes lines cells reader reading = last_is_plain lines cells reader.state (strip_bom bytes) reading.rest reading.reached
 
--- why a line was refused, as a fault of the bytes
+-- why a line was rejected, as a fault of the bytes
 pub line_refused : (bytes : Text) (lines : List Row) (cells : Row) (reader : Reader (Bor (List ℕ))) (e : TableError)
     → IsReading bytes (lines ++ cells ∷ []) reader
     → AllFit lines → length lines ≤ MAX_ROWS + 1 → IsRefusedLine (length lines) cells e → IsLineFault bytes e
@@ -74,15 +74,6 @@ line_refused bytes lines cells reader NoMemory reading fit few why = tt
 line_refused bytes lines cells reader TooLong reading fit few why = absurd why
 line_refused bytes lines cells reader NotUtf8 reading fit few why = absurd why
 line_refused bytes lines cells reader NoHeader reading fit few why = absurd why
-
--- why a line was not kept, where others could be before it
-pub line_not_kept : (before : ℕ) (cells : Row) (e : TableError) → before ≤ MAX_ROWS → IsLineTooLong cells e → IsRefusedLine before cells e
-line_not_kept before cells RowTooLong few why = (few, why)
-line_not_kept before cells NoMemory few why = tt
-line_not_kept before cells TooManyRows few why = absurd why
-line_not_kept before cells TooLong few why = absurd why
-line_not_kept before cells NotUtf8 few why = absurd why
-line_not_kept before cells NoHeader few why = absurd why
 
 -- the header and the rows
 pub header_first : (lines : List Row) → 0 < length lines → lines ≡ get_or lines 0 [] ∷ drop 1 lines

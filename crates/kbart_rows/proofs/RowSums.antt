@@ -48,3 +48,9 @@ counted_within (true ∷ others) [] = omega (arith, counted_within others [])
 counted_within (false ∷ others) [] = omega (arith, counted_within others [])
 counted_within (true ∷ others) (cell ∷ cells) = omega (arith, counted_within others cells, sum_by-cons length cell cells)
 counted_within (false ∷ others) (cell ∷ cells) = omega (arith, counted_within others cells, sum_by-cons length cell cells)
+
+-- no cells have no bytes
+pub none_counted : (counts : List Bool) → counted_bytes counts [] ≡ 0
+none_counted [] = refl
+none_counted (true ∷ others) = omega (arith, none_counted others)
+none_counted (false ∷ others) = omega (arith, none_counted others)

@@ -24,11 +24,11 @@ range_parts first (suc n) m =
     ap (range_with_len first) size ∙ ap (λ rest. first ∷ rest) (range_parts (first + 1) n m)
     ∙ ap (λ at. first ∷ (range_with_len (first + 1) n ++ at ∷ range_with_len (at + 1) m)) start
 
--- one number more
+-- one more number
 pub range_more : (first n : ℕ) → range_with_len first (n + 1) ≡ range_with_len first n ++ (first + n) ∷ []
 range_more first n = range_parts first n 0
 
--- one row more
+-- one more row
 pub filter_row : (test : ℕ → Bool) (n : ℕ) → filter test (range_with_len 0 (n + 1)) ≡ filter test (range_with_len 0 n) ++ (if test n then n ∷ [] else [])
 filter_row test n =
     ap (filter test) (range_more 0 n) ∙ filter-append test (range_with_len 0 n) ((0 + n) ∷ [])
@@ -78,7 +78,7 @@ rising test first (suc n) =
 
 -- ---- the first row at or after one
 
--- what holds of all rows holds of the first
+-- what holds for all rows holds for the first
 pub first_is : (P : ℕ → Type 0) (from : ℕ) (rows : List ℕ) → All P rows → IfSome (first_from from rows) P
 first_is P from [] all = tt
 first_is P from (row ∷ rows) all =
@@ -87,7 +87,7 @@ first_is P from (row ∷ rows) all =
       | false ↦ first_is P from rows (All-tail P row rows all)
     ]
 
--- it is where the rows below it end
+-- the first row at or after `from` is the one after those below `from`
 pub first_at : (rows : List ℕ) (from at : ℕ) → AllWithin (λ row. nat_lt row from ≡ true) rows 0 at
     → AllWithin (λ row. nat_lt row from ≡ false) rows at (length rows)
     → first_from from rows ≡ slice_get rows at

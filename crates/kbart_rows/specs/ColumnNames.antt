@@ -4,6 +4,6 @@ use Rattle.std.specs.HashSet.{contains_text}
 use Rattle.text_model.specs.Texts.{Text}
 use Rattle.kbart_rows.specs.declared.column_names.ColumnNames.{ColumnNames}
 
--- a column is so named
+-- a column has the name
 abbrev pub has : ColumnNames → Text → Bool
 has columns name = contains_text columns.names name

@@ -1,4 +1,4 @@
--- What the defined cells of a row make of an environment.
+-- An environment after the defined cells of a row are added.
 use Rattle.std.specs.Prelude.{◌≡◌, ◌↔◌, ◌+◌, ◌<◌, false, List, ◌∷◌, ◌++◌, length, fold, Option, None, Some}
 use Rattle.environment_model.specs.Environment.{Environment, is_there, byte_count, with_text}
 use Rattle.target_vars.specs.declared.env.TheConstants.{MAX_BYTES}
@@ -18,7 +18,7 @@ with_defined env (Some cell) = fill_one env cell
 abbrev pub filled : Environment → List NamedCell → Environment
 filled env cells = fold fill_one env cells
 
--- the environment is as the cells before a refused one left it, and the refused one would have been added
+-- the environment has the cells before a rejected one, which would otherwise have been added
 pub record StopsAtCell (old : Environment) (cells : List NamedCell) (new : Environment) (e : VarsError) : Type 0 where
   pub before : List NamedCell
   pub refused : NamedCell

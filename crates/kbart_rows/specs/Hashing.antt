@@ -1,11 +1,11 @@
--- How the keys of a table begin each hasher.
+-- How the keys of a table initialise each hasher.
 use Rattle.std.specs.Prelude.{ℕ, fold}
 use Rattle.std.specs.Hash.{u64}
 use Rattle.std.specs.Hash.DefaultHasher.{initial, write}
 use Rattle.std.specs.declared.hash.DefaultHasher.{DefaultHasher}
 use Rattle.kbart_rows.specs.declared.keys.Keys.{Keys}
 
--- the hasher that took the two numbers, one after the other
+-- the hasher after it has hashed the two numbers, one after the other
 abbrev pub keyed : ℕ → ℕ → DefaultHasher
 keyed first second = fold write (fold write initial (u64 first)) (u64 second)
 

@@ -10,11 +10,11 @@ use Rattle.kbart_rows.specs.Cells.{Row, Holdings, column_of, defined, cell_in}
 
 -- ---- how identifiers are compared
 
--- all characters but the hyphen and the space
+-- all characters except the hyphen and the space
 abbrev pub counts : ℕ → Bool
 counts character = not (character == 45 || character == 32)
 
--- without hyphens and spaces, and in capital letters
+-- without hyphens and spaces, and in upper case
 abbrev pub normalised : Text → Text
 normalised text = encode_utf8_all (map to_ascii_uppercase (filter counts (chars text)))
 
@@ -38,7 +38,7 @@ has_identifier columns id cells = list_any (bytes_eq id) (identifiers_in columns
 abbrev pub identifier_keys : List Text
 identifier_keys = codes "rft.issn" ∷ codes "rft.eissn" ∷ codes "rft.isbn" ∷ []
 
--- the first value of a key, normalised; one that is empty then is undefined, as an empty cell is
+-- the first value of a key, normalised; if it is then empty, it is undefined, like an empty cell
 abbrev pub id_of : List KeyValue → Text → Option Text
 id_of pairs key = option_and_then defined (option_map normalised (first_of pairs key))
 

@@ -1,15 +1,15 @@
--- A row's cells as one text, in which a tab follows each, and where they lie in it.
+-- A row's cells as one text, in which a tab follows each cell, and where the cells are in it.
 use Rattle.std.specs.Prelude.{◌≡◌, ℕ, ◌==◌, ◌+◌, ◌≤◌, [], ◌∷◌, length, get_or, if◌then◌else◌}
 use Rattle.text_model.specs.Texts.{Text}
 use Rattle.target_vars.specs.EnvValue.{piece_at}
 use Rattle.kbart_rows.specs.Cells.{Row, tab}
 
--- a byte prepended to the first cell; without a cell it is in none
+-- the byte is added at the beginning of the first cell; if there is no cell, it is dropped
 abbrev pub prepended : ℕ → Row → Row
 prepended b [] = []
 prepended b (cell ∷ cells) = (b ∷ cell) ∷ cells
 
--- the cells of a line: what a tab follows
+-- the cells of a line: the texts before its tabs
 unfoldable pub cells_in : Text → Row
 cells_in [] = []
 cells_in (b ∷ line) = if b == tab then [] ∷ cells_in line else prepended b (cells_in line)

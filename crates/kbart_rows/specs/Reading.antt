@@ -1,4 +1,4 @@
--- What the bytes of a table are read as, and why they are refused.
+-- The table that bytes are read as, and why bytes are rejected.
 use Rattle.std.specs.Prelude.{◌≡◌, ℕ, ◌+◌, ◌≤◌, ◌<◌, List, [], ◌∷◌, ◌++◌, length, All, Some, None, true, false, IsUtf8, ⊤}
 use Rattle.text_model.specs.Texts.{Text}
 use Rattle.std.specs.Borrow.{Bor}
@@ -14,21 +14,21 @@ use Rattle.kbart_rows.specs.declared.error.TableError.{TableError}
 use Rattle.kbart_rows.specs.declared.error.TableError.TheVariants.{TooLong, NotUtf8, NoHeader, TooManyRows, RowTooLong, NoMemory}
 use Rattle.kbart_rows.specs.declared.read.TheConstants.{MAX_TABLE_BYTES, MAX_ROWS, MAX_ROW_BYTES}
 
--- tabs separate cells, and lines end with LF, CR LF or CR; nothing quotes, escapes or comments
+-- tabs separate cells, and lines end with LF, CR LF or CR; there are no quotes, escapes or comments
 abbrev pub tab_separated : Config
 tab_separated = record { delimiter = tab; quote = 34; escape = None; double_quote = true; quoting = false; comment = None; terminator = terminator.CRLF }
 
--- these are the lines, but for blank ones, of the bytes after one byte order mark
+-- these are the lines of the bytes without blank ones, after one byte order mark is dropped
 abbrev pub AreLines : Text → List Row → Type 0
 AreLines bytes lines = AreRecords tab_separated state.StartRecord (strip_bom bytes) lines
 
--- these are the first of them
+-- these are the first of those lines
 pub record AreFirstLines (bytes : Text) (lines : List Row) : Type 0 where
   pub after : State
   pub rest : Text
   pub reached : Reached tab_separated state.StartRecord (strip_bom bytes) lines after rest
 
--- it reads these bytes, of which it took none yet, as a tab separated table
+-- the reader reads these bytes as a tab-separated table, and has read none of them yet
 pub record IsFreshReader (bytes : List ℕ) (reader : Reader (Bor (List ℕ))) : Type 0 where
   pub config : reader.config ≡ tab_separated
   pub trim : reader.trim ≡ trim.None
@@ -52,13 +52,13 @@ pub record IsTable (bytes : Text) (table : Holdings) : Type 0 where
   pub few : length table.rows ≤ MAX_ROWS
   pub fit : AllFit (table.header ∷ table.rows)
 
--- the lines before one that is refused
+-- the lines before one that is rejected
 pub record StopsAtLine (bytes : Text) (before : List Row) (refused : Row) : Type 0 where
   pub lines : AreFirstLines bytes (before ++ refused ∷ [])
   pub few : length before ≤ MAX_ROWS + 1
   pub fit : AllFit before
 
--- why lines are no table; running out of memory says nothing of them
+-- why lines are not a table; memory may run out for any lines
 abbrev pub IsLineFault : Text → TableError → Type 0
 IsLineFault bytes NoHeader = AreLines bytes []
 IsLineFault bytes TooManyRows = (before : List Row) × (refused : Row) × StopsAtLine bytes before refused × (length before ≡ MAX_ROWS + 1)
@@ -68,7 +68,7 @@ IsLineFault bytes NoMemory = ⊤
 IsLineFault bytes TooLong = ⊥
 IsLineFault bytes NotUtf8 = ⊥
 
--- why bytes are no table: those that are too long or not UTF-8 have no lines
+-- why bytes are not a table: those that are too many or not UTF-8 are not read as lines
 abbrev pub IsFault : Text → TableError → Type 0
 IsFault bytes TooLong = MAX_TABLE_BYTES < length bytes
 IsFault bytes NotUtf8 = (length bytes ≤ MAX_TABLE_BYTES) × ¬ (IsUtf8 bytes)

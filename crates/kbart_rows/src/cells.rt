@@ -31,7 +31,7 @@ pub(crate) fn next_cell(line: &str) -> Option<(&str, &str)>
     line.split_once('\t')
 }
 
-/// The first cell of a line, the empty text where it has none, and the line of those after it.
+/// The first cell of a line (the empty text if it has none), and the line of the cells after it.
 pub(crate) fn split_cell(line: &str) -> (&str, &str)
     ensures cell { result.0.now ≡ get_or (cells_in line.now) 0 [] }
     ensures rest { cells_in result.1.now ≡ drop 1 (cells_in line.now) }
@@ -40,25 +40,28 @@ pub(crate) fn split_cell(line: &str) -> (&str, &str)
     next_cell(line).unwrap_or(("", ""))
 }
 
-/// The cell of a line in a column, the empty text where it has none.
+/// The cell of a line in a column; the empty text if there is none. It takes no time for columns past the line's cells.
 pub(crate) fn cell_at(line: &str, column: usize) -> &str
     ensures { result.now ≡ get_or (cells_in line.now) column [] }
 {
     let mut rest = line;
     for _ in 0..column {
+        if rest.is_empty() {
+            return "";
+        }
         rest = split_cell(rest).1;
     }
     split_cell(rest).0
 }
 
-/// The text of a cell that is defined.
+/// The text of a cell if it is defined, which means not empty.
 pub(crate) fn defined(cell: &str) -> Option<&str>
     ensures { option_copied result ≡ spec.defined cell.now }
 {
     if cell.is_empty() { None } else { Some(cell) }
 }
 
-/// The defined cell of a line in a column, where there is such a column.
+/// The cell of a line in a column, if there is such a column and the cell is defined.
 pub(crate) fn cell_in(line: &str, column: Option<usize>) -> Option<&str>
     ensures { option_copied result ≡ spec.cell_in (cells_in line.now) column }
 {

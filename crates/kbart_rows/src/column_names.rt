@@ -41,7 +41,7 @@ impl ColumnNames {
         Ok(())
     }
 
-    /// Whether a column of a table that was added is so named.
+    /// Whether a column of a table that was added has the name.
     pub fn contains(&self, name: &str) -> bool
         ensures { result ≡ has self.now name.now }
     {

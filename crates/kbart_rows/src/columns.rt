@@ -36,7 +36,7 @@ pub(crate) fn columns_of(
     Ok(columns)
 }
 
-/// Adds a column of a name that may have an earlier one.
+/// Adds a column under its name, unless an earlier column has the name.
 fn add_name(
     columns: &mut HashMap<String, usize, Keys>,
     name: String,

@@ -1,10 +1,11 @@
-//! Why bytes are no holdings table.
+//! Why bytes are not a holdings table.
 
 use std::alloc::AllocError;
 use thiserror::Error;
 
-/// Why a table is refused: the first two in this order, then the first fault of its lines, in their order.
-/// `NoMemory` can come in place of the faults of lines, and never of the first two, which take no memory.
+/// Why a table is rejected. The first two are checked first, in this order; then the lines are read in order, up to the
+/// first fault. `NoMemory` can be returned instead of a fault of the lines, but never instead of the first two, which
+/// need no allocation.
 #[derive(Clone, Copy, Debug, PartialEq, Eq, Error)]
 pub enum TableError {
     /// The table has more than [`MAX_TABLE_BYTES`](crate::MAX_TABLE_BYTES) bytes.
@@ -22,6 +23,7 @@ pub enum TableError {
     /// A row, or the header, has more than [`MAX_ROW_BYTES`](crate::MAX_ROW_BYTES) bytes of cells and tabs.
     #[error("RowTooLong")]
     RowTooLong,
+    /// An allocation failed.
     #[error("NoMemory")]
     NoMemory,
 }

@@ -14,7 +14,7 @@ use crate::keys::Keys;
 use std::collections::HashMap;
 use target_vars::{Env, VarsError};
 
-/// Adds the defined cells of a line under the names of the header's, up to the first that is refused.
+/// Adds the defined cells of a line under the names in the header, up to the first cell that is rejected.
 pub(crate) fn fill(
     header: &str,
     columns: &HashMap<String, usize, Keys>,
@@ -62,7 +62,7 @@ fn add(
     }
 }
 
-/// Adds a cell under a name, where it is defined.
+/// Adds a cell under a name, if the cell is defined.
 fn put(name: &str, cell: &str, env: &mut Env) -> Result<(), VarsError>
     ensures ok { OnOk result (env.new.entries ≡ spec.with_defined env.old.entries (name_cell name.now cell.now)) }
     ensures err { IfErr result (IsRefusedCell env.old.entries (name_cell name.now cell.now)) }

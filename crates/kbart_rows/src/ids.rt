@@ -25,8 +25,8 @@ impl Model for Ids {
 }
 
 impl Ids {
-    /// The first values of `rft.issn`, `rft.eissn` and `rft.isbn`, in this order, without hyphens and spaces
-    /// and with ASCII letters raised; those that are empty then are left out.
+    /// The first values of `rft.issn`, `rft.eissn` and `rft.isbn`, in this order, without hyphens and spaces and with
+    /// ASCII letters in upper case. Those that are then empty are left out.
     ///
     /// Fails if an allocation failed.
     pub fn of(alloc: Global, request: &Request) -> Result<Ids, AllocError>
@@ -47,7 +47,7 @@ impl Ids {
     }
 }
 
-/// Adds the first value of a key, normalised, unless it is empty then.
+/// Adds the normalised first value of a key, unless it is then empty.
 fn add_first(
     alloc: Global,
     request: &Request,

@@ -19,7 +19,7 @@ use crate::records::Records;
 use std::alloc::{AllocError, Global};
 use std::collections::HashMap;
 
-/// Each identifier's rows, where these are the columns of identifiers; the first line is the header.
+/// The rows of each identifier. `print` and `online` are the columns of identifiers, and the first line is the header.
 pub(crate) fn index_of(
     alloc: Global,
     lines: &Records,
@@ -43,7 +43,7 @@ pub(crate) fn index_of(
     Ok(index)
 }
 
-/// The identifier in a column of a line, where it is defined.
+/// The normalised identifier in a column of a line, if there is one.
 fn identifier(
     alloc: Global,
     line: &str,
@@ -57,7 +57,7 @@ fn identifier(
     }
 }
 
-/// Adds a row to those of its identifiers, to those of one that it has twice only once.
+/// Adds a row to the rows of its identifiers; if both are the same, only once.
 fn add_row(
     index: &mut HashMap<String, Vec<u32>, Keys>,
     first: Option<String>,
@@ -78,7 +78,7 @@ fn add_row(
     Ok(())
 }
 
-/// Adds a row to those of an identifier, where there is one.
+/// Adds a row to the rows of an identifier, if there is one.
 fn add_to(
     index: &mut HashMap<String, Vec<u32>, Keys>,
     id: Option<String>,
@@ -106,7 +106,7 @@ fn add(index: &mut HashMap<String, Vec<u32>, Keys>, id: String, row: u32) -> Res
     Ok(())
 }
 
-/// The first of rising rows at or after one, found by halves.
+/// The first of the rows, which are in rising order, at or after `from`; a binary search.
 pub(crate) fn first_from(rows: &[u32], from: usize) -> Option<usize>
     requires { IsNonDecreasing rows.now }
     ensures { result ≡ spec.first_from from rows.now }

@@ -5,15 +5,15 @@ ghost use Rattle.kbart_rows.specs.Hashing.{begun_by, keyed};
 
 use std::hash::{BuildHasher, DefaultHasher, Hasher};
 
-/// The secret keys of a table's hashed look-ups. Of a table from a stranger, who may have chosen identifiers
-/// and column names that collide, the keys are random; no answer depends on them.
+/// The secret keys of a table's hashed look-ups. Use random keys for a table from a stranger, who may have chosen
+/// identifiers and column names that collide. No result depends on the keys.
 #[derive(Clone, Copy)]
 pub struct Keys {
     begun: DefaultHasher,
 }
 
 impl Keys {
-    /// The keys that these two numbers make; each of them counts.
+    /// The keys made of these two numbers.
     pub fn new(first: u64, second: u64) -> Keys
         ensures { begun_by result ≡ keyed first second }
     {

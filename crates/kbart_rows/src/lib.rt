@@ -1,4 +1,4 @@
-//! Holdings tables in the KBART form (NISO RP-9-2014): which rows have a cited title, and their cells.
+//! Holdings tables in the KBART format (NISO RP-9-2014): which rows have a cited title, and their cells.
 //!
 //! The differences from the recommended practice are listed at [`Table`].
 //!
@@ -24,9 +24,12 @@ mod sums;
 mod table;
 
 pub use column_names::ColumnNames;
+pub use csv::Reader;
 pub use error::TableError;
 pub use ids::Ids;
+pub use kev_read::Request;
 pub use keys::Keys;
 pub use read::{MAX_ROW_BYTES, MAX_ROWS, MAX_TABLE_BYTES, tab_separated_reader};
 pub use row_cursor::RowCursor;
 pub use table::Table;
+pub use target_vars::{Env, VarsError};

@@ -13,17 +13,17 @@ use crate::records::Records;
 use csv::{Reader, ReaderBuilder, StringRecord};
 use std::alloc::Global;
 
-/// The largest table that is read, in bytes; a byte order mark counts.
+/// The maximum size of a table, in bytes; a byte order mark counts.
 pub const MAX_TABLE_BYTES: usize = 16_777_216;
 
-/// The largest number of rows in a table; the header is none.
+/// The maximum number of rows in a table; the header is not a row.
 pub const MAX_ROWS: usize = 200_000;
 
-/// The most bytes that the cells of a line have together with the tabs between them, in the header too.
-/// Cells past the header count.
+/// The maximum number of bytes of a line's cells and the tabs between them, in the header too. Cells beyond the columns
+/// of the header count.
 pub const MAX_ROW_BYTES: usize = 65_536;
 
-/// Refuses bytes that are too long or not UTF-8.
+/// Rejects bytes that are too many or not UTF-8.
 pub(crate) fn check_bytes(bytes: &[u8]) -> Result<(), TableError>
     ensures text { OnOk result (IsText bytes.now) }
     ensures refused { IfErr result (IsFault bytes.now) }
@@ -37,7 +37,7 @@ pub(crate) fn check_bytes(bytes: &[u8]) -> Result<(), TableError>
     Ok(())
 }
 
-/// The lines of a table, but for blank ones; the first is the header.
+/// The lines of a table that are not blank; the first is the header.
 pub(crate) fn read_lines(alloc: Global, bytes: &[u8]) -> Result<Records, TableError>
     ensures lines { IfOk result (λ lines. AreLines bytes.now lines) }
     ensures some { IfOk result (λ lines. 0 < length lines) }
@@ -45,7 +45,7 @@ pub(crate) fn read_lines(alloc: Global, bytes: &[u8]) -> Result<Records, TableEr
     ensures fit { IfOk result AllFit }
     ensures refused { IfErr result (IsLineFault bytes.now) }
 {
-    // With a tab after its last cell, a line is no longer than with its end in the table, which the last may lack.
+    // A kept line ends with a tab, and a line of the table with a line end, which only the last may lack.
     let mut lines = Records::with_capacity(alloc, bytes.len().saturating_add(1))?;
     let mut reader = tab_separated_reader(alloc, bytes);
     let mut cells = StringRecord::new(alloc);
@@ -58,7 +58,7 @@ pub(crate) fn read_lines(alloc: Global, bytes: &[u8]) -> Result<Records, TableEr
     Ok(lines)
 }
 
-/// Reads the cells of the next line that is not blank, and answers whether there is one.
+/// Reads the cells of the next line that is not blank, and returns whether there is one.
 fn read_cells(reader: &mut Reader<&[u8]>, cells: &mut StringRecord) -> Result<bool, TableError>
     ensures read { IfOk result (λ found. IsRead reader.old found (fields_of cells.new) reader.new) }
     ensures refused { IfErr result (λ e. e ≡ NoMemory) }
@@ -69,8 +69,8 @@ fn read_cells(reader: &mut Reader<&[u8]>, cells: &mut StringRecord) -> Result<bo
     }
 }
 
-/// A reader of the records of a tab separated text, as a table is read: a line ends with LF, CR LF or CR, blank lines
-/// are none, nothing quotes, and one byte order mark at the beginning is dropped.
+/// A reader of tab-separated records, as in a table: a line ends with LF, CR LF or CR; blank lines are not records;
+/// there are no quotes; and one byte order mark at the beginning is dropped.
 pub fn tab_separated_reader(alloc: Global, bytes: &[u8]) -> Reader<&[u8]>
     ensures { IsFreshReader bytes.now result }
 {

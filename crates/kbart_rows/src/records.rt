@@ -16,8 +16,8 @@ use csv::StringRecord;
 use std::alloc::{AllocError, Global};
 use std::marker::Model;
 
-/// Records of cells; contracts see the cells of each. Each record is kept as one line, which costs its
-/// bytes, a tab for each cell and eight bytes more, however many cells it has.
+/// Records of cells; contracts see the cells of each. A record is kept as one line, which takes the bytes of its cells,
+/// one tab for each cell, and eight bytes.
 #[derive(Drop)]
 pub(crate) struct Records {
     // The lines, one after another.
@@ -74,7 +74,7 @@ impl Records {
         self.ends.len()
     }
 
-    /// The line of a record; past the last the empty one, which has no cells.
+    /// The line of a record; past the last one the empty line, which has no cells.
     pub(crate) fn line(&self, at: usize) -> &str
         ensures cells { cells_in result.now ≡ get_or self.now at [] }
         ensures short { length result.now ≤ MAX_ROW_BYTES + 1 }
@@ -95,7 +95,7 @@ fn start_of(ends: &[usize], at: usize) -> usize
     if at == 0 { 0 } else { ends[at - 1] }
 }
 
-/// Writes the line of a record after the others, and where it ends.
+/// Appends the line of a record, and the place where it ends.
 fn append(text: &mut String, ends: &mut Vec<usize>, cells: &StringRecord) -> Result<(), TableError>
     ensures text { OnOk result (string_bytes text.new ≡ string_bytes text.old ++ line_of (fields_of cells.now)) }
     ensures ends { OnOk result (ends.new.items ≡ ends.old.items ++ length (string_bytes text.new) ∷ []) }

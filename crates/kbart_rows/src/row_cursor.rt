@@ -29,7 +29,7 @@ impl<'a> Model for RowCursor<'a> {
 }
 
 impl<'a> RowCursor<'a> {
-    /// Before the first column of a line.
+    /// A cursor before the first column of a line.
     pub fn new(line: &'a str) -> RowCursor<'a>
         ensures { result ≡ record { line = line.now; column = 0 } }
     {
@@ -40,7 +40,7 @@ impl<'a> RowCursor<'a> {
         }
     }
 
-    /// Where the cell of a column starts in the line, and its bytes. A cell that is missing is empty.
+    /// Where the cell of a column starts in the line, and its length in bytes. A cell that is missing is empty.
     pub fn seek(&mut self, column: usize) -> (u32, u32)
         requires ahead { self.old.column ≤ column }
         requires short { length self.old.line ≤ 65537 }
@@ -49,9 +49,25 @@ impl<'a> RowCursor<'a> {
         ensures place { IsCellAt self.old.line column result.0 result.1 }
     {
         while self.column() < column {
-            self.next_cell();
+            self.pass(column);
         }
         self.place()
+    }
+
+    /// Moves past the next column or, if the line has no more cells, past all columns before this one.
+    fn pass(&mut self, column: usize)
+        requires ahead { self.old.column < column }
+        ensures line { self.new.line ≡ self.old.line }
+        ensures further { self.old.column < self.new.column }
+        ensures within { self.new.column ≤ column }
+    {
+        match next_cell(self.rest) {
+            Some((_, others)) => {
+                self.rest = others;
+                self.column += 1;
+            }
+            None => self.column = column,
+        }
     }
 
     /// The cell of the next column, `None` past the last; either way the cursor moves past the column.
@@ -73,7 +89,7 @@ impl<'a> RowCursor<'a> {
         self.column
     }
 
-    /// Where the cell of the next column lies.
+    /// Where the cell of the next column is.
     fn place(&self) -> (u32, u32)
         requires { length self.now.line ≤ 65537 }
         ensures { IsCellAt self.now.line self.now.column result.0 result.1 }

@@ -1,4 +1,4 @@
-//! The bytes of each row's cells that are defined.
+//! How many bytes the defined cells of each row have.
 
 ghost use Rattle.std.specs.Prelude.{◌≡◌, ◌≤◌, ◌<◌, ◌+◌, [], IfOk, drop, get_or, length, map};
 ghost use Rattle.kbart_rows.specs.Lines.{cells_in};
@@ -9,7 +9,7 @@ use crate::cells::split_cell;
 use crate::records::Records;
 use std::alloc::{AllocError, Global};
 
-/// The bytes of each row's cells, where these columns are the first of their names; the first line is the
+/// How many bytes the cells of each row have, if these columns are the first of their names; the first line is the
 /// header.
 pub(crate) fn sums_of(
     alloc: Global,
@@ -28,7 +28,7 @@ pub(crate) fn sums_of(
     Ok(sums)
 }
 
-/// The bytes of a line's cells in the columns that count.
+/// How many bytes a line's cells have in the columns that count. It takes no time for columns past the line's cells.
 fn sum_of(line: &str, counts: &[bool]) -> u32
     requires { length line.now ≤ MAX_ROW_BYTES + 1 }
     ensures { result ≡ counted_bytes counts.now (cells_in line.now) }
@@ -36,6 +36,9 @@ fn sum_of(line: &str, counts: &[bool]) -> u32
     let mut sum = 0;
     let mut rest = line;
     for is_counted in counts {
+        if rest.is_empty() {
+            return sum as u32;
+        }
         let (cell, others) = split_cell(rest);
         if *is_counted {
             sum += cell.len();

@@ -37,14 +37,14 @@ use target_vars::{Env, VarsError};
 /// - Columns may come in any order, and none is required; a column is found by its exact name
 ///   (`test_lines_and_cells`).
 /// - Only `print_identifier` and `online_identifier` have a meaning here (`test_keys_and_columns` in `keys.py`). Every
-///   other column, also one that the practice does not name, is a variable (`test_lines_and_cells`).
-/// - Of columns with the same name the first counts, even in a row in which its cell is empty
-///   (`test_lines_and_cells`). An empty name is a name (`reads_lines_and_cells` in the crate `holdings_tests`).
+///   other column, even one that the practice does not name, is just a variable (`test_lines_and_cells`).
+/// - If several columns have the same name, the first one counts, even in a row in which its cell is empty
+///   (`test_lines_and_cells`). A name may be empty (`reads_lines_and_cells` in the crate `holdings_tests`).
 /// - Quotes are plain characters, cells are not trimmed, and `#` does not begin a comment (`test_lines_and_cells`).
 /// - A line ends with LF, CR LF or CR. Blank lines are not rows; a line of tabs is a row (`test_lines_and_cells`), and
-///   so is a line of one space.
+///   a line of one space is not blank (`space_is_a_header` in `proofs/ReadingExamples.antt` of this crate).
 /// - One byte order mark at the beginning is dropped (`test_lines_and_cells`).
-/// - An empty or missing cell is undefined. Cells past the header are ignored, but their bytes count
+/// - An empty or missing cell is undefined. Cells beyond the columns of the header are ignored, but their bytes count
 ///   (`test_lines_and_cells`, `test_faults`).
 /// - A table has at most 16,777,216 bytes (`test_limit_of_bytes` in `holdings.py`) and 200,000 rows, and a line at most
 ///   65,536 bytes of cells and tabs (`test_faults`).
@@ -73,16 +73,16 @@ impl Model for Table {
 }
 
 impl Table {
-    /// Reads a holdings table. Its hashed look-ups have the keys 0 and 0, which anybody knows; a table from
-    /// a stranger is better read by [`read_keyed`](Table::read_keyed).
+    /// Reads a holdings table. Its hashed look-ups have the keys 0 and 0, which anybody knows; for a table from a
+    /// stranger use [`read_keyed`](Table::read_keyed).
     ///
-    /// Refuses what is no table, by its first fault: see [`TableError`].
+    /// Bytes that are not a table are rejected by their first fault: see [`TableError`].
     pub fn read(alloc: Global, bytes: &[u8]) -> Result<Table, TableError>
         ensures accepted { IfOk result (IsTable bytes.now) }
         ensures keyed { IfOk result (λ table. begun_by table.keys ≡ keyed 0 0) }
         ensures refused { IfErr result (IsFault bytes.now) }
 
-        // However little memory there is.
+        // Even if memory has run out.
         ensures too_long { (result ≡ Err TableError.TooLong) ↔ (MAX_TABLE_BYTES < length bytes.now) }
         ensures not_utf8 { (result ≡ Err TableError.NotUtf8)
             ↔ ((length bytes.now ≤ MAX_TABLE_BYTES) × ¬ (IsUtf8 bytes.now)) }
@@ -97,7 +97,7 @@ impl Table {
         ensures keyed { IfOk result (λ table. table.keys ≡ keys) }
         ensures refused { IfErr result (IsFault bytes.now) }
 
-        // However little memory there is.
+        // Even if memory has run out.
         ensures too_long { (result ≡ Err TableError.TooLong) ↔ (MAX_TABLE_BYTES < length bytes.now) }
         ensures not_utf8 { (result ≡ Err TableError.NotUtf8)
             ↔ ((length bytes.now ≤ MAX_TABLE_BYTES) × ¬ (IsUtf8 bytes.now)) }
@@ -119,7 +119,7 @@ impl Table {
         })
     }
 
-    /// How many rows there are, at most [`MAX_ROWS`](crate::MAX_ROWS); the header is none.
+    /// How many rows there are, at most [`MAX_ROWS`](crate::MAX_ROWS); the header is not a row.
     pub fn rows(&self) -> usize
         ensures count { result ≡ length self.now.rows }
         ensures few { result ≤ MAX_ROWS }
@@ -135,8 +135,8 @@ impl Table {
         *self.columns.hasher()
     }
 
-    /// The cell of a row, counted from 0, in the first column of the name; `None` where it is empty or
-    /// missing, where no column has the name, and past the last row.
+    /// The cell of a row, counted from 0, in the first column with the name; `None` if it is empty or missing, if no
+    /// column has the name, or past the last row.
     pub fn cell(&self, row: usize, name: &str) -> Option<&str>
         ensures { option_copied result ≡ cell_of self.now.header (get_or self.now.rows row []) name.now }
     {
@@ -146,7 +146,7 @@ impl Table {
         cell_in(self.lines.line(row + 1), self.columns.get(name).copied())
     }
 
-    /// A row's cells, counted from 0, as one text, in which a tab follows each.
+    /// The cells of a row, counted from 0, as one text, in which a tab follows each cell.
     pub fn line(&self, row: usize) -> &str
         requires { row < length self.now.rows }
         ensures cells { cells_in result.now ≡ get_or self.now.rows row [] }
@@ -156,7 +156,7 @@ impl Table {
         self.lines.line(1 + row)
     }
 
-    /// The names of the columns as one text, in which a tab follows each.
+    /// The names of the columns as one text, in which a tab follows each name.
     pub fn header(&self) -> &str
         ensures cells { cells_in result.now ≡ self.now.header }
         ensures short { length result.now ≤ MAX_ROW_BYTES + 1 }
@@ -164,8 +164,8 @@ impl Table {
         self.lines.line(0)
     }
 
-    /// The bytes of a row's defined cells, the row counted from 0; of columns with one name only the first
-    /// counts.
+    /// How many bytes the defined cells of a row have; rows are counted from 0. If several columns have the same name,
+    /// only the first counts.
     pub fn cell_bytes(&self, row: usize) -> usize
         requires { row < length self.now.rows }
         ensures value { result ≡ cell_bytes (named_cells self.now.header (get_or self.now.rows row [])) }
@@ -174,7 +174,7 @@ impl Table {
         self.bytes[row] as usize
     }
 
-    /// The first column that is so named, counted from 0.
+    /// The first column with the name, counted from 0.
     pub fn column(&self, name: &str) -> Option<usize>
         ensures first { result ≡ column_of self.now.header name.now }
         ensures within { IfSome result (λ column. column < length self.now.header) }
@@ -206,12 +206,12 @@ impl Table {
         }
     }
 
-    /// Adds each defined cell of a row, counted from 0, to the environment under the name of its column, in
-    /// the order of the columns; of columns with one name only the first counts. A name that the environment
-    /// has stays as it is.
+    /// Adds each defined cell of a row, counted from 0, to the environment under the name of its column, in the order
+    /// of the columns. If several columns have the same name, only the first counts. A name that the environment
+    /// already has stays as it is.
     ///
-    /// `TooLarge` if a cell would exceed a limit of the environment, `NoMemory` if an allocation failed. The
-    /// cells before the refused one stay added.
+    /// `TooLarge` if a cell would exceed a limit of the environment, `NoMemory` if an allocation failed. The cells
+    /// before the rejected one stay added.
     pub fn fill(&self, row: usize, env: &mut Env) -> Result<(), VarsError>
         requires { row < length self.now.rows }
         ensures ok { OnOk result
@@ -220,13 +220,14 @@ impl Table {
             (StopsAtCell env.old.entries (named_cells self.now.header (get_or self.now.rows row []))
             env.new.entries) }
 
-        // What the environment grows by at most, whatever the answer.
+        // How much the environment grows at most, whatever the result.
         ensures bytes { byte_count env.new.entries ≤ byte_count env.old.entries
             + cell_bytes (named_cells self.now.header (get_or self.now.rows row [])) }
         ensures small { cell_bytes (named_cells self.now.header (get_or self.now.rows row [])) ≤ MAX_ROW_BYTES }
         ensures members { member_count env.new.entries ≡ member_count env.old.entries }
 
-        // Where that fits, only memory can be missing; an empty environment has room for a row and a request.
+        // If there is room for that, the only possible error is out of memory. An empty environment has room for a row
+        // and a request.
         ensures room { byte_count env.old.entries + MAX_ROW_BYTES ≤ MAX_BYTES
             → IfErr result (λ e. e ≡ vars_error.NoMemory) }
         ensures empty { env.old.entries ≡ [] → IfErr result (λ e. e ≡ vars_error.NoMemory) }
@@ -238,7 +239,7 @@ impl Table {
     }
 }
 
-/// The lesser of two rows, each of which may be missing.
+/// The smaller of two rows, each of which may be missing.
 fn lesser(a: Option<usize>, b: Option<usize>) -> Option<usize>
     ensures { result ≡ lesser_of a b }
 {

@@ -1,4 +1,4 @@
--- A registry with one target more.
+-- A registry with one more target.
 use Rattle.std.proofs.Common.{◌≡◌, ◌≢◌, ℕ, ◌<◌, Bool, true, false, List, [], ◌∷◌, ◌++◌, length, get_or, sym, ◌∙◌, subst, arith, if◌then◌else◌}
 use Rattle.std.proofs.lemmas.Bool.{false≢true}
 use Rattle.std.proofs.lemmas.List.{length_push}
@@ -37,14 +37,14 @@ with_one_more targets target known safe may =
       once = all_pairs_push (λ a b. a.name ≢ b.name) targets target known.once (others_differ targets target free.is_new);
     }
 
--- a registry after a target came, or did not
+-- a registry after a target was added, or was not
 pub after_adding : (targets : List TargetValue) (target : TargetValue) (came : Bool) (now : List TargetValue) → IsRegistry targets → IsSafe target.code
     → MayBeAdded targets target.name
     → now ≡ (if came then targets ++ target ∷ [] else targets) → IsRegistry now
 after_adding targets target true now known safe may is = subst IsRegistry (sym is) (with_one_more targets target known safe may)
 after_adding targets target false now known safe may is = subst IsRegistry (sym is) known
 
--- the names of columns stay among those of all tables; for the first target they are begun anew
+-- the names of columns stay among those of all tables; the first target begins with an empty set
 all_stay : (targets : List TargetValue) (old new : ColumnNames) (is_first : Bool) → is_first ≡ (length targets == 0)
     → (is_first ≡ false → (name : Text) → has old name ≡ true → has new name ≡ true) → AreAllAmong old targets → AreAllAmong new targets
 all_stay [] old new is_first is kept among = All-nil (λ target. AreAmong new target.table.header)
@@ -58,7 +58,7 @@ with_its_columns targets target true now columns others its is =
     subst (AreAllAmong columns) (sym is) (All-push (λ other. AreAmong columns other.table.header) targets target others its)
 with_its_columns targets target false now columns others its is = subst (AreAllAmong columns) (sym is) others
 
--- the names of the columns of all tables, after a target came, or did not
+-- the names of the columns of all tables, after a target was added, or was not
 pub among_after_adding : (targets : List TargetValue) (target : TargetValue) (came : Bool) (now : List TargetValue) (old new : ColumnNames) (is_first : Bool)
     → AreAllAmong old targets → is_first ≡ (length targets == 0) → (is_first ≡ false → (name : Text) → has old name ≡ true → has new name ≡ true)
     → AreAmong new target.table.header → now ≡ (if came then targets ++ target ∷ [] else targets) → AreAllAmong new now

@@ -12,7 +12,8 @@ use Rattle.menu.specs.declared.entry.Resolution.TheVariants as resolution
 use Rattle.registry.specs.Targets.{TargetValue, has_name}
 use Rattle.registry.specs.Refusals.{IsRefusal}
 use Rattle.registry.specs.declared.error.AddErrorKind.TheVariants.{BadTargetName, NoMemory}
-use Rattle.registry.specs.RowEnvironments.{row_entries, row_environment}
+use Rattle.row_scope.specs.RowEnvironments.{entries_of_row}
+use Rattle.registry.specs.RowEnvironments.{row_environment}
 use Rattle.registry.specs.Fates.{OverBudget, Link, NoLink}
 use Rattle.registry.specs.Entries.{chosen, resolution_by}
 
@@ -80,7 +81,7 @@ request = pair (codes "rft.issn") (codes "1234567x") ∷ pair (codes "title_url"
 abbrev later_row : ℕ
 later_row = 1
 
-bytes_of_a_row : byte_count (row_entries alpha later_row) ≡ 27
+bytes_of_a_row : byte_count (entries_of_row alpha.table later_row) ≡ 27
 unfolding look_up
 bytes_of_a_row = refl
 
@@ -99,7 +100,7 @@ names_of_alpha : map (has_name (alpha ∷ [])) (codes "alpha" ∷ codes "Alpha" 
     ≡ true ∷ false ∷ false ∷ false ∷ false ∷ []
 names_of_alpha = refl
 
--- each of the targets is looked at
+-- each of the targets is compared
 names_of_two : map (has_name (alpha ∷ target (codes "beta") (printing []) ∷ [])) (codes "alpha" ∷ codes "beta" ∷ codes "gamma" ∷ []) ≡ true ∷ true ∷ false ∷ []
 names_of_two = refl
 

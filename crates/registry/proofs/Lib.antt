@@ -2,5 +2,5 @@ pub mod Adding
 mod Examples
 mod MenuExamples
 pub mod Fates
-pub mod RowsInOrder
+pub mod Choices
 pub mod SoundMenus

@@ -1,4 +1,4 @@
--- The menus of small registries computed, from the query to the reason of each target.
+-- The menus of small registries computed, from the query to the resolution of each target.
 use Rattle.std.proofs.Common.{◌≡◌, false, List, [], ◌∷◌, refl, codes}
 use Rattle.std.specs.Prelude.{⊤, map}
 use Rattle.std.specs.Hash.DefaultHasher.{initial}
@@ -10,7 +10,7 @@ use Rattle.machine_model.specs.Budget.{longest_compared, is_kept, total}
 use Rattle.machine_model.specs.Operands.{has_right_operands}
 use Rattle.machine_model.specs.Next.{course_from}
 use Rattle.kev_read.specs.Pairs.{pairs_of}
-use Rattle.kbart_rows.specs.Cells.{Holdings, Row}
+use Rattle.kbart_rows.specs.Cells.{Row}
 use Rattle.kbart_rows.proofs.OnLiterals.{kbart_rows_on_literals}
 use Rattle.menu.specs.declared.entry.MenuEntry.{MenuEntry}
 use Rattle.menu.specs.declared.entry.Resolution.{Resolution}
@@ -26,7 +26,7 @@ run_on_literals = tt
 
 -- ---- targets
 
--- TEXT r0 n0, UNDEF r0 4, PUT r0 UR, HALT, FAIL: the link of the row's URL
+-- TEXT r0 n0, UNDEF r0 4, PUT r0 UR, HALT, FAIL: the link is the row's URL
 abbrev url_code : Code
 url_code =
     record {
@@ -44,7 +44,7 @@ target name rows =
       table = record { header = codes "print_identifier" ∷ codes "title_url" ∷ []; rows = rows; keys = record { begun = initial } };
     }
 
--- rows without a URL, with one that is none of the web, and with one of the web
+-- rows without a URL, with one that is not a web link, and with a web link
 abbrev journals : List Row
 journals =
     (codes "1" ∷ codes "http://e.org/0" ∷ [])
@@ -58,7 +58,7 @@ journals =
     ∷ (codes "4" ∷ codes "ftp://e.org/8" ∷ [])
     ∷ []
 
--- ---- the reason of a target
+-- ---- the resolution of a target
 
 -- the first matching row with a web link decides, and without one the last matching row; all rows are counted, from 0
 reason_by_matching_rows : map (λ query. resolution_of (target (codes "a") journals) (pairs_of query))

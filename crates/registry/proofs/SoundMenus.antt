@@ -26,7 +26,7 @@ use Rattle.registry.specs.Fates.{Fate, OverBudget, Link, NoLink, ended, fate_in,
 use Rattle.registry.specs.Entries.{entry_of, last_resolution, matching_rows_of, menu_of, resolution_by, resolution_of, resolution_of_row}
 use Rattle.registry.specs.MenuLinks.{IsMenuLink, IsSoundMenu}
 
--- what the machine comes to is computed
+-- the outcome of the machine is the one that is computed
 abbrev pub OutcomesAreDecided : Type 0
 OutcomesAreDecided = (c : Code) (v : Environment) (o : Outcome) → HasOutcome c v o ↔ (outcome_of c v ≡ o)
 
@@ -53,9 +53,9 @@ uri_fate decided code env safe = by_test (nat_lt MAX_LINK_BYTES (most_bytes_in c
     by_test true = tt
     by_test false = by_outcome (outcome_of code env) refl
 
--- ---- reasons
+-- ---- resolutions
 
--- a link is of the web, and URI text
+-- a link is a web link, and URI text
 abbrev IsSoundResolution : Resolution → Type 0
 IsSoundResolution (resolution.Link row link) = (is_web_link link ≡ true) × IsUriText link
 IsSoundResolution resolution.NoRow = Unit {0}

@@ -13,7 +13,7 @@ use Rattle.registry.specs.Fates.{Fate, OverBudget, Link, NoLink, fate_of_row}
 
 -- ---- one row
 
--- what a row's fate gives: only a link of the web counts as one
+-- the resolution of a row's fate: only a web link counts as a link
 abbrev pub resolution_by : ℕ → Fate → Resolution
 resolution_by row (OverBudget bytes) = resolution.OverBudget bytes
 resolution_by row (Link link) = if is_web_link link then resolution.Link row link else resolution.NotAWebLink
@@ -24,20 +24,19 @@ resolution_of_row target pairs row = resolution_by row (fate_of_row target pairs
 
 -- ---- all matching rows
 
--- the last of some reasons, or the one that was there before
+-- the last of some resolutions, or the earlier one if there are none
 abbrev pub last_resolution : Resolution → List Resolution → Resolution
 last_resolution before [] = before
 last_resolution before (resolution ∷ resolutions) = last_resolution resolution resolutions
 
--- the first that is a link; where none is, the last
+-- the first that is a link; if there is none, the last
 abbrev pub chosen : Resolution → List Resolution → Resolution
 chosen before resolutions = unwrap_or (find is_link resolutions) (last_resolution before resolutions)
 
 abbrev pub matching_rows_of : TargetValue → List KeyValue → List ℕ
 matching_rows_of target pairs = matching_rows target.table (ids_of pairs)
 
--- the reason of a target: that of the first matching row with a web link; without one, that of the last matching
--- row; and NoRow where no row matches
+-- the resolution of a target: that of the first matching row with a web link; without one, that of the last matching row; and NoRow if no row matches
 abbrev pub resolution_of : TargetValue → List KeyValue → Resolution
 resolution_of target pairs = chosen resolution.NoRow (map (resolution_of_row target pairs) (matching_rows_of target pairs))
 
@@ -50,8 +49,8 @@ entry_of target pairs = record { name = target.name; resolution = resolution_of 
 abbrev pub menu_of : List TargetValue → List KeyValue → List MenuEntry
 menu_of targets pairs = map (λ target. entry_of target pairs) targets
 
--- ---- row after row
+-- ---- row by row
 
--- the reason of a target whose rows before one have come to a reason that is no link
+-- the resolution of a target, if the rows before this one have given this resolution, which is not a link
 abbrev pub resolution_from : TargetValue → List KeyValue → ℕ → Resolution → Resolution
 resolution_from target pairs from so_far = chosen so_far (map (resolution_of_row target pairs) (filter (nat_le from) (matching_rows_of target pairs)))

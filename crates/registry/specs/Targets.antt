@@ -21,14 +21,14 @@ pub record TargetValue : Type 0 where
 abbrev pub has_name : List TargetValue → Text → Bool
 has_name targets name = list_any (λ target. bytes_eq target.name name) targets
 
--- not too many, each with a name of a target and safe code, and no two with one name
+-- not too many targets, each with a valid name and safe code, and no two with the same name
 pub record IsRegistry (targets : List TargetValue) : Type 0 where
   pub few : length targets ≤ MAX_TARGETS
   pub named : All (λ target. IsTargetName target.name) targets
   pub safe : All (λ target. IsSafe target.code) targets
   pub once : AllPairs (λ a b. a.name ≢ b.name) targets
 
--- the columns of each target's table are among those
+-- the columns of each target's table are among these
 abbrev pub AreAllAmong : ColumnNames → List TargetValue → Type 0
 AreAllAmong columns targets = All (λ target. AreAmong columns target.table.header) targets
 

@@ -1,4 +1,4 @@
-//! What a menu by definition comes to, row after row, each law as the contract of a function that does nothing.
+//! What follows from the definition of a menu. These functions have empty bodies; each contract is a theorem.
 
 ghost use Rattle.std.specs.Prelude.{◌≡◌, ℕ, ◌+◌, ◌<◌, ◌≤◌, List, [], ◌∷◌, None, Some, true, false, filter, nat_le};
 ghost use Rattle.environment_model.specs.Environment.{Environment};
@@ -17,9 +17,9 @@ ghost use Rattle.registry.specs.MenuLinks.{IsSoundMenu};
 use machine_laws::course_is_decided;
 use verified_runs::MAX_LINK_BYTES;
 
-/// The reason of a target is found row after row: from row 0 on, with NoRow so far. Where no row matches any more,
-/// it is the reason so far. Otherwise it is that of the next matching row, where that is a link; and where it is
-/// none, the search continues after that row, with its reason as the reason so far.
+/// The resolution of a target is found row by row, from row 0 on; before the first row it is `NoRow`. If no further row
+/// matches, the result is the resolution so far. If the next matching row gives a link, that is the result. Otherwise
+/// the search continues after that row, whose resolution is now the one so far.
 pub fn rows_are_tried_in_order()
     ensures start { (target : TargetValue) (pairs : List KeyValue)
         → resolution_of target pairs ≡ resolution_from target pairs 0 NoRow }
@@ -35,8 +35,8 @@ pub fn rows_are_tried_in_order()
         (resolution_of_row target pairs row) }
 {}
 
-/// The matching rows of a target stand in rising order: those at or after row 0 are all of them. Where none is at or
-/// after a row, there are none there; otherwise they are the first one, and those after it.
+/// The matching rows of a target are in rising order. Those at or after row 0 are all of them. Those at or after any
+/// row are none, or the first one and those after it.
 pub fn matching_rows_rise()
     ensures start { (target : TargetValue) (pairs : List KeyValue) → filter (nat_le 0) (matching_rows_of target pairs)
         ≡ matching_rows_of target pairs }
@@ -49,8 +49,8 @@ pub fn matching_rows_rise()
         ≡ row ∷ filter (nat_le (row + 1)) (matching_rows_of target pairs) }
 {}
 
-/// The fate of code in an environment: over budget exactly where its bound on bytes passes the limit; and otherwise
-/// what the machine comes to, whatever it comes to.
+/// The fate of code in an environment is over budget exactly if its bound on bytes exceeds the limit, and otherwise it
+/// is the outcome of the machine.
 pub fn fates_are_decided()
     ensures over { (code : Code) (env : Environment) → MAX_LINK_BYTES < most_bytes_in code env
         → fate_in code env ≡ OverBudget (most_bytes_in code env) }
@@ -60,8 +60,8 @@ pub fn fates_are_decided()
     course_is_decided();
 }
 
-/// A menu of a registry has the names of targets alone, and only links of the web that are URI text, whatever is asked:
-/// so what the laws of [`menu`] say of such names and links holds of all of its entries.
+/// A menu of a registry has only names of targets, and only web links that are URI text, whatever the request. So what
+/// the laws of [`menu`] say about such names and links holds for all of its entries.
 pub fn menus_are_sound()
     ensures { (targets : List TargetValue) (pairs : List KeyValue) → IsRegistry targets
         → IsSoundMenu (menu_of targets pairs) }

@@ -1,4 +1,4 @@
-//! The registry of targets, and the menu that a registry and a request have by definition.
+//! The registry of targets, and the definition of the menu of a registry and a request.
 #![tactic(auto)]
 
 mod error;

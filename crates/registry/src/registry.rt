@@ -23,7 +23,7 @@ use verifier::Verified;
 /// The maximum number of targets in a registry.
 pub const MAX_TARGETS: usize = 256;
 
-/// Targets in the order in which they were added; no two have one name. Each has safe code.
+/// Targets in the order in which they were added; no two have the same name. The code of each is safe.
 #[derive(Drop)]
 pub struct Registry {
     alloc: Global,
@@ -47,7 +47,7 @@ impl Model for Registry {
 }
 
 impl Registry {
-    /// A registry without targets. It takes no memory. The clause `limits` says how many it may have.
+    /// A registry without targets. It allocates nothing. The clause `limits` says how many targets a registry may have.
     pub fn new(alloc: Global) -> Registry
         ensures value { result ≡ [] }
         ensures limits { MAX_TARGETS ≡ 256 }
@@ -60,7 +60,7 @@ impl Registry {
         }
     }
 
-    /// The targets, in the order in which they were added. It takes no memory.
+    /// The targets, in the order in which they were added.
     pub fn targets(&self) -> &[Target]
         ensures value { result.now ≡ self.now }
         ensures known { IsRegistry self.now }
@@ -68,21 +68,22 @@ impl Registry {
         &self.targets
     }
 
-    /// The names of the columns of all tables, and perhaps of tables that were refused. It takes no memory.
+    /// The names of the columns of all tables, and perhaps of tables that were rejected.
     pub fn columns(&self) -> &ColumnNames
         ensures { AreAllAmong result.now self.now }
     {
         &self.columns
     }
 
-    /// The numbers of the names of all codes, and perhaps of codes that were refused. It takes no memory.
+    /// The numbers of the names of all codes, and perhaps of codes that were rejected.
     pub fn numbers(&self) -> &NameNumbers {
         &self.numbers
     }
 
     /// Adds a target after the others.
     ///
-    /// Refuses it by the first of the reasons of [`AddErrorKind`], and gives its parts back; nothing has changed then.
+    /// The error is the first of the reasons of [`AddErrorKind`] that applies, and gives the parts back; the targets
+    /// are then unchanged.
     pub fn add(&mut self, name: String, code: Verified, table: Table) -> Result<(), AddError>
         ensures ok { OnOk result
             (self.new ≡ self.old ++ record { name = string_bytes name; code = code; table = table } ∷ []) }
@@ -123,7 +124,7 @@ impl Registry {
         }
     }
 
-    /// Why a target of this name is not added, memory aside.
+    /// Why a target of this name is not added, apart from memory.
     fn refusal(&self, name: &str) -> Option<AddErrorKind>
         ensures { MatchOption result (MayBeAdded self.now name.now) (IsRefusal self.now name.now) }
     {

@@ -44,7 +44,7 @@ impl Target {
         }
     }
 
-    /// The name, which no other target of the registry has.
+    /// The name, which is unique in a registry.
     pub fn name(&self) -> &str
         ensures { result.now ≡ self.now.name }
     {

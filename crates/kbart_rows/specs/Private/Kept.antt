@@ -1,4 +1,4 @@
--- What a table keeps, and how it is read and found.
+-- What a table keeps: how it is read, and how its rows are found.
 use Rattle.std.specs.Prelude.{◌≡◌, ℕ, ◌↔◌, ◌==◌, if◌then◌else◌, ◌+◌, ◌≤◌, ◌<◌, List, [], ◌∷◌, filter, map, min, drop, length, get_or, String, Vec, Bool, false}
 use Rattle.std.specs.Prelude.{true, All, Option, None, Some}
 use Rattle.std.specs.Borrow.{Bor}
@@ -25,7 +25,7 @@ use Rattle.kbart_rows.specs.declared.read.TheConstants.{MAX_ROWS, MAX_ROW_BYTES}
 
 -- ---- reading
 
--- why a line is not added after that many others
+-- why a line is rejected after that many others
 abbrev pub IsRefusedLine : ℕ → Row → TableError → Type 0
 IsRefusedLine before cells TooManyRows = MAX_ROWS < before
 IsRefusedLine before cells RowTooLong = (before ≤ MAX_ROWS) × (MAX_ROW_BYTES < row_bytes cells)
@@ -34,7 +34,7 @@ IsRefusedLine before cells TooLong = ⊥
 IsRefusedLine before cells NotUtf8 = ⊥
 IsRefusedLine before cells NoHeader = ⊥
 
--- why a line is not added, however many others there are
+-- why a line is rejected, however many others there are
 abbrev pub IsLineTooLong : Row → TableError → Type 0
 IsLineTooLong cells RowTooLong = MAX_ROW_BYTES < row_bytes cells
 IsLineTooLong cells NoMemory = Unit {0}
@@ -43,11 +43,11 @@ IsLineTooLong cells TooLong = ⊥
 IsLineTooLong cells NotUtf8 = ⊥
 IsLineTooLong cells NoHeader = ⊥
 
--- the bytes that a reader of them has left
+-- the bytes that a reader has left
 abbrev pub rest_of : Bor (List ℕ) → Option (List ℕ)
 rest_of bytes = Some bytes.now
 
--- a reader that drops nothing from cells read a record of these cells, or found none
+-- a reader that does not trim cells has read a record of these cells, or found none
 abbrev pub IsRead : Reader (Bor (List ℕ)) → Bool → Row → Reader (Bor (List ℕ)) → Type 0
 IsRead old found cells new = old.trim ≡ trim.None → Ready old → ReadRecord rest_of old new found cells × (new.first ≡ true)
 
@@ -55,7 +55,7 @@ IsRead old found cells new = old.trim ≡ trim.None → Ready old → ReadRecord
 abbrev pub lines_in : List ℕ → Text → List Text
 lines_in ends text = cut_from 0 ends text
 
--- the text is these lines, none is longer than a row may be, with a tab more, and each ends between two characters
+-- the text consists of these lines; none is longer than a row may be plus one tab, and each ends between two characters
 pub record AreKept (ends : List ℕ) (text : Text) : Type 0 where
   pub rising : Rising 0 ends (length text)
   pub whole : last_end 0 ends ≡ length text
@@ -64,11 +64,11 @@ pub record AreKept (ends : List ℕ) (text : Text) : Type 0 where
 
 -- ---- filling
 
--- the cell of a column under its name, where that is the first column of the name that was found
+-- the cell of a column under its name, if that column is the first with the name
 abbrev pub cell_at_first : Option ℕ → ℕ → Text → Text → Option NamedCell
 cell_at_first found column name cell = if option_map_or (λ first. first == column) found false then name_cell name cell else None
 
--- why a cell is not added: it is defined, its name is new, and it is too large or memory is missing
+-- why a cell is rejected: it is defined, its name is new, and it is too large or memory ran out
 abbrev pub IsRefusedCell : Environment → Option NamedCell → VarsError → Type 0
 IsRefusedCell env None e = ⊥
 IsRefusedCell env (Some cell) e =
@@ -80,7 +80,7 @@ IsRefusedCell env (Some cell) e =
 abbrev pub bytes_of : Row → Row → ℕ
 bytes_of header cells = cell_bytes (named_cells header cells)
 
--- of each column, whether it is the first of its name
+-- for each column, whether it is the first with its name
 abbrev pub firsts_of : Row → List Bool
 firsts_of header = map (is_first header) (range_with_len 0 (length header))
 
@@ -91,7 +91,7 @@ counted_bytes (counts ∷ others) cells = (if counts then length (get_or cells 0
 
 -- ---- the index
 
--- the text is this identifier, where there is one
+-- the text equals this identifier, if there is one
 abbrev pub is_id : Text → Option Text → Bool
 is_id text id = option_map_or (bytes_eq text) id false
 
@@ -103,8 +103,8 @@ rows_with columns rows id = filter (λ row. has_identifier columns id (get_or ro
 abbrev pub holdings_of : List Row → Keys → Holdings
 holdings_of lines keys = record { header = get_or lines 0 []; rows = drop 1 lines; keys = keys }
 
--- the names of the header are mapped to their first columns, and the identifiers to the rows that have them, both with the same keys; the bytes
--- of each row are counted
+-- the names in the header are mapped to their first columns, and the identifiers to the rows that have them, both with the same keys; and the bytes of each row
+-- are counted
 pub record IsIndexed {A B C D E : Type 0} (lines : List Row) (columns : HashMap (String A) ℕ B) (index : HashMap (String C) (Vec ℕ D) B)
     (bytes : Vec ℕ E) : Type 0 where
   pub header : 0 < length lines
@@ -116,7 +116,7 @@ pub record IsIndexed {A B C D E : Type 0} (lines : List Row) (columns : HashMap 
   pub keyed : hasher_of index ≡ hasher_of columns
   pub counted : bytes.items ≡ map (bytes_of (get_or lines 0 [])) (drop 1 lines)
 
--- the lesser of two rows, each of which may be missing
+-- the smaller of two rows, each of which may be missing
 abbrev pub lesser_of : Option ℕ → Option ℕ → Option ℕ
 lesser_of None b = b
 lesser_of (Some a) None = Some a

@@ -1,4 +1,4 @@
--- How a line is written from its cells, and read from left to right.
+-- How a line is made of cells, and read from left to right.
 use Rattle.std.specs.Prelude.{◌≡◌, ℕ, ◌≢◌, ◌≤◌, [], ◌∷◌, ◌++◌, All, length, take, drop}
 use Rattle.std.specs.List.{flat_map}
 use Rattle.text_model.specs.Texts.{Text}
@@ -8,7 +8,7 @@ use Rattle.kbart_rows.specs.Lines.{cells_in}
 abbrev pub cell_and_tab : Text → Text
 cell_and_tab cell = cell ++ tab ∷ []
 
--- the line of the cells
+-- the line that is made of the cells
 abbrev pub line_of : Row → Text
 line_of cells = flat_map cell_and_tab cells
 

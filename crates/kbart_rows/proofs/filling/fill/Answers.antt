@@ -6,7 +6,8 @@ use Rattle.kbart_rows.specs.Cells.{named_cell, named_cells}
 use Rattle.kbart_rows.specs.Filling.{filled, with_defined, StopsAtCell}
 use Rattle.kbart_rows.specs.Private.Kept.{cell_at_first}
 use Rattle.kbart_rows.specs.Lines.{cells_in}
-use Rattle.kbart_rows.proofs.FillingLemmas.{column_at, filled_more, stops_at, IfErr_passed_on}
+use Rattle.kev_read.proofs.FillingLemmas.{IfErr_passed_on}
+use Rattle.kbart_rows.proofs.FillingLemmas.{column_at, filled_more, stops_at}
 use Rattle.kbart_rows.proofs.filling.fill.Goals as goal
 
 pub loop-name-preserved : goal.loop-name-preserved

@@ -5,7 +5,7 @@ use Rattle.csv.specs.Records.{fields_of}
 use Rattle.kbart_rows.specs.Cells.{Row, row_bytes}
 use Rattle.kbart_rows.specs.Reading.{IsLineFault}
 use Rattle.kbart_rows.specs.declared.read.TheConstants.{MAX_ROW_BYTES}
-use Rattle.kbart_rows.proofs.FillingLemmas.{IfErr_passed_on}
+use Rattle.kev_read.proofs.FillingLemmas.{IfErr_passed_on}
 use Rattle.kbart_rows.proofs.ReadingLines.{reading_starts, reading_goes_on, no_tab_in_last, line_refused}
 use Rattle.kbart_rows.proofs.read.read_lines.Goals as goal
 

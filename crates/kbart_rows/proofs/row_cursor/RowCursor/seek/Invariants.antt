@@ -1,7 +1,7 @@
 use Rattle.std.proofs.Common.{◌≡◌, ◌-◌, ◌≤◌}
 use Rattle.kbart_rows.proofs.row_cursor.RowCursor.seek.Given as goal
 
--- the line stays, and no column after the wanted one is reached
+-- the line is unchanged, and the cursor is not past the wanted column
 abbrev pub invariant-loop-self : goal.invariant-loop-self
 invariant-loop-self l = record {
   line : l.self.line ≡ l.fn.self.line;

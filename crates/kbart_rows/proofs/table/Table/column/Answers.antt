@@ -5,7 +5,7 @@ use Rattle.text_model.specs.Texts.{Text}
 use Rattle.kbart_rows.specs.Cells.{Holdings, Row, column_of}
 use Rattle.kbart_rows.proofs.table.Table.column.Goals as goal
 
--- a column that is named is one of the header's
+-- a column with a name is in the header
 named_within : (header : Row) (name : Text) (found : Option _) → column_of header name ≡ found → IfSome found (λ column. column < length header)
 named_within header name None is = tt
 named_within header name (Some column) is = (position-Some (bytes_eq name) header column [] is).0

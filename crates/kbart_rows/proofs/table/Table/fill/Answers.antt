@@ -19,7 +19,7 @@ cells_are c =
     ∙ ap (λ (table : Holdings). get_or table.rows row []) c.self.view_is in
     ap (λ (names : _). named_cells names (cells_in c.line.result.now)) header ∙ ap (named_cells c.args.self.now.header) cells
 
--- and few enough
+-- and there are few enough of them
 small : (c : goal.After-fill) → cell_bytes (named_cells (cells_in c.header.result.now) (cells_in c.line.result.now)) ≤ MAX_ROW_BYTES
 small c =
     let lines = c.self.inside.lines in

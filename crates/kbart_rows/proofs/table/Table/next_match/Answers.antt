@@ -27,7 +27,7 @@ loop-id-preserved c =
     ∙ match_more columns rows from ids (string_bytes id)
     ∙ ap (λ (texts : _). first_from from (matches columns rows texts)) (sym more)
 
--- when all identifiers were requested
+-- after all identifiers were searched
 first : (c : goal.After-loop-id)
     → c.loop-id.best ≡ first_from c.args.from (matches (identifier_columns c.args.self.now.header) c.args.self.now.rows c.args.ids.now)
 first c =

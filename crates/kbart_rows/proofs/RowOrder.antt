@@ -1,4 +1,4 @@
--- Matching rows one after another, and what is chosen of their reasons.
+-- Matching rows one after another.
 use Rattle.std.proofs.Common.{◌≡◌, ℕ, ◌+◌, ◌≤◌, ◌<◌, Bool, true, false, cond, suc, List, [], ◌∷◌, All, Some, None, filter, refl, sym, ap, ◌∙◌, arith, nat_le}
 use Rattle.std.proofs.Common.{get_or, length}
 use Rattle.std.proofs.lemmas.Bool.Decides.{nat_tests}
@@ -7,15 +7,11 @@ use Rattle.std.proofs.lemmas.List.Kept.{AllPairs-filter}
 use Rattle.std.proofs.lemmas.List.Elements.{All-head, All-tail}
 use Rattle.std.proofs.lemmas.Option.{none-some, same_Some}
 use Rattle.std.specs.List.{AllPairs, range_with_len}
-use Rattle.kev_read.specs.Pairs.{KeyValue}
-use Rattle.kbart_rows.specs.Identifiers.{first_from, identifier_columns, ids_of, is_match}
-use Rattle.menu.specs.Links.{is_link}
-use Rattle.menu.specs.declared.entry.Resolution.{Resolution}
-use Rattle.registry.specs.Targets.{TargetValue}
-use Rattle.registry.specs.Entries.{chosen, matching_rows_of}
+use Rattle.text_model.specs.Texts.{Text}
+use Rattle.kbart_rows.specs.Cells.{Holdings}
+use Rattle.kbart_rows.specs.Identifiers.{first_from, identifier_columns, is_match, matching_rows}
 
--- ---- rows that rise
-
+-- each row is below the later ones
 abbrev pub Rise : List ℕ → Type 0
 Rise rows = AllPairs (λ x y. x < y) rows
 
@@ -29,9 +25,8 @@ range_rises first n i j d before within =
 filtered_rise : (test : ℕ → Bool) (first n : ℕ) → Rise (filter test (range_with_len first n))
 filtered_rise test first n = AllPairs-filter (λ x y. x < y) test (range_with_len first n) (range_rises first n)
 
-pub matching_rows_are_in_order : (target : TargetValue) (pairs : List KeyValue) → Rise (matching_rows_of target pairs)
-matching_rows_are_in_order target pairs =
-    filtered_rise (λ row. is_match (identifier_columns target.table.header) (ids_of pairs) (get_or target.table.rows row [])) 0 (length target.table.rows)
+pub matching_rows_rise : (table : Holdings) (ids : List Text) → Rise (matching_rows table ids)
+matching_rows_rise table ids = filtered_rise (λ row. is_match (identifier_columns table.header) ids (get_or table.rows row [])) 0 (length table.rows)
 
 rest_rises : (row : ℕ) (rows : List ℕ) → Rise (row ∷ rows) → Rise rows
 rest_rises row rows rise i j d before within = rise (suc i) (suc j) d (omega (arith, before)) (omega (arith, within))
@@ -48,7 +43,7 @@ all_from from (row ∷ rows) low =
 pub all_from_start : (rows : List ℕ) → filter (nat_le 0) rows ≡ rows
 all_from_start rows = all_from 0 rows (λ k d within. omega arith)
 
--- where there is no first one, there is none
+-- if there is no first one, there is none
 pub none_from : (from : ℕ) (rows : List ℕ) → first_from from rows ≡ None → filter (nat_le from) rows ≡ []
 none_from from [] none = refl
 none_from from (row ∷ rows) none = by_test (nat_le from row) (none_from from rows) none
@@ -58,7 +53,7 @@ none_from from (row ∷ rows) none = by_test (nat_le from row) (none_from from r
     by_test true rest found = absurd (none-some row (sym found))
     by_test false rest later = rest later
 
-first_is_from : (from row : ℕ) (rows : List ℕ) → first_from from rows ≡ Some row → from ≤ row
+pub first_is_from : (from row : ℕ) (rows : List ℕ) → first_from from rows ≡ Some row → from ≤ row
 first_is_from from row [] found = absurd (none-some row found)
 first_is_from from row (next ∷ rows) found = by_test (nat_le from next) refl (first_is_from from row rows) found
   where
@@ -92,13 +87,3 @@ first_and_rest from row (next ∷ rows) rise found = by_test (nat_le from next) 
         let low = first_is_from from row rows later in
         let past : nat_le (row + 1) next ≡ false = grind (arith, nat_tests) in
         rw past (rest later)
-
--- ---- what is chosen
-
-pub link_first : (so_far resolution : Resolution) (resolutions : List Resolution) → is_link resolution ≡ true → chosen so_far (resolution ∷ resolutions)
-    ≡ resolution
-link_first so_far resolution resolutions link = rw link refl
-
-pub no_link_first : (so_far resolution : Resolution) (resolutions : List Resolution) → is_link resolution ≡ false → chosen so_far (resolution ∷ resolutions)
-    ≡ chosen resolution resolutions
-no_link_first so_far resolution resolutions no_link = rw no_link refl
