@@ -1,20 +1,18 @@
 -- The cells of a line, from left to right.
 use Rattle.std.proofs.Common.{◌≡◌, ℕ, ◌+◌, ◌-◌, ◌&&◌, ◌||◌, ◌==◌, ◌≤◌, Bool, true, false, not, cond, count_by, zero, suc, List, [], ◌∷◌, length}
 use Rattle.std.proofs.Common.{drop, Some, None, refl, sym, ap, ◌∙◌, arith}
-use Rattle.std.proofs.Common.{if◌then◌else◌}
-use Rattle.std.proofs.lemmas.Option.{none-some, same_Some}
+use Rattle.std.proofs.Common.{Bor, Option, get_or, if◌then◌else◌}
+use Rattle.std.specs.Option.{option_copied, unwrap_or}
+use Rattle.std.proofs.lemmas.Option.{get_or_from_slice_get, none-some, same_Some}
 use Rattle.std.proofs.lemmas.Bool.{false≢true}
-use Rattle.std.proofs.lemmas.List.Sums.{count_by-le-length, sum_by-cons}
+use Rattle.std.proofs.lemmas.List.Sums.{sum_by-cons}
 use Rattle.std.specs.List.{list_any, slice_get}
 use Rattle.table_inspection.specs.Columns.{is_empty}
 use Rattle.table_inspection.proofs.Ranges.{not_none}
 use Rattle.text_model.specs.Texts.{Text}
 use Rattle.kbart_rows.specs.Cells.{Row, tab}
 use Rattle.kbart_rows.specs.Lines.{prepended, cells_in}
-
-prepended_cells : (b : ℕ) (cells : Row) → length (prepended b cells) ≡ length cells
-prepended_cells b [] = refl
-prepended_cells b (cell ∷ cells) = refl
+use Rattle.kbart_rows.proofs.LineCells.{prepended_cells}
 
 -- a tab makes a cell
 pub tab_count : (line : Text) → count_by (λ b. b == tab) line ≡ length (cells_in line)
@@ -27,9 +25,6 @@ tab_count (b ∷ line) =
       | true ↦ omega (arith, tab_count line)
       | false ↦ omega (arith, tab_count line, prepended_cells b (cells_in line))
     ]
-
-pub few_cells : (line : Text) → length (cells_in line) ≤ length line
-few_cells line = omega (arith, tab_count line, count_by-le-length (λ b. b == tab) line)
 
 -- ---- cells past that many
 
@@ -71,3 +66,22 @@ header_end (y ∷ xs) zero within is = absurd (none-some y (sym is))
 header_end (y ∷ xs) (suc place) within is =
     let last : place ≡ length xs = header_end xs place (omega (arith, within)) is in
     ap suc last
+
+-- ---- the cell of a column
+
+pub past_end : {X : Type 0} (xs : List X) (place column : ℕ) (d : X) → slice_get xs place ≡ None → place ≤ column → get_or xs column d ≡ d
+past_end [] place column d none le = refl
+past_end (x ∷ xs) zero column d none le = absurd (none-some x (sym none))
+past_end (x ∷ xs) (suc place) zero d none le = absurd (omega (arith, le))
+past_end (x ∷ xs) (suc place) (suc column) d none le = past_end xs place column d none (omega (arith, le))
+
+pub cell_or_empty : (cells : Row) (column : ℕ) (found : Option (Bor Text)) (empty : Bor Text) → empty.now ≡ []
+    → option_copied found ≡ slice_get cells column → (unwrap_or found empty).now ≡ get_or cells column []
+cell_or_empty cells column None empty none is = none ∙ sym (past_end cells column column [] (sym is) (omega arith))
+cell_or_empty cells column (Some cell) empty none is = sym (get_or_from_slice_get cells column cell.now [] (sym is))
+
+pub none_past : (width : ℕ) (cells : Row) → length cells ≤ width → any_text (drop width cells) ≡ false
+none_past zero [] le = refl
+none_past (suc width) [] le = refl
+none_past zero (cell ∷ cells) le = absurd (omega (arith, le))
+none_past (suc width) (cell ∷ cells) le = none_past width cells (omega (arith, le))

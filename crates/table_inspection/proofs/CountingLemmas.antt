@@ -1,17 +1,21 @@
 -- Counting the rows of each identifier, row by row.
 use Rattle.std.proofs.Common.{◌≡◌, ℕ, ◌+◌, ◌||◌, ◌≤◌, ◌++◌, Bool, true, false, not, cond, List, [], ◌∷◌, length, Option, None, Some, refl, sym, ap, ◌∙◌, arith}
-use Rattle.std.proofs.Common.{if◌then◌else◌, append-nil, append_assoc, length-append}
+use Rattle.std.proofs.Common.{◌==◌, ◌&&◌, take, drop, if◌then◌else◌, append-nil, append_assoc, length-append}
 use Rattle.std.specs.Prelude.{filter}
-use Rattle.std.specs.List.{cons_option, filter_map, list_any}
-use Rattle.std.specs.Option.{option_and_then, option_to_list}
+use Rattle.std.specs.List.{cons_option, filter_map, flat_map, list_any}
+use Rattle.std.specs.Option.{option_and_then, option_map, option_to_list}
 use Rattle.std.specs.Str.{bytes_eq}
 use Rattle.std.proofs.lemmas.Grind.{flat_map-append}
+use Rattle.std.proofs.lemmas.List.{take-append-drop}
 use Rattle.std.proofs.lemmas.List.Elements.{filter-append}
 use Rattle.std.proofs.lemmas.List.Folds.{list_any-append}
 use Rattle.std.proofs.lemmas.List.Sums.{count_by-le-length, sum_by-append, sum_by-cons}
 use Rattle.text_model.specs.Texts.{Text}
-use Rattle.kbart_rows.specs.Cells.{Row, defined}
-use Rattle.kbart_rows.specs.Identifiers.{identifier_in}
+use Rattle.kbart_rows.specs.Cells.{Row, cell_in, defined}
+use Rattle.kbart_rows.specs.Identifiers.{identifier_in, normalised}
+use Rattle.table_inspection.specs.Columns.{is_empty}
+use Rattle.table_inspection.specs.Private.Forms.{normal_form}
+use Rattle.table_inspection.proofs.Ranges.{not_none}
 use Rattle.table_inspection.specs.Identifiers.{identifiers_of, distinct, row_identifiers, rows_having}
 use Rattle.table_inspection.specs.Private.Counting.{AreCounts, is_id, new_among}
 
@@ -73,13 +77,19 @@ pub identifiers_of_row : (a b : Option ℕ) (cells : Row) → row_identifiers (a
     ≡ option_to_list (option_and_then defined (identifier_in cells a)) ++ option_to_list (option_and_then defined (identifier_in cells b))
 identifiers_of_row a b cells = two_defined (identifier_in cells a) (identifier_in cells b)
 
--- ---- one row more
+-- ---- one more row
 
 pub identifiers_more : (columns : List (Option ℕ)) (rows : List Row) (cells : Row)
     → identifiers_of columns (rows ++ cells ∷ []) ≡ identifiers_of columns rows ++ row_identifiers columns cells
 unfolding identifiers_of
 identifiers_more columns rows cells =
     flat_map-append (row_identifiers columns) rows (cells ∷ []) ∙ ap (λ last. identifiers_of columns rows ++ last) (append-nil (row_identifiers columns cells))
+
+pub identifiers_split : (columns : List (Option ℕ)) (rows : List Row) (n : ℕ)
+    → identifiers_of columns rows ≡ identifiers_of columns (take n rows) ++ identifiers_of columns (drop n rows)
+unfolding identifiers_of
+identifiers_split columns rows n =
+    ap (flat_map (row_identifiers columns)) (sym (take-append-drop n rows)) ∙ flat_map-append (row_identifiers columns) (take n rows) (drop n rows)
 
 having_more : (columns : List (Option ℕ)) (rows : List Row) (cells : Row) (id : Text)
     → rows_having columns (rows ++ cells ∷ []) id ≡ rows_having columns rows id + (if list_any (bytes_eq id) (row_identifiers columns cells) then 1 else 0)
@@ -126,3 +136,24 @@ row_counted columns rows cells first second number new_number known new_known co
 pub having_few : (columns : List (Option ℕ)) (rows : List Row) (id : Text) → rows_having columns rows id ≤ length rows
 unfolding rows_having
 having_few columns rows id = count_by-le-length (λ cells. list_any (bytes_eq id) (row_identifiers columns cells)) rows
+
+-- ---- identifiers that may be empty
+
+pub identifiers_of_two : (a b : Option ℕ) (cells : Row) (first second : Text) → first ≡ normal_form (cell_in cells a)
+    → second ≡ normal_form (cell_in cells b)
+    → row_identifiers (a ∷ b ∷ []) cells ≡ option_to_list (defined first) ++ option_to_list (defined second)
+identifiers_of_two a b cells first second first_is second_is =
+    identifiers_of_row a b cells
+    ∙ ap (λ id. option_to_list id ++ option_to_list (option_and_then defined (identifier_in cells b))) (form (cell_in cells a) ∙ ap defined (sym first_is))
+    ∙ ap (λ id. option_to_list (defined first) ++ option_to_list id) (form (cell_in cells b) ∙ ap defined (sym second_is))
+  where
+    form : (cell : Option Text) → option_and_then defined (option_map normalised cell) ≡ defined (normal_form cell)
+    form None = refl
+    form (Some text) = refl
+
+pub none_of_two : (first second : Text) → (is_empty first && is_empty second)
+    ≡ (length (option_to_list (defined first) ++ option_to_list (defined second)) == 0)
+none_of_two [] [] = refl
+none_of_two [] (b ∷ text) = not_none (length text)
+none_of_two (b ∷ text) second =
+    ap (λ empty. empty && is_empty second) (not_none (length text)) ∙ sym (not_none (length (option_to_list (defined second))))

@@ -1,4 +1,4 @@
--- Going over the names of the standard.
+-- A walk over the names of the standard.
 use Rattle.std.proofs.Common.{Bor, ◌≡◌, ℕ, ◌+◌, ◌<◌, ◌&&◌, ◌||◌, Bool, true, false, zero, suc, List, [], ◌∷◌, length, take, get_or, Some, None, refl}
 use Rattle.std.proofs.Common.{sym, ap, ◌∙◌, arith}
 use Rattle.std.proofs.Common.{cond}
@@ -35,7 +35,7 @@ find_here test (x ∷ xs) (suc i) d inside none passes = here (test x.now) (λ i
     here true later is = absurd (none-some x.now (sym is))
     here false later is = later is
 
--- the standard's names are spelled as they are
+-- the standard's names do not change when they are spelled
 pub meant_is : (header : Row) (text : Text) → meant header text ≡ find (λ name. is_missing header name && bytes_eq (spelling text) name) column_names
 unfolding on_literals
 meant_is header text = refl

@@ -1,4 +1,4 @@
--- What is gathered from rows or columns one after the other.
+-- Results that are gathered from rows or columns one after another.
 use Rattle.std.proofs.Common.{◌≡◌, ℕ, ◌+◌, ◌&&◌, ◌==◌, ◌≤◌, zero, suc, Bool, true, false, List, [], ◌∷◌, ◌++◌, length, get_or, filter}
 use Rattle.std.proofs.Common.{refl, sym, ap, ◌∙◌, arith}
 use Rattle.std.proofs.Common.{if◌then◌else◌, append-nil, length-append}
@@ -20,7 +20,7 @@ range_more first (suc n) =
     ap (range_with_len first) size ∙ ap (λ rest. first ∷ rest) (range_more (first + 1) n)
     ∙ ap (λ at. first ∷ (range_with_len (first + 1) n ++ at ∷ [])) start
 
--- one row more
+-- one more row
 pub filter_more : (test : ℕ → Bool) (n : ℕ) → filter test (range_with_len 0 (n + 1)) ≡ filter test (range_with_len 0 n) ++ (if test n then n ∷ [] else [])
 filter_more test n =
     ap (filter test) (range_more 0 n) ∙ filter-append test (range_with_len 0 n) ((0 + n) ∷ [])
@@ -96,7 +96,7 @@ pub at_most_one_more : (has : Bool) (count new_count : ℕ) → new_count ≡ (i
 at_most_one_more true count new_count is = omega (arith, is)
 at_most_one_more false count new_count is = omega (arith, is)
 
--- ---- what is said of them
+-- ---- findings about them
 
 pub nothing_of_rows : (finding : ℕ → ℕ → Finding) (rows : List ℕ) (count first : ℕ) → AreRows rows count first → count ≡ 0 → of_rows finding rows ≡ []
 nothing_of_rows finding [] count first are none = refl

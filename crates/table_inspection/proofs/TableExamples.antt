@@ -1,4 +1,4 @@
--- What is found in small tables.
+-- The findings in small tables.
 use Rattle.std.proofs.Common.{◌≡◌, ◌++◌, true, false, List, [], ◌∷◌, refl, codes}
 use Rattle.std.specs.Prelude.{map}
 use Rattle.std.specs.List.{repeat}
@@ -70,7 +70,7 @@ different_identifiers : counts
 unfolding on_literals
 different_identifiers = refl
 
--- the second column of a name does not count
+-- the second column with a name does not count
 second_columns : counts (table (codes "print_identifier" ∷ codes "print_identifier" ∷ []) ((codes "1" ∷ codes "2" ∷ []) ∷ ([] ∷ codes "3" ∷ []) ∷ []))
     ≡ RowCount 2 ∷ IdentifierCount 1 ∷ []
 unfolding on_literals
@@ -113,14 +113,14 @@ rows_without_any : map unidentified (identified ((codes "1" ∷ []) ∷ ([] ∷ 
 unfolding on_literals
 rows_without_any = refl
 
--- the printed identifier of a row comes first, and a placeholder is as good as a number
+-- the identifier of the print edition comes first in a row, and the identifier for any title counts as a number
 first_bad_number : map bad_numbers (identified ((codes "ANY" ∷ codes "1234-5679" ∷ []) ∷ (codes "b" ∷ codes "a" ∷ []) ∷ (codes "c" ∷ []) ∷ [])
     ∷ identified ((codes "any" ∷ []) ∷ []) ∷ [])
     ≡ (NotNumbers 3 1 (codes "a") ∷ []) ∷ [] ∷ []
 unfolding on_literals
 first_bad_number = refl
 
--- a row that has it twice counts once, and of two identifiers the one that comes first
+-- a row that has an identifier twice counts once, and of two identifiers with as many rows the first one counts
 identifier_of_most_rows : map most_rows (identified ((codes "b" ∷ codes "a" ∷ []) ∷ (codes "c-" ∷ codes "C" ∷ []) ∷ (codes "a" ∷ codes "B" ∷ []) ∷ [])
     ∷ identified ((codes "-" ∷ []) ∷ []) ∷ identified ((codes "c" ∷ codes "c" ∷ []) ∷ (codes "b" ∷ []) ∷ (codes "b" ∷ []) ∷ []) ∷ [])
     ≡ (RowsOfOneIdentifier 2 (codes "A") ∷ []) ∷ [] ∷ (RowsOfOneIdentifier 2 (codes "B") ∷ []) ∷ []
@@ -147,7 +147,7 @@ rows_without_a_link : map unlinked (table (codes "title_url" ∷ codes "title_ur
 unfolding on_literals
 rows_without_a_link = refl
 
--- empty cells past the header's do not count
+-- empty cells beyond the header do not count
 rows_past_the_header : map long_rows
     (table (codes "a" ∷ []) ((codes "1" ∷ []) ∷ (codes "1" ∷ [] ∷ []) ∷ (codes "1" ∷ [] ∷ codes "2" ∷ []) ∷ ([] ∷ codes "2" ∷ []) ∷ [])
     ∷ table (codes "a" ∷ codes "b" ∷ []) ((codes "1" ∷ codes "2" ∷ []) ∷ []) ∷ [])

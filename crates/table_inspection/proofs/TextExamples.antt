@@ -20,7 +20,7 @@ no_dates : list_any is_date (codes "2009-13" ∷ codes "2009-00" ∷ codes "2009
 unfolding on_literals
 no_dates = refl
 
--- other orders, other separators, spaces, letters and digits that are not ASCII's
+-- other orders, other separators, spaces, letters, and digits that are not ASCII
 no_dates_either : list_any is_date (codes "3/1/1995" ∷ codes "01-2009" ∷ codes "2009/01" ∷ codes "2009.01" ∷ codes "2009 01" ∷ codes "200901" ∷ codes
     " 1995" ∷ codes "1995 " ∷ codes "199x" ∷ codes "2009-0x" ∷ codes "c1995" ∷ [] ∷ (codes "199" ++ 0xd9 ∷ 0xa5 ∷ []) ∷ [])
     ≡ false
@@ -43,7 +43,7 @@ no_numbers : list_any is_numbered (codes "1234-567" ∷ codes "1234-56790" ∷ c
 unfolding on_literals
 no_numbers = refl
 
--- an en dash counts, and hyphens alone are no number
+-- an en dash counts, and hyphens alone are not a number
 no_numbers_either : list_any is_numbered ((codes "1234" ++ (0xe2 ∷ 0x80 ∷ 0x93 ∷ codes "5679")) ∷ codes "-" ∷ codes " - " ∷ []) ≡ false
 unfolding on_literals
 no_numbers_either = refl
@@ -62,7 +62,7 @@ spellings_of_other_bytes : map spelling (codes "a@B[c`d{e" ∷ codes "az AZ" ∷
 unfolding on_literals
 spellings_of_other_bytes = refl
 
--- the standard's names are spelled so
+-- the standard's names do not change when they are spelled
 standard_spellings : map spelling column_names ≡ column_names
 unfolding on_literals
 standard_spellings = refl

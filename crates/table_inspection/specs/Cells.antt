@@ -19,7 +19,7 @@ is_year text = length text == 4 && list_all is_ascii_digit text
 abbrev pub digit : ℕ → ℕ
 digit b = b - 0x30
 
--- a hyphen and two digits, from 01 on
+-- a hyphen and two digits, from 01 to a maximum
 abbrev pub is_part : ℕ → Text → Bool
 is_part last text =
     length text == 3 && (get_or text 0 0 == 0x2d && (list_all is_ascii_digit (drop 1 text)
@@ -41,15 +41,15 @@ pub record CellAt : Type 0 where
   pub row : ℕ
   pub text : Text
 
--- the defined cells of a row in some columns, in the order of these
+-- the defined cells of a row in some columns, in the order of the columns
 abbrev pub cells_in_row : List (Option ℕ) → Holdings → ℕ → List CellAt
 cells_in_row columns table row = map (λ text. record { row = row; text = text }) (filter_map (cell_in (get_or table.rows row [])) columns)
 
--- those that do not pass a test
+-- the cells of a row that do not pass a test
 abbrev pub faults_in_row : (Text → Bool) → List (Option ℕ) → Holdings → ℕ → List CellAt
 faults_in_row test columns table row = filter (λ cell. not (test cell.text)) (cells_in_row columns table row)
 
--- those of all rows, row by row
+-- the cells of all rows that do not pass a test, row by row
 unfoldable pub cell_faults : (Text → Bool) → List (Option ℕ) → Holdings → List CellAt
 cell_faults test columns table = flat_map (faults_in_row test columns table) (range_with_len 0 (length table.rows))
 
@@ -92,7 +92,7 @@ unfoldable pub unlinked : Holdings → List Finding
 unlinked table =
     if is_some (column_of table.header (codes "title_url")) then of_rows RowsWithoutLink (row_faults (has_no_link table.header) table) else []
 
--- a cell past those of the header is not empty
+-- a cell beyond the columns of the header is not empty
 abbrev pub is_long : Row → Row → Bool
 is_long header cells = list_any (λ cell. not (is_empty cell)) (drop (length header) cells)
 

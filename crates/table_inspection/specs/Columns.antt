@@ -1,4 +1,4 @@
--- What is found in the header of a holdings table (NISO RP-9-2014).
+-- The findings in the header of a holdings table (NISO RP-9-2014).
 use Rattle.std.specs.Prelude.{ℕ, ◌==◌, ◌&&◌, Bool, not, List, [], ◌∷◌, length, get_or, codes, is_none, Option, None, Some, if◌then◌else◌}
 use Rattle.std.specs.Char.{is_ascii_alphabetic, to_ascii_lowercase}
 use Rattle.std.specs.List.{find, flat_map, list_any, range_with_len}
@@ -30,12 +30,12 @@ missing_columns header = flat_map (missing_column header) identifier_names
 abbrev pub underscore : ℕ
 underscore = 0x5f
 
--- before the rest of a name; at its end, and before another one, it is dropped
+-- an underscore before the rest of a name; it is dropped at the end, and before another one
 abbrev pub underscored : Text → Text
 underscored [] = []
 underscored (c ∷ rest) = if c == underscore then c ∷ rest else underscore ∷ c ∷ rest
 
--- the letters in small, and one `_` for each run of other bytes that letters follow
+-- the letters in lower case, and one `_` for each run of other bytes that is followed by a letter
 unfoldable pub spelled : Text → Text
 spelled [] = []
 spelled (b ∷ text) = if is_ascii_alphabetic b then to_ascii_lowercase b ∷ spelled text else underscored (spelled text)
@@ -44,7 +44,7 @@ abbrev pub without_first_underscore : Text → Text
 without_first_underscore [] = []
 without_first_underscore (c ∷ rest) = if c == underscore then rest else c ∷ rest
 
--- the letters in small, and one `_` for each run of other bytes between letters
+-- the letters in lower case, and one `_` for each run of other bytes between letters
 abbrev pub spelling : Text → Text
 spelling text = without_first_underscore (spelled text)
 
@@ -55,7 +55,7 @@ resembles text name = bytes_eq (spelling text) (spelling name)
 abbrev pub meant : Row → Text → Option Text
 meant header text = find (λ name. is_missing header name && resembles text name) column_names
 
--- ---- the columns of other names
+-- ---- other columns
 
 abbrev pub is_empty : Text → Bool
 is_empty text = length text == 0

@@ -1,11 +1,11 @@
--- What is found in a holdings table, and the lines that say so.
+-- The findings in a holdings table, and their lines.
 use Rattle.std.specs.Prelude.{ℕ, ◌==◌, Bool, true, false, List, [], ◌∷◌, ◌++◌, codes}
 use Rattle.std.specs.Fmt.{decimal}
 use Rattle.std.specs.List.{flat_map, list_any}
 use Rattle.text_model.specs.Texts.{Text}
 use Rattle.printed_text.specs.Printed.{shortened}
 
--- rows are counted from 0; of the rows or cells that are counted, `first` and `text` are those of the first
+-- rows are counted from 0; `first` is the first of the rows (or the row of the first cell), and `text` is the text of the first cell
 pub data Finding : Type 0 where
   RowCount : (rows : ℕ) → Finding
   IdentifierCount : (identifiers : ℕ) → Finding

@@ -13,7 +13,7 @@ use Rattle.table_inspection.specs.Findings.{Finding, RowsOfOneIdentifier}
 abbrev pub is_check : ℕ → Bool
 is_check b = is_ascii_digit b || b == 0x58
 
--- that many digits, and a digit or `X`
+-- that many digits, followed by a digit or `X`
 abbrev pub is_checked : ℕ → Text → Bool
 is_checked digits id = length id == digits + 1 && (list_all is_ascii_digit (take digits id) && is_check (get_or id digits 0))
 
@@ -21,17 +21,17 @@ abbrev pub is_long_isbn : Text → Bool
 is_long_isbn id =
     length id == 13 && (list_all is_ascii_digit id && (bytes_eq (take 3 id) (codes "978") || bytes_eq (take 3 id) (codes "979")))
 
--- an ISSN, an ISBN, or what stands for any title
+-- an ISSN, an ISBN, or the identifier that stands for any title
 abbrev pub is_number : Text → Bool
 is_number id = is_checked 7 id || (is_checked 9 id || (is_long_isbn id || bytes_eq id (codes "ANY")))
 
 -- ---- the identifiers of the rows
 
--- the normal forms that are not empty, the printed one first
+-- the identifiers of a row in normal form, without empty ones, that of the print edition first
 abbrev pub row_identifiers : List (Option ℕ) → Row → List Text
 row_identifiers columns cells = filter_map defined (identifiers_in columns cells)
 
--- those of each row, row by row
+-- the identifiers of all rows, row by row
 unfoldable pub identifiers_of : List (Option ℕ) → List Row → List Text
 identifiers_of columns rows = flat_map (row_identifiers columns) rows
 
@@ -44,7 +44,7 @@ distinct (text ∷ texts) = text ∷ filter (λ other. not (bytes_eq other text)
 unfoldable pub rows_having : List (Option ℕ) → List Row → Text → ℕ
 rows_having columns rows id = count_by (λ cells. list_any (bytes_eq id) (row_identifiers columns cells)) rows
 
--- the first text that none of them exceeds by this number
+-- the first text whose number is the largest
 unfoldable pub first_of_most : (Text → ℕ) → List Text → Option Text
 first_of_most number texts = find (λ text. list_all (λ other. nat_le (number other) (number text)) texts) texts
 

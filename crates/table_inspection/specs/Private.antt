@@ -3,4 +3,5 @@ pub mod Adding
 pub mod Counting
 pub mod Forms
 pub mod Gathering
+pub mod Headers
 pub mod Spelling

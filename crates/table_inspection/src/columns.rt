@@ -1,13 +1,14 @@
-//! What is found in the header.
+//! The findings in the header.
 
-ghost use Rattle.std.specs.Prelude.{◌≡◌, ◌∷◌, ◌&&◌, [], OnOk, get_or};
-ghost use Rattle.std.specs.List.{find, list_any};
+ghost use Rattle.std.specs.Prelude.{◌≡◌, ◌∷◌, ◌&&◌, [], OnOk, get_or, length};
+ghost use Rattle.std.specs.List.{find, flat_map, list_any, range_with_len};
 ghost use Rattle.std.specs.Option.{option_copied};
 ghost use Rattle.std.specs.Str.{bytes_eq};
 ghost use Rattle.standard_names.specs.Columns.{column_names};
 ghost use Rattle.table_inspection.specs.Columns as spec;
 ghost use Rattle.table_inspection.specs.Inspection.{findings_in_columns};
 ghost use Rattle.table_inspection.specs.Private.Adding.{Adds};
+ghost use Rattle.table_inspection.specs.Private.Headers.{findings_of};
 
 use crate::lines::{add_missing, add_misspelled, add_text};
 use crate::spelling::spelling;
@@ -15,6 +16,15 @@ use kbart_rows::{RowCursor, Table};
 use printed_text::Findings;
 use standard_names::column_names;
 use std::alloc::{AllocError, Global};
+
+/// Columns that are told of.
+#[derive(Clone, Copy)]
+pub(crate) enum ColumnKind {
+    /// Not of the standard.
+    Unknown,
+    /// With the name of an earlier one.
+    Ignored,
+}
 
 /// Adds the columns that are missing, unknown and ignored.
 pub(crate) fn add_columns(
@@ -25,8 +35,8 @@ pub(crate) fn add_columns(
     ensures { OnOk result (Adds findings.old findings.new (findings_in_columns table.now.header)) }
 {
     add_missing_columns(findings, table)?;
-    add_unknown_columns(alloc, findings, table)?;
-    add_ignored_columns(findings, table)?;
+    add_columns_of(alloc, findings, table, ColumnKind::Unknown)?;
+    add_columns_of(alloc, findings, table, ColumnKind::Ignored)?;
     Ok(())
 }
 
@@ -39,7 +49,7 @@ fn add_missing_columns(findings: &mut Findings, table: &Table) -> Result<(), All
     Ok(())
 }
 
-/// Adds a column of identifiers that is missing.
+/// Adds a column of identifiers if it is missing.
 fn add_if_missing(
     findings: &mut Findings,
     table: &Table,
@@ -62,32 +72,41 @@ fn is_missing(table: &Table, name: &str) -> bool
     table.column(name).is_none()
 }
 
-fn add_unknown_columns(
+/// Adds the columns of a kind, in order.
+fn add_columns_of(
     alloc: Global,
     findings: &mut Findings,
     table: &Table,
+    kind: ColumnKind,
 ) -> Result<(), AllocError>
-    ensures { OnOk result (Adds findings.old findings.new (spec.unknown_columns table.now.header)) }
+    ensures { OnOk result (Adds findings.old findings.new
+        (flat_map (findings_of kind table.now.header) (range_with_len 0 (length table.now.header)))) }
 {
     let mut column: usize = 0;
     let mut names = RowCursor::new(table.header());
     while let Some(name) = names.next_cell() {
-        add_if_unknown(alloc, findings, table, name, column)?;
+        add_column(alloc, findings, table, kind, name, column)?;
         column += 1;
     }
     Ok(())
 }
 
-fn add_ignored_columns(findings: &mut Findings, table: &Table) -> Result<(), AllocError>
-    ensures { OnOk result (Adds findings.old findings.new (spec.ignored_columns table.now.header)) }
+/// Adds a column, if it is of the kind.
+fn add_column(
+    alloc: Global,
+    findings: &mut Findings,
+    table: &Table,
+    kind: ColumnKind,
+    name: &str,
+    column: usize,
+) -> Result<(), AllocError>
+    requires { name.now ≡ get_or table.now.header column [] }
+    ensures { OnOk result (Adds findings.old findings.new (findings_of kind table.now.header column)) }
 {
-    let mut column: usize = 0;
-    let mut names = RowCursor::new(table.header());
-    while let Some(name) = names.next_cell() {
-        add_if_ignored(findings, table, name, column)?;
-        column += 1;
+    match kind {
+        ColumnKind::Unknown => add_if_unknown(alloc, findings, table, name, column),
+        ColumnKind::Ignored => add_if_ignored(findings, table, name, column),
     }
-    Ok(())
 }
 
 fn add_if_unknown(
@@ -148,7 +167,7 @@ fn is_standard(name: &str) -> bool
     false
 }
 
-/// Adds a column that is unknown, and the standard's name that it resembles.
+/// Adds a column that is unknown, with the standard's name that it resembles.
 fn add_unknown(
     alloc: Global,
     findings: &mut Findings,
@@ -168,7 +187,7 @@ fn add_unknown(
     Ok(())
 }
 
-/// The first of the standard's names that is so spelled, and that no column has.
+/// The first of the standard's names that has this spelling, and that no column has.
 fn meant(table: &Table, spelling: &str) -> Option<&'static str>
     ensures { option_copied result
         ≡ find (λ name. spec.is_missing table.now.header name && bytes_eq spelling.now name) column_names }

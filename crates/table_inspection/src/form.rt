@@ -1,35 +1,28 @@
 //! The forms that cells should have.
 
-ghost use Rattle.std.specs.Prelude.{◌≡◌, IfOk};
+ghost use Rattle.std.specs.Prelude.{◌≡◌};
 ghost use Rattle.table_inspection.specs.Cells as spec;
 ghost use Rattle.table_inspection.specs.Private.Forms.{fits};
 
-use crate::number::{are_digits, is_number, normalised};
+use crate::number::are_digits;
 use menu::is_web_link;
-use std::alloc::{AllocError, Global};
 
 /// The form that the cells of a column should have.
 #[derive(Clone, Copy)]
 pub(crate) enum Form {
-    /// An ISSN or an ISBN.
-    Number,
-    /// A date by year, month or day.
+    /// A date: a year, a month or a day.
     Date,
     /// A link that begins with `http://` or `https://`.
     WebLink,
 }
 
 /// Whether a cell has the form.
-pub(crate) fn fits(alloc: Global, form: Form, cell: &str) -> Result<bool, AllocError>
-    ensures { IfOk result (λ is. is ≡ fits form cell.now) }
+pub(crate) fn fits(form: Form, cell: &str) -> bool
+    ensures { result ≡ fits form cell.now }
 {
     match form {
-        Form::Number => {
-            let id = normalised(alloc, cell)?;
-            Ok(is_number(id.as_str()))
-        }
-        Form::Date => Ok(is_date(cell)),
-        Form::WebLink => Ok(is_web_link(cell)),
+        Form::Date => is_date(cell),
+        Form::WebLink => is_web_link(cell),
     }
 }
 
@@ -62,7 +55,7 @@ fn is_day(date: &[u8]) -> bool
         && is_part(&date[7..], 31)
 }
 
-/// Whether these are a hyphen and two digits, from 01 to the last.
+/// Whether these are a hyphen and two digits, from 01 to `last`.
 fn is_part(part: &[u8], last: u8) -> bool
     ensures { result ≡ spec.is_part last part.now }
 {

@@ -1,5 +1,5 @@
-//! What a holdings table is worth before it is served: how many rows and identifiers it has, and which columns, cells
-//! and rows are not as they should be (NISO RP-9-2014).
+//! The quality of a holdings table, to be checked before it is served: how many rows and identifiers it has, and which
+//! columns, cells and rows are not as they should be (NISO RP-9-2014).
 //!
 //! ```rust
 //! let findings = inspect(alloc, &table)?;
@@ -7,7 +7,7 @@
 //! ```
 #![tactic(auto)]
 
-mod cell_faults;
+mod cells;
 mod columns;
 mod form;
 mod identifiers;
@@ -15,9 +15,10 @@ mod inspection;
 mod lines;
 mod most_rows;
 mod number;
-mod row_faults;
+mod row_counts;
+mod row_line;
+mod rows;
 mod spelling;
-#[cfg(test)]
-mod tests;
+mod values;
 
 pub use inspection::inspect;

@@ -1,15 +1,27 @@
-//! Identifiers in normal form, and which of them are numbers.
+//! Identifiers in normal form, and which of them are ISSNs or ISBNs.
 
 ghost use Rattle.std.specs.Prelude.{◌≡◌, ◌<◌, IfOk, string_bytes};
 ghost use Rattle.std.specs.List.{list_all};
 ghost use Rattle.std.specs.Char.{is_ascii_digit};
+ghost use Rattle.std.specs.Option.{option_copied};
 ghost use Rattle.kbart_rows.specs.Identifiers.{normalised};
 ghost use Rattle.table_inspection.specs.Identifiers as spec;
+ghost use Rattle.table_inspection.specs.Private.Forms.{normal_form};
 
 use std::alloc::{AllocError, Global};
 
-/// An identifier as it is compared: without hyphens and spaces, and in capital letters.
-pub(crate) fn normalised(alloc: Global, text: &str) -> Result<String, AllocError>
+/// The identifier of a cell as it is compared, without hyphens and spaces and in capital letters; it is empty where the
+/// cell is undefined.
+pub(crate) fn normal_form(alloc: Global, cell: Option<&str>) -> Result<String, AllocError>
+    ensures { IfOk result (λ id. string_bytes id ≡ normal_form (option_copied cell.entry)) }
+{
+    match cell {
+        Some(text) => normalised(alloc, text),
+        None => Ok(String::new(alloc)),
+    }
+}
+
+fn normalised(alloc: Global, text: &str) -> Result<String, AllocError>
     ensures { IfOk result (λ id. string_bytes id ≡ normalised text.now) }
 {
     text.chars()
@@ -18,7 +30,8 @@ pub(crate) fn normalised(alloc: Global, text: &str) -> Result<String, AllocError
         .collect(alloc)
 }
 
-/// Whether an identifier in normal form is an ISSN or an ISBN, or stands for any title. Check digits are not computed.
+/// Whether an identifier in normal form is an ISSN or an ISBN, or the one that stands for any title. Check digits are
+/// not computed.
 pub(crate) fn is_number(id: &str) -> bool
     ensures { result ≡ spec.is_number id.now }
 {
@@ -26,7 +39,7 @@ pub(crate) fn is_number(id: &str) -> bool
     is_checked(bytes, 7) || is_checked(bytes, 9) || is_long_isbn(bytes) || id == "ANY"
 }
 
-/// Whether these are that many digits, and a digit or `X`.
+/// Whether these are that many digits, followed by a digit or `X`.
 fn is_checked(id: &[u8], digits: usize) -> bool
     requires { digits < 10 }
     ensures { result ≡ spec.is_checked digits id.now }

@@ -6,7 +6,7 @@ ghost use Rattle.table_inspection.specs.Private.Spelling.{next_name};
 
 use std::alloc::{AllocError, Global};
 
-/// A name in small letters, with one `_` for each run of other bytes between them.
+/// A name in lower case, with one `_` for each run of other bytes between letters.
 pub(crate) fn spelling(alloc: Global, text: &str) -> Result<String, AllocError>
     ensures { IfOk result (λ name. string_bytes name ≡ spec.spelling text.now) }
 {
@@ -19,7 +19,7 @@ pub(crate) fn spelling(alloc: Global, text: &str) -> Result<String, AllocError>
     Ok(name)
 }
 
-/// Spells a byte after others; the byte before it may be no letter.
+/// Appends a byte in this spelling; `is_after_other` says that the byte before it was not kept.
 fn spell_byte(name: &mut String, is_after_other: bool, b: u8) -> Result<(), AllocError>
     ensures { OnOk result (string_bytes name.new ≡ next_name (string_bytes name.old) is_after_other b) }
 {

@@ -9,7 +9,7 @@ pub record AddsLine (old new : Findings) (line : Text) (warns : Bool) : Type 0 w
   pub text : string_bytes new.text ≡ string_bytes old.text ++ (line ++ line_feed)
   pub warned : new.warned ≡ (old.warned || warns)
 
--- the lines of these were added
+-- the lines of these findings were added
 pub record Adds (old new : Findings) (findings : List Finding) : Type 0 where
   pub text : string_bytes new.text ≡ string_bytes old.text ++ lines_of findings
   pub warned : new.warned ≡ (old.warned || have_warning findings)

@@ -4,14 +4,14 @@ use Rattle.std.specs.Char.{is_ascii_alphabetic, to_ascii_lowercase}
 use Rattle.text_model.specs.Texts.{Text}
 use Rattle.table_inspection.specs.Columns.{is_empty, underscore, underscored, without_first_underscore}
 
--- what is spelled so far with a byte more, where the byte before it may be no letter
+-- the spelling so far after one more byte; the flag says whether the byte before it was not a letter
 abbrev pub next_name : Text → Bool → ℕ → Text
 next_name name is_after_other b =
     if is_ascii_alphabetic b
     then (if is_after_other && not (is_empty name) then (name ++ underscore ∷ []) ++ to_ascii_lowercase b ∷ [] else name ++ to_ascii_lowercase b ∷ [])
     else name
 
--- what the rest of a name, as it is spelled alone, adds to what is spelled so far
+-- the spelling so far, continued with the spelling of the rest of a name
 abbrev pub continued : Text → Bool → Text → Text
 continued name is_after_other rest =
     if is_empty name then without_first_underscore rest else (if is_after_other then underscored rest else rest)

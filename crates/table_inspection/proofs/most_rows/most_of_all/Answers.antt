@@ -1,43 +1,64 @@
-use Rattle.std.proofs.Common.{◌≡◌, ◌+◌, ◌<◌, ◌++◌, [], length, take, get_or, codes, string_bytes, refl, sym, ap, ◌∙◌, arith, append_assoc}
+use Rattle.std.proofs.Common.{◌≡◌, ◌+◌, ◌<◌, ◌++◌, [], length, take, get_or, codes, refl, sym, ap, ◌∙◌, arith, append_assoc}
 use Rattle.std.proofs.lemmas.List.{take_all, take_more}
-use Rattle.std.specs.Option.{option_and_then, option_map, option_to_list}
-use Rattle.kbart_rows.specs.Cells.{column_of, defined}
-use Rattle.kbart_rows.specs.Identifiers.{identifier_columns, identifier_in, normalised}
-use Rattle.table_inspection.specs.Identifiers.{identifiers_of, row_identifiers}
-use Rattle.table_inspection.specs.Private.Counting.{none}
-use Rattle.table_inspection.proofs.CountingLemmas.{identifiers_more, identifiers_of_row}
+use Rattle.std.specs.Option.{option_map_or, option_to_list}
+use Rattle.kbart_rows.specs.Cells.{cell_in, column_of, defined, Row}
+use Rattle.kbart_rows.specs.Identifiers.{identifier_columns}
+use Rattle.table_inspection.specs.Identifiers.{identifiers_of}
+use Rattle.table_inspection.specs.Private.Counting.{none, number_in}
+use Rattle.table_inspection.specs.Private.Forms.{normal_form}
+use Rattle.table_inspection.proofs.CountingLemmas.{identifiers_more, identifiers_of_two, identifiers_split}
+use Rattle.table_inspection.proofs.MostLemmas.{most_has_all}
 use Rattle.table_inspection.proofs.most_rows.most_of_all.Goals as goal
 
 pub loop-row-init : goal.loop-row-init
 unfolding identifiers_of
-loop-row-init c = none refl
+loop-row-init c =
+    let number = number_in c.args.counts.now in
+    let empty = ap defined c.new.ensures.bytes in
+    record {
+      most = rw empty (none refl);
+      rows = sym (ap (λ (id : _). option_map_or number id 0) empty);
+    }
+
+pub returns-then-has_all-clause-most : goal.returns-then-has_all-clause-most
+returns-then-has_all-clause-most c =
+    let inv = c.loop-row.invariant in
+    let table = c.args.table.now in
+    let columns = identifier_columns table.header in
+    let split = identifiers_split columns table.rows c.loop-row.row in
+    rw split (most_has_all (number_in c.args.counts.now) (identifiers_of columns (take c.loop-row.row table.rows)) _ _ _ c.args.largest
+    (sym c.has_all.ensures ∙ c.if-has_all.true) inv.rows c.requires inv.most)
 
 pub loop-row-preserved : goal.loop-row-preserved
 loop-row-preserved c =
+    let inv = c.loop-row.invariant in
     let table = c.args.table.now in
     let row = c.loop-row.row in
     let columns = identifier_columns table.header in
     let cells = get_or table.rows row [] in
     let inside : row < length table.rows = omega (arith, c.loop-row-test.true, c.rows-row-end.ensures.count) in
     let more = take_more table.rows row [] inside in
-    let first = c.in_ok-print.ensures ∙ ap (λ (cell : _). option_and_then defined (option_map normalised cell)) c.cell-print_cell.ensures in
-    let second = c.in_ok-online.ensures ∙ ap (λ (cell : _). option_and_then defined (option_map normalised cell)) c.cell-online_cell.ensures in
+    let print = column_of table.header (codes "print_identifier") in
+    let online = column_of table.header (codes "online_identifier") in
+    let first = c.as_str.ensures.value ∙ c.in_ok-print.ensures
+    ∙ ap normal_form (c.cell_in.ensures ∙ ap (λ (cells : Row). cell_in cells c.column-print_column.result) c.line-line.ensures.cells
+    ∙ ap (cell_in cells) c.column-print_column.ensures.first) in
+    let second = c.as_str-in-loop-row.ensures.value ∙ c.in_ok-online.ensures
+    ∙ ap normal_form (c.cell_in-in-loop-row.ensures ∙ ap (λ (cells : Row). cell_in cells c.column-online_column.result) c.line-line.ensures.cells
+    ∙ ap (cell_in cells) c.column-online_column.ensures.first) in
     let ids = identifiers_of columns (take row table.rows) in
-    let is : row_identifiers columns cells ≡ option_to_list (option_map string_bytes c.in_ok-print.print)
-    ++ option_to_list (option_map string_bytes c.in_ok-online.online) =
-    identifiers_of_row (column_of table.header (codes "print_identifier")) (column_of table.header (codes "online_identifier")) cells
-    ∙ sym (ap (λ (a : _). option_to_list a ++ option_to_list (option_map string_bytes c.in_ok-online.online)) first
-    ∙ ap (λ (b : _). option_to_list (option_and_then defined (identifier_in cells (column_of table.header (codes "print_identifier"))))
-    ++ option_to_list b) second)
-    in
-    let all : identifiers_of columns (take (row + 1) table.rows)
-    ≡ (ids ++ option_to_list (option_map string_bytes c.in_ok-print.print)) ++ option_to_list (option_map string_bytes c.in_ok-online.online) =
-    ap (identifiers_of columns) more ∙ identifiers_more columns (take row table.rows) cells ∙ ap (λ last. ids ++ last) is
-    ∙ sym (append_assoc ids (option_to_list (option_map string_bytes c.in_ok-print.print)) (option_to_list (option_map string_bytes c.in_ok-online.online))) in
-    rw all (c.most_of-most.ensures _ (c.most_of-printed.ensures ids c.loop-row.invariant))
+    let one = option_to_list (defined c.as_str.result.now) in
+    let two = option_to_list (defined c.as_str-in-loop-row.result.now) in
+    let all : identifiers_of columns (take (row + 1) table.rows) ≡ (ids ++ one) ++ two =
+    ap (identifiers_of columns) more ∙ identifiers_more columns (take row table.rows) cells
+    ∙ ap (λ last. ids ++ last) (identifiers_of_two print online cells _ _ first second) ∙ sym (append_assoc ids one two) in
+    record {
+      most = rw all (c.in_ok-take_if_more-2.ensures.most _ (c.in_ok-take_if_more.ensures.most ids inv.most));
+      rows = c.in_ok-take_if_more-2.ensures.rows;
+    }
 
-pub returns : goal.returns
-returns c =
+pub returns-clause-most : goal.returns-clause-most
+returns-clause-most c =
     let table = c.args.table.now in
     let all = take_all c.loop-row.row table.rows (omega (arith, c.rows-row-end.ensures.count, c.loop-row-test.false)) in
-    rw all at c.loop-row.invariant
+    rw all at c.loop-row.invariant.most

@@ -1,0 +1,15 @@
+use Rattle.std.proofs.Common.{arith}
+use Rattle.std.proofs.lemmas.Map.Text.{text_keys}
+use Rattle.table_inspection.proofs.row_counts.count_one.Goals as goal
+
+pub returns-clause-numbers : goal.returns-clause-numbers
+returns-clause-numbers c = λ other. grind (arith, text_keys)
+
+pub returns-clause-known : goal.returns-clause-known
+returns-clause-known c = λ other. grind (arith, text_keys)
+
+pub returns-in-Some-clause-numbers : goal.returns-in-Some-clause-numbers
+returns-in-Some-clause-numbers c = λ other. grind (arith, text_keys)
+
+pub returns-in-Some-clause-known : goal.returns-in-Some-clause-known
+returns-in-Some-clause-known c = λ other. grind (arith, text_keys)
