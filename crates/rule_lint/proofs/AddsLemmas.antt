@@ -1,4 +1,4 @@
--- What was found one after another.
+-- Findings that are added one after another.
 use Rattle.std.proofs.Common.{◌≡◌, ℕ, ◌+◌, ◌<◌, Bool, true, false, ◌||◌, ◌==◌, cond, map, Bor, List, [], ◌∷◌, ◌++◌, length, take, get_or, refl, sym, ap, ◌∙◌}
 use Rattle.std.proofs.Common.{subst, string_bytes, append_assoc}
 use Rattle.std.specs.List.{flat_map, list_any}
@@ -59,7 +59,7 @@ adds_more a b c xs ys h k = record {
       ∙ ap (λ (w : Bool). a.warned || w) (sym (list_any-append is_warning xs ys))));
 }
 
--- what is found in one more element of a list
+-- the findings in one more element of a list
 pub adds_step : {X : Type 0} (f : X → List Finding) (xs : List X) (i : ℕ) (d : X) (a b c : Findings) → i < length xs
     → Adds a b (flat_map f (take i xs)) → Adds b c (f (get_or xs i d)) → Adds a c (flat_map f (take (i + 1) xs))
 adds_step f xs i d a b c h before at =
@@ -76,7 +76,7 @@ on_ok (Err e) P Q f p = p
 
 -- ---- names
 
--- what is made of lent texts
+-- findings from borrowed texts
 pub lent : (f : Text → List Finding) (names : List (Bor Text)) → flat_map (λ (y : Bor Text). f y.now) names ≡ flat_map f (texts_of names)
 lent f [] = refl
 lent f (y ∷ names) = ap (λ l. f y.now ++ l) (lent f names)

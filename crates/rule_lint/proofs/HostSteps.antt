@@ -9,14 +9,14 @@ use Rattle.rule_parser.specs.Names.{each_once}
 use Rattle.rule_parser.specs.Rules.{RuleSet}
 use Rattle.rule_lint.specs.Host.{begins_with_cell, host_names, is_host_fixed, known_text, names_before_host_ends, open_names}
 
--- the parts that are left at one of their places
+-- the parts that are left, from one place on
 pub rest_at : (parts : List Part) (i : ℕ) (part : Part) → i < length parts → part ≡ get_or parts i part → drop i parts ≡ part ∷ drop (i + 1) parts
 rest_at parts i part h e = at_drop parts i h ∙ ap (λ (p : Part). p ∷ drop (i + 1) parts) (sym e)
   where
     at_drop : (parts : List Part) (i : ℕ) → i < length parts → drop i parts ≡ get_or parts i part ∷ drop (i + 1) parts
     at_drop parts i h = rw (add-one, drop-cons parts i part)
 
--- no part counts once the host is fixed
+-- no further part matters once the host is fixed
 none_left : (rules : RuleSet) (table : Holdings) (before : Text) (parts : List Part) → is_host_fixed before ≡ true
     → names_before_host_ends rules table before parts ≡ []
 none_left rules table before [] e = refl
@@ -27,9 +27,6 @@ none_left rules table before (part ∷ parts) e =
 whole_names : (rules : RuleSet) (table : Holdings) (parts : List Part) → begins_with_cell rules table parts ≡ false
     → each_once (names_before_host_ends rules table [] parts) ≡ host_names rules table parts
 whole_names rules table parts g = sym (ap (λ (b : Bool). cond b [] (each_once (names_before_host_ends rules table [] parts))) g)
-
-pub no_names : (rules : RuleSet) (table : Holdings) (parts : List Part) → begins_with_cell rules table parts ≡ true → [] ≡ host_names rules table parts
-no_names rules table parts g = sym (ap (λ (b : Bool). cond b [] (each_once (names_before_host_ends rules table [] parts))) g)
 
 -- the names so far are all names, since no part is left or the host is fixed
 names_whole : (rules : RuleSet) (table : Holdings) (parts rest : List Part) (found names : List Text) (before : Text) → names ≡ each_once found

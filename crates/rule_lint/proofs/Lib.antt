@@ -6,3 +6,12 @@ pub mod NameSteps
 pub mod ReachLemmas
 pub mod WebLinkLemmas
 pub mod HostSteps
+pub mod HostStates
+pub mod HostEnds
+pub mod CellStates
+pub mod PieceLemmas
+pub mod RowLooks
+pub mod HostWalk
+pub mod RowHosts
+pub mod PrintedHosts
+mod HostExamples

@@ -1,4 +1,4 @@
--- Each kind of line, and what is next to it and not reported, computed by the definitions.
+-- Each kind of line, and similar cases that are not reported, computed from the definitions.
 use Rattle.std.proofs.Common.{◌≡◌, ℕ, Bool, true, false, List, [], ◌∷◌, ◌++◌, Option, Some, None, map, refl, codes}
 use Rattle.std.specs.Fmt.{digits}
 use Rattle.text_model.specs.Texts.{Text}
@@ -112,7 +112,7 @@ holdings keys = table_of keys (codes "title_url" ∷ codes "title_id" ∷ codes 
 abbrev named : Keys → List Part → List Text
 named keys parts = host_names (rules_of [] []) (holdings keys) parts
 
--- a key is no column, each row is asked, one slash begins no host, and a column alone does not end one
+-- a key is not a column, every row needs the cell, one slash begins no host, and a column does not end one by itself
 open_hosts : (keys : Keys) → map (named keys) (
     (Literal (codes "https://") ∷ variable operator.Simple (codes "rft.issn") ∷ Literal (codes "/") ∷ [])
     ∷ (Literal (codes "https://") ∷ variable operator.Simple (codes "title_id") ∷ Literal (codes "/") ∷ [])

@@ -1,4 +1,4 @@
--- Lists taken one element further, and what a look at each element answers.
+-- Lists with one more element, and searches in lists.
 use Rattle.std.proofs.Common.{◌≡◌, ℕ, zero, suc, ◌+◌, ◌<◌, ◌≤◌, Bool, true, false, ◌||◌, ◌&&◌, cond, List, [], ◌∷◌, ◌++◌, length, take, drop, get_or, map, Bor}
 use Rattle.std.proofs.Common.{Option, Some, None, refl, sym, ap, ◌∙◌, arith}
 use Rattle.std.proofs.Common.{add-one, drop-cons, zero-add}
@@ -15,7 +15,7 @@ use Rattle.environment_model.specs.Environment.{is_among}
 use Rattle.std.specs.Option.{option_or}
 use Rattle.std.specs.Str.{bytes_eq}
 
--- one more element, and what is made of it
+-- one more element, and its results
 pub flat_map_more : {X A : Type 0} (f : X → List A) (xs : List X) (i : ℕ) (d : X) → i < length xs
     → flat_map f (take (i + 1) xs) ≡ flat_map f (take i xs) ++ f (get_or xs i d)
 flat_map_more f xs i d h =
@@ -48,12 +48,12 @@ split_at_place xs i x at =
     at_drop : (xs : List Text) (i : ℕ) → i < length xs → drop i xs ≡ get_or xs i x ∷ drop (i + 1) xs
     at_drop xs i h = rw (add-one, drop-cons xs i x)
 
--- one text lent among others
+-- one text among borrowed ones
 pub any_lent : (x : Text) (items : List (Bor Text)) → list_any (λ (y : Bor Text). bytes_eq y.now x) items ≡ is_among x (texts_of items)
 any_lent x [] = refl
 any_lent x (y ∷ items) = ap (λ b. bytes_eq y.now x || b) (any_lent x items)
 
--- the first of two is the second if the first is none
+-- the first of two results is the second if the first is none
 skip : (b : Bool) (y : Text) (rest : Option Text) → cond b (Some y) rest ≡ None → (b ≡ false) × (rest ≡ None)
 skip true y rest e = cc
 skip false y rest e = (refl, e)
@@ -67,7 +67,7 @@ find_here p (y ∷ items) (suc i) d h none at =
     let s = skip (p y.now) y.now (find p (texts_of (take i items))) none in
     ap (λ b. cond b (Some y.now) (find p (texts_of items))) s.0 ∙ find_here p items i d (omega arith) s.1 at
 
--- the same of texts that pass two tests, by the place of one
+-- the same for texts that pass two tests, at the place of one
 pub find_here_of_two : (p q : Text → Bool) (xs : List Text) (i : ℕ) (x : Text) → slice_get xs i ≡ Some x
     → find p (filter q (take i xs)) ≡ None → (q x && p x) ≡ true → find p (filter q xs) ≡ Some x
 find_here_of_two p q xs i x at none both =
@@ -108,11 +108,11 @@ find_later p items i d h none at =
     both : (o : Option Text) (b : Bool) → o ≡ None → b ≡ false → option_or o (cond b (Some (get_or items i d).now) None) ≡ None
     both o b e f = ap (λ r. option_or r (cond b (Some (get_or items i d).now) None)) e ∙ ap (λ c. cond c (Some (get_or items i d).now) None) f
 
--- an element beside its number
+-- an element with its number
 pub numbered_at : {X : Type 0} (xs : List X) (i : ℕ) (d : X) → i < length xs → d ≡ get_or xs i d → get_or (enumerate_from 0 xs) i (0, d) ≡ (i, d)
 numbered_at xs i d h e =
     get_or-enumerate_from 0 xs i (0, d) h ∙ (ap (λ n. (n, get_or xs i d)) (zero-add i) ∙ ap (λ y. (i, y)) (sym e))
 
--- all elements beside their numbers
+-- all elements with their numbers
 pub numbered_all : {X : Type 0} (xs : List X) (i : ℕ) → length xs ≤ i → take i (enumerate_from 0 xs) ≡ enumerate_from 0 xs
 numbered_all xs i h = take_all i (enumerate_from 0 xs) (omega (arith, length-enumerate_from 0 xs))

@@ -1,10 +1,10 @@
--- Guards whose bounds are apart hold nowhere, and no rule is taken after one that always holds.
-use Rattle.std.proofs.Common.{◌≡◌, ℕ, ◌<◌, ◌≤◌, Bool, true, false, ◌||◌, ◌&&◌, cond, List, [], ◌∷◌, ◌++◌, length, take, Option, Some, None, refl, sym, ap, ◌∙◌}
+-- Guards whose bounds exclude every number never hold, and no rule is used after one that always holds.
+use Rattle.std.proofs.Common.{◌≡◌, ℕ, Bool, true, false, ◌||◌, ◌&&◌, cond, List, [], ◌∷◌, ◌++◌, length, Option, Some, None, refl, sym, ap, ◌∙◌}
 use Rattle.std.proofs.Common.{arith}
 use Rattle.std.specs.Prelude.{nat_le, nat_lt}
 use Rattle.std.specs.List.{list_any, list_all, find}
 use Rattle.std.specs.Option.{option_map, option_and_then}
-use Rattle.std.proofs.lemmas.Bool.{false≢true, leb-true, ltb-true, both_ways}
+use Rattle.std.proofs.lemmas.Bool.{false≢true, leb-true, ltb-true}
 use Rattle.std.proofs.Math.Seq.{take-append_seam}
 use Rattle.text_model.specs.Texts.{Text}
 use Rattle.text_model.specs.Number.{leading_number}
@@ -15,13 +15,12 @@ use Rattle.rule_parser.specs.declared.rule.Bound.TheVariants as bound
 use Rattle.rule_parser.specs.declared.rule.Guard.{Guard}
 use Rattle.rule_parser.specs.declared.rule.Guard.TheVariants as guard
 use Rattle.rule_parser.specs.declared.rule.Rule.{Rule}
-use Rattle.rule_parser.specs.Rules.{RuleSet}
 use Rattle.rule_parser.specs.Meaning.{guard_holds, guards_hold, bound_number, is_within, is_number_within, seen, meaning}
 use Rattle.rule_lint.specs.Reach.{always_holds, is_without_guards, is_never_reached, is_above, are_apart, never_holds}
 
 -- ---- guards
 
--- no number is between bounds of which the first is the greater one
+-- no number is between bounds if the first is greater than the second
 outside : (low high n : ℕ) (a b : Bool) → nat_lt high low ≡ true → nat_le low n ≡ a → nat_le n high ≡ b → (a && b) ≡ false
 outside low high n false b e f g = refl
 outside low high n true false e f g = refl
@@ -59,11 +58,11 @@ never_held look (guard.Counts name low high) e = apart look low high (length (me
 
 -- ---- rules
 
-unguarded : (look : LookUp) (guards : List Guard) → is_without_guards guards ≡ true → list_all (guard_holds look) guards ≡ true
+pub unguarded : (look : LookUp) (guards : List Guard) → is_without_guards guards ≡ true → list_all (guard_holds look) guards ≡ true
 unguarded look [] e = refl
 unguarded look (g ∷ guards) e = absurd (false≢true e)
 
--- what is found among rules of which one always holds does not depend on the rules after them
+-- the first rule that holds does not depend on the rules after one that always holds
 found_before : (look : LookUp) (before xs ys : List Rule) → list_any always_holds before ≡ true
     → find (guards_hold look) (before ++ xs) ≡ find (guards_hold look) (before ++ ys)
 found_before look [] xs ys e = absurd (false≢true e)

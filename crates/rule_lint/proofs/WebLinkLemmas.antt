@@ -1,17 +1,15 @@
--- A text that does not begin a web link, and is not continued as one, is never a web link.
+-- A text that is not the beginning of a web link, and is not continued to one, is never a web link.
 use Rattle.std.proofs.Common.{◌≡◌, ℕ, ◌==◌, Bool, true, false, not, ◌||◌, ◌&&◌, List, [], ◌∷◌, ◌++◌, ◌⊎◌, inl, inr, refl, sym, ap, ◌∙◌, codes, append_assoc}
 use Rattle.std.specs.Char.{to_ascii_lowercase}
-use Rattle.std.specs.List.{flat_map}
 use Rattle.std.proofs.lemmas.Bool.{false≢true, and_parts, eqb-true, eq-eqb}
-use Rattle.std.proofs.lemmas.List.{append-nil}
 use Rattle.text_model.specs.Texts.{Text}
 use Rattle.environment_model.specs.Environment.{LookUp}
 use Rattle.uri_text.specs.AnyCase.{begins_in_any_case}
 use Rattle.uri_grammar.specs.declared.parts.Part.{Part}
 use Rattle.uri_grammar.specs.declared.parts.Part.TheVariants.{Literal, Expression}
-use Rattle.uri_template.specs.Expansion.{part_text, expansion}
+use Rattle.uri_template.specs.Expansion.{expansion}
 use Rattle.menu.specs.WebLink.{is_web_link}
-use Rattle.rule_lint.specs.WebLink.{first_text, has_expression, begins_web_links, is_never_web_link}
+use Rattle.rule_lint.specs.WebLink.{first_text, has_expression, is_never_web_link}
 
 -- ---- the first text and what follows it
 
@@ -35,11 +33,11 @@ no_rest look (Expression op specs ∷ parts) e = absurd (false≢true (sym e))
 
 -- ---- beginnings
 
--- two bytes that are one letter are one letter the other way round
+-- equality of bytes is symmetric
 turned : (a b : ℕ) → (a == b) ≡ true → (b == a) ≡ true
 turned a b e = eq-eqb b a (sym (eqb-true a b e))
 
--- a beginning of two texts joined is one of the first, or goes on into the second
+-- a beginning of two joined texts is one of the first, or continues into the second
 begins_across : (t r s : Text) → begins_in_any_case (t ++ r) s ≡ true → (begins_in_any_case t s ≡ true) ⊎ ((begins_in_any_case s t ≡ true) × (r ≡ [] → ⊥))
 begins_across t r [] e = inl refl
 begins_across [] r (c ∷ s) e = inr (refl, λ none. false≢true (ap (λ (x : Text). begins_in_any_case x (c ∷ s)) (sym none) ∙ e))
@@ -77,7 +75,7 @@ has_rest : (look : LookUp) (parts : List Part) (b : Bool) → has_expression par
 has_rest look parts true e f = refl
 has_rest look parts false e f = absurd (f (no_rest look parts e))
 
--- the link does not begin so if neither the first text nor what an expression makes of it does
+-- the link does not begin with this text if neither the first text does nor its continuation by an expression
 not_so : (look : LookUp) (parts : List Part) (s : Text) → (begins_in_any_case (first_text parts) s ≡ true → ⊥)
     → (has_expression parts ≡ true → begins_in_any_case s (first_text parts) ≡ true → ⊥) → begins_in_any_case (expansion look parts) s ≡ true → ⊥
 not_so look parts s f g e =

@@ -1,4 +1,4 @@
--- What is found in the rules of a target, in the order in which it is printed.
+-- The findings in the rules of a target, in the order in which they are printed.
 use Rattle.std.specs.Prelude.{ℕ, ◌+◌, ◌==◌, Bool, true, false, List, [], ◌∷◌, ◌++◌, codes, map, length, Option, Some, None, if◌then◌else◌}
 use Rattle.std.specs.List.{list_any, flat_map, enumerate_from}
 use Rattle.std.specs.Fmt.{decimal}
@@ -18,7 +18,7 @@ use Rattle.rule_lint.specs.Reach.{is_never_reached, never_holds}
 use Rattle.rule_lint.specs.WebLink.{is_never_web_link}
 use Rattle.rule_lint.specs.Host.{names_of, host_names}
 
--- one for each kind of line; rules count from 1
+-- one variant for each kind of line; rules are counted from 1
 pub data Finding : Type 0 where
   RuleCount : (n : ℕ) → Finding
   NeverReached : (rule : ℕ) → Finding
@@ -29,9 +29,9 @@ pub data Finding : Type 0 where
   HostByRequest : (where_it_is : Place) (name : Text) → Finding
   NeverWebLink : (where_it_is : Place) → Finding
 
--- ---- what is found of a name, a guard, a link and a rule
+-- ---- the findings for a name, a guard, a link and a rule
 
--- what is said of a name that is not known, by the name that it resembles
+-- the finding for an unknown name, with the name that it resembles if there is one
 abbrev pub misspelling : Place → Text → Option Text → Finding
 misspelling at name None = UnknownName at name
 misspelling at name (Some other) = MisspeltName at name other
@@ -65,14 +65,14 @@ in_host rules table at parts =
 abbrev pub in_link : RuleSet → Holdings → Place → List Part → List Finding
 in_link rules table at parts = in_names rules table at (names_in parts) ++ in_host rules table at parts
 
--- a guard beside its number, from 0
+-- the findings for a guard, given with its index from 0
 abbrev pub in_numbered_guard : RuleSet → Holdings → ℕ → ℕ × Guard → List Finding
 in_numbered_guard rules table rule numbered = in_guard rules table (place.Guard rule (numbered.0 + 1)) numbered.1
 
 abbrev pub in_guards : RuleSet → Holdings → ℕ → List Guard → List Finding
 in_guards rules table rule guards = flat_map (in_numbered_guard rules table rule) (enumerate_from 0 guards)
 
--- a rule beside its number, from 0
+-- the findings for a rule, given with its index from 0
 abbrev pub in_rule : RuleSet → Holdings → ℕ × Rule → List Finding
 in_rule rules table numbered =
     if is_never_reached rules.rules numbered.0 then NeverReached (numbered.0 + 1) ∷ []
@@ -105,7 +105,7 @@ finding_text (NeverWebLink at) = place_text at ++ codes ": never a web link\n"
 abbrev pub findings_text : List Finding → Text
 findings_text list = flat_map finding_text list
 
--- no rules at all is a warning, and so is every other line but that of a link that is never a web link
+-- every line is a warning, except the number of rules if there are any, and a link that is never a web link
 abbrev pub is_warning : Finding → Bool
 is_warning (RuleCount n) = n == 0
 is_warning (NeverWebLink at) = false

@@ -31,7 +31,7 @@ after_slashes [] = None
 after_slashes (b ∷ []) = None
 after_slashes (b ∷ c ∷ t) = if b == slash && c == slash then Some t else after_slashes (c ∷ t)
 
--- from there up to the byte that ends it, or to the end
+-- the host: the bytes after the slashes up to the byte that ends the host, or to the end
 abbrev pub host_after : Option Text → Text
 host_after None = []
 host_after (Some t) = before_first ends_host t
@@ -39,13 +39,13 @@ host_after (Some t) = before_first ends_host t
 abbrev pub host_of : Text → Text
 host_of link = host_after (after_slashes link)
 
--- next after the slashes is a byte that does not end the host
+-- the slashes are followed by a byte that does not end the host
 abbrev pub begins_with_host : Option Text → Bool
 begins_with_host None = false
 begins_with_host (Some []) = false
 begins_with_host (Some (b ∷ t)) = not (ends_host b)
 
--- and a later byte ends it
+-- the host begins after the slashes, and a later byte ends it
 abbrev pub has_whole_host : Option Text → Bool
 has_whole_host None = false
 has_whole_host (Some []) = false
@@ -64,7 +64,8 @@ is_host_fixed text = has_whole_host (after_slashes text)
 abbrev pub has_cell : Holdings → Text → Row → Bool
 has_cell table name cells = is_some (cell_of table.header cells name)
 
--- a column that no list of the rules hides, and whose cell is defined in every row: no request decides its name
+-- the name is that of a column, and not of a list of the rules, and the column's cell is defined in every row: so the row decides the name, and never the
+-- request
 abbrev pub is_rows_own : RuleSet → Holdings → Text → Bool
 is_rows_own rules table name =
     is_column table name && (not (is_list rules.lists name) && list_all (has_cell table name) table.rows)
@@ -82,7 +83,7 @@ is_specs_own rules table spec = is_rows_own rules table spec.name
 abbrev pub are_rows_own : RuleSet → Holdings → List Spec → Bool
 are_rows_own rules table specs = list_all (is_specs_own rules table) specs
 
--- those that it does not decide
+-- the names that the row does not decide
 abbrev pub open_among : RuleSet → Holdings → List Spec → List Text
 open_among rules table specs = names_of (filter (λ spec. not (is_specs_own rules table spec)) specs)
 
@@ -91,7 +92,7 @@ open_among rules table specs = names_of (filter (λ spec. not (is_specs_own rule
 abbrev pub cell_has_host : Holdings → Text → Row → Bool
 cell_has_host table name cells = option_map_or is_host_fixed (cell_of table.header cells name) false
 
--- the first part is `{+NAME}` without a prefix, a name that the row decides, and the host is whole in each of its cells
+-- the first part is `{+NAME}` without a prefix, for a name that the row decides, and each of the name's cells contains the whole host
 abbrev pub begins_with_cell : RuleSet → Holdings → List Part → Bool
 begins_with_cell rules table (Expression operator.Plus (spec ∷ []) ∷ parts) =
     spec.cut == 0 && (is_rows_own rules table spec.name && list_all (cell_has_host table spec.name) table.rows)
@@ -99,20 +100,20 @@ begins_with_cell rules table parts = false
 
 -- ---- the names of the host
 
--- `/`, `?` or `#` before the values ends the host that has begun
+-- the operator writes `/`, `?` or `#` before the values, which ends the host
 abbrev pub leads_past_host : Op → Bool
 leads_past_host operator.Slash = true
 leads_past_host operator.Question = true
 leads_past_host operator.Hash = true
 leads_past_host other = false
 
--- what is known of a part whatever the request is: a literal, or what comes before a value of the row, and one byte of it
+-- the text of a part that is known whatever the request: a literal, or what comes before a value of the row, and one byte for the value
 abbrev pub known_text : RuleSet → Holdings → Part → Text
 known_text rules table (Literal text) = text
 known_text rules table (Expression op specs) =
     if are_rows_own rules table specs then (style_of op).first ++ codes "x" else []
 
--- the names of a part that the row does not decide, unless the part is past the host that this text begins
+-- the names of a part that the row does not decide, unless this text has begun the host and the part comes after it
 abbrev pub open_names : RuleSet → Holdings → Text → Part → List Text
 open_names rules table before (Literal text) = []
 open_names rules table before (Expression op specs) =

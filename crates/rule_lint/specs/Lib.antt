@@ -3,4 +3,5 @@ pub mod Reach
 pub mod WebLink
 pub mod Host
 pub mod Findings
+pub mod RowLinks
 pub mod Private

@@ -1,5 +1,5 @@
--- Which names a target has, and which of these another name resembles.
-use Rattle.std.specs.Prelude.{ℕ, ◌==◌, ◌&&◌, ◌||◌, not, nat_eq, nat_le, length, Bool, true, false, List, [], ◌∷◌, ◌++◌, codes, filter, Option, is_some}
+-- Which names are defined for a target, and which of these another name resembles.
+use Rattle.std.specs.Prelude.{◌==◌, ◌&&◌, ◌||◌, not, nat_eq, nat_le, length, Bool, true, false, List, [], ◌∷◌, ◌++◌, codes, filter, Option, is_some}
 use Rattle.std.specs.Prelude.{if◌then◌else◌}
 use Rattle.std.specs.List.{starts_with, find}
 use Rattle.std.specs.Str.{bytes_eq, str_eq_ignore_ascii_case}
@@ -21,7 +21,7 @@ use Rattle.rule_parser.specs.Rules.{RuleSet}
 abbrev pub is_column : Holdings → Text → Bool
 is_column table name = is_some (column_of table.header name)
 
--- a name that a source adds of its own begins with `x.`
+-- a private name, which a source of requests may add, begins with `x.`
 abbrev pub is_private : Text → Bool
 is_private name = starts_with nat_eq name (codes "x.")
 
@@ -34,9 +34,9 @@ is_known rules table name =
 abbrev pub is_standard_column : Text → Bool
 is_standard_column name = is_among name column_names
 
--- ---- names that are misspelt
+-- ---- misspelt names
 
--- the second text is the first after one more byte
+-- the second text is the first with one more byte before it
 abbrev pub has_one_before : Text → Text → Bool
 has_one_before t [] = false
 has_one_before t (c ∷ u) = bytes_eq t u
@@ -51,7 +51,7 @@ abbrev pub has_two_exchanged : Text → Text → Bool
 has_two_exchanged (a ∷ b ∷ t) (c ∷ d ∷ u) = (a == d && b == c) && bytes_eq t u
 has_two_exchanged t u = false
 
--- at the beginning one byte is put in, left out or replaced, or two neighbours are exchanged; the rest is the same
+-- at the beginning one byte is inserted, deleted or replaced, or two neighbours are exchanged; the rest is the same
 abbrev pub is_edited_first : Text → Text → Bool
 is_edited_first t u = (has_one_before t u || has_one_before u t) || (has_one_replaced t u || has_two_exchanged t u)
 
@@ -69,8 +69,8 @@ abbrev pub resembles : Text → Text → Bool
 resembles name other =
     str_eq_ignore_ascii_case name other || (adds_prefix name other || is_one_edit name other)
 
--- letters, digits, `_` and triplets, with at most one dot before each (RFC 6570, section 2.3); whether one of these has
--- to come, whether a hexadecimal digit has to come before it, and whether another one after that
+-- letters, digits, `_` and triplets, with at most one dot before each (RFC 6570, section 2.3). The flags say whether one of these must come next, whether a
+-- hexadecimal digit of a triplet must come next, and whether another one after it
 abbrev pub are_varchars : Bool → Bool → Bool → Text → Bool
 are_varchars due digit second [] = not due && not digit
 are_varchars due digit second (c ∷ t) =
@@ -87,6 +87,6 @@ is_name text = nat_le (length text) MAX_NAME_BYTES && are_varchars true false fa
 abbrev pub possible_names : RuleSet → Holdings → List Text
 possible_names rules table = filter is_name table.header ++ (each_once (list_names rules.lists) ++ request_keys)
 
--- the first of these that resembles the name
+-- the first of these names that resembles the name
 abbrev pub resembled : RuleSet → Holdings → Text → Option Text
 resembled rules table name = find (resembles name) (possible_names rules table)

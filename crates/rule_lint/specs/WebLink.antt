@@ -17,10 +17,10 @@ has_expression [] = false
 has_expression (Literal text ∷ parts) = has_expression parts
 has_expression (Expression op specs ∷ parts) = true
 
--- a web link may begin so, the letters in either case
+-- a web link may begin with this text, the letters in either case
 abbrev pub begins_web_links : Text → Bool
 begins_web_links text = begins_in_any_case (codes "http://") text || begins_in_any_case (codes "https://") text
 
--- the first text does not begin a web link, and no expression continues it as one
+-- the first text is not the beginning of a web link, and no expression can make it one
 abbrev pub is_never_web_link : List Part → Bool
 is_never_web_link parts = not (is_web_link (first_text parts) || (has_expression parts && begins_web_links (first_text parts)))

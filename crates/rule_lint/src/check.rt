@@ -1,4 +1,4 @@
-//! What is found, rule by rule.
+//! The findings, rule by rule.
 
 ghost use Rattle.std.specs.Prelude.{◌≡◌, ◌<◌, ◌+◌, length, OnOk, map};
 ghost use Rattle.text_model.specs.Texts.{texts_of};
@@ -142,7 +142,7 @@ fn check_link(
     check_host(alloc, out, target, at, parts)
 }
 
-// The rule at this place, which is counted from 0, and its number, which is counted from 1.
+// Checks a rule: its index counts from 0, and its printed number from 1.
 fn check_rule(
     alloc: Global,
     out: &mut Findings,

@@ -25,7 +25,7 @@ fn cell_has_host(table: &Table, row: usize, name: &str) -> bool
     }
 }
 
-// Whether the host is whole in the cell of each row.
+// Whether the cell of each row contains the whole host.
 fn cells_have_hosts(table: &Table, name: &str) -> bool
     ensures { result ≡ list_all (is_whole table.now name.now) table.now.rows }
 {
@@ -44,7 +44,7 @@ fn leads_past_host(op: Op) -> bool
 }
 
 impl<'a> Target<'a> {
-    // Whether the first part is a cell that has the whole host in every row.
+    // Whether the first part of the template is a cell that contains the whole host in every row.
     fn begins_with_cell(&self, parts: &[Part]) -> bool
         ensures { result ≡ begins_with_one_cell self.now.rules.now self.now.table.now parts.now }
     {
@@ -74,7 +74,7 @@ impl<'a> Target<'a> {
             .all(|spec| self.is_rows_own(spec.name.as_str()))
     }
 
-    // Appends what is known of a part whatever the request is.
+    // Appends the text of a part that is known whatever the request.
     fn push_known(&self, before: &mut String, part: &Part) -> Result<(), AllocError>
         ensures { OnOk result (string_bytes before.new
             ≡ string_bytes before.old ++ known_text self.now.rules.now self.now.table.now part.now) }
@@ -113,7 +113,7 @@ impl<'a> Target<'a> {
         Ok(())
     }
 
-    // Adds the names of a part after this text that the row does not decide.
+    // Adds the names of a part that can change the host, if this text comes before it and the row does not decide them.
     fn add_open_names<'b>(
         &self,
         names: &mut Vec<&'b str>,

@@ -38,7 +38,7 @@ fn after_slashes(text: &[u8]) -> Option<&[u8]>
     None
 }
 
-/// Whether a byte that does not end the host is next after the first `//`.
+/// Whether the first `//` is followed by a byte that does not end the host.
 pub(crate) fn is_host_begun(text: &[u8]) -> bool
     ensures { result ≡ has_begun text.now }
 {
@@ -48,7 +48,7 @@ pub(crate) fn is_host_begun(text: &[u8]) -> bool
     }
 }
 
-/// Whether the host begins there, and a later byte ends it.
+/// Whether the host begins after the first `//`, and a later byte ends it.
 pub(crate) fn is_host_fixed(text: &[u8]) -> bool
     ensures { result ≡ has_ended text.now }
 {

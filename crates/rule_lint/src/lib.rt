@@ -14,8 +14,6 @@ mod resemblance;
 mod review;
 mod target;
 mod template_names;
-#[cfg(test)]
-mod tests;
 mod varchars;
 mod web_link;
 

@@ -1,4 +1,4 @@
-//! Names that a target has.
+//! The names that are defined for a target.
 
 ghost use Rattle.std.specs.Prelude.{◌≡◌, ◌&&◌, [], filter, get_or};
 ghost use Rattle.std.specs.List.{find, list_all};
@@ -38,7 +38,7 @@ fn is_like(column: &str, name: &str) -> bool
     is_template_name(column) && resembles(name, column)
 }
 
-// The first column that resembles the name and is a name itself.
+// The first column that resembles the name and whose own name can be used in a template.
 fn column_like<'a>(table: &'a Table, name: &str) -> Option<&'a str>
     ensures { option_copied result ≡ find (resembles name.now) (filter is_template_name table.now.header) }
 {
@@ -60,7 +60,7 @@ fn has_cell(table: &Table, row: usize, name: &str) -> bool
     }
 }
 
-// Whether each row has a cell of the name.
+// Whether the cell with the name is defined in each row.
 fn has_every_cell(table: &Table, name: &str) -> bool
     ensures { result ≡ list_all (is_cell_defined table.now name.now) table.now.rows }
 {
@@ -108,7 +108,7 @@ impl<'a> Target<'a> {
         key_like(name)
     }
 
-    /// Whether a row decides what the name denotes, whatever the request is.
+    /// Whether every row decides what the name denotes, whatever the request.
     pub(crate) fn is_rows_own(&self, name: &str) -> bool
         ensures { result ≡ is_of_rows self.now.rules.now self.now.table.now name.now }
     {

@@ -1,4 +1,4 @@
-//! Where something is found.
+//! The place of a finding.
 
 /// Where in the rules something is found. Rules, and the guards of a rule, count from 1.
 #[derive(Clone, Copy)]

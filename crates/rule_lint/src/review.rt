@@ -1,4 +1,4 @@
-//! The review of a target's rules.
+//! All findings about a target's rules.
 
 ghost use Rattle.std.specs.Prelude.{◌≡◌, IfOk, string_bytes};
 ghost use Rattle.rule_lint.specs.Findings.{lint_text, has_warning};
@@ -11,9 +11,9 @@ use printed_text::Findings;
 use rule_parser::Rules;
 use std::alloc::{AllocError, Global};
 
-/// What is doubtful in the rules of a target with this table, a line each; rules, and the guards of a rule, count
-/// from 1. `warned` says whether a line is a warning: each is, but for the number of rules if there is one, and for a
-/// link that is never a web link.
+/// What is doubtful in the rules of a target with this table, one line for each finding; rules, and the guards of a
+/// rule, are counted from 1. `warned` says whether a line is a warning. All lines are warnings except the number of
+/// rules (unless it is 0) and links that are never web links.
 ///
 /// `AllocError` if an allocation failed.
 pub fn lint(alloc: Global, rules: &Rules, table: &Table) -> Result<Findings, AllocError>

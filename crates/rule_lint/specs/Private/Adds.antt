@@ -1,4 +1,4 @@
--- For private contracts. What was found after more is appended to it.
+-- How findings grow when lines are appended. For private contracts.
 use Rattle.std.specs.Prelude.{◌≡◌, ◌++◌, ◌||◌, List, string_bytes}
 use Rattle.std.specs.List.{list_any}
 use Rattle.printed_text.specs.declared.findings.Findings.{Findings}

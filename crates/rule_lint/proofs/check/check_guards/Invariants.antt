@@ -1,4 +1,4 @@
--- What is found in the guards so far.
+-- The findings in the guards so far.
 use Rattle.std.proofs.Common.{take}
 use Rattle.std.specs.List.{flat_map, enumerate_from}
 use Rattle.rule_lint.specs.Findings.{in_numbered_guard}

@@ -1,4 +1,4 @@
--- What is found in the names so far.
+-- The findings for the names so far.
 use Rattle.std.proofs.Common.{Bor, take}
 use Rattle.std.specs.List.{flat_map}
 use Rattle.text_model.specs.Texts.{Text}

@@ -1,4 +1,4 @@
--- The cells of the rows so far have whole hosts.
+-- The cells of the rows so far contain whole hosts.
 use Rattle.std.proofs.Common.{◌≡◌, true, take}
 use Rattle.std.specs.List.{list_all}
 use Rattle.rule_lint.specs.Host.{cell_has_host}

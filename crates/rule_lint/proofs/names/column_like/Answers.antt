@@ -1,4 +1,4 @@
--- The columns one at a time.
+-- The columns, one at a time.
 use Rattle.std.proofs.Common.{◌≡◌, ◌<◌, None, Some, take, sym, ap, ◌∙◌, arith}
 use Rattle.std.specs.List.{find, filter, slice_get}
 use Rattle.std.proofs.lemmas.List.{take_all}

@@ -1,10 +1,10 @@
--- The parts one at a time.
+-- The parts, one at a time.
 use Rattle.std.proofs.Common.{◌++◌, drop, sym, ap, ◌∙◌, string_bytes}
 use Rattle.std.proofs.lemmas.List.{drop_all}
 use Rattle.text_model.specs.Texts.{Text, texts_of}
 use Rattle.rule_parser.specs.Names.{each_once}
 use Rattle.rule_lint.specs.Host.{is_host_fixed, open_names}
-use Rattle.rule_lint.proofs.HostSteps.{names_ended, names_fixed, names_step, no_names, rest_at}
+use Rattle.rule_lint.proofs.HostSteps.{names_ended, names_fixed, names_step, rest_at}
 use Rattle.rule_lint.proofs.target.Target.host_names.Goals as goal
 
 pub returns-then-is_host_fixed : goal.returns-then-is_host_fixed
