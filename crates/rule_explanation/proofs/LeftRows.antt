@@ -1,4 +1,4 @@
--- What is still to be written of rows that are tried one after another.
+-- The text that is still to be written for rows that are tried one after another.
 use Rattle.std.proofs.Common.{◌≡◌, ℕ, ◌+◌, Bool, true, false, List, [], ◌∷◌, ◌++◌, Some, None, Option, filter, refl, sym, ap, ◌∙◌, subst, nat_le, append_assoc}
 use Rattle.std.specs.Io.KnownBytes.{Appends}
 use Rattle.std.specs.List.{enumerate_from, flat_map, list_any}
@@ -8,10 +8,10 @@ use Rattle.text_model.specs.Texts.{Text}
 use Rattle.kbart_rows.specs.Identifiers.{first_from}
 use Rattle.rule_explanation.specs.Rows.{up_to_first}
 use Rattle.rule_explanation.specs.Writing.{IsBegun}
-use Rattle.rule_explanation.proofs.RowOrder.{Rise, all_from_start, first_and_rest, none_from}
+use Rattle.kbart_rows.proofs.RowOrder.{Rise, all_from_start, first_and_rest, none_from}
 
 module _ (text : ℕ × ℕ → Text) (test : ℕ → Bool) (rows : List ℕ) where
-  -- the texts of the rows at or after one, of which the first has this place
+  -- the texts of the rows at or after one; the first of these rows has this place
   abbrev pub left : ℕ → ℕ → Text
   left place from = flat_map text (enumerate_from place (up_to_first test (filter (nat_le from) rows)))
 

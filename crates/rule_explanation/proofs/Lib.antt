@@ -2,7 +2,6 @@ mod PageExamples
 mod RuleExamples
 pub mod NameLemmas
 pub mod PlaceLemmas
-pub mod RowOrder
 pub mod LeftRows
 pub mod LawLemmas
 pub mod LastTried

@@ -1,13 +1,9 @@
 -- The lines of a rule that holds.
-use Rattle.std.proofs.Common.{◌≡◌, ◌++◌, ℕ, true, false, ap, ◌∙◌, codes, append_assoc}
+use Rattle.std.proofs.Common.{◌≡◌, ◌++◌, ℕ, false, ap, ◌∙◌, codes, append_assoc}
 use Rattle.std.specs.Fmt.{decimal}
 use Rattle.text_model.specs.Texts.{Text}
 use Rattle.menu.specs.WebLink.{is_web_link}
 use Rattle.rule_explanation.specs.Explanation.{link_lines}
-
-pub web_lines : (out after : Text) (place : ℕ) (link : Text) → is_web_link link ≡ true
-    → after ≡ out ++ (codes "  rule " ++ (decimal place ++ (codes " holds: " ++ (link ++ codes "\n")))) → after ≡ out ++ link_lines place link
-web_lines out after place link web e = rw web e
 
 pub other_lines : (out middle after : Text) (place : ℕ) (link : Text) → is_web_link link ≡ false
     → middle ≡ out ++ (codes "  rule " ++ (decimal place ++ (codes " holds: " ++ (link ++ codes "\n")))) → after ≡ middle ++ codes "  not a web link\n"

@@ -1,4 +1,4 @@
--- What is printed of two rows by a rule on dates of coverage, computed by the definitions.
+-- What is printed for two rows and a rule on dates of coverage, computed from the definitions.
 use Rattle.std.proofs.Common.{◌≡◌, ◌++◌, List, [], ◌∷◌, true, false, refl, codes}
 use Rattle.std.specs.Char.{encode_utf8}
 use Rattle.std.specs.Fmt.{digits}

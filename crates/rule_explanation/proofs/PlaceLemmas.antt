@@ -7,7 +7,7 @@ use Rattle.std.proofs.lemmas.List.{flat_map_more, length-take-le, take_all, take
 use Rattle.std.proofs.lemmas.List.Quantifiers.{position-Some}
 use Rattle.std.proofs.lemmas.Option.{none-some, same_Some}
 
--- the test of the item alone
+-- a numbered item passes if the item does
 abbrev pub passes : {A : Type 0} → (A → Bool) → ℕ × A → Bool
 passes test (place, item) = test item
 
@@ -25,7 +25,7 @@ found_at test first (y ∷ ys) (suc i) x within is pass before =
     (found_at test (first + 1) ys i x (omega (arith, within)) is pass (λ k l. before (suc k) (omega (arith, l)))
     ∙ ap (λ n. Some (n, x)) (omega arith))
 
--- the first that passes, where a search found its index
+-- the first that passes, if a search found its index
 pub found_numbered : {A : Type 0} (test : A → Bool) (first : ℕ) (xs : List A) (i : ℕ) (x : A) → position test xs ≡ Some i → x ≡ get_or xs i x
     → find (passes test) (enumerate_from first xs) ≡ Some (first + i, x)
 found_numbered test first xs i x found is =

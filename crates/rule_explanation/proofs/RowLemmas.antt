@@ -1,4 +1,4 @@
--- A row's text from its pieces, and its environment by the names that the rules give out as lists.
+-- A row's text from its pieces, and its environment with the names that the rules return as lists.
 use Rattle.std.proofs.Common.{◌≡◌, ◌++◌, ℕ, List, [], ◌∷◌, Bool, true, false, ◌||◌, refl, ap, ◌∙◌, codes, append_assoc}
 use Rattle.std.specs.Fmt.{decimal}
 use Rattle.std.specs.Str.{bytes_eq}

@@ -1,4 +1,4 @@
--- What is printed of rules on one environment, and of the rows after the first hundred, computed by the definitions.
+-- What is printed for rules on one environment, and for the rows after the first hundred, computed from the definitions.
 use Rattle.std.proofs.Common.{◌≡◌, ◌++◌, List, [], ◌∷◌, Bool, true, false, map, refl, codes}
 use Rattle.std.specs.Fmt.{digits}
 use Rattle.text_model.specs.Texts.{Text}
@@ -32,7 +32,7 @@ rules_of rules = record { lists = codes "by" ∷ []; rules = rules }
 abbrev printed : List Rule → Text
 printed rules = row_text (rules_of rules) variables true 7
 
--- of two guards that fail the first is printed, and a guard before it that holds counts
+-- of two guards that fail the first is printed; its number counts the guards before it that hold
 first_guard_that_fails :
     printed (rule_of (guard.Has (codes "x") ∷ guard.Has (codes "y") ∷ guard.Lacks (codes "x") ∷ []) (codes "a") ∷ [])
     ≡ codes "row 7\n  rule 1, guard 2 fails: has y\n    y undefined\n  no rule holds\n"
@@ -49,8 +49,7 @@ first_rule_that_holds :
 unfolding variables look_up digits
 first_rule_that_holds = refl
 
--- names as the rules see them: a text under the name of a list and a list under that of a text are undefined, and so
--- is a list without members
+-- names as the rules see them: a text under the name of a list is undefined, and so are a list under the name of a text and a list without members
 kinds_of_names :
     printed
     (rule_of (guard.Counts (codes "rft.au") (bound.Digits (codes "3")) bound.Open ∷ []) [] ∷ rule_of (guard.Holds (codes "by") (codes "a") ∷ []) []

@@ -1,10 +1,8 @@
--- The whole text, where a row matches and where none does.
+-- The whole text, if a row matches and if none does.
 use Rattle.std.proofs.Common.{◌≡◌, ℕ, List, [], ◌∷◌, Bool, true, false, cond, Some, None, Option, refl, ap, sym, ◌∙◌, codes, IfErr}
 use Rattle.std.specs.Prelude.{Result, Ok, Err}
 use Rattle.std.specs.List.{flat_map, list_any}
-use Rattle.std.proofs.KnownBytes.{Appends-nil}
 use Rattle.std.proofs.lemmas.Option.{none-some}
-use Rattle.text_model.specs.Texts.{Text}
 use Rattle.kev_read.specs.Pairs.{KeyValue}
 use Rattle.kbart_rows.specs.Cells.{Holdings}
 use Rattle.kbart_rows.specs.Identifiers.{first_from, ids_of, matching_rows}
@@ -12,8 +10,7 @@ use Rattle.rule_parser.specs.Rules.{RuleSet}
 use Rattle.rule_explanation.specs.Failing.{numbered}
 use Rattle.rule_explanation.specs.Explanation.{explanation, text_of_rows, tried_row_text}
 use Rattle.rule_explanation.specs.Rows.{gives_web_link, has_web_link, tried_rows, up_to_first}
-use Rattle.rule_explanation.specs.Writing.{IsBegun}
-use Rattle.rule_explanation.proofs.RowOrder.{all_from_start, none_from}
+use Rattle.kbart_rows.proofs.RowOrder.{all_from_start, none_from}
 
 module _ (rules : RuleSet) (table : Holdings) (pairs : List KeyValue) where
   some_rows : (test : ℕ → Bool) (rows : List ℕ) (row : ℕ) → first_from 0 rows ≡ Some row
@@ -45,9 +42,6 @@ none_there None never = refl
 none_there (Some row) never = absurd (never row refl)
 
 -- ---- errors
-
-pub none_begun : (old : Option (List ℕ)) (whole : Text) → IsBegun old old whole
-none_begun old whole = record { done = []; rest = whole; in_order = refl; written = Appends-nil old }
 
 pub any_error : {T E : Type 0} (r : Result T E) (Q : E → Type 0) → ((e : E) → Q e) → IfErr r Q
 any_error (Ok v) Q all = tt

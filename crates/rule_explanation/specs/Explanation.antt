@@ -1,4 +1,4 @@
--- What is printed of the rows that are tried.
+-- What is printed for the rows that are tried.
 use Rattle.std.specs.Prelude.{ℕ, Bool, List, [], ◌∷◌, ◌++◌, Option, Some, None, length, nat_le, codes, if◌then◌else◌}
 use Rattle.std.specs.List.{flat_map}
 use Rattle.std.specs.Fmt.{decimal}
@@ -21,7 +21,7 @@ use Rattle.rule_explanation.specs.declared.explaining.TheConstants.{MAX_DETAILED
 
 -- ---- a guard that fails
 
--- what a name stands for; a list without members is undefined
+-- the value of a name; a list without members is undefined
 abbrev pub meaning_text : Option Meaning → Text
 meaning_text None = codes "undefined"
 meaning_text (Some (Single text)) = shortened text
@@ -31,7 +31,7 @@ meaning_text (Some (Several (member ∷ members))) = codes "list of " ++ decimal
 abbrev pub name_line : LookUp → Text → Text
 name_line look name = codes "    " ++ (name ++ (codes " " ++ (meaning_text (look name) ++ codes "\n")))
 
--- a rule's guard that fails, and what its names stand for
+-- a rule's guard that fails, and the values of its names
 abbrev pub guard_lines : LookUp → ℕ → ℕ × Guard → Text
 guard_lines look rule (place, guard) =
     codes "  rule " ++ (decimal rule ++ (codes ", guard " ++ (decimal place ++ (codes " fails: "
@@ -70,7 +70,7 @@ rule_lines look rules detailed = (if detailed then failing_lines look rules else
 abbrev pub row_text : RuleSet → Environment → Bool → ℕ → Text
 row_text rules env detailed row = codes "row " ++ (decimal row ++ (codes "\n" ++ rule_lines (seen rules env) rules.rules detailed))
 
--- of the first rows the rules that fail are printed, of the later ones only the rule that holds
+-- for the first rows the rules that fail are printed, for the later ones only the rule that holds
 abbrev pub is_detailed : ℕ → Bool
 is_detailed place = nat_le place MAX_DETAILED
 

@@ -6,7 +6,7 @@ use Rattle.rule_parser.specs.declared.rule.Guard.{Guard}
 use Rattle.rule_parser.specs.declared.rule.Rule.{Rule}
 use Rattle.rule_parser.specs.Meaning.{guard_holds, guards_hold}
 
--- each item after its place
+-- each item with its number
 abbrev pub numbered : {A : Type 0} → List A → List (ℕ × A)
 numbered items = enumerate_from 1 items
 
@@ -24,6 +24,6 @@ failing_guard look guards = find (guard_fails look) (numbered guards)
 abbrev pub holding_rule : LookUp → List Rule → Option (ℕ × Rule)
 holding_rule look rules = find (rule_holds look) (numbered rules)
 
--- the rules before it; all of them where none holds
+-- the rules before the first that holds; all of them if none holds
 abbrev pub failing_rules : LookUp → List Rule → List (ℕ × Rule)
 failing_rules look rules = before_first (rule_holds look) (numbered rules)

@@ -12,8 +12,8 @@ use Rattle.rule_parser.specs.Rules.{RuleSet}
 use Rattle.rule_parser.specs.Meaning.{meaning}
 use Rattle.menu.specs.WebLink.{is_web_link}
 
--- the defined cells of a row and, after them, the pairs of the request, by the lists that the rules declare: the
--- first entry of a name stays, so no pair replaces a cell
+-- the defined cells of a row and, after them, the pairs of the request, with the lists that the rules declare: the first entry of a name stays, so no pair
+-- replaces a cell
 abbrev pub environment_of_row : RuleSet → Holdings → List KeyValue → ℕ → Environment
 environment_of_row rules table pairs row = filled rules.lists (row_of (named_cells table.header (get_or table.rows row []))) pairs
 

@@ -1,9 +1,9 @@
--- What a writer holds of a text that was not written to its end.
+-- What a writer has received of a text that was not written completely.
 use Rattle.std.specs.Prelude.{◌≡◌, ℕ, List, ◌++◌, Option}
 use Rattle.std.specs.Io.KnownBytes.{Appends}
 use Rattle.text_model.specs.Texts.{Text}
 
--- the writer's known bytes have grown by a beginning of the text
+-- the writer's bytes, if they are known, have grown by the beginning of the text
 pub record IsBegun (old new : Option (List ℕ)) (whole : Text) : Type 0 where
   pub done : Text
   pub rest : Text

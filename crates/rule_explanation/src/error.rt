@@ -1,9 +1,9 @@
-//! Why rows are not explained to the end.
+//! Why an explanation is not complete.
 
 use std::alloc::AllocError;
 use thiserror::Error;
 
-/// Why rows are not explained to the end.
+/// Why an explanation is not complete.
 #[derive(Clone, Copy, Debug, Error)]
 pub enum ExplainError {
     /// An allocation failed.

@@ -26,13 +26,14 @@ use std::alloc::Global;
 use std::io::Write;
 use target_vars::{Env, VarsError};
 
-/// For how many of the rows that are tried the rules that fail are printed.
+/// The rules that fail are printed for at most this number of the rows that are tried, the first ones.
 pub const MAX_DETAILED: usize = 100;
 
-/// Writes what the rules give on each row of the table that matches the request, until one has a web link, row by row.
-/// Returns whether one has.
+/// Writes what the rules give on each row of the table that matches the request, row by row, until a row has a web
+/// link. Returns whether one has.
 ///
-/// `NoMemory` if an allocation failed: a beginning of the text is then written. `Output` if the output failed.
+/// `NoMemory` if an allocation failed; the beginning of the text may then be written already. `Output` if the output
+/// failed.
 pub fn explain<W: Write>(
     alloc: Global,
     rules: &Rules,
@@ -92,7 +93,7 @@ fn explain_rows<W: Write>(
     Ok(false)
 }
 
-// What the rules, whose lists these are, give on a row.
+// What the rules give on a row; `lists` are the lists of the rules.
 fn explain_at(
     alloc: Global,
     rules: &Rules,
@@ -116,7 +117,7 @@ fn explain_at(
     Ok(explain_row(alloc, rules, &env, row, is_detailed)?)
 }
 
-// The defined cells of a row, and after them the pairs of the request, by the lists of the rules.
+// The environment of the defined cells of a row and then the pairs of the request, with the lists of the rules.
 fn environment(
     alloc: Global,
     lists: &[&str],

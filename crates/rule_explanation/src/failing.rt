@@ -24,7 +24,7 @@ fn push_visible_guard(alloc: Global, out: &mut String, guard: &Guard) -> Result<
     push_visible(out, line.as_bytes())
 }
 
-// Appends a guard that fails, the one at a place of a rule, and what its names stand for.
+// Appends a guard that fails, with its number and that of its rule, and the values of its names.
 fn push_failing_guard(
     alloc: Global,
     out: &mut String,
@@ -50,7 +50,7 @@ fn first_failing(view: &RulesView<'_>, guards: &[Guard]) -> Option<usize>
     guards.iter().position(|guard| !holds(view, guard))
 }
 
-// Appends the first guard that fails of a rule, which is the one at a place.
+// Appends the first guard of a rule that fails, with the number of the rule.
 fn push_failing_rule(
     alloc: Global,
     out: &mut String,
@@ -68,7 +68,7 @@ fn push_failing_rule(
     }
 }
 
-// Appends the first guard that fails of each rule.
+// Appends the first guard that fails for each rule.
 fn push_numbered_rules(
     alloc: Global,
     out: &mut String,

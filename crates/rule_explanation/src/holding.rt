@@ -31,7 +31,7 @@ pub(crate) fn first_holding(view: &RulesView<'_>, rules: &[Rule]) -> Option<usiz
         .position(|rule| all_hold(view, rule.guards.as_slice()))
 }
 
-// Appends a rule that holds, the one at a place, with its link. Returns whether this is a web link.
+// Appends a rule that holds, with its number and its link. Returns whether this is a web link.
 fn push_link(
     alloc: Global,
     out: &mut String,

@@ -1,4 +1,4 @@
-//! What an explanation says of rules, each law as the contract of a function with an empty body.
+//! What an explanation says about rules. These functions have empty bodies; each contract is a theorem.
 
 ghost use Rattle.std.specs.Prelude.{◌≡◌, ◌↔◌, ◌∷◌, ◌++◌, ℕ, List, [], All, MatchOption, None};
 ghost use Rattle.std.specs.Prelude.{codes, false, is_some, true};
@@ -13,8 +13,8 @@ ghost use Rattle.rule_explanation.specs.Failing.{failing_guard, failing_rules, h
 ghost use Rattle.rule_explanation.specs.Explanation.{holding_lines, link_lines};
 ghost use Rattle.rule_explanation.specs.Rows.{gives_web_link, has_web_link, tried_rows};
 
-/// The link of the rule that is printed as holding is what the rules mean, and `no rule holds` is printed exactly where
-/// they mean nothing.
+/// The link of the rule that is printed as holding is what the rules mean, and `no rule holds` is printed exactly if
+/// the rules give no link.
 pub fn printed_rule_gives_the_meaning()
     ensures printed { (rules : RuleSet) (env : Environment) → MatchOption (meaning rules env)
         (holding_lines (seen rules env) (holding_rule (seen rules env) rules.rules) ≡ codes "  no rule holds\n")
@@ -30,8 +30,8 @@ pub fn printed_rules_fail()
         → All (λ rule. is_some (failing_guard look rule.1.guards) ≡ true) (failing_rules look rules) }
 {}
 
-/// A matching row has a web link exactly where the last row that is tried has one; no row is tried after it, and
-/// without one all matching rows are tried.
+/// A matching row has a web link exactly if the last row that is tried has one. No row is tried after it; if there is
+/// none, all matching rows are tried.
 pub fn last_row_has_the_web_link()
     ensures last { (rules : RuleSet) (table : Holdings) (pairs : List KeyValue)
         → (has_web_link rules table pairs ≡ true)

@@ -1,5 +1,5 @@
-//! Why rules give a request a link, or none: on each row of a table that is tried, which guard of which rule failed,
-//! and what its names stood for.
+//! Why rules give a link for a request, or none: for each row of a table that is tried, which guard of which rule
+//! failed, and the values of the names in it.
 //!
 //! ```rust
 //! let found: bool = explain(alloc, &rules, &table, &request, &mut output)?;
@@ -13,8 +13,6 @@ mod holding;
 pub mod laws;
 mod names;
 mod rows;
-#[cfg(test)]
-mod tests;
 
 pub use error::ExplainError;
 pub use explaining::{MAX_DETAILED, explain};

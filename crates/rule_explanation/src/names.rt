@@ -1,4 +1,4 @@
-//! What names stand for.
+//! The values of names.
 
 ghost use Rattle.std.specs.Prelude.{◌≡◌, ◌++◌, OnOk, string_bytes};
 ghost use Rattle.std.specs.List.{flat_map};
@@ -11,7 +11,7 @@ use rule_parser::RulesView;
 use std::alloc::AllocError;
 use uri_template::Variables;
 
-// Appends what a name stands for.
+// Appends the value of a name.
 fn push_meaning(out: &mut String, view: &RulesView<'_>, name: &str) -> Result<(), AllocError>
     ensures { OnOk result (string_bytes out.new ≡ string_bytes out.old ++ meaning_text (seen_by view.now name.now)) }
 {
@@ -35,7 +35,7 @@ fn push_name(out: &mut String, view: &RulesView<'_>, name: &str) -> Result<(), A
     out.push_str("\n")
 }
 
-// Appends a line for each name.
+// Appends a line with the value of each name.
 pub(crate) fn push_names(
     out: &mut String,
     view: &RulesView<'_>,

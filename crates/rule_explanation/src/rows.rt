@@ -15,7 +15,7 @@ use rule_parser::{Rule, Rules, RulesView};
 use std::alloc::{AllocError, Global};
 use target_vars::Env;
 
-/// What is printed of a row, and whether it has a web link.
+/// The text that is printed for a row, and whether the row has a web link.
 #[derive(Drop)]
 pub(crate) struct ExplainedRow {
     pub(crate) text: String,

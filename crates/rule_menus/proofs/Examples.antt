@@ -1,4 +1,4 @@
--- One menu computed twice: by the code of rules and by what the rules mean.
+-- One menu computed twice: from the code of rules, and from what the rules mean.
 use Rattle.std.proofs.Common.{◌≡◌, ℕ, List, [], ◌∷◌, false, refl, codes}
 use Rattle.std.specs.Char.{encode_utf8}
 use Rattle.std.specs.Hash.DefaultHasher.{initial}

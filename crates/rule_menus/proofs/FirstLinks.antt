@@ -1,4 +1,4 @@
--- The resolution by rules is a link exactly where it is that of the first row on which the rules mean a web link.
+-- The resolution by rules is a link exactly if there is a first row on which the rules give a web link, and then it is that link.
 use Rattle.std.proofs.Common.{◌≡◌, ℕ, ◌≤◌, List, Option, Some, None, Bool, true, false, length, nat_lt, refl, ap, ◌∙◌, subst, arith}
 use Rattle.std.specs.Prelude.{◌↔◌, if◌then◌else◌}
 use Rattle.std.proofs.lemmas.Bool.Decides.{nat_tests}
@@ -16,7 +16,7 @@ use Rattle.rule_menus.specs.RuleMenus.{RuleTarget, environment_by_rules, most_by
 use Rattle.rule_menus.specs.FirstLinks.{is_cited, MeansWebLink, IsFirstWebLink}
 use Rattle.rule_menus.proofs.FirstRows.{IsFirstFrom, first_if_chosen, chosen_if_first}
 
--- what a resolution that is a link consists of
+-- the parts of a resolution that is a link
 link_parts : (r : Resolution) → is_link r ≡ true → (row : ℕ) × (link : Text) × (r ≡ resolution.Link row link)
 link_parts (resolution.Link row link) is = (row, link, refl)
 link_parts resolution.NoRow is = absurd (cc)
@@ -34,7 +34,7 @@ module _ (target : RuleTarget) (pairs : List KeyValue) where
   abbrev meant : ℕ → Option Text
   meant row = meaning target.rules (environment_by_rules target pairs row)
 
-  -- what is known where a row gives a link
+  -- what is known if a row gives a link
   record IsLinkOf (row place : ℕ) (link : Text) : Type 0 where
     own : place ≡ row
     within : most row ≤ MAX_LINK_BYTES

@@ -1,4 +1,4 @@
--- What is chosen of a range of rows: the link of the first row that passes a test and has one.
+-- The choice from a range of rows: the link of the first row that passes a test and has a link.
 use Rattle.std.proofs.Common.{◌≡◌, ℕ, zero, suc, ◌+◌, ◌≤◌, ◌<◌, List, ◌∷◌, Some, Bool, true, false, cond, map, filter, refl, sym, ap, ◌∙◌, subst, arith, ⊎_elim}
 use Rattle.std.specs.Prelude.{find, if◌then◌else◌}
 use Rattle.std.specs.List.{range_with_len}
@@ -10,9 +10,9 @@ use Rattle.menu.specs.declared.entry.Resolution.{Resolution}
 use Rattle.menu.specs.declared.entry.Resolution.TheVariants.{Link}
 use Rattle.registry.specs.Entries.{chosen, last_resolution}
 
--- what each row gives, and which rows are tried; a link that a row gives has the row's number
+-- the resolution of each row, and which rows are tried; a link of a row has the row's number
 module _ (f : ℕ → Resolution) (p : ℕ → Bool) (own : (row place : ℕ) (link : Text) → f row ≡ Link place link → place ≡ row) where
-  -- of the n rows from one on, the row is the first that is tried and gives a link
+  -- among the n rows from one on, this row is the first that is tried and gives a link
   pub record IsFirstFrom (from n row : ℕ) (link : Text) : Type 0 where
     pub after : from ≤ row
     pub there : row < from + n
@@ -47,7 +47,7 @@ module _ (f : ℕ → Resolution) (p : ℕ → Bool) (own : (row place : ℕ) (l
         first = λ other low high passes links. h.first other (omega arith) (omega arith) passes links;
       }
 
-  -- what the rows after the first one give
+  -- the claim for the rows after the first one
   abbrev FirstIfChosen : ℕ → ℕ → ℕ → Text → Type 0
   FirstIfChosen from n row link = (before : Resolution) → is_link before ≡ false → chosen before (tried from n) ≡ Link row link → IsFirstFrom from n row link
 

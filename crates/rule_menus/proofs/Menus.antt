@@ -1,4 +1,4 @@
--- The menu by codes and the menu by rules, target after target.
+-- The menu by codes and the menu by rules, target by target.
 use Rattle.std.proofs.Common.{◌≡◌, ℕ, List, [], ◌∷◌, Option, Some, None, Bool, true, false, map, nat_lt, refl, ap, ◌∙◌}
 use Rattle.std.specs.Prelude.{◌↔◌, All, if◌then◌else◌}
 use Rattle.std.proofs.lemmas.List.Elements.{All-head, All-tail}
@@ -21,7 +21,7 @@ use Rattle.rule_menus.specs.RuleMenus.{RuleTarget, HasSoundRules, coded, environ
 use Rattle.rule_menus.specs.RuleMenus.{fate_of_meaning, fate_by_rules, resolution_of_row_by_rules, resolution_by_rules, entry_by_rules, menu_by_rules}
 use Rattle.rule_menus.proofs.SameMeaning.{CodeMeansRules}
 
--- how a run ends is computed
+-- the outcome of a run is the one that is computed
 abbrev pub OutcomesAreDecided : Type 0
 OutcomesAreDecided = (c : Code) (v : Environment) (o : Outcome) → HasOutcome c v o ↔ (outcome_of c v ≡ o)
 
@@ -36,7 +36,7 @@ answer_ends : (m : Option Text) → ended (answer m) ≡ fate_of_meaning m
 answer_ends None = refl
 answer_ends (Some link) = refl
 
--- a list that rules declare and do not use changes nothing that they mean
+-- a list that rules declare but do not use does not change what they mean
 abbrev pub UnusedListsChangeNothing : Type 0
 UnusedListsChangeNothing = (target : RuleTarget) (pairs : List KeyValue) (row : ℕ) → HasSoundRules target
     → meaning target.rules (environment_by_code target pairs row) ≡ meaning target.rules (environment_by_rules target pairs row)

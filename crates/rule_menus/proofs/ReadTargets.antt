@@ -37,7 +37,7 @@ module _ (one_set : HasOneRuleSet) where
 
 -- ---- targets
 
--- targets with rules, whose codes these targets have
+-- targets with rules, for targets that have the codes of these rules
 pub record AreCoded (files : List TargetFiles) (targets : List TargetValue) : Type 0 where
   pub meant : List RuleTarget
   pub of_files : AreOfFiles files meant

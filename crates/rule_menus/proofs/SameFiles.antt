@@ -1,4 +1,4 @@
--- Targets of the same bytes have the same entry.
+-- Targets with the same bytes have the same entry.
 use Rattle.std.proofs.Common.{◌≡◌, ℕ, List, [], ◌∷◌, Some, None, refl, sym, ap, ◌∙◌, subst}
 use Rattle.std.specs.Prelude.{All}
 use Rattle.std.proofs.lemmas.List.Elements.{All-cons, All-nil}
@@ -27,7 +27,7 @@ no_more : (cfg : Config) (s s2 : State) (xs ys : List ℕ) (p : Read) → s ≡ 
     → next_record cfg s2 [] [] ys ≡ None → next_record cfg s [] [] xs ≡ Some p → ⊥
 no_more cfg s s2 xs ys p same bytes none some = cc
 
--- the records of a text are one list
+-- a text has at most one list of records
 one_list : (cfg : Config) (s : State) (xs : List ℕ) (rows others : List Row) → AreRecords cfg s xs rows → AreRecords cfg s xs others → rows ≡ others
 unfolding Reached
 one_list cfg s xs [] [] a b = refl
@@ -40,7 +40,7 @@ one_list cfg s xs (r ∷ rows) (o ∷ others) a b =
     let rest = one_list cfg a.2.0.1 a.2.0.2 rows others (a.0, a.1, a.2.3, a.3) after in
     cc
 
--- bytes are one table, but for the keys of its look-ups
+-- bytes are at most one table, apart from the keys of its look-ups
 one_table : (bytes : Text) (table other : Holdings) → IsTable bytes table → IsTable bytes other → (table.header ≡ other.header) × (table.rows ≡ other.rows)
 one_table bytes table other a b =
     let same : table.header ∷ table.rows ≡ other.header ∷ other.rows =

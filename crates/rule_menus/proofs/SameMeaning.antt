@@ -1,4 +1,4 @@
--- Rules mean the same in the environment by the lists of their code as in the one by their own.
+-- Rules mean the same in the environment with the lists of their code as in the one with their own lists.
 use Rattle.std.proofs.Common.{◌≡◌, ℕ, List, [], Option, Some, None, Bool, true, false, refl, sym, ap, ◌∙◌}
 use Rattle.std.specs.Prelude.{◌↔◌, All, if◌then◌else◌}
 use Rattle.std.proofs.lemmas.List.Elements.{recursion_from_All}
@@ -20,7 +20,7 @@ use Rattle.rule_menus.specs.RuleMenus.{RuleTarget, environment_by_code, environm
 use Rattle.rule_menus.proofs.SameNames.{IsDeclared, same_kind}
 use Rattle.rule_menus.proofs.SameRuns.{AgreeOn, same_states}
 
--- ---- what lower crates say
+-- ---- laws of lower crates
 
 -- the code of rules ends with what they mean
 abbrev pub CodeMeansRules : Type 0
@@ -47,7 +47,7 @@ module _ (laws : LawsBelow) where
     abbrev entries : Environment
     entries = row_of cells
 
-    -- what is read of a name, if it depends on the request by the kind of the name alone
+    -- a result that depends on the request only through the kind of the name
     agrees : {X : Type 0} (read : Option Meaning → X) (by_kind : Bool → X) (name : Text)
         → read (look_up (asked lists pairs) name) ≡ by_kind (is_list lists name)
         → read (look_up (asked others pairs) name) ≡ by_kind (is_list others name)
@@ -101,7 +101,7 @@ module _ (laws : LawsBelow) where
     one_answer (Some link) None same = absurd (cc)
     one_answer (Some link) (Some other) same = cc
 
-    -- what is declared and not used changes no meaning
+    -- a list that is declared but not used does not change the meaning
     pub same_meaning : meaning target.rules by_code ≡ meaning target.rules by_rules
     same_meaning =
         let m = meaning target.rules by_code in

@@ -1,4 +1,4 @@
--- A name of the code of rules is a list in the request's environment by the code exactly where it is one by the rules.
+-- A name of the code of rules is a list in the code's environment exactly if it is one in the environment of the rules.
 use Rattle.std.proofs.Common.{◌≡◌, ℕ, zero, suc, List, [], ◌∷◌, Some, Bool, true, false, refl, sym, ap, ◌∙◌, subst, slice_get}
 use Rattle.std.specs.Prelude.{◌||◌, filter, map, if◌then◌else◌}
 use Rattle.std.specs.List.{AllByRecursion}
@@ -15,7 +15,7 @@ use Rattle.code_model.specs.Code.{Name}
 abbrev pub IsDeclared : List Text → Name → Type 0
 IsDeclared lists name = is_list lists name.text ≡ name.list
 
--- the names that a table has as lists
+-- the names of lists in a table
 abbrev list_texts : List Name → List Text
 list_texts names = map (λ name. name.text) (filter (λ name. name.list) names)
 
@@ -38,7 +38,7 @@ declared_at lists [] k name all at = absurd (cc)
 declared_at lists (n ∷ names) zero name all at = let same : n ≡ name = cc in subst (IsDeclared lists) same all.0
 declared_at lists (n ∷ names) (suc k) name all at = declared_at lists names k name all.1 at
 
--- an entry of a list is among the lists of the table
+-- a name with the kind of a list is among the lists of the table
 among_lists : (names : List Name) (k : ℕ) (name : Name) → slice_get names k ≡ Some name → name.list ≡ true → is_among name.text (list_texts names) ≡ true
 among_lists [] k name at list = absurd (cc)
 among_lists (n ∷ names) zero name at list =
@@ -69,7 +69,7 @@ lists_declared lists (n ∷ names) text all among = by_kind n.list refl among (l
     by_kind true list among rest = by_text (bytes_eq n.text text) refl list among rest
     by_kind false list among rest = rest among
 
--- a name of the table is a list by the table exactly where it is one by the declared lists
+-- a name of the table is a list by the table exactly if it is a declared list
 pub same_kind : (lists : List Text) (names : List Name) (k : ℕ) (name : Name) → AllByRecursion (IsDeclared lists) names → slice_get names k ≡ Some name
     → is_list (list_texts names) name.text ≡ is_list lists name.text
 same_kind lists names k name all at = by_kind name.list refl (declared_at lists names k name all at)

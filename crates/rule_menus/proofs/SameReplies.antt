@@ -20,7 +20,7 @@ abbrev pub HasOneRoute : Type 0
 HasOneRoute = (bytes : List ℕ) (r other : RouteValue) (without_body other_only : Bool)
     → IsRouted bytes r without_body → IsRouted bytes other other_only → (r ≡ other) × (without_body ≡ other_only)
 
--- what a reply consists of that does not say that an allocation failed
+-- the parts of a reply other than the one for a failed allocation
 pub record IsReplyOf (targets : List TargetValue) (bytes : List ℕ) (status : ℕ) (reply : List ℕ) : Type 0 where
   pub at : RouteValue
   pub without_body : Bool
@@ -67,7 +67,7 @@ module _ (targets others : List TargetValue) (same : (pairs : List KeyValue) →
           x.reply_is ∙ ap (λ (v : ReplyValue). printed v x.without_body) value ∙ ap (printed y.value) routes.1 ∙ sym y.reply_is,
         )
 
--- the reply to a request for a page is this one, if it does not say that an allocation failed
+-- the reply to a request for a page is this one, unless it is the one for a failed allocation
 module _ (one_route : HasOneRoute) (targets : List TargetValue) (bytes : List ℕ) where
   pub reply_is_page : (page : Page) (query : List ℕ) (without_body : Bool) (entries : List MenuEntry) (status : ℕ) (reply : List ℕ)
       → menu_of targets (pairs_of query) ≡ entries → IsRouted bytes (route.Menu page query) without_body → refusal query ≡ None

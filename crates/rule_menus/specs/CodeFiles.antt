@@ -10,13 +10,13 @@ use Rattle.compiler_model.specs.Compiled.{code_of}
 use Rattle.registry.specs.Targets.{TargetValue}
 use Rattle.rule_menus.specs.RuleFiles.{TargetFiles}
 
--- the bytes are the code file of the rules that the rule text spells
+-- the bytes are the code file of the rules in the rule text
 pub record IsCodeFileOf (text file : Text) : Type 0 where
   pub rules : RuleSet
   pub are_rules : IsRuleText text rules
   pub compiled : IsCodeFile file (code_of rules)
 
--- the target has the name, the code that is read from the code file of the rule text, and the table that its bytes are
+-- the target has the name, the code that is read from the code file of the rule text, and the table that is read from the bytes of the table
 pub record IsReadFrom (files : TargetFiles) (target : TargetValue) : Type 0 where
   pub name : target.name ≡ files.name
   pub file : Text
@@ -24,6 +24,6 @@ pub record IsReadFrom (files : TargetFiles) (target : TargetValue) : Type 0 wher
   pub read : IsCodeFile file target.code
   pub table : IsTable files.table target.table
 
--- each target is read from the files at its place
+-- each target is read from the files at the same position
 abbrev pub AreReadFrom : List TargetFiles → List TargetValue → Type 0
 AreReadFrom files targets = AllZip IsReadFrom files targets

@@ -14,7 +14,7 @@ abbrev pub is_cited : RuleTarget → List KeyValue → ℕ → Bool
 is_cited target pairs row =
     is_match (identifier_columns target.table.header) (ids_of pairs) (cells_of_row target.table row)
 
--- the row matches, the code cannot print too many bytes, and the rules mean this link, which is one of the web
+-- the row matches, the code cannot print too many bytes, and the rules give this link, which is a web link
 pub record MeansWebLink (target : RuleTarget) (pairs : List KeyValue) (row : ℕ) (link : Text) : Type 0 where
   pub there : row < length target.table.rows
   pub cited : is_cited target pairs row ≡ true
@@ -22,7 +22,7 @@ pub record MeansWebLink (target : RuleTarget) (pairs : List KeyValue) (row : ℕ
   pub means : meaning target.rules (environment_by_rules target pairs row) ≡ Some link
   pub web : is_web_link link ≡ true
 
--- and no earlier row has such a link
+-- the row has such a link, and no earlier row has one
 pub record IsFirstWebLink (target : RuleTarget) (pairs : List KeyValue) (row : ℕ) (link : Text) : Type 0 where
   pub here : MeansWebLink target pairs row link
   pub first : (other : ℕ) (before : Text) → MeansWebLink target pairs other before → row ≤ other

@@ -3,3 +3,4 @@ pub mod FirstLinks
 pub mod RuleFiles
 pub mod CodeFiles
 pub mod Replies
+pub mod Explanations

@@ -8,7 +8,7 @@ use Rattle.http_front.specs.Replies.{ReplyValue, unavailable}
 use Rattle.http_front.specs.RouteReplies.{is_html, page_text}
 use Rattle.rule_menus.specs.RuleMenus.{RuleTarget, menu_by_rules}
 
--- a registry has the reply for the bytes of a request, and it does not say that an allocation failed
+-- a registry gives the reply to the bytes of a request, and it is not the reply for a failed allocation
 pub record HasReply (targets : List TargetValue) (request : List ℕ) (status : ℕ) (reply : List ℕ) : Type 0 where
   pub replies : IsReply targets request status reply
   pub no_failure : status ≢ unavailable.status

@@ -12,12 +12,12 @@ pub record TargetFiles : Type 0 where
   pub rules : Text
   pub table : Text
 
--- the target has the name, the rules that the rule text spells, and the table that its bytes are
+-- the target has the name, the rules in the rule text, and the table that is read from the bytes of the table
 pub record IsOfFiles (files : TargetFiles) (target : RuleTarget) : Type 0 where
   pub name : target.name ≡ files.name
   pub rules : IsRuleText files.rules target.rules
   pub table : IsTable files.table target.table
 
--- each target is of the files at its place
+-- each target is made of the files at the same position
 abbrev pub AreOfFiles : List TargetFiles → List RuleTarget → Type 0
 AreOfFiles files targets = AllZip IsOfFiles files targets

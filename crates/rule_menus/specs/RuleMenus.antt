@@ -1,14 +1,13 @@
--- The menu that rules give: each target has a rule set in place of code.
+-- The menu that rules give: each target has a rule set instead of code.
 use Rattle.std.specs.Prelude.{ℕ, List, Option, Some, None, map, nat_lt, if◌then◌else◌}
 use Rattle.text_model.specs.Texts.{Text}
 use Rattle.environment_model.specs.Environment.{Environment}
 use Rattle.kev_read.specs.Pairs.{KeyValue}
-use Rattle.kev_read.specs.Filling.{filled}
 use Rattle.kbart_rows.specs.Cells.{Holdings}
 use Rattle.kbart_rows.specs.Identifiers.{ids_of, matching_rows}
-use Rattle.row_scope.specs.RowEnvironments.{entries_of_row}
 use Rattle.rule_parser.specs.Rules.{RuleSet, IsSound}
 use Rattle.rule_parser.specs.Meaning.{meaning}
+use Rattle.rule_explanation.specs.Rows.{environment_of_row}
 use Rattle.compiler_model.specs.Compiled.{code_of}
 use Rattle.verified_runs.specs.declared.run.TheConstants.{MAX_LINK_BYTES}
 use Rattle.menu.specs.declared.entry.MenuEntry.{MenuEntry}
@@ -34,12 +33,11 @@ HasSoundRules target = IsSound target.rules
 
 -- ---- one row
 
--- the defined cells of a row and, after them, the pairs of the request, by the lists that the rules declare: the
--- first entry of a name stays, so no pair replaces a cell
+-- the environment in which `explain` tries the rules
 abbrev pub environment_by_rules : RuleTarget → List KeyValue → ℕ → Environment
-environment_by_rules target pairs row = filled target.rules.lists (entries_of_row target.table row) pairs
+environment_by_rules target pairs row = environment_of_row target.rules target.table pairs row
 
--- the environment of the code: a list that the rules declare and do not use is a text there
+-- the environment of the code: a list that the rules declare but do not use is a text in it
 abbrev pub environment_by_code : RuleTarget → List KeyValue → ℕ → Environment
 environment_by_code target pairs row = row_environment (coded target) pairs row
 
@@ -62,8 +60,7 @@ resolution_of_row_by_rules target pairs row = resolution_by row (fate_by_rules t
 
 -- ---- all matching rows, and all targets
 
--- the resolution of the first matching row with a web link; without one, that of the last matching row; and NoRow
--- where no row matches
+-- the resolution of the first matching row with a web link; without one, that of the last matching row; and NoRow if no row matches
 abbrev pub resolution_by_rules : RuleTarget → List KeyValue → Resolution
 resolution_by_rules target pairs =
     chosen NoRow (map (resolution_of_row_by_rules target pairs) (matching_rows target.table (ids_of pairs)))

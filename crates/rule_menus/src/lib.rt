@@ -1,4 +1,4 @@
-//! The menu of a registry by the rules of its targets: definitions and laws about them. Nothing here runs.
+//! The menu that the rules of a registry's targets give: definitions, and laws about them. Nothing here runs.
 #![tactic(auto)]
 
 pub mod laws;

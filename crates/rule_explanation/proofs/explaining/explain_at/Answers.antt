@@ -1,4 +1,4 @@
--- The lists that the rules give out fill the environment as those that they declare.
+-- The lists that the rules return fill the environment exactly as those that they declare.
 use Rattle.std.proofs.Common.{ap, ◌∙◌}
 use Rattle.environment_model.specs.Environment.{Environment}
 use Rattle.rule_parser.specs.Meaning.{meaning}

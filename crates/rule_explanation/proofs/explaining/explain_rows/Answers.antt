@@ -1,4 +1,4 @@
--- The row that was found comes first of those that are left.
+-- The row that was found is the first of those that are left.
 use Rattle.std.proofs.Common.{◌≡◌, ap, sym, ◌∙◌, arith}
 use Rattle.std.specs.List.{flat_map}
 use Rattle.kbart_rows.specs.Identifiers.{first_from, ids_of, matching_rows}
@@ -8,7 +8,7 @@ use Rattle.rule_explanation.specs.Rows.{gives_web_link, tried_rows}
 use Rattle.rule_explanation.specs.Writing.{IsBegun}
 use Rattle.rule_explanation.specs.declared.error.ExplainError.{ExplainError}
 use Rattle.rule_explanation.specs.declared.error.ExplainError.TheVariants.{NoMemory}
-use Rattle.rule_explanation.proofs.RowOrder.{first_is_from, matching_rows_rise}
+use Rattle.kbart_rows.proofs.RowOrder.{first_is_from, matching_rows_rise}
 use Rattle.rule_explanation.proofs.LeftRows.{begun_rows, last_row, next_row, no_row, started}
 use Rattle.rule_explanation.proofs.WholeText.{any_error, none_there}
 use Rattle.rule_explanation.proofs.explaining.explain_rows.Goals as goal

@@ -1,4 +1,4 @@
--- What is written with what is still to write is the whole, and a row with a web link is still to come or there is none.
+-- What has been written, with what is still to write, is the whole, and no row so far has a web link.
 use Rattle.std.proofs.Common.{◌+◌, ◌-◌, ◌≤◌, length}
 use Rattle.kbart_rows.specs.Identifiers.{ids_of, matching_rows}
 use Rattle.rule_explanation.specs.Explanation.{tried_row_text}

@@ -1,4 +1,4 @@
--- The lines of a link that is no web link.
+-- The lines of a link that is not a web link.
 use Rattle.std.proofs.Common.{◌≡◌, ◌++◌, sym, ◌∙◌, subst, string_bytes}
 use Rattle.text_model.specs.Texts.{Text}
 use Rattle.rule_explanation.specs.Explanation.{link_lines}

@@ -1,4 +1,4 @@
--- The view shows what the rules see.
+-- The view is the environment as the rules see it.
 use Rattle.std.proofs.Common.{◌++◌, List, ap, ◌∙◌, string_bytes}
 use Rattle.text_model.specs.Texts.{Text}
 use Rattle.std.specs.List.{find}

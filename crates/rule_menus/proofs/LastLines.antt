@@ -1,0 +1,80 @@
+-- The last lines of an explanation say one thing.
+use Rattle.std.proofs.Common.{◌≡◌, ℕ, List, [], ◌∷◌, ◌++◌, true, not, ◌==◌, Some, drop, get_or, refl, ap, sym, ◌∙◌, codes, arith}
+use Rattle.std.specs.Fmt.{decimal}
+use Rattle.std.proofs.lemmas.Bool.{and_parts}
+use Rattle.std.proofs.lemmas.Bool.Decides.{nat_tests}
+use Rattle.std.proofs.lemmas.Option.{same_Some}
+use Rattle.text_model.specs.Texts.{Text}
+use Rattle.menu.specs.Links.{link_under}
+use Rattle.menu.specs.Printed.{resolution_text}
+use Rattle.menu.specs.declared.entry.Resolution.{Resolution}
+use Rattle.menu.specs.declared.entry.Resolution.TheVariants as resolution
+use Rattle.rule_menus.specs.Explanations.{EndAs, holding_line, last_line, row_line, space}
+use Rattle.rule_menus.proofs.Lines.{lacks}
+use Rattle.rule_menus.proofs.OneLine.{digits_lack}
+
+-- what follows the first byte of its kind
+after_first : (c : ℕ) (front other rest text : Text) → lacks c front ≡ true → lacks c other ≡ true → front ++ c ∷ rest ≡ other ++ c ∷ text → rest ≡ text
+after_first c [] [] rest text x y same = cc
+after_first c [] (b ∷ other) rest text x y same =
+    let is : c ≡ b = cc in
+    let parts = and_parts (not (b == c)) (lacks c other) y in
+    absurd (grind (arith, nat_tests, is, parts.0))
+after_first c (b ∷ front) [] rest text x y same =
+    let is : b ≡ c = cc in
+    let parts = and_parts (not (b == c)) (lacks c front) x in
+    absurd (grind (arith, nat_tests, is, parts.0))
+after_first c (b ∷ front) (d ∷ other) rest text x y same =
+    let tails : front ++ c ∷ rest ≡ other ++ c ∷ text = cc in
+    after_first c front other rest text (and_parts (not (b == c)) (lacks c front) x).1 (and_parts (not (d == c)) (lacks c other) y).1 tails
+
+decimal_lacks : (n : ℕ) → lacks space (decimal n) ≡ true
+decimal_lacks n = digits_lack space (omega arith) 10 n
+
+same_link : (rule other : ℕ) (link text : Text) → holding_line rule link ≡ holding_line other text → link ≡ text
+same_link rule other link text same =
+    let rest : decimal rule ++ (codes " holds: " ++ link) ≡ decimal other ++ (codes " holds: " ++ text) = ap (drop 7) same in
+    ap (drop 7)
+    (after_first space (decimal rule) (decimal other) (codes "holds: " ++ link) (codes "holds: " ++ text) (decimal_lacks rule) (decimal_lacks other) rest)
+
+module _ (lines : List Text) where
+  one_line : (a b : Text) → last_line lines ≡ Some a → last_line lines ≡ Some b → a ≡ b
+  one_line a b x y = same_Some a b (sym x ∙ y)
+
+  -- the lines that can be the last one differ in their fifth byte
+  marks : (a b : Text) → last_line lines ≡ Some a → last_line lines ≡ Some b → get_or a 4 0 ≡ get_or b 4 0
+  marks a b x y = ap (λ (line : Text). get_or line 4 0) (one_line a b x y)
+
+  abbrev IsSaid : (r other : Resolution) → Type 0
+  IsSaid r other = (resolution_text r ≡ resolution_text other) × ((name : Text) → link_under name r ≡ link_under name other)
+
+  one_said : (r other : Resolution) → EndAs lines r → EndAs lines other → IsSaid r other
+  one_said resolution.NoRow resolution.NoRow x y = (refl, λ name. refl)
+  one_said resolution.NoRow resolution.NoLink x y = absurd (omega (arith, marks _ _ x y))
+  one_said resolution.NoRow resolution.NotAWebLink x y = absurd (omega (arith, marks _ _ x y))
+  one_said resolution.NoRow (resolution.Link row link) x y = absurd (omega (arith, marks _ _ x y.2))
+  one_said resolution.NoLink resolution.NoRow x y = absurd (omega (arith, marks _ _ x y))
+  one_said resolution.NoLink resolution.NoLink x y = (refl, λ name. refl)
+  one_said resolution.NoLink resolution.NotAWebLink x y = absurd (omega (arith, marks _ _ x y))
+  one_said resolution.NoLink (resolution.Link row link) x y = absurd (omega (arith, marks _ _ x y.2))
+  one_said resolution.NotAWebLink resolution.NoRow x y = absurd (omega (arith, marks _ _ x y))
+  one_said resolution.NotAWebLink resolution.NoLink x y = absurd (omega (arith, marks _ _ x y))
+  one_said resolution.NotAWebLink resolution.NotAWebLink x y = (refl, λ name. refl)
+  one_said resolution.NotAWebLink (resolution.Link row link) x y = absurd (omega (arith, marks _ _ x y.2))
+  one_said (resolution.Link row link) resolution.NoRow x y = absurd (omega (arith, marks _ _ x.2 y))
+  one_said (resolution.Link row link) resolution.NoLink x y = absurd (omega (arith, marks _ _ x.2 y))
+  one_said (resolution.Link row link) resolution.NotAWebLink x y = absurd (omega (arith, marks _ _ x.2 y))
+  one_said (resolution.Link row link) (resolution.Link place text) x y =
+      let number : decimal row ≡ decimal place = ap (drop 4) (same_Some (row_line row) (row_line place) (sym x.0 ∙ y.0)) in
+      let link_is = same_link x.1 y.1 link text (one_line _ _ x.2 y.2) in (
+        ap (λ t. codes "link " ++ t) number,
+        λ name. ap (λ t. Some (record { name = name; link = t })) link_is,
+      )
+  one_said (resolution.OverBudget bytes) other x y = absurd x
+  one_said r (resolution.OverBudget bytes) x y = absurd y
+
+  pub same_report : (r other : Resolution) → EndAs lines r → EndAs lines other → resolution_text r ≡ resolution_text other
+  same_report r other x y = (one_said r other x y).0
+
+  pub same_named_link : (name : Text) (r other : Resolution) → EndAs lines r → EndAs lines other → link_under name r ≡ link_under name other
+  same_named_link name r other x y = (one_said r other x y).1 name

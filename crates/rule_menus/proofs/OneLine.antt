@@ -1,0 +1,147 @@
+-- What is printed on one line has no LF.
+use Rattle.std.proofs.Common.{◌≡◌, ℕ, zero, suc, ◌/◌, ◌%◌, ◌<◌, List, [], ◌∷◌, ◌++◌, Bool, true, false, not, ◌&&◌, ◌==◌, Option, Some, None, length, take}
+use Rattle.std.proofs.Common.{refl, ap, ◌∙◌, codes}
+use Rattle.std.proofs.Common.{arith, nat_le}
+use Rattle.std.specs.Prelude.{if◌then◌else◌}
+use Rattle.std.specs.List.{flat_map}
+use Rattle.std.specs.Fmt.{decimal, digit_glyph, digits, digits_onto}
+use Rattle.std.proofs.lemmas.Bool.{and_parts}
+use Rattle.std.proofs.lemmas.Bool.Decides.{nat_tests}
+use Rattle.std.proofs.lemmas.List.Folds.{list_all-append}
+use Rattle.text_model.specs.Texts.{Text, is_hexadecimal, is_reserved, is_unreserved, percent}
+use Rattle.text_model.specs.Writing.{is_unreserved_or_reserved}
+use Rattle.text_model.specs.UriText.{IsUriText, nothing, and_character, and_triplet}
+use Rattle.environment_model.specs.Environment.{Meaning, Single, Several}
+use Rattle.uri_grammar.specs.Characters.{dot}
+use Rattle.uri_grammar.specs.Names.{IsVarchar, IsVarname, character_varchar, triplet_varchar, first_varchar, next_varchar, dotted_varchar, is_name_character}
+use Rattle.printed_text.specs.declared.quoting.TheConstants.{MAX_SHOWN}
+use Rattle.printed_text.specs.Printed.{byte_text, escape, is_plain, is_visible, quotation_mark, quoted, shortened, visible, visible_byte}
+use Rattle.rule_explanation.specs.Explanation.{meaning_text}
+use Rattle.rule_menus.specs.Explanations.{line_feed}
+use Rattle.rule_menus.proofs.Lines.{is_one_line, lacks}
+
+pub one_joined : (a b : Text) → is_one_line a ≡ true → is_one_line b ≡ true → is_one_line (a ++ b) ≡ true
+one_joined a b x y = list_all-append (λ c. not (c == line_feed)) a b ∙ ap (λ t. t && is_one_line b) x ∙ y
+
+one_flat : {A : Type 0} (f : A → Text) → ((x : A) → is_one_line (f x) ≡ true) → (xs : List A) → is_one_line (flat_map f xs) ≡ true
+one_flat f each [] = refl
+one_flat f each (x ∷ xs) = one_joined (f x) (flat_map f xs) (each x) (one_flat f each xs)
+
+one_more : (b : ℕ) (text : Text) → not (b == line_feed) ≡ true → is_one_line text ≡ true → is_one_line (b ∷ text) ≡ true
+one_more b text x y = ap (λ t. t && is_one_line text) x ∙ y
+
+-- ---- digits
+
+-- the bytes below the digits
+module _ (c : ℕ) (below : c < 48) where
+  glyph_other : (d : ℕ) → not (digit_glyph false d == c) ≡ true
+  glyph_other d = grind (arith, nat_tests, below)
+
+  digits_onto_lack : (k base n : ℕ) (text : Text) → lacks c text ≡ true → lacks c (digits_onto k base false n text) ≡ true
+  digits_onto_lack zero base n text lack = lack
+  digits_onto_lack (suc k) base n text lack =
+      let more : lacks c (digit_glyph false (n % base) ∷ text) ≡ true = ap (λ t. t && lacks c text) (glyph_other (n % base)) ∙ lack in
+      by_test (n / base == 0) more (digits_onto_lack k base (n / base) (digit_glyph false (n % base) ∷ text) more)
+    where
+      by_test : (x : Bool) → lacks c (digit_glyph false (n % base) ∷ text) ≡ true
+          → lacks c (digits_onto k base false (n / base) (digit_glyph false (n % base) ∷ text)) ≡ true
+          → lacks c (if x then (digit_glyph false (n % base) ∷ text) else digits_onto k base false (n / base) (digit_glyph false (n % base) ∷ text)) ≡ true
+      by_test true last more = last
+      by_test false last more = more
+
+  pub digits_lack : (base n : ℕ) → lacks c (digits base false n) ≡ true
+  unfolding digits
+  digits_lack base n = digits_onto_lack 64 base n [] refl
+
+digits_one : (base n : ℕ) → is_one_line (digits base false n) ≡ true
+digits_one base n = digits_lack line_feed (omega arith) base n
+
+pub decimal_one : (n : ℕ) → is_one_line (decimal n) ≡ true
+decimal_one n = digits_one 10 n
+
+-- ---- printed bytes
+
+plain_one : (b : ℕ) → is_plain b ≡ true → not (b == line_feed) ≡ true
+plain_one b plain = grind (arith, nat_tests)
+
+visible_one : (b : ℕ) → is_visible b ≡ true → not (b == line_feed) ≡ true
+visible_one b seen = grind (arith, nat_tests)
+
+escape_one : (b : ℕ) → is_one_line (escape b) ≡ true
+escape_one b =
+    one_joined (codes "\\x") (digits 16 false (b / 16) ++ digits 16 false (b % 16)) refl
+    (one_joined (digits 16 false (b / 16)) (digits 16 false (b % 16)) (digits_one 16 (b / 16)) (digits_one 16 (b % 16)))
+
+byte_text_one : (b : ℕ) → is_one_line (byte_text b) ≡ true
+byte_text_one b = by_test (is_plain b) refl
+  where
+    by_test : (x : Bool) → is_plain b ≡ x → is_one_line (if x then (b ∷ []) else escape b) ≡ true
+    by_test true plain = one_more b [] (plain_one b plain) refl
+    by_test false other = escape_one b
+
+visible_byte_one : (b : ℕ) → is_one_line (visible_byte b) ≡ true
+visible_byte_one b = by_test (is_visible b) refl
+  where
+    by_test : (x : Bool) → is_visible b ≡ x → is_one_line (if x then (b ∷ []) else escape b) ≡ true
+    by_test true seen = one_more b [] (visible_one b seen) refl
+    by_test false other = escape_one b
+
+pub visible_text_one : (text : Text) → is_one_line (visible text) ≡ true
+visible_text_one text = one_flat visible_byte visible_byte_one text
+
+quoted_one : (text : Text) → is_one_line (quoted text) ≡ true
+quoted_one text =
+    one_joined (quotation_mark ∷ flat_map byte_text text) (quotation_mark ∷ []) (one_more quotation_mark (flat_map byte_text text) refl
+    (one_flat byte_text byte_text_one text)) refl
+
+shortened_one : (text : Text) → is_one_line (shortened text) ≡ true
+shortened_one text = by_test (nat_le (length text) MAX_SHOWN)
+  where
+    by_test : (x : Bool) → is_one_line (if x then quoted text else quoted (take MAX_SHOWN text) ++ codes "...") ≡ true
+    by_test true = quoted_one text
+    by_test false = one_joined (quoted (take MAX_SHOWN text)) (codes "...") (quoted_one (take MAX_SHOWN text)) refl
+
+pub meaning_one : (m : Option Meaning) → is_one_line (meaning_text m) ≡ true
+meaning_one None = refl
+meaning_one (Some (Single text)) = shortened_one text
+meaning_one (Some (Several [])) = refl
+meaning_one (Some (Several (member ∷ members))) =
+    one_joined (codes "list of ") (decimal (length (member ∷ members))) refl (decimal_one (length (member ∷ members)))
+
+-- ---- names
+
+name_character_one : (c : ℕ) → is_name_character c ≡ true → not (c == line_feed) ≡ true
+name_character_one c is = grind (arith, nat_tests)
+
+hexadecimal_one : (c : ℕ) → is_hexadecimal c ≡ true → not (c == line_feed) ≡ true
+hexadecimal_one c is = grind (arith, nat_tests)
+
+percent_one : (c : ℕ) → (c == percent) ≡ true → not (c == line_feed) ≡ true
+percent_one c is = grind (arith, nat_tests)
+
+varchar_one : (v : Text) → IsVarchar v → is_one_line v ≡ true
+varchar_one _ (character_varchar c is) = one_more c [] (name_character_one c is) refl
+varchar_one _ (triplet_varchar c high low is) =
+    let parts = and_parts (c == percent) (is_hexadecimal high && is_hexadecimal low) is in
+    let digits = and_parts (is_hexadecimal high) (is_hexadecimal low) parts.1 in
+    one_more c (high ∷ low ∷ []) (percent_one c parts.0)
+    (one_more high (low ∷ []) (hexadecimal_one high digits.0) (one_more low [] (hexadecimal_one low digits.1) refl))
+
+pub name_one : (name : Text) → IsVarname name → is_one_line name ≡ true
+name_one _ (first_varchar v is) = varchar_one v is
+name_one _ (next_varchar name v before is) = one_joined name v (name_one name before) (varchar_one v is)
+name_one _ (dotted_varchar name v before is) = one_joined name (dot ∷ v) (name_one name before) (one_more dot v refl (varchar_one v is))
+
+-- ---- links
+
+uri_character_one : (b : ℕ) → is_unreserved_or_reserved b ≡ true → not (b == line_feed) ≡ true
+unfolding is_unreserved is_reserved
+uri_character_one b is = grind (arith, nat_tests)
+
+pub uri_text_one : (text : Text) → IsUriText text → is_one_line text ≡ true
+uri_text_one _ nothing = refl
+uri_text_one _ (and_character text b before is) = one_joined text (b ∷ []) (uri_text_one text before) (one_more b [] (uri_character_one b is) refl)
+uri_text_one _ (and_triplet text high low before x y) =
+    one_joined text (percent ∷ high ∷ low ∷ []) (uri_text_one text before)
+    (one_more percent (high ∷ low ∷ []) refl
+    (one_more high (low ∷ []) (hexadecimal_one high x) (one_more low [] (hexadecimal_one low y) refl)))
