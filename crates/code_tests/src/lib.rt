@@ -1,6 +1,7 @@
-//! What no command of the program shows of codes: the checked machine and that accepted code runs as it does, the steps
-//! and the turns of a run, environments that no query makes, and calls that the program does not make. Code files,
-//! listings, verdicts, budgets, links and compiled rules are tested by the program, in `checks/commands.d`.
+//! Tests of codes that no command of the program can make: the checked machine, and that accepted code runs as it does;
+//! the steps and turns of a run; environments that no query makes; and calls that the program does not make. The
+//! scripts in `checks/commands.d` test code files, listings, verdicts, budgets, links and compiled rules through the
+//! program.
 #![tactic(auto)]
 
 #[cfg(test)]

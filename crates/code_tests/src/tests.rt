@@ -2,6 +2,7 @@
 
 mod budgets;
 mod entry_points;
+mod limits;
 mod machines;
 mod parts;
 mod runs;
@@ -15,7 +16,7 @@ use std::alloc::{AllocError, Global};
 use std::test::Fail;
 use target_vars::Env;
 
-/// Whether it is a member of a list, a name, a text, and a count: of equal members, or of the parts of one text.
+/// Whether the entry is a member of a list, its name, its text, and how often the member is added or the text repeated.
 type Entry = (bool, &'static str, &'static str, usize);
 
 fn add(alloc: Global, env: &mut Env, entry: Entry) -> Result<(), Fail> {
@@ -55,7 +56,7 @@ fn shown(alloc: Global, outcome: Outcome) -> Result<String, AllocError> {
     }
 }
 
-/// The number of an operand, after its `r`, `n` or `l`; of a mode, 0 or 1.
+/// The number of an operand, without its `r`, `n` or `l`; for a mode, 0 or 1.
 fn number(operand: &str) -> u16 {
     let digits = operand
         .trim_start_matches('r')

@@ -14,7 +14,14 @@ const TABLE: &[u8] = b"print_identifier\n1\n";
 /// A table whose identifiers are those of online editions.
 const ONLINE_TABLE: &[u8] = b"online_identifier\n1\n";
 
-const FILES: [(&str, &[u8]); 9] = [
+/// Rules and a table that give no warning.
+const CLEAN_RULES: &[u8] =
+    b"rule\nwhen given rft.volume\nlink https://e.org/{title_id}/{rft.volume}\n";
+
+const CLEAN_TABLE: &[u8] = b"print_identifier\tonline_identifier\ttitle_id\ttitle_url\n\
+    2901-0012\t2908-0142\tats\thttps://e.org/ats\n2915-0272\t\thel\thttps://e.org/hel\n";
+
+const FILES: [(&str, &[u8]); 11] = [
     ("a.rules", RULES),
     ("bad.rules", b"rule\n"),
     ("a.olk", CODE),
@@ -22,14 +29,29 @@ const FILES: [(&str, &[u8]); 9] = [
     ("online.tsv", ONLINE_TABLE),
     ("registry", b"alpha\ta.olk\ta.tsv\n"),
     ("online", b"beta\ta.olk\tonline.tsv"),
+    ("clean.rules", CLEAN_RULES),
+    ("clean.tsv", CLEAN_TABLE),
     ("empty", b""),
     ("new", b"the old file"),
 ];
 
 const QUERY: &str = "rft.issn=1";
 
-/// Commands without a fault, what each prints, and the files that fail with each of its calls in turn.
-const COMMANDS: [(&[&str], &str, &[&str]); 4] = [
+/// The commands that look into the files of one target.
+const INSPECT: &[&str] = &["inspect", "clean.tsv"];
+
+const LINT: &[&str] = &["lint", "clean.rules", "clean.tsv"];
+
+const EXPLAIN: &[&str] = &[
+    "explain",
+    "clean.rules",
+    "clean.tsv",
+    "rft.issn=2901-0012&rft.volume=7",
+];
+
+/// Commands that succeed, what each prints, and, for each of its calls, the file that the error names if that call
+/// fails.
+const COMMANDS: [(&[&str], &str, &[&str]); 9] = [
     (
         &["compile", "a.rules", "new"],
         "127 bytes\n",
@@ -46,6 +68,27 @@ const COMMANDS: [(&[&str], &str, &[&str]); 4] = [
         &["a.rules"],
     ),
     (&["run", "a.olk", QUERY], "http://e.org/\n", &["a.olk"]),
+    (
+        &["show", "a.olk"],
+        "OLK1 names 0 literals 1 instructions 2\nliteral 0 link \"http://e.org/\"\n0 EMIT l0\n1 HALT\n",
+        &["a.olk"],
+    ),
+    (
+        &["verify", "a.olk"],
+        "ok\nsteps 2 + 0*M\nbytes 13 + 0*M + 0*E + 0*M*E\n",
+        &["a.olk"],
+    ),
+    (
+        INSPECT,
+        "rows 2\nidentifiers 3\nrows of one identifier 1, \"29010012\"\n",
+        &["clean.tsv"],
+    ),
+    (LINT, "rules 1\n", &["clean.rules", "clean.tsv"]),
+    (
+        EXPLAIN,
+        "row 0\n  rule 1 holds: https://e.org/ats/7\n",
+        &["clean.rules", "clean.tsv"],
+    ),
 ];
 
 #[test]
@@ -67,6 +110,16 @@ fn each_call_fails_in_turn(rt: HostRuntime) -> Result<(), Fail> {
         outside.files.fail_after(failing.len());
         gives(&rt, &mut outside, arguments, 0, printed, "")?;
         assert_eq!(rt; bytes(&outside, "new.new"), None);
+    }
+    Ok(())
+}
+
+#[test]
+fn reviews_need_keys_for_the_table(rt: HostRuntime) -> Result<(), Fail> {
+    let mut outside = outside(rt.alloc(), &FILES)?;
+    outside.keys.numbers = None;
+    for arguments in [INSPECT, LINT, EXPLAIN] {
+        gives(&rt, &mut outside, arguments, 4, "", "device: clean.tsv")?;
     }
     Ok(())
 }

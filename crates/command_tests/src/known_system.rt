@@ -1,4 +1,4 @@
-//! What commands find outside: files in memory, keys that are known, and one port.
+//! The system that the tests give to commands: files in memory, known keys, and one port.
 
 use commands::System;
 use files_in_memory::Memory;
@@ -29,7 +29,7 @@ impl KeySource for KnownKeys {
     }
 }
 
-/// A port at which these peers come, until it is bound; a free port has the number 4096.
+/// Ports of which one can be bound, once; these peers then connect to it. A free port has the number 4096.
 #[derive(Drop)]
 pub struct OnePort {
     pub peers: Option<Peers>,
@@ -51,4 +51,5 @@ impl Ports for OnePort {
     }
 }
 
+/// A system whose files, random keys and ports are in memory.
 pub type Outside = System<Memory, KnownKeys, OnePort>;

@@ -1,4 +1,4 @@
-//! Commands over files in memory, each of whose calls fails in turn; a service of peers in memory; a command over real
+//! Commands over files in memory, each of whose calls fails in turn; a service for peers in memory; a command over real
 //! files; and the line of each error.
 #![tactic(auto)]
 
@@ -26,7 +26,7 @@ use std::process::Abort;
 #[cfg(test)]
 use std::test::Fail;
 
-/// Files of these bytes, keys, and a port at which nobody comes.
+/// Files of these bytes, keys, and a port to which nobody connects.
 #[cfg(test)]
 fn outside(alloc: Global, contents: &[(&str, &[u8])]) -> Result<Outside, AllocError> {
     let mut files = Memory::new(alloc);

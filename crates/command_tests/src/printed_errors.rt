@@ -14,10 +14,11 @@ use rule_commands::RuleFault;
 use rule_parser::{RuleError, RuleErrorKind};
 use std::process::Abort;
 use std::test::Fail;
+use target_commands::ReviewFault;
 use uri_grammar::{TemplateError, TemplateErrorKind};
 use verifier::LoadError;
 
-/// The error has this exit status, and is printed so.
+/// The error has this exit status and this text.
 fn prints<R: Abort + AllocGlobal>(
     rt: &R,
     fault: Fault<'_>,
@@ -55,7 +56,7 @@ fn errors_of_templates(rt: HostRuntime) -> Result<(), Fail> {
     Ok(())
 }
 
-/// The same of rule files.
+/// The same for rule files.
 const RULES: [(RuleErrorKind, &str); 5] = [
     (RuleErrorKind::TooLong, "rules: line 0: TooLong"),
     (RuleErrorKind::NotUtf8, "rules: line 0: NotUtf8"),
@@ -64,7 +65,7 @@ const RULES: [(RuleErrorKind, &str); 5] = [
     (RuleErrorKind::KindMismatch, "rules: line 0: KindMismatch"),
 ];
 
-/// The same of rules that are compiled.
+/// The same for rules that are compiled.
 const COMPILED: [(CompileError, &str); 4] = [
     (CompileError::TooManyNames, "compile: TooManyNames"),
     (CompileError::TooManyLiterals, "compile: TooManyLiterals"),
@@ -87,7 +88,7 @@ fn errors_of_rules(rt: HostRuntime) -> Result<(), Fail> {
     Ok(())
 }
 
-/// The same of code files.
+/// The same for code files.
 const CODES: [(CodeErrorKind, &str); 9] = [
     (CodeErrorKind::TooLong, "TooLong"),
     (CodeErrorKind::BadMagic, "BadMagic"),
@@ -113,7 +114,7 @@ fn errors_of_code_files(rt: HostRuntime) -> Result<(), Fail> {
     Ok(())
 }
 
-/// The same of code that is loaded.
+/// The same for code that is loaded.
 const LOADED: [(LoadError, &str); 14] = [
     (LoadError::UnknownOp(0), "load: UnknownOp at 0"),
     (LoadError::BadField(1), "load: BadField at 1"),
@@ -143,16 +144,16 @@ fn errors_of_code(rt: HostRuntime) -> Result<(), Fail> {
     prints(&rt, Fault::Code(fault), 3, "over budget: 1200000")
 }
 
-/// The same of tables.
+/// The same for tables.
 const TABLES: [(TableError, &str); 5] = [
-    (TableError::TooLong, "target a: table: TooLong"),
-    (TableError::NotUtf8, "target a: table: NotUtf8"),
-    (TableError::NoHeader, "target a: table: NoHeader"),
-    (TableError::TooManyRows, "target a: table: TooManyRows"),
-    (TableError::RowTooLong, "target a: table: RowTooLong"),
+    (TableError::TooLong, "table: TooLong"),
+    (TableError::NotUtf8, "table: NotUtf8"),
+    (TableError::NoHeader, "table: NoHeader"),
+    (TableError::TooManyRows, "table: TooManyRows"),
+    (TableError::RowTooLong, "table: RowTooLong"),
 ];
 
-/// The same of targets that are added to others.
+/// The same for targets that are added to a registry.
 const ADDED: [(AddErrorKind, &str); 2] = [
     (AddErrorKind::Full, "target a: Full"),
     (AddErrorKind::BadTargetName, "target a: BadTargetName"),
@@ -173,7 +174,9 @@ fn of_target<R: Abort + AllocGlobal>(
 #[test]
 fn errors_of_targets(rt: HostRuntime) -> Result<(), Fail> {
     for (error, line) in TABLES {
-        of_target(&rt, TargetFault::Table(error), 3, line)?;
+        prints(&rt, Fault::Review(ReviewFault::Table(error)), 3, line)?;
+        let line = format!(in rt.alloc(); "target a: {line}")?;
+        of_target(&rt, TargetFault::Table(error), 3, line.as_str())?;
     }
     for (kind, line) in ADDED {
         of_target(&rt, TargetFault::Add(kind), 3, line)?;
@@ -184,7 +187,7 @@ fn errors_of_targets(rt: HostRuntime) -> Result<(), Fail> {
     of_target(&rt, TargetFault::Device(path), 4, "target a: device: a.olk")
 }
 
-/// The same of queries.
+/// The same for queries.
 const QUERIES: [(KevError, &str); 3] = [
     (KevError::TooLong, "query: TooLong"),
     (KevError::TooManyPairs, "query: TooManyPairs"),
@@ -227,6 +230,8 @@ fn an_allocation_that_fails_is_one_error(rt: HostRuntime) -> Result<(), Fail> {
         Fault::Code(CodeFault::from(code)),
         Fault::Code(CodeFault::from(LoadError::NoMemory)),
         Fault::Menu(MenuFault::from(KevError::NoMemory)),
+        Fault::Review(ReviewFault::from(TableError::NoMemory)),
+        Fault::Review(ReviewFault::from(KevError::NoMemory)),
     ] {
         prints(&rt, fault, 4, "out of memory")?;
     }
@@ -238,4 +243,5 @@ fn no_link_has_status_1(rt: HostRuntime) {
     assert_eq!(rt; Fault::Rule(RuleFault::NoLink).status(), 1);
     assert_eq!(rt; Fault::Code(CodeFault::NoLink).status(), 1);
     assert_eq!(rt; Fault::Menu(MenuFault::NoLink).status(), 1);
+    assert_eq!(rt; Fault::Review(ReviewFault::Warning).status(), 1);
 }

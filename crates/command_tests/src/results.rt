@@ -1,4 +1,4 @@
-//! What commands print of files, with which status, and which fault comes first.
+//! What commands print for files, their exit statuses, and which error is reported first.
 
 use crate::known_system::Outside;
 use crate::{bytes, gives, outside};
@@ -17,7 +17,7 @@ const LIST: &[u8] = b"OLK1\0\x01\0\x01\0\x06\x01\x04list\0\0\x01,\
     \x05\0\0\0\0\0\0\0\x10\x01\0\0\0\0\0\x05\x11\0\0\0\0\0\0\0\
     \x0e\x01\0\0\0\0\0\0\x12\0\0\0\0\0\0\0\x01\0\0\0\0\0\0\0";
 
-/// TEXT r2 n0, PUT r2 u, HALT: the text may be undefined.
+/// TEXT r2 n0, PUT r2 u, HALT: prints a text that may be undefined.
 const UNSAFE: &[u8] = b"OLK1\0\x01\0\0\0\x03\0\x01x\
     \x04\x02\0\0\0\0\0\0\x0e\x02\0\0\0\0\0\0\x01\0\0\0\0\0\0\0";
 
@@ -139,7 +139,7 @@ fn twenty_texts(alloc: Global) -> Result<Vec<u8>, AllocError> {
     Ok(code)
 }
 
-/// Each of the 20,000 letters might be written as three bytes.
+/// Each of the 20,000 letters might be percent-encoded as three bytes.
 #[test]
 fn over_budget(rt: HostRuntime) -> Result<(), Fail> {
     let mut outside = outside(rt.alloc(), &FILES)?;
@@ -162,7 +162,7 @@ fn an_upgraded_file_has_version_2(rt: HostRuntime) -> Result<(), Fail> {
     Ok(())
 }
 
-/// Commands on a file of 65,536 bytes, the error of each; and that on a file of one byte more.
+/// Commands, the error of each for a file of 65,536 bytes, and the error for a file of one byte more.
 const LONG: [(&[&str], &str, &str); 4] = [
     (
         &["compile", "long", "new"],
@@ -206,7 +206,7 @@ fn files_up_to_their_limits(rt: HostRuntime) -> Result<(), Fail> {
     Ok(())
 }
 
-/// An output that takes three bytes: the status, and the error.
+/// The command with an output that takes only three bytes: its status, and its error.
 fn narrow<R: Abort + AllocGlobal>(
     rt: &R,
     outside: &mut Outside,

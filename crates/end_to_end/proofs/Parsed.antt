@@ -1,4 +1,4 @@
--- Why bytes are no rules.
+-- Why bytes are not a rule text.
 use Rattle.std.proofs.Common.{◌≡◌, ◌≤◌, ◌<◌, Err, length, inl, inr, refl, ap}
 use Rattle.std.proofs.lemmas.Bool.{cases_lt}
 use Rattle.std.proofs.lemmas.Str.{IsUtf8-from_is_utf8, is_utf8-from_IsUtf8}
@@ -45,7 +45,7 @@ no_memory_is_not_utf8 : (T : Type 0) (error : RuleError) → error ≡ NO_MEMORY
 no_memory_is_not_utf8 T error memory same =
     kinds_differ error.kind (kind_is error NO_MEMORY memory) (inr (kind_is error not_utf8 (error_is T error not_utf8 same)))
 
--- what parsing promises of its errors
+-- what the contract of parsing says about its errors
 pub record IsParseError (T : Type 0) (bytes : Text) (error : RuleError) : Type 0 where
   pub refused : (error ≡ NO_MEMORY) ⊎ IsRefused bytes error.kind error.line
   pub too_long : (wrong T error ≡ wrong T too_long) ↔ (MAX_BYTES < length bytes)

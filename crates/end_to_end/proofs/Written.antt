@@ -1,4 +1,4 @@
--- What the run of the file of rules says of the rules.
+-- What the run of the file of rules says about the rules.
 use Rattle.std.proofs.Common.{◌≡◌, ◌≤◌, None, subst, ◌∙◌, ap}
 use Rattle.std.specs.Prelude.{◌↔◌}
 use Rattle.text_model.specs.Texts.{Text}
@@ -40,7 +40,7 @@ module _ (one : HasOneCode) (set : RuleSet) (bytes : Text) (limits : limit_passe
   is_code_of : (c : Code) → IsCodeFile bytes c → c ≡ code_of set
   is_code_of c spelled = one bytes c (code_of set) spelled file.is_file
 
-  -- why it is not run
+  -- why the file is not run
   pub rules_cause : (e : EnvValue) (error : RunError) → IsCause bytes e error → IsRulesCause set e (Run error)
   rules_cause e (Load f) cause = (are_compiled, file.no_fault f cause)
   rules_cause e (Prepare (prepare.OverBudget n)) over =
@@ -50,7 +50,7 @@ module _ (one : HasOneCode) (set : RuleSet) (bytes : Text) (limits : limit_passe
       let same = is_code_of fits.code fits.file.is_file in
       record { compiled = are_compiled; within = subst (λ (c : Code). most_bytes c e ≤ MAX_LINK_BYTES) same fits.within }
 
-  -- how its run ends
+  -- how the run of the file ends
   pub rules_end : (e : EnvValue) (o : Outcome) → FileEndsSafely bytes e o
       → ((read : Code) → IsCodeFile bytes read → HasOutcome read e.entries o ↔ (answer (meaning set e.entries) ≡ o)) → RulesEndSafely set e o
   rules_end e o ran means =

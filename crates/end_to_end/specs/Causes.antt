@@ -1,4 +1,4 @@
--- Why rules are not run by their code.
+-- Why rules are not run.
 use Rattle.std.specs.Prelude.{◌≡◌, ℕ, ◌<◌, ◌≤◌, ◌⊎◌, Some, None, length, IsUtf8}
 use Rattle.text_model.specs.Texts.{Text}
 use Rattle.target_vars.specs.EnvValue.{EnvValue}
@@ -22,7 +22,7 @@ use Rattle.end_to_end.specs.declared.error.RulesError.TheVariants as rules
 use Rattle.end_to_end.specs.declared.error.RuleFileError.{RuleFileError}
 use Rattle.end_to_end.specs.declared.error.RuleFileError.TheVariants as file
 
--- rules whose code might print more than a link may have
+-- rules whose code might print more than the limit of a link
 pub record IsOverBudget (set : RuleSet) (e : EnvValue) (n : ℕ) : Type 0 where
   -- the rules have a code file, within the limits of the compiler and accepted by the verifier
   pub compiled : AreCompiled set
@@ -31,18 +31,18 @@ pub record IsOverBudget (set : RuleSet) (e : EnvValue) (n : ℕ) : Type 0 where
   -- the number is over the limit
   pub passes : MAX_LINK_BYTES < n
 
--- rules whose code might print at most what a link may have
+-- rules whose code cannot print more than the limit of a link
 pub record IsWithinBudget (set : RuleSet) (e : EnvValue) : Type 0 where
   -- the rules have a code file, within the limits of the compiler and accepted by the verifier
   pub compiled : AreCompiled set
   -- the bound of their code on output bytes is within the limit
   pub within : most_bytes (code_of set) e ≤ MAX_LINK_BYTES
 
--- what each error says of the rules, in the order of the steps
+-- what each error says about the rules, in the order of the steps
 abbrev pub IsRulesCause : RuleSet → EnvValue → RulesError → Type 0
--- memory ran out while their code was made, which any rules may meet
+-- memory ran out while their code was made, which may happen with any rules
 IsRulesCause set e (rules.Compile compile.NoMemory) = Unit {0}
--- their code is over this limit of the compiler, the first that it is over
+-- their code exceeds this limit of the compiler, the first that it exceeds
 IsRulesCause set e (rules.Compile error) = limit_passed set ≡ Some error
 -- their code is within the limits, and memory ran out while its file was written
 IsRulesCause set e rules.NoMemory = limit_passed set ≡ None
@@ -53,13 +53,13 @@ IsRulesCause set e (rules.Run (Prepare (OverBudget n))) = IsOverBudget set e n
 -- their code has an accepted file within the limits, and is within its bound; memory ran out before the first step
 IsRulesCause set e (rules.Run (Prepare NoMemory)) = IsWithinBudget set e
 
--- memory ran out while the bytes were parsed: never said of bytes that are too many or are not UTF-8
+-- memory ran out while the bytes were parsed, which is never reported for bytes that are too many or not UTF-8
 pub record IsParseMemory (bytes : Text) (error : RuleError) : Type 0 where
   pub no_memory : error ≡ NO_MEMORY
   pub short : length bytes ≤ MAX_BYTES
   pub utf8 : IsUtf8 bytes
 
--- the first fault of bytes that are no rule text, with its line; or that memory ran out
+-- the first fault of bytes that are not a rule text, with its line; or that memory ran out
 abbrev pub IsParseCause : Text → RuleError → Type 0
 IsParseCause bytes error = IsRefused bytes error.kind error.line ⊎ IsParseMemory bytes error
 
@@ -71,9 +71,9 @@ pub record IsRunCause (bytes : Text) (e : EnvValue) (error : RulesError) : Type 
   -- this is why the rules are not run
   pub cause : IsRulesCause rules e error
 
--- what each error says of the bytes of a rule file
+-- what each error says about the bytes of a rule file
 abbrev pub IsRuleFileCause : Text → EnvValue → RuleFileError → Type 0
--- they are no rule text, for this fault; or memory ran out while they were parsed
+-- they are not a rule text, because of this fault; or memory ran out while they were parsed
 IsRuleFileCause bytes e (file.Parse error) = IsParseCause bytes error
--- they are the text of rules, which are not run for this cause
+-- they are the text of rules, which are not run for this reason
 IsRuleFileCause bytes e (file.Run error) = IsRunCause bytes e error

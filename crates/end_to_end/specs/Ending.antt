@@ -1,4 +1,4 @@
--- How rules end that are run by their code.
+-- How the run of rules ends, by their code.
 use Rattle.std.specs.Prelude.{◌≡◌, ◌≤◌, None}
 use Rattle.text_model.specs.Texts.{Text}
 use Rattle.machine_model.specs.Runs.{Outcome}

@@ -20,8 +20,8 @@ use verified_runs::Outcome;
 /// if there is no such rule.
 ///
 /// The errors come before the first step of the run, in this order:
-/// - `Compile`: the first limit that the code is over (256 names, 1,024 literals, 4,096 instructions, 65,536 bytes of
-///   file), or `NoMemory` while the code is made. Rules over a limit get no further.
+/// - `Compile`: the first limit that the code exceeds (256 names, 1,024 literals, 4,096 instructions, 65,536 bytes of
+///   file), or `NoMemory` while the code is made.
 /// - `NoMemory`: memory runs out while the file is written.
 /// - `Run`: `OverBudget`, with the bound on output bytes, if that is over 1,048,576; or `NoMemory`, while the file is
 ///   loaded, or while a run within that limit is prepared. The verifier never rejects the file for a fault.
@@ -39,9 +39,9 @@ pub fn run_rules(alloc: Global, rules: &Rules, env: &Env) -> Result<Outcome, Rul
 
 /// Parses a rule file of at most 65,536 bytes, and runs its rules as [`run_rules`] does.
 ///
-/// `Parse` has the first fault of bytes that are no rule file, and its line, from 1, or 0 where the fault is no line's;
-/// or it says that memory ran out, which is never said of bytes that are too many or are not UTF-8. `Run` says why the
-/// rules of the file are not run.
+/// `Parse` has the first error of bytes that are not a rule file, and its line, from 1, or 0 if the error belongs to no
+/// line; or it says that memory ran out, which is never reported for bytes that are too many or not UTF-8. `Run` says
+/// why the rules of the file are not run.
 pub fn run_rule_file(alloc: Global, bytes: &[u8], env: &Env) -> Result<Outcome, RuleFileError>
     ensures ends { IfOk result (λ outcome. RuleFileEndsSafely bytes.now env.now (outcome_of outcome)) }
     ensures refused { IfErr result (IsRuleFileCause bytes.now env.now) }

@@ -56,7 +56,7 @@ impl From<RunError> for RulesError {
 /// Why the rules of a rule file are not run by their code.
 #[derive(Clone, Copy, Debug, PartialEq, Eq, Error)]
 pub enum RuleFileError {
-    /// The bytes are no rule file, or memory ran out while they were parsed.
+    /// The bytes are not a rule file, or memory ran out while they were parsed.
     #[error("{0}")]
     Parse(RuleError),
     /// The rules are not run.

@@ -1,4 +1,4 @@
-//! What holds of rules and the files of their code. These functions have empty bodies; each contract is a theorem.
+//! What holds for rules and the files of their code. These functions have empty bodies; each contract is a theorem.
 
 ghost use Rattle.std.specs.Prelude.{◌≡◌, ◌↔◌};
 ghost use Rattle.text_model.specs.Texts.{Text};

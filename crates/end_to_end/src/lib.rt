@@ -1,11 +1,10 @@
-//! Rules, by the code that they are compiled to, and code from strangers: what may be said of a run all together.
+//! Rules, run through the code that they are compiled to: each call goes from rules to the outcome, and its contract
+//! states the whole of it.
 #![tactic(auto)]
 
 mod compiled;
 mod error;
 pub mod laws;
-#[cfg(test)]
-mod limits;
 
 pub use compiled::{run_rule_file, run_rules};
 pub use error::{RuleFileError, RulesError};

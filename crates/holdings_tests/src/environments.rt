@@ -1,14 +1,15 @@
-//! What an environment takes, and its limits.
+//! What an environment accepts, and its limits.
 
 use crate::{enter, has_counts, has_members, has_texts};
 use std::alloc::Global;
 use std::test::Fail;
 use target_vars::{Env, Members, VarsError};
 
-/// What is put or added: whether it is a member, its name, its text, and whether it is taken.
+/// A text or member that is offered: whether it is a member, its name, its text, and whether the environment accepts
+/// it.
 type Given = (bool, &'static str, &'static str, bool);
 
-/// An environment of texts and members, and whether just those were taken that are said to be.
+/// An environment of texts and members, and whether exactly those were accepted that should be.
 fn environment(alloc: Global, given: &[Given]) -> Result<(Env, bool), VarsError> {
     let mut env = Env::new(alloc);
     let mut as_said = true;
@@ -41,7 +42,7 @@ fn first_text_stays(rt: HostRuntime) -> Result<(), Fail> {
     Ok(())
 }
 
-/// Puts a text of `letters` letters; whether it is taken, and not too large.
+/// Puts a text of `letters` letters, and returns whether it is accepted, and not too large.
 fn put_long(alloc: Global, env: &mut Env, letters: usize) -> Result<bool, Fail> {
     let text = "x".repeat(alloc, letters)?;
     match enter(env, false, "long", &text) {
@@ -51,7 +52,8 @@ fn put_long(alloc: Global, env: &mut Env, letters: usize) -> Result<bool, Fail> 
     }
 }
 
-/// A length is too large and changes nothing, and the next smaller one fills the environment.
+/// Whether a text of one length is too large and changes nothing, and one of the largest possible length fills the
+/// environment.
 fn has_room(alloc: Global, env: &mut Env, too_large: usize, largest: usize) -> Result<bool, Fail> {
     let bytes = env.bytes();
     let is_refused = !put_long(alloc, env, too_large)?
@@ -60,7 +62,8 @@ fn has_room(alloc: Global, env: &mut Env, too_large: usize, largest: usize) -> R
     Ok(put_long(alloc, env, largest)? && is_refused && env.bytes() == 1_048_576)
 }
 
-// What is there, the bytes and the members of that, a length that is too large by one, and the largest.
+// What the environment has, its bytes and its members, a length that is too large by one, and the largest possible
+// length.
 const ROOMS: &[(&[Given], usize, usize, usize, usize)] = &[
     (FIRST, 2, 1, 1_048_575, 1_048_574),
     (&[], 0, 0, 1_048_577, 1_048_576),
@@ -240,7 +243,7 @@ const TITLE: &[Given] = &[
     (true, "rft.au", "Hawthorne", true),
 ];
 
-/// The member at a place, which comes first when all before it are split off.
+/// The member at a place, found by splitting off all members before it.
 fn split<'a>(members: Members<'a>, place: usize) -> Option<&'a str> {
     let mut left = members;
     for _ in 0..place {

@@ -1,5 +1,5 @@
-//! What no contract says of environments, requests and holdings tables, and the program does not show: answers, sizes
-//! and places in an environment, names that no rule has, where filling stops; and each public call once.
+//! Tests of environments, requests and holdings tables, for what no contract says and no command shows: results, sizes
+//! and places in an environment, names that no rule can have, and where filling stops; and each public call once.
 #![tactic(auto)]
 
 #[cfg(test)]
@@ -16,7 +16,7 @@ use std::test::Fail;
 #[cfg(test)]
 use target_vars::{Env, MAX_BYTES, VarsError};
 
-/// Puts a text or adds a member, without what the contracts say of it.
+/// Puts a text or adds a member. This function has no contract, so a test has to check its result.
 #[cfg(test)]
 fn enter(env: &mut Env, is_member: bool, name: &str, text: &str) -> Result<bool, VarsError> {
     if is_member {

@@ -6,12 +6,12 @@ use std::alloc::Global;
 use std::test::Fail;
 use target_vars::{Env, VarsError};
 
-/// A query's request, without what the contract says of it.
+/// A query's request. This function has no contract, so a test has to check its result.
 fn read(alloc: Global, query: &[u8]) -> Result<Request, KevError> {
     read_kev(alloc, query)
 }
 
-/// Fills, without what the contract says of it.
+/// Fills an environment. This function has no contract, so a test has to check its result.
 fn fill(request: &Request, declared: &[&str], env: &mut Env) -> Result<(), VarsError> {
     request.fill(declared, env)
 }

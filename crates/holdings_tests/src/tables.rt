@@ -7,17 +7,17 @@ use std::alloc::{AllocError, Global};
 use std::test::Fail;
 use target_vars::{Env, VarsError};
 
-/// A query's request, without what the contract says of it.
+/// A query's request. This function has no contract, so a test has to check its result.
 fn read_query(alloc: Global, query: &[u8]) -> Result<Request, KevError> {
     read_kev(alloc, query)
 }
 
-/// A table, without what the contract says of it.
+/// A table. This function has no contract, so a test has to check its result.
 fn read(alloc: Global, bytes: &[u8]) -> Result<Table, TableError> {
     Table::read(alloc, bytes)
 }
 
-/// Fills a row; whether there is such a row.
+/// Fills a row, and returns whether there is such a row.
 fn fills(table: &Table, row: usize, env: &mut Env) -> Result<bool, VarsError> {
     if row >= table.rows() {
         return Ok(false);
@@ -65,14 +65,14 @@ const CELLS: &[(&[u8], usize, &str, Option<&str>)] = &[
     (b"a\t\n1\t2\n", 1, "", Some("2")),
     // One byte order mark is dropped, a second is text.
     (b"\xEF\xBB\xBF\xEF\xBB\xBFa\n1\n", 1, "\u{FEFF}a", Some("1")),
-    // Cells past the header.
+    // Cells beyond the columns of the header.
     (b"a\n1\t2\n", 1, "", None),
     // LF, CR LF and CR end lines; blank ones are skipped, and one of tabs is not.
     (b"a\r\n\r\n1\r\n2", 2, "a", Some("1")),
     (b"a\r\r1\r2", 2, "a", Some("1")),
     (b"\n\na\n\n1\n\n", 1, "a", Some("1")),
     (b"a\tb\n\t\n", 1, "b", None),
-    // A header alone.
+    // Only a header.
     (b"print_identifier\n", 0, "print_identifier", None),
 ];
 
@@ -89,7 +89,7 @@ fn reads_lines_and_cells(rt: HostRuntime) -> Result<(), Fail> {
     Ok(())
 }
 
-/// Why bytes are no table: `front`, and then `text` repeated `count` times; `None` if they are one.
+/// Why `front`, followed by `text` repeated `count` times, is not a table; `None` if it is one.
 fn fault(
     alloc: Global,
     front: &str,
@@ -101,14 +101,14 @@ fn fault(
     Ok(read(alloc, bytes.as_bytes()).err())
 }
 
-// The first bytes, the text after them, how often it is repeated, and why that is no table.
+// The first bytes, the text after them, how often it is repeated, and why the result is not a table.
 const LIMITS: &[(&str, &str, usize, Option<TableError>)] = &[
     ("", "a", 65_536, None),
     ("", "a", 65_537, Some(TableError::RowTooLong)),
-    // The tabs between cells count, also past the header.
+    // The tabs between cells count, even beyond the columns of the header.
     ("a\n", "\t", 65_536, None),
     ("a\n", "\t", 65_537, Some(TableError::RowTooLong)),
-    // The header is no row, and neither are blank lines.
+    // Neither the header nor blank lines are rows.
     ("a\n\n", "1\n", 200_000, None),
     ("a\n\n", "1\n", 200_001, Some(TableError::TooManyRows)),
     ("a\n", "\n", 200_001, None),

@@ -1,4 +1,4 @@
-//! Exchanges with peers that send and take little at a time, or fail.
+//! Exchanges with peers that send and receive a few bytes at a time, or fail.
 
 use crate::{REPLY, REQUEST};
 use http_front::{ServeError, Served, serve_one};
@@ -8,8 +8,8 @@ use std::process::Abort;
 use std::test::Fail;
 use streams_in_memory::{PieceIn, PieceOut};
 
-/// The request's input gives and its output takes `piece` bytes at a time, and they fail so: how the exchange goes
-/// then, and what is written.
+/// Checks how an exchange ends, and what it writes, if the input reads and the output writes `piece` bytes at a time,
+/// and they fail at the given calls.
 fn exchanges<R: Abort + AllocGlobal>(
     rt: &R,
     request: &[u8],
@@ -63,12 +63,12 @@ fn a_write_fails(rt: HostRuntime) -> Result<(), Fail> {
     Ok(())
 }
 
-/// A page of a menu, whose registry has no target.
+/// The reply with the menu of a registry without targets.
 const PAGE: &[u8] =
     b"HTTP/1.1 200 OK\r\nContent-Type: text/html; charset=utf-8\r\nContent-Length: 53\r\n\
     Connection: close\r\n\r\n<!DOCTYPE html>\n<title>Links</title>\n<p>No links</p>\n";
 
-/// Requests, how their exchanges go, and what is written.
+/// Requests, how their exchanges end, and what is written.
 const EXCHANGES: [(&[u8], Served, &[u8]); 2] = [
     (b"", Served::Nothing, b""),
     (b"GET /openurl HTTP/1.0\r\n\r\n", Served::Replied(200), PAGE),
@@ -82,8 +82,8 @@ fn nothing_and_a_page(rt: HostRuntime) -> Result<(), Fail> {
     Ok(())
 }
 
-/// Requests; and of their replies the status and phrase, the kind of text, a further field, the body, and whether it is
-/// sent.
+/// Requests, and for their replies the status and phrase, the type of the text, a further field, the body, and whether
+/// it is sent.
 const REPLIES: [(&[u8], u16, &str, &str, &str, &str, bool); 9] = [
     (
         b"HEAD /openurl HTTP/1.0\r\n\r\n",
@@ -168,7 +168,7 @@ const REPLIES: [(&[u8], u16, &str, &str, &str, &str, bool); 9] = [
     ),
 ];
 
-/// The reply of these parts; a body that is not sent is counted.
+/// The reply with these parts. The length of a body is stated even if the body is not sent.
 fn reply(
     alloc: Global,
     status: (u16, &str),
@@ -239,7 +239,7 @@ const UNAVAILABLE: &[u8] =
     b"HTTP/1.1 503 Service Unavailable\r\nContent-Type: text/plain; charset=utf-8\r\nContent-Length: 14\r\n\
     Connection: close\r\n\r\nout of memory\n";
 
-/// How many bytes of that reply go before its body.
+/// How many bytes of that reply come before its body.
 const HEAD: usize = UNAVAILABLE.len() - 14;
 
 /// Requests, and how many bytes the reply has if an allocation fails while the reply is made.
@@ -248,8 +248,8 @@ const FAILING: [(&[u8], usize); 2] = [
     (b"HEAD /openurl HTTP/1.0\r\n\r\n", HEAD),
 ];
 
-/// Where an allocation of the exchange fails, the reply has the status 503, or the output ends it. No reply has another
-/// status than 200 or 503.
+/// If an allocation of the exchange fails, the reply has the status 503, or the output fails. No reply has a status
+/// other than 200 and 503.
 #[test]
 fn without_memory(rt: HostRuntime) -> Result<(), Fail> {
     let registry = Registry::new(rt.alloc());
@@ -259,7 +259,7 @@ fn without_memory(rt: HostRuntime) -> Result<(), Fail> {
         match serve_one(rt.alloc(), &mut input, &mut output, &registry) {
             Ok(Served::Replied(503)) => {
                 let written = output.written();
-                // If there was no room to read, the method is not known.
+                // If there was no memory to read the head, the method is unknown.
                 assert!(rt; written == &UNAVAILABLE[..length] || written == UNAVAILABLE);
             }
             Err(ServeError::WriteFault(sent)) => assert_eq!(rt; output.written().len(), sent),

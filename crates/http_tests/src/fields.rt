@@ -3,13 +3,13 @@
 use http_request::{Page, Route, read_request};
 use std::alloc::{AllocError, Global};
 
-/// The page that the requests ask for.
+/// The route of the requests that are accepted.
 const PAGE: Route<'static> = Route::Menu {
     page: Page::Text,
     query: b"",
 };
 
-/// Numbers of fields beside Host, and the routes of their requests.
+/// Numbers of fields in addition to Host, and the routes of the requests.
 const ROUTES: &[(usize, Route<'static>)] = &[(0, PAGE), (127, PAGE), (128, Route::BadRequest)];
 
 /// A request with Host and this number of other fields.

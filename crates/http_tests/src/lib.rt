@@ -1,5 +1,5 @@
-//! What no contract says of the front over HTTP, and no request to the program shows: the routes of requests, peers
-//! that send and take little at a time, or fail, and how connections are counted.
+//! Tests of the crates for HTTP, for what no contract says and no request to the program shows: the routes of requests,
+//! peers that send and receive a few bytes at a time or fail, and how connections are counted.
 #![tactic(auto)]
 
 #[cfg(test)]

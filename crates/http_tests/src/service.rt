@@ -11,7 +11,7 @@ use std::test::Fail;
 use std::time::Duration;
 use streams_in_memory::Peers;
 
-/// What peers send: one closes the connection at once, one sends nothing more before its head has ended.
+/// What peers send: the first closes the connection at once, and the second stops before its head has ended.
 const SENT: [&[u8]; 5] = [b"", b"GET /x HTTP/1.1\r\n", REQUEST, REQUEST, REQUEST];
 
 /// A peer that has sent these bytes.
@@ -25,7 +25,7 @@ fn peer<R: Net<Stream = TcpStream>>(
     Ok(stream)
 }
 
-/// Peers that have sent this; those that have sent nothing have gone.
+/// Peers that have sent this; those that have sent nothing have closed their connection.
 fn peers<R: Net<Stream = TcpStream> + AllocGlobal>(
     rt: &R,
     place: SocketAddr,
@@ -40,7 +40,8 @@ fn peers<R: Net<Stream = TcpStream> + AllocGlobal>(
     Ok(peers)
 }
 
-/// How `count` connections went, where a read may take this number of milliseconds, if given: replies, nothing, faults.
+/// How `count` connections ended: with a reply, with nothing, or with a fault. A read times out after this number of
+/// milliseconds, if it is given.
 fn counted<L: Listener>(
     alloc: Global,
     listener: &mut L,
@@ -65,7 +66,8 @@ fn counted<L: Listener>(
     Ok((replied, nothing, faults))
 }
 
-/// A number of connections, how many milliseconds a read may take, and how they are counted. No time-out is taken of 0.
+/// A number of connections, how many milliseconds a read may take, and how they are counted. A time-out of 0 cannot be
+/// set.
 const COUNTED: [(u32, Option<u64>, (u32, u32, u32)); 3] = [
     (3, Some(50), (1, 1, 1)),
     (1, Some(0), (0, 0, 1)),
@@ -91,7 +93,7 @@ fn peers_in_memory(alloc: Global) -> Result<Peers, AllocError> {
     Ok(peers)
 }
 
-/// The reply to a head that does not end, in part.
+/// The beginning of the reply to a head that does not end.
 const BAD: &[u8] = b"HTTP/1.1 400 Bad Request\r\n";
 
 #[test]

@@ -8,8 +8,8 @@ use std::alloc::{AllocError, Global};
 use std::test::Fail;
 use streams_in_memory::{PieceIn, PieceOut, Tape};
 
-/// How many bytes are read as a head of these, at most a piece at a time, where read number `fail_at` fails; all bytes
-/// that there can be, where other ones are read.
+/// How many of these bytes are read as a head, at most `piece` at a time, if read number `fail_at` fails; `usize::MAX`
+/// if other bytes are read.
 fn count_read(
     alloc: Global,
     bytes: &[u8],
@@ -39,7 +39,7 @@ fn reads_a_head_in_pieces_and_nothing_more(rt: HostRuntime) {
     assert_eq!(rt; count_read(rt.alloc(), b"a", 1, Some(2)), Ok(1));
 }
 
-/// Bytes, and how many of them are read, a byte at a time.
+/// Bytes, and how many of them are read as a head, one byte at a time.
 const LENGTHS_READ: [(&[u8], usize); 12] = [
     (b"", 0),
     (b"a", 1),
@@ -67,7 +67,7 @@ fn reads_until_the_head_is_closed(rt: HostRuntime) -> Result<(), Fail> {
     Ok(())
 }
 
-/// Of these bytes all but one are read as a head, a piece at a time.
+/// Whether all of these bytes but one are read as a head, `piece` bytes at a time.
 fn leaves_one(alloc: Global, bytes: &[u8], piece: usize) -> Result<bool, HeadError> {
     let mut input = PieceIn::new(alloc, bytes, piece.max(1), None)?;
     let head = read_head(alloc, &mut input)?;
@@ -88,8 +88,8 @@ const DIGITS: &[u8; 10] = b"0123456789";
 /// The digits in two parts.
 const PARTS: (&[u8], &[u8]) = (b"0123", b"456789");
 
-/// The digits go out so, in two parts and at most a piece at a time, where write number `fail_at` fails, and this is
-/// written. The call after the one that fails is done.
+/// Whether writing the digits in two parts, at most `piece` bytes at a time, returns `wanted` and leaves `written`, if
+/// write number `fail_at` fails. The write after the one that fails succeeds.
 fn go_out(
     alloc: Global,
     piece: usize,
@@ -123,7 +123,7 @@ fn writes_in_pieces_up_to_a_failure(rt: HostRuntime) -> Result<(), Fail> {
     Ok(())
 }
 
-/// All of these bytes are written at once.
+/// Whether all of these bytes are written by one call.
 fn writes_at_once(alloc: Global, bytes: &[u8]) -> Result<bool, AllocError> {
     let mut output = PieceOut::new(alloc, 1_000, None)?;
     Ok(output.write(bytes) == Ok(1_000) && output.written() == bytes)
@@ -136,8 +136,8 @@ fn writes_much_in_one_piece(rt: HostRuntime) -> Result<(), Fail> {
     Ok(())
 }
 
-/// Three reads of two bytes of a tape with three, and two writes after the first: whether all went right, and what is
-/// written in the end.
+/// Three reads of two bytes from a tape with three, and two writes after the first read: whether all results are right,
+/// and what has been written at the end.
 fn gives_and_takes(alloc: Global) -> Result<(bool, Vec<u8>), AllocError> {
     let mut tape = Tape::new(alloc, b"abc")?;
     let mut front = [0; 2];
@@ -160,7 +160,7 @@ fn tapes_give_and_take(rt: HostRuntime) -> Result<(), Fail> {
     Ok(())
 }
 
-/// How many bytes three reads give, of three bytes in pieces of two, where the second fails; and the last byte.
+/// How many bytes three reads of three bytes in pieces of two return if the second read fails, and the last byte.
 fn three_reads(alloc: Global) -> Result<([Result<usize, Failed>; 3], u8), AllocError> {
     let mut input = PieceIn::new(alloc, b"abc", 2, Some(1))?;
     let mut room = [0; 8];

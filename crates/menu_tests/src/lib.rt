@@ -1,5 +1,6 @@
-//! What no contract says of menus, registries, the runs of a request, files, and registry files, and no command shows:
-//! what is given back, what is printed of values, what a watch is shown, and files and random numbers that fail.
+//! Tests of menus, registries, the runs of a request, files and registry files, for what no contract says and no
+//! command shows: what an error gives back, how values are printed, what a watch observes, and files and random numbers
+//! that fail.
 #![tactic(auto)]
 
 #[cfg(test)]
@@ -36,7 +37,7 @@ const JOURNAL: &[u8] =
     b"print_identifier\ttitle_url\tdate_first_issue_online\tdate_last_issue_online\n\
 1234-567X\thttp://e.org/a\t1990\t1995\n1234-567X\thttp://e.org/b\t2000\t\n";
 
-/// Adds a target with the journal; it may be given back.
+/// Adds a target with the journal; an error gives its parts back.
 #[cfg(test)]
 fn add(
     alloc: Global,
@@ -50,7 +51,7 @@ fn add(
     Ok(registry.add(name, code, table))
 }
 
-/// The lists that the watch was shown, as they are printed.
+/// The lists that the watch recorded, as text.
 #[cfg(test)]
 fn lists(alloc: Global, shown: &Shown) -> Result<String, AllocError> {
     let lists = shown.lists();

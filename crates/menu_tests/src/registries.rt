@@ -1,4 +1,4 @@
-//! What is given back of a target that is not added, and what a row over a request counts.
+//! What the error gives back if a target is not added, and how many bytes a row over a request has.
 
 ghost use Rattle.std.specs.Prelude.{◌<◌, length};
 ghost use Rattle.row_scope.specs.RequestValues.{IsApartFrom};
@@ -12,7 +12,7 @@ use std::alloc::{AllocError, Global};
 use std::test::Fail;
 use target_vars::Scope;
 
-/// What is given back of a target with a bad name, if it is.
+/// The error for a target with a bad name, if it is rejected.
 fn refused(alloc: Global) -> Result<Option<AddError>, Fail> {
     let mut registry = Registry::new(alloc);
     Ok(add(alloc, &mut registry, "a b", LIST_CODE)?.err())
@@ -51,7 +51,7 @@ fn has_alpha_alone(registry: &Registry) -> bool {
     target.name() == "alpha" && target.code().code().len() == 6 && target.table().rows() == 2
 }
 
-/// If memory runs out, nothing is added, and a second call takes the parts.
+/// If memory runs out, nothing is added, and a second call adds the parts that were given back.
 #[test]
 fn a_second_call_takes_the_parts(rt: HostRuntime) -> Result<(), Fail> {
     let mut registry = Registry::new(rt.alloc());
@@ -102,7 +102,7 @@ fn bytes_of_second(alloc: Global) -> Result<Option<usize>, Fail> {
     Ok(Some(bytes))
 }
 
-/// The cells of the row are counted, and of the request what the row has no cell for.
+/// The bytes are those of the row's cells, and of the request's values for which the row has no cell.
 #[test]
 fn a_row_comes_before_its_request(rt: HostRuntime) -> Result<(), Fail> {
     let bytes = bytes_of_second(rt.alloc())?;

@@ -5,7 +5,7 @@ use files::SystemFiles;
 use files_in_memory::{Content, Memory};
 use kbart_rows::{Keys, MAX_TABLE_BYTES};
 use registry::Registry;
-use registry_file::{KeySource, NoKeys, RegistryError, SystemKeys, load_registry, read_registry};
+use registry_file::{KeySource, NoKeys, RegistryError, SystemKeys, load_registry};
 use std::alloc::{AllocError, Global};
 use std::cell::Cell;
 use std::fs;
@@ -15,7 +15,7 @@ use std::process::Abort;
 use std::random::RandomSource;
 use std::test::Fail;
 
-/// Registry files, and the first fault of each, where it has one.
+/// Registry files, and the first fault of each; the empty text if there is none.
 const CASES: [(&[u8], &str); 13] = [
     (b"alpha\ta code.olk\ttable.txt\n", ""),
     (b"alpha\ta code.olk\ttable.txt\n\nbeta\n", "line 2"),
@@ -78,7 +78,7 @@ fn memory(alloc: Global, registry: &[u8]) -> Result<Memory, AllocError> {
     Ok(memory)
 }
 
-/// Keys of two numbers that are known, if there are any.
+/// A source of keys made of two known numbers; without them it fails.
 #[derive(Drop)]
 struct Known {
     numbers: Option<(u64, u64)>,
@@ -106,7 +106,7 @@ fn load(alloc: Global, files: &mut Memory) -> Result<Registry, RegistryError> {
     load_registry(alloc, files, &mut keys, PATH)
 }
 
-/// Compares the fault, as it is printed, with the one that is wanted; none is the empty text.
+/// Compares the fault, as it is printed, with the expected one; the empty text means no fault.
 fn compare<R: Abort + AllocGlobal>(
     rt: &R,
     read: Result<Registry, RegistryError>,
@@ -115,7 +115,7 @@ fn compare<R: Abort + AllocGlobal>(
     let Err(fault) = read else {
         return Ok(assert!(rt; wanted.is_empty(), "{wanted}"));
     };
-    if fault == RegistryError::NoMemory {
+    if matches!(&fault, RegistryError::NoMemory) {
         return Err(AllocError.into());
     }
     let printed = format!(in rt.alloc(); "{fault}")?;
@@ -128,8 +128,6 @@ fn names_the_first_fault(rt: HostRuntime) -> Result<(), Fail> {
     for (registry, wanted) in CASES {
         let mut files = memory(rt.alloc(), registry)?;
         compare(&rt, load(rt.alloc(), &mut files), wanted)?;
-        let read = read_registry(rt.alloc(), &mut files, registry, Keys::new(1, 2));
-        compare(&rt, read, wanted)?;
     }
     Ok(())
 }
@@ -170,15 +168,13 @@ fn a_last_line_needs_no_end(rt: HostRuntime) -> Result<(), Fail> {
     Ok(())
 }
 
-/// A registry file may have 65,536 bytes. A longer one needs no keys.
+/// A registry file may have 65,536 bytes. For a longer one no keys are drawn.
 #[test]
 fn has_no_line_0(rt: HostRuntime) -> Result<(), Fail> {
     for (count, wanted) in [(65_536, ""), (65_537, "line 0")] {
         let lines = vec![in rt.alloc(); b'\n'; count]?;
         let mut files = memory(rt.alloc(), &lines)?;
         compare(&rt, load(rt.alloc(), &mut files), wanted)?;
-        let read = read_registry(rt.alloc(), &mut files, &lines, Keys::new(1, 2));
-        compare(&rt, read, wanted)?;
         let mut keys = Known { numbers: None };
         let read = load_registry(rt.alloc(), &mut files, &mut keys, PATH);
         let wanted = if wanted.is_empty() { "device" } else { wanted };
@@ -187,7 +183,7 @@ fn has_no_line_0(rt: HostRuntime) -> Result<(), Fail> {
     Ok(())
 }
 
-/// What the first target's fault is if its code has this many zero bytes.
+/// The first target's fault if its code file has that many zero bytes.
 const CODES: [(usize, &str); 2] = [
     (65_536, "target alpha: load: BadMagic at 0"),
     (65_537, "target alpha: load: TooLong at 65536"),
@@ -238,7 +234,7 @@ fn many(alloc: Global, code: &str, table: &str) -> Result<String, AllocError> {
     Ok(lines)
 }
 
-/// The number of targets is decided last.
+/// The number of targets is checked last.
 #[test]
 fn a_257th_target_is_read_before_it_is_refused(rt: HostRuntime) -> Result<(), Fail> {
     let cases = [
@@ -302,7 +298,7 @@ impl RandomSource for Counting {
     }
 }
 
-/// The hash of nothing under the keys.
+/// The hash of no bytes under the keys.
 fn hash_of(keys: Keys) -> u64 {
     keys.build_hasher().finish()
 }

@@ -1,4 +1,4 @@
-//! The menu of a small registry, and what a watch is shown until it is there.
+//! The menu of a small registry, and what a watch observes until it is complete.
 
 use crate::codes::{ISSN_CODE, LIST_CODE};
 use crate::{add, lists};
@@ -8,7 +8,7 @@ use registry::Registry;
 use std::alloc::{AllocError, Global};
 use std::test::Fail;
 
-/// A target whose link is none of the web, and one that has its link after eight steps.
+/// A target whose link is not a web link, and one that has its link after eight steps.
 const TARGETS: [(&str, &[u8]); 2] = [("p", LIST_CODE), ("q", ISSN_CODE)];
 
 fn registered(alloc: Global) -> Result<Registry, Fail> {
@@ -21,7 +21,7 @@ fn registered(alloc: Global) -> Result<Registry, Fail> {
     Ok(registry)
 }
 
-/// The report of the menu for the query, and the watch is shown the runs.
+/// The report of the menu for the query; the watch observes the runs.
 fn watched(alloc: Global, query: &str, shown: &mut Shown) -> Result<String, Fail> {
     let registry = registered(alloc)?;
     let request = read_kev(alloc, query.as_bytes())?;
@@ -37,7 +37,6 @@ fn resolved(alloc: Global, query: &str) -> Result<String, Fail> {
     Ok(menu.text(alloc)?)
 }
 
-/// The later rounds are without the target that has its link.
 /// The text `x` twenty times, or nothing: TEXT r2 n0, UNDEF r2 22, twenty times PUT r2 u, HALT.
 fn twenty_texts(alloc: Global) -> Result<Vec<u8>, AllocError> {
     let mut code = Vec::from_slice(
@@ -52,6 +51,7 @@ fn twenty_texts(alloc: Global) -> Result<Vec<u8>, AllocError> {
     Ok(code)
 }
 
+/// The target that has its link takes no part in later rounds.
 #[test]
 fn rounds(rt: HostRuntime) -> Result<(), Fail> {
     let members = "&list=a".repeat(rt.alloc(), 40)?;
@@ -77,7 +77,7 @@ fn reported(alloc: Global, name: &str, code: &[u8], query: &str) -> Result<(Stri
     Ok((menu.report(alloc)?, menu.is_empty()))
 }
 
-/// By its last row, the text of 20,000 bytes, the cells and the ISSN: 60 times 20,035 bytes.
+/// For its last row E is 20,035: the text of 20,000 bytes, the cells and the ISSN. The bound is 60 times that.
 #[test]
 fn over_budget(rt: HostRuntime) -> Result<(), Fail> {
     let text = "a".repeat(rt.alloc(), 20_000)?;
@@ -89,7 +89,7 @@ fn over_budget(rt: HostRuntime) -> Result<(), Fail> {
     Ok(())
 }
 
-/// The link is written, and is none of the web.
+/// The link is written, and is not a web link.
 #[test]
 fn twenty_long_members(rt: HostRuntime) -> Result<(), Fail> {
     let member = "a".repeat(rt.alloc(), 1_000)?;

@@ -1,4 +1,4 @@
-//! Runs that are carried on side by side.
+//! Interleaved runs.
 
 use crate::codes::{LIST_CODE, TEXT_CODE};
 use crate::lists;
@@ -17,7 +17,7 @@ const COLOURS: &[&str] = &["red", "green", "blue"];
 /// The loop over three members, and a text.
 const TWO: &[Given] = &[(LIST_CODE, COLOURS, 0), (TEXT_CODE, &[], 1)];
 
-/// The same, with a text between them that might be written with more bytes than are allowed.
+/// The same, with a text between them whose percent-encoded form might exceed the limit.
 const THREE: &[Given] = &[
     (LIST_CODE, COLOURS, 0),
     (TEXT_CODE, &[], 400_000),
@@ -61,7 +61,7 @@ fn runs<'a>(alloc: Global, codes: &'a [Verified], envs: &'a [Env]) -> Result<Vec
     Ok(runs)
 }
 
-/// All runs are turned by two steps, by two, and by 64: how many then continue. The watch is shown the runs.
+/// Turns of two, two and 64 steps of all runs: how many continue after each. The watch observes the runs.
 fn turned(alloc: Global, shown: &mut Shown) -> Result<Vec<usize>, Fail> {
     let codes = codes(alloc, TWO)?;
     let envs = environments(alloc, TWO)?;
@@ -93,7 +93,7 @@ fn play_both(runs: &mut [Run<'_>]) {
     }
 }
 
-/// What the two print by then. The watch is shown the runs.
+/// What both have printed by then. The watch observes the runs.
 fn played(alloc: Global, shown: &mut Shown) -> Result<Vec<u8>, Fail> {
     let codes = codes(alloc, TWO)?;
     let envs = environments(alloc, TWO)?;
@@ -117,7 +117,7 @@ fn schedule(rt: HostRuntime) -> Result<(), Fail> {
     Ok(())
 }
 
-/// What fates say.
+/// Fates as text.
 fn said(alloc: Global, fates: &[Fate]) -> Result<String, AllocError> {
     let mut said = String::new(alloc);
     for fate in fates {
@@ -131,7 +131,7 @@ fn said(alloc: Global, fates: &[Fate]) -> Result<String, AllocError> {
     Ok(said)
 }
 
-/// What the fates of the runs say; the watch is shown the runs.
+/// The fates of the runs, as text; the watch observes the runs.
 fn fates(alloc: Global, given: &[Given], shown: &mut Shown) -> Result<String, Fail> {
     let codes = codes(alloc, given)?;
     let envs = environments(alloc, given)?;
@@ -143,8 +143,8 @@ fn fates(alloc: Global, given: &[Given], shown: &mut Shown) -> Result<String, Fa
     Ok(said(alloc, &fates)?)
 }
 
-/// What is given, what the fates of the runs say at first, and what the watch is shown. A run that has ended waits for
-/// the others; what is over budget is not run.
+/// The codes, how the text of their fates begins, and what the watch observes. A run that has ended waits for the
+/// others; a code that is over budget is not run.
 const ROUNDS: [(&[Given], &str, &str); 3] = [
     (&[], "", "[]"),
     (

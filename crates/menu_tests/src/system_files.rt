@@ -5,7 +5,7 @@ use std::alloc::Global;
 use std::fs;
 use std::test::Fail;
 
-/// What is at the path, if that can be read.
+/// The bytes at the path.
 fn bytes_at<F: Files>(alloc: Global, files: &mut F, path: &str) -> Result<Vec<u8>, FileError> {
     files.read(alloc, path, 100)
 }
@@ -44,7 +44,7 @@ fn a_file_is_written_renamed_and_removed(rt: HostRuntime) -> Result<(), Fail> {
 fn one_byte_past_the_limit_is_read(rt: HostRuntime) -> Result<(), Fail> {
     let mut files = SystemFiles::new(&rt);
     fs::write(&rt, "abc", b"abc")?;
-    // The limit, the bytes that are read, and whether the file is read whole.
+    // The limit, the bytes that are read, and whether the whole file is read.
     let cases: [(usize, &[u8], bool); 4] = [
         (0, b"a", false),
         (2, b"abc", false),
@@ -62,7 +62,7 @@ fn one_byte_past_the_limit_is_read(rt: HostRuntime) -> Result<(), Fail> {
     Ok(())
 }
 
-/// A folder can be opened, and not read.
+/// A folder can be opened but not read.
 #[test]
 fn what_is_no_regular_file_is_no_place(rt: HostRuntime) -> Result<(), Fail> {
     let mut files = SystemFiles::new(&rt);

@@ -21,7 +21,7 @@ fn an_environment_expands(rt: HostRuntime) -> Result<(), Fail> {
     Ok(())
 }
 
-/// The name `%41` is not `A`: a text and a list whose names are triplets.
+/// A text and a list whose names are triplets; the name `%41` is not `A`.
 fn triplets(alloc: Global) -> Result<Env, VarsError> {
     let mut env = Env::new(alloc);
     env.put_text("%41", "x")?;
@@ -53,7 +53,7 @@ fn names_are_not_decoded(rt: HostRuntime) -> Result<(), Fail> {
     Ok(())
 }
 
-/// Every name denotes nothing.
+/// Variables of which none is defined.
 struct Nothing;
 
 impl Variables for Nothing {

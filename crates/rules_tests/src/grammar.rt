@@ -151,7 +151,7 @@ fn parts_give_back_what_they_hold(rt: HostRuntime) -> Result<(), Fail> {
     Ok(())
 }
 
-/// The kind of the first fault of a text; none where it has no fault.
+/// The kind of the first fault of a text; `None` if it has no fault.
 fn fault_of(alloc: Global, text: &str) -> Option<TemplateErrorKind> {
     match parsed(alloc, text) {
         Ok(_) => None,

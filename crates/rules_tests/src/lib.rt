@@ -1,5 +1,5 @@
-//! What no contract says of texts in links, templates and rules, and the program does not show: trees, parts of texts,
-//! other variables, lists of rules; and each public call once.
+//! Tests of texts in links, templates and rules, for what no contract says and no command shows: trees, prefixes of
+//! texts, variables that are not an environment, and the lists of rules; and each public call once.
 #![tactic(auto)]
 
 #[cfg(test)]
@@ -22,7 +22,7 @@ use target_vars::{Env, VarsError};
 #[cfg(test)]
 use uri_grammar::{Template, TemplateError};
 
-/// The environment of one text.
+/// An environment with one text.
 #[cfg(test)]
 fn environment(alloc: Global) -> Result<Env, VarsError> {
     let mut env = Env::new(alloc);
@@ -32,7 +32,7 @@ fn environment(alloc: Global) -> Result<Env, VarsError> {
     }
 }
 
-/// The template of a text, or its first fault, without what the contract says of it.
+/// The template of a text, or its first fault. This function has no contract, so a test has to check its result.
 #[cfg(test)]
 fn parsed(alloc: Global, text: &str) -> Result<Template, TemplateError> {
     Template::parse(alloc, text)

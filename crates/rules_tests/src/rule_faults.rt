@@ -6,12 +6,12 @@ use std::alloc::{AllocError, Global};
 use std::test::Fail;
 use uri_grammar::TemplateErrorKind::{BadLiteral, BadName, Unclosed};
 
-/// The rules of a text, or its first fault, without what the contract says of it.
+/// The rules of a text, or its first fault. This function has no contract, so a test has to check its result.
 fn parsed(alloc: Global, text: &[u8]) -> Result<Rules, RuleError> {
     Rules::parse(alloc, text)
 }
 
-/// The first fault of a rule text; none where it has rules.
+/// The first fault of a rule text; `None` if it has rules.
 fn fault_of(alloc: Global, text: &[u8]) -> Option<RuleError> {
     match parsed(alloc, text) {
         Ok(_) => None,
@@ -25,7 +25,7 @@ fn has_fault(alloc: Global, text: &[u8], kind: RuleErrorKind, line: usize) -> bo
 
 // A rule text, and the kind and the line of its first fault.
 const FAULTS: &[(&str, RuleErrorKind, usize)] = &[
-    // lines of no form
+    // lines that have none of the forms
     (" ", BadLine, 1),
     (";", BadLine, 1),
     (" #", BadLine, 1),
@@ -46,7 +46,7 @@ const FAULTS: &[(&str, RuleErrorKind, usize)] = &[
     ("rule\nlink", BadLine, 2),
     ("rule\nlinka", BadLine, 2),
     ("rule\nwhen", BadLine, 2),
-    // lines out of their order
+    // lines out of order
     ("when has x", BadLine, 1),
     ("link a", BadLine, 1),
     ("list x\nlink a", BadLine, 2),
@@ -99,7 +99,7 @@ fn guarded(alloc: Global, guard: &str) -> Result<String, AllocError> {
     Ok(text)
 }
 
-// What comes after `when `, and is no guard.
+// What comes after `when ` and is not a guard.
 const NO_GUARDS: &[&str] = &[
     "",
     "has",
@@ -171,7 +171,7 @@ fn neighbours_of_guards_are_no_guards(rt: HostRuntime) -> Result<(), Fail> {
     Ok(())
 }
 
-// What comes after `when `, and uses a text as a list or a list as a text.
+// What comes after `when ` and uses a text as a list or a list as a text.
 const MISMATCHED: &[&str] = &[
     "given rft.au",
     "given rft_id",
@@ -200,7 +200,7 @@ fn kinds_are_mismatched(rt: HostRuntime) -> Result<(), Fail> {
     Ok(())
 }
 
-// What comes after `when `, and is a guard.
+// What comes after `when ` and is a guard.
 const GUARDS: &[&str] = &[
     "has 12",
     "has rft.au",
@@ -257,14 +257,14 @@ fn texts_have_rules(rt: HostRuntime) {
     }
 }
 
-// A byte, a number of times; the fault.
+// A byte, how often it is repeated, and the fault.
 const LONG: &[(u8, usize, RuleErrorKind)] = &[
     (b'#', 65_537, TooLong),
     (0xFF, 65_537, TooLong),
     (0xFF, 65_536, NotUtf8),
 ];
 
-/// The first fault of a byte that stands `n` times.
+/// The first fault of a byte that is repeated `n` times.
 fn fault_of_many(alloc: Global, byte: u8, n: usize) -> Result<Option<RuleError>, AllocError> {
     let text = [byte].repeat(alloc, n)?;
     Ok(fault_of(alloc, &text))

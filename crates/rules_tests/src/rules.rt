@@ -6,7 +6,7 @@ use std::alloc::{AllocError, Global};
 use std::test::Fail;
 use target_vars::Env;
 
-/// The rules of a text, or its first fault, without what the contract says of it.
+/// The rules of a text, or its first fault. This function has no contract, so a test has to check its result.
 fn parsed(alloc: Global, text: &[u8]) -> Result<Rules, RuleError> {
     Rules::parse(alloc, text)
 }
@@ -17,13 +17,13 @@ fn link(alloc: Global, rules: &Rules, env: &Env) -> Result<Option<String>, Alloc
 
 const LISTS: &[&str] = &["rft.au", "rft_id", "x"];
 
-/// The names that are lists come once, in the order of their bytes.
+/// Whether the names of the lists are in the order of their bytes, each once.
 fn lists_come_once(alloc: Global, rules: &Rules) -> Result<bool, AllocError> {
     let lists = rules.lists(alloc)?;
     Ok(lists.as_slice() == LISTS)
 }
 
-/// There is one rule, of two guards and this template.
+/// Whether there is exactly one rule, with two guards and this template.
 fn has_rule(rules: &Rules, template: &str) -> bool {
     match rules.rules() {
         [rule] => rule.guards.as_slice().len() == 2 && rule.template.text() == template,
@@ -49,7 +49,7 @@ fn link_of_text(alloc: Global, env: &Env) -> Result<Option<String>, Fail> {
     Ok(link(alloc, &rules, env)?)
 }
 
-// The environment has a text of the name x, which the rules declare as a list.
+// The environment has a text with the name x, which the rules declare a list.
 #[test]
 fn rules_are_what_their_lines_say(rt: HostRuntime) -> Result<(), Fail> {
     assert!(rt; has_lines(rt.alloc())?);
@@ -59,7 +59,7 @@ fn rules_are_what_their_lines_say(rt: HostRuntime) -> Result<(), Fail> {
     Ok(())
 }
 
-/// The first fault of a rule text; none where it has no fault.
+/// The first fault of a rule text; `None` if it has no fault.
 fn fault_of(alloc: Global, text: &[u8]) -> Option<RuleError> {
     match parsed(alloc, text) {
         Ok(_) => None,

@@ -8,7 +8,7 @@ use uri_grammar::TemplateErrorKind::{
 };
 use uri_grammar::{TemplateError, TemplateErrorKind};
 
-/// The first fault of a text; none where it is a template.
+/// The first fault of a text; `None` if it is a template.
 fn fault_of(alloc: Global, text: &str) -> Option<TemplateError> {
     match parsed(alloc, text) {
         Ok(_) => None,
@@ -45,7 +45,7 @@ const FAULTS: &[(&str, TemplateErrorKind, usize)] = &[
     ("{}}", EmptyExpression, 0),
     ("{a{b}", BadName, 1),
     ("{{a}}", BadName, 1),
-    // operators: those that are reserved, and one operator alone
+    // operators: reserved ones, more than one, and an operator without a name
     ("{=a}", ReservedOperator, 1),
     ("{,a}", ReservedOperator, 1),
     ("{!a}", ReservedOperator, 1),
@@ -101,7 +101,7 @@ const FAULTS: &[(&str, TemplateErrorKind, usize)] = &[
     ("{a*3}", BadModifier, 2),
     ("{a*b}", BadModifier, 2),
     ("€{a:0}", BadModifier, 5),
-    // the first fault from the left
+    // the leftmost fault is reported
     ("{a b,c:0}", BadName, 1),
     ("{a:0,b c}", BadModifier, 2),
     ("{ab,c:0,d e}", BadModifier, 5),
@@ -132,7 +132,8 @@ fn text_around(
     format!(in alloc; "{first}{more}{last}")
 }
 
-// What is too long: a first text, a number of times another, and a last one; the kind and the place.
+// Texts that are too long: the beginning, another text a number of times, and the end; the kind and the place of the
+// fault.
 const LONG: &[(&str, usize, &str, &str, TemplateErrorKind, usize)] = &[
     ("", 8193, "a", "", TooLong, 8192),
     ("}", 8192, "a", "", TooLong, 8192),
@@ -157,7 +158,7 @@ fn long_texts_are_refused(rt: HostRuntime) -> Result<(), Fail> {
     Ok(())
 }
 
-// What is just short enough.
+// Texts that are just short enough.
 const LONGEST: &[(&str, usize, &str, &str)] = &[
     ("", 8192, "a", ""),
     ("", 4096, "é", ""),

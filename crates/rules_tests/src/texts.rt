@@ -1,11 +1,11 @@
-//! How values are written and cut.
+//! How values are percent-encoded and cut.
 
 use std::alloc::AllocError;
 use std::test::Fail;
 use text_model::Writing;
 use uri_text::{cut, encode, encode_u, encode_ur, leading_number};
 
-/// Writes `&` in the available room; whether no room was added.
+/// Appends `&` by U, and returns whether the text did not have to grow.
 #[tactic(auto, using(text_model::proofs::Written::length_laws))]
 fn appends_u(out: &mut String) -> Result<bool, AllocError> {
     out.reserve(3)?;
@@ -14,7 +14,7 @@ fn appends_u(out: &mut String) -> Result<bool, AllocError> {
     Ok(out.capacity() == room)
 }
 
-/// The same with reserved characters as they are.
+/// The same by UR.
 #[tactic(auto, using(text_model::proofs::Written::length_laws))]
 fn appends_ur(out: &mut String) -> Result<bool, AllocError> {
     out.reserve(3)?;
@@ -23,7 +23,7 @@ fn appends_ur(out: &mut String) -> Result<bool, AllocError> {
     Ok(out.capacity() == room)
 }
 
-/// The same in the requested way.
+/// The same by this writing.
 #[tactic(auto, using(text_model::proofs::Written::length_laws))]
 fn appends(out: &mut String, writing: Writing) -> Result<bool, AllocError> {
     out.reserve(3)?;

@@ -20,7 +20,7 @@ fn bounds_of(alloc: Global, text: &str, members: u16, bytes: u16) -> Result<Stri
 }
 
 /// Instructions, how many members and bytes an environment has, and the bounds. The longest text that is compared has
-/// 10 bytes, so 30 may be written of it.
+/// 10 bytes, so up to 30 bytes may be written for it.
 const BOUNDS: [(&str, u16, u16, &str); 7] = [
     (LIST_CODE, 3, 12, "12 steps, 39 bytes"),
     (LIST_CODE, 20, 20_000, "63 steps, 60020 bytes"),
@@ -28,7 +28,7 @@ const BOUNDS: [(&str, u16, u16, &str); 7] = [
     // A list that is named as a text, so the code is not accepted.
     (UNTYPED, 0, 0, "4 steps, 30 bytes"),
     (UNTYPED, 5, 7, "4 steps, 51 bytes"),
-    // An operation that version 1 has not, so it writes no register, and the element is printed.
+    // An operation that version 1 does not have, so it writes no register, and the element is printed.
     (COUNTED, 0, 0, "3 steps, 0 bytes"),
     (COUNTED, 2, 7, "9 steps, 21 bytes"),
 ];

@@ -20,7 +20,7 @@ fn came_of_file(alloc: Global, file: &[u8], entries: &[Entry]) -> Result<String,
 
 #[test]
 fn runs_files(rt: HostRuntime) -> Result<(), Fail> {
-    // Three bytes for each byte of the environment, and of the longest text that is compared, of 10 bytes.
+    // Three bytes for each byte of the environment and of the longest comparison text, which has 10 bytes.
     let optional = file(rt.alloc(), b'2', OPTIONAL)?;
     for (file, entries, wanted) in [
         (LIST_FILE, VARIABLES, "link red,green,blue"),
@@ -50,8 +50,8 @@ const RULES: [(&str, &[Entry], &str); 3] = [
         "link http://e.org/a%2F%C3%A9",
     ),
     ("rule\nwhen has y\nlink {x}\n", VARIABLES, "no link"),
-    // Three bytes for each byte of the environment and of the longest text that is compared, `1`; and the comma that
-    // would be before another variable.
+    // Three bytes for each byte of the environment and of the longest comparison text, `1`; and the comma that would be
+    // before another variable.
     ("rule\nlink {x}\n", LONG, "over budget: 1200004"),
 ];
 
@@ -72,7 +72,7 @@ fn came_of_rule_file(alloc: Global, file: &str, entries: &[Entry]) -> Result<Str
     })
 }
 
-/// Rule files that are no rules: their first errors.
+/// Rule files with an error, and the first error of each.
 const FAULTS: [(&str, &str); 3] = [
     ("rule\nwhen has x\n", "line 1: NoLink"),
     ("# a comment\nrule\nwhen x\nlink {x}\n", "line 3: BadLine"),
@@ -95,7 +95,7 @@ fn runs_rule_files(rt: HostRuntime) -> Result<(), Fail> {
     Ok(())
 }
 
-/// A rule with this many guards, each of a name of its own.
+/// A rule with that many guards, each with a different name.
 fn rules_with_names(alloc: Global, names: usize) -> Result<String, Fail> {
     let mut rules = String::from_str(alloc, "rule\n")?;
     for name in 0..names {
@@ -106,7 +106,7 @@ fn rules_with_names(alloc: Global, names: usize) -> Result<String, Fail> {
     Ok(rules)
 }
 
-/// Code has at most 256 names. The rules mean a link all the same.
+/// Code has at most 256 names, so these rules have no code. Their meaning is a link all the same.
 #[test]
 fn refuses_rules_over_a_limit(rt: HostRuntime) -> Result<(), Fail> {
     for (names, wanted) in [(256, "link http://e.org/"), (257, "TooManyNames")] {

@@ -22,7 +22,7 @@ fn take_turns(run: &mut Run<'_>, n: u64) {
     }
 }
 
-/// How a run ends that takes turns of `n` steps, and its steps in all.
+/// How a run in turns of `n` steps ends, and its total number of steps.
 fn ended(alloc: Global, code: &Verified, env: &Env, n: u64) -> Result<(String, u64), Fail> {
     let mut run = prepare(alloc, code, env)?;
     take_turns(&mut run, n);
@@ -30,8 +30,8 @@ fn ended(alloc: Global, code: &Verified, env: &Env, n: u64) -> Result<(String, u
     Ok((shown(alloc, run.finish())?, steps))
 }
 
-/// The outcome of the checked machine for the code of a file. Where the code is accepted, its runs have the same
-/// outcome, after as many steps however long their turns are: the second is their number, and 0 for other code.
+/// The outcome of the checked machine for the code of a file. If the code is accepted, its runs have the same outcome
+/// and the same number of steps, however long their turns are. The second value is this number, and 0 for other code.
 fn came<R: Abort + AllocGlobal>(rt: &R, file: &[u8], env: &Env) -> Result<(String, u64), Fail> {
     let wanted = checked(rt.alloc(), file, env)?;
     let code = match load(rt.alloc(), file) {
@@ -154,7 +154,7 @@ fn each_file_with_one_byte_changed(rt: HostRuntime) -> Result<(), Fail> {
     Ok(())
 }
 
-/// The file is refused, or its code runs as the checked machine does.
+/// The file is rejected, or its code runs as the checked machine does.
 fn agrees<R: Abort + AllocGlobal>(rt: &R, file: &[u8], env: &Env) -> Result<(), Fail> {
     match load(rt.alloc(), file) {
         Ok(_) => {
@@ -166,8 +166,8 @@ fn agrees<R: Abort + AllocGlobal>(rt: &R, file: &[u8], env: &Env) -> Result<(), 
     }
 }
 
-/// Instructions, an environment, how long the link of the checked machine is, and what it begins with: as many
-/// members as a query cannot have, and a value of more than 100,000 bytes once it is written.
+/// Instructions, an environment, the length of the link of the checked machine, and what the link begins with: for more
+/// members than a query can have, and for a value of more than 100,000 bytes once it is percent-encoded.
 const LONG: [(&str, Entry, usize, &str); 2] = [
     (LIST_CODE, (true, "list", "m", 50_000), 99_999, "m,m"),
     (OPTIONAL, (false, "x", " ", 40_000), 120_000, "%20%20"),

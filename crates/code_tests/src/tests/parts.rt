@@ -1,4 +1,4 @@
-//! Codes of parts, and instructions of fields.
+//! Codes that are made from parts, and instructions that are made from fields.
 
 use code_file::CodeErrorKind::{BadLiteral, BadName, NoCode, NoMemory, TooLong, TooMany};
 use code_file::{Code, CodeError, CodeErrorKind, Instr, Literal, Name, instruction, spelling};
@@ -39,8 +39,8 @@ fn fault(
     Ok(Code::from_parts(names, literals, instrs).err())
 }
 
-/// How many letters a name has, a link text, how many instructions there are, and the fault: no part is judged by what
-/// its instructions do.
+/// How many letters a name has, a link text, how many instructions there are, and the fault. What the instructions do
+/// is not examined.
 const FAULTS: [(usize, &str, usize, Option<CodeErrorKind>); 7] = [
     (1, ",", 1, None),
     (1, ",", 0, Some(NoCode)),

@@ -8,7 +8,7 @@ use std::test::Fail;
 use target_vars::Env;
 use verifier::{Verified, load};
 
-/// Whether a run has ended after a turn, its steps, its place, in a loop's turn the first two registers, and its
+/// Whether a run has ended after a turn, its steps, its place, the first two registers if it is in a loop, and its
 /// output.
 fn standing(alloc: Global, run: &Run<'_>, ended: bool) -> Result<String, AllocError> {
     let steps = run.steps();
@@ -75,7 +75,7 @@ fn takes_turns(rt: HostRuntime) -> Result<(), Fail> {
     Ok(())
 }
 
-/// What one step more answers after this number of steps, and the place then.
+/// What one more step returns after this number of steps, and the place after it.
 fn stepped(
     alloc: Global,
     code: &Verified,
@@ -128,7 +128,7 @@ fn turns_of_both(
     Ok(text)
 }
 
-/// The same of runs of these codes on these environments, and how both end.
+/// The same for runs of these codes on these environments, and how both end.
 fn both(alloc: Global, codes: (&Verified, &Verified), envs: (&Env, &Env)) -> Result<String, Fail> {
     let mut first = prepare(alloc, codes.0, envs.0)?;
     let mut second = prepare(alloc, codes.1, envs.1)?;

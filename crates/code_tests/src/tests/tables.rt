@@ -1,8 +1,9 @@
-//! Tables of codes, and codes, each with its outcome where `x` is a text and `list` has three members.
+//! Tables of codes, and codes, each with its outcome if `x` is a text and `list` has three members.
 
 use super::Entry;
 
-/// The name of each operation, its number, and the fields that its operands go to. A `?` has all five.
+/// The name of each operation, its number, and the fields that its operands go to. `?` stands for any operation: its
+/// operands are all five fields.
 pub(crate) const OPERATIONS: [(&str, u8, &[u8]); 20] = [
     ("?", 0, b"oabcd"),
     ("HALT", 1, b""),
@@ -26,12 +27,12 @@ pub(crate) const OPERATIONS: [(&str, u8, &[u8]); 20] = [
     ("COUNT", 19, b"ab"),
 ];
 
-/// Of seven names and ten literals.
+/// The counts of seven names and ten literals.
 pub(crate) const COUNTS_OF_TABLES: &[u8] = b"\0\x07\0\x0a";
 
 /// The names `x` as text, `list` as list, `absent` as both, `list` as text, `x` as list and `rft.issn` as text; and the
-/// literals `,` to link, `12a`, none, `7`, `1234567890`, `%41%42`, `3` and `1` to compare, `;` and `http://e.org/` to
-/// link.
+/// literals `,` (link text), `12a`, the empty text, `7`, `1234567890`, `%41%42`, `3` and `1` (comparison texts), `;`
+/// and `http://e.org/` (link texts).
 pub(crate) const ENTRIES: &[u8] =
     b"\0\x01x\x01\x04list\0\x06absent\x01\x06absent\0\x04list\x01\x01x\0\x08rft.issn\
 \0\0\x01,\x01\0\x0312a\x01\0\0\x01\0\x017\x01\0\x0a1234567890\x01\0\x06%41%42\x01\0\x013\x01\0\x011\
@@ -57,7 +58,7 @@ pub(crate) const TEXTS: &[Entry] = &[(false, "list", "red", 1), (false, "x", "a"
 /// A loop over the members of `list`, with a comma between them.
 pub(crate) const LIST_CODE: &str = "LIST r0 n1, EACH r1 r0 5, SEP l0, PUT r1 u, NEXT, HALT";
 
-/// The text of a name, if there is one.
+/// Prints the text of a name, if it is defined.
 pub(crate) const OPTIONAL: &str = "TEXT r2 n0, UNDEF r2 3, PUT r2 u, HALT";
 
 /// The code of a rule that links by the ISSN.
@@ -175,7 +176,7 @@ pub(crate) const BRANCHES: &[(&str, &str)] = &[
     ),
 ];
 
-/// Where no step is possible, in code of version 1.
+/// Code of version 1 that gets stuck, and the place.
 pub(crate) const STUCK: &[(&str, &str)] = &[
     ("? 0 0 0 0 0", "stuck at 0"),
     ("? 19 1 2 3 4", "stuck at 0"),
@@ -238,13 +239,13 @@ pub(crate) const STUCK: &[(&str, &str)] = &[
     ),
 ];
 
-/// What code of version 2 alone has: 64 registers, and COUNT.
+/// What only code of version 2 has: 64 registers, and COUNT.
 pub(crate) const SECOND: &[(&str, &str)] = &[
     (
         "LIST r0 n1, COUNT r1 r0, COUNT r63 r0, LESS r1 r63 5, HALT, FAIL",
         "link ",
     ),
-    // As many members as the number that CONST r2 l6 begins with, and not one fewer or more.
+    // The list has exactly the number of members that the text of l6 says.
     (
         "LIST r0 n1, COUNT r1 r0, CONST r2 l6, NUMBER r3 r2 7, LESS r1 r3 7, LESS r3 r1 7, HALT, FAIL",
         "link ",

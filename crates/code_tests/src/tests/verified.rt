@@ -1,4 +1,4 @@
-//! What is read of accepted code.
+//! What can be read from accepted code.
 
 use super::file;
 use code_model::Instruction::{self, Put};

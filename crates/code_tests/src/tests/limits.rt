@@ -33,7 +33,7 @@ fn push_link(rules: &mut String, letter: &str, letters: u32) -> Result<(), Alloc
     Ok(())
 }
 
-/// Eight rules with links of other letters: seven of 8,170 letters, and one of this many.
+/// Eight rules with links of different letters: seven of 8,170 letters, and one of this many.
 fn lettered(alloc: Global, last: u32) -> Result<String, AllocError> {
     let mut rules = String::new(alloc);
     for letter in ["b", "c", "d", "e", "f", "g", "h"] {
