@@ -1,4 +1,4 @@
--- Arguments that are those of no command.
+-- Arguments that denote no command.
 use Rattle.std.proofs.Common.{◌≡◌, ◌≢◌, ◌⊎◌, inl, inr, ℕ, ◌+◌, ◌<◌, ◌≤◌, suc, List, [], ◌∷◌, length, slice_index_or, Bor, refl, ap, sym, ◌∙◌, subst, arith}
 use Rattle.std.specs.Prelude.{codes}
 use Rattle.std.proofs.lemmas.List.{length-map}
@@ -57,7 +57,7 @@ begins arguments Help (inr (inl h)) = (inr (inl (named arguments _ _ h)), counte
 begins arguments Help (inr (inr h)) = (inr (inr (named arguments _ _ h)), counted arguments _ h)
 begins arguments Version h = (named arguments _ _ h, counted arguments _ h)
 
--- ---- by the number of arguments, none of the names
+-- ---- arguments whose number and first one fit no command
 
 none : (first : Text) (count : ℕ) → (count < 1) ⊎ (4 < count) → first ≢ codes "expand" → (command : Command) → Begins first count command → ⊥
 none first count few expand (Expand e) h = expand h

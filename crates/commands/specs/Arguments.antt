@@ -11,7 +11,7 @@ use Rattle.commands.specs.declared.arguments.Command.{Command}
 use Rattle.commands.specs.declared.arguments.Command.TheVariants.{Expand, Link, Compile, Verify, Show, Upgrade, Run, Resolve, Serve, Review as OfReview, Help}
 use Rattle.commands.specs.declared.arguments.Command.TheVariants.{Version}
 
--- the arguments are `expand`, and then those of the expansion
+-- the arguments are `expand`, and then those of an expansion
 pub record AreArgumentsOfExpand (arguments : List Text) (e : ExpandArguments) : Type 0 where
   pub rest : List Text
   pub named : arguments ≡ codes "expand" ∷ rest
@@ -25,13 +25,13 @@ pub record AreArgumentsOfServe (arguments : List Text) (s : Service) : Type 0 wh
   pub named : arguments ≡ codes "serve" ∷ registry ∷ port ∷ count ∷ []
   pub given : IsServiceOf registry port count s
 
--- the arguments name a command on the files of a target, and what it is given
+-- the arguments are those of a command on the files of a target
 abbrev pub AreArgumentsOfReview : List Text → Review → Type 0
 AreArgumentsOfReview arguments (Inspect table) = arguments ≡ codes "inspect" ∷ table.now ∷ []
 AreArgumentsOfReview arguments (Lint rules table) = arguments ≡ codes "lint" ∷ rules.now ∷ table.now ∷ []
 AreArgumentsOfReview arguments (Explain rules table query) = arguments ≡ codes "explain" ∷ rules.now ∷ table.now ∷ query.now ∷ []
 
--- the arguments that name a command, and what it is given
+-- the arguments are those of the command
 abbrev pub AreArgumentsOf : List Text → Command → Type 0
 AreArgumentsOf arguments (Expand e) = AreArgumentsOfExpand arguments e
 AreArgumentsOf arguments (Link rules query) = arguments ≡ codes "link" ∷ rules.now ∷ query.now ∷ []

@@ -1,5 +1,5 @@
--- What each command prints and leaves, and why it prints nothing. `serve`, which prints before it is done, and the reviews of a target's files,
--- which print warnings, are apart.
+-- What each command prints, the files that it leaves, and why it prints nothing. `serve`, which prints before it is done, and the commands on a target's files,
+-- which print warnings, are defined elsewhere.
 use Rattle.std.specs.Prelude.{◌≡◌, ℕ}
 use Rattle.text_model.specs.Texts.{Text, texts_of}
 use Rattle.files.specs.Found.{Disk}
@@ -24,13 +24,13 @@ use Rattle.commands.specs.declared.help.TheConstants.{HELP, VERSION}
 use Rattle.commands.specs.declared.arguments.Command.{Command}
 use Rattle.commands.specs.declared.arguments.Command.TheVariants.{Expand, Link, Compile, Verify, Show, Upgrade, Run, Resolve, Serve, Review, Help, Version}
 
--- the command prints at its end, and nothing before
+-- the command prints only at its end
 abbrev pub PrintsAtEnd : Command → Type 0
 PrintsAtEnd (Serve service) = ⊥
 PrintsAtEnd (Review review) = ⊥
 PrintsAtEnd command = Unit {0}
 
--- what a command prints, and what files it leaves
+-- what a command prints, and the files that it leaves
 abbrev pub Does : {K : Type 0} → (K → ℕ → ℕ → K → Type 0) → Disk → K → Disk → K → Command → Text → Type 0
 Does draws old keys new drawn (Expand e) text = IsExpansionLine (names_of (texts_of e.options.now)) e.template.now e.query.now text × Unchanged old new
 Does draws old keys new drawn (Link rules query) text = Tells (IsLinkLine query.now) old rules.now new text
@@ -66,7 +66,7 @@ Fails at fails draws no_keys old keys new drawn (Review review) fault = ⊥
 Fails at fails draws no_keys old keys new drawn Help fault = fault ≡ out_of_memory
 Fails at fails draws no_keys old keys new drawn Version fault = fault ≡ out_of_memory
 
--- and what files it leaves then
+-- the files that a command leaves if it prints nothing
 abbrev pub Leaves : {F : Type 0} → (F → FileCall → Text → F → Type 0) → Disk → Disk → Command → Type 0
 Leaves fails old new (Expand e) = Unchanged old new
 Leaves fails old new (Link rules query) = Unchanged old new

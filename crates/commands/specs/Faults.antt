@@ -25,7 +25,7 @@ status_of (Base fault) = status_of_base fault
 abbrev pub out_of_memory : Fault
 out_of_memory = Base Memory
 
--- it is an error of a command of this crate, of which this holds
+-- it is an error of a command on rules, and has the property
 abbrev pub OfRule : (RuleFault → Type 0) → Fault → Type 0
 OfRule P Usage = ⊥
 OfRule P (Rule fault) = P fault

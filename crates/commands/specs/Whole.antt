@@ -23,13 +23,13 @@ use Rattle.commands.specs.declared.arguments.Command.TheVariants.{Serve, Review 
 use Rattle.commands.specs.declared.fault.Fault.{Fault}
 use Rattle.commands.specs.declared.fault.Fault.TheVariants.{Usage, Menu, Review as OfReviewFault, Base}
 
--- what the system tells of its files, keys and ports and of the listeners bound to these; then the arguments; and then the system before the
--- command and after it
+-- parameters: what the implementers reveal about files, keys, ports and the listeners bound to them; then the arguments; and then the system before the command
+-- and after it
 module _ {F K P L I O : Type 0} (at : F → Disk) (fails : F → FileCall → Text → F → Type 0) (draws : K → ℕ → ℕ → K → Type 0) (no_keys : K → K → Type 0)
     (binds : P → ℕ → L × ℕ → P → Type 0) (no_port : P → ℕ → P → Type 0) (gives : L → Option (I × O) → L → Type 0) (closes : L → I × O → L → Type 0)
     (no_more : L → L → Type 0) (heard : I → Heard) (said : O → Said)
     (arguments : List Text) (old : F) (keys : K) (ports : P) (new : F) (drawn : K) (bound : P) where
-  -- the arguments name a command, which is done, and printed this
+  -- the arguments are those of a command, which is done, and has printed this
   pub data Succeeds : Text → Type 0 where
     prints : (command : Command) (text : Text) → AreArgumentsOf arguments command → Does draws (at old) keys (at new) drawn command text → Succeeds text
     serves : (service : Service) (line : Text) (counts : Counts) → AreArgumentsOf arguments (Serve service)
@@ -37,7 +37,7 @@ module _ {F K P L I O : Type 0} (at : F → Disk) (fails : F → FileCall → Te
     reviews : (review : Review) (text : Text) → AreArgumentsOf arguments (OfReview review) → Reviews draws (at old) keys review drawn text true
         → Unchanged (at old) (at new) → Succeeds text
 
-  -- the arguments name no command, or one that fails before it prints, and this is the error
+  -- the arguments are not those of a command, or the command fails before it prints; this is the error
   pub data Refuses : Fault → Type 0 where
     no_command : ((command : Command) → ¬ (AreArgumentsOf arguments command)) → Unchanged (at old) (at new) → Refuses Usage
     no_text : (command : Command) (fault : Fault) → AreArgumentsOf arguments command → Fails at fails draws no_keys old keys new drawn command fault
@@ -47,7 +47,8 @@ module _ {F K P L I O : Type 0} (at : F → Disk) (fails : F → FileCall → Te
     no_review : (review : Review) (fault : ReviewFault) → AreArgumentsOf arguments (OfReview review)
         → RefusesToReview fails draws no_keys (at old) keys review drawn fault → Unchanged (at old) (at new) → Refuses (OfReviewFault fault)
 
-  -- the arguments name a command that has something to print, which the output does not take whole; or memory runs out once `explain` has begun
+  -- the arguments are those of a command that has something to print, and the output fails before all is written; or memory runs out after `explain` has begun
+  -- to print
   pub data OutputFails : Fault → Type 0 where
     no_output : (command : Command) (text : Text) (fault : BaseFault) → AreArgumentsOf arguments command
         → Does draws (at old) keys (at new) drawn command text → IsOutput fault → OutputFails (Base fault)
@@ -57,7 +58,8 @@ module _ {F K P L I O : Type 0} (at : F → Disk) (fails : F → FileCall → Te
     no_lines : (review : Review) (fault : ReviewFault) → AreArgumentsOf arguments (OfReview review)
         → StopsReview draws (at old) keys review drawn fault → Unchanged (at old) (at new) → OutputFails (OfReviewFault fault)
 
-  -- the arguments name a service, which printed its line, and stops before it is done; or a review, which printed this, and a warning is in it
+  -- the arguments are those of a service, which has printed its line, and stops before it is done; or of a command on a target's files, which has printed this,
+  -- with a warning in it
   pub data Stops : Text → Fault → Type 0 where
     stops : (service : Service) (line : Text) (fault : MenuFault) → AreArgumentsOf arguments (Serve service)
         → StopsServing draws binds gives closes heard said (at old) keys ports service drawn bound no_more line fault → Unchanged (at old) (at new)

@@ -13,7 +13,7 @@ use registry_file::KeySource;
 use rule_commands::{compile, expand, link};
 use std::alloc::Global;
 
-/// The text that a command prints which prints nothing before.
+/// The output of a command that prints everything at its end.
 pub(crate) fn answer<'a, F: Files, K: KeySource>(
     alloc: Global,
     files: &mut F,

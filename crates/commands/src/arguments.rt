@@ -9,7 +9,7 @@ use menu_commands::Service;
 use rule_commands::{ExpandArguments, expand_arguments};
 use target_commands::Review;
 
-/// A command, with what it is given: a query is the text itself, all others are paths.
+/// A command with its arguments. A query is the text itself; REGISTRY, RULES, CODE, TABLE, OLD and NEW are paths.
 #[derive(Clone, Copy)]
 pub enum Command<'a> {
     /// `expand [--list NAME].. TEMPLATE QUERY`
@@ -38,7 +38,7 @@ pub enum Command<'a> {
     Version,
 }
 
-/// The command that the arguments after the program's name give, if they are those of one.
+/// The command that the arguments after the program's name denote; `None` for an unknown command or wrong arguments.
 pub fn parse<'a>(arguments: &'a [&'a str]) -> Option<Command<'a>>
     ensures some { IfSome result (AreArgumentsOf (texts_of arguments.now)) }
     ensures none { IfNone result ((command : Command) → ¬ (AreArgumentsOf (texts_of arguments.now) command)) }

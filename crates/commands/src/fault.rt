@@ -17,14 +17,19 @@ pub enum Fault<'a> {
     /// Unknown command or wrong arguments.
     #[error("usage")]
     Usage,
+    /// An error of `expand`, `link` or `compile`.
     #[error("{0}")]
     Rule(RuleFault<'a>),
+    /// An error of `verify`, `show`, `upgrade` or `run`.
     #[error("{0}")]
     Code(CodeFault<'a>),
+    /// An error of `resolve` or `serve`.
     #[error("{0}")]
     Menu(MenuFault<'a>),
+    /// An error of `inspect`, `lint` or `explain`, or one of their warnings.
     #[error("{0}")]
     Review(ReviewFault<'a>),
+    /// An error that any command may have.
     #[error("{0}")]
     Base(BaseFault<'a>),
 }

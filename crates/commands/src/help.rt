@@ -1,19 +1,20 @@
-//! What the program says of itself: its commands, and its version.
+//! What the program prints about itself: its commands, and its version.
 
-/// The line of the version, which is written nowhere else.
+/// The line of the version. Only tests repeat the number.
 pub(crate) const VERSION: &str = "openlink 0.1.0\n";
 
 /// The commands, the limits of what they take, and the exit statuses.
 pub(crate) const HELP: &str = "\
-openlink resolves OpenURL 1.0 requests to links, by link rules that nobody has to trust.
+openlink resolves OpenURL 1.0 requests to links.
+Link rules may come from anyone: their code is verified before it runs.
 
 Commands, and what each prints:
   openlink expand [--list NAME].. TEMPLATE QUERY   the expansion of a URI Template (RFC 6570)
   openlink link RULES QUERY                        the link that a rule file gives
-  openlink compile RULES CODE                      `N bytes`, and writes the rules' code to CODE
+  openlink compile RULES CODE                      `N bytes`, after writing the rules' code to CODE
   openlink verify CODE                             `ok`, and bounds on the code's steps and bytes
   openlink show CODE                               the listing of a code file
-  openlink upgrade OLD NEW                         `N bytes`, and writes OLD in version 2 to NEW
+  openlink upgrade OLD NEW                         `N bytes`, after writing OLD as version 2 to NEW
   openlink run CODE QUERY                          the link that a code file gives
   openlink inspect TABLE                           what is wrong with a holdings table
   openlink lint RULES TABLE                        what is doubtful in the rules of a target

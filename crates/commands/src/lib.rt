@@ -1,4 +1,4 @@
-//! The commands of the program: the arguments that name each, what each prints and leaves, and its exit status.
+//! The commands of the program: the arguments of each, what each prints, the files that it leaves, and its exit status.
 #![tactic(auto)]
 
 mod answers;

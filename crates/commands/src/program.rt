@@ -1,4 +1,4 @@
-//! The program but for its runtime: arguments in, lines and an exit status out.
+//! The program without its runtime: arguments in, lines and an exit status out.
 
 ghost use Rattle.std.specs.Prelude.{◌≡◌, ◌≢◌, ◌≤◌, ◌⊎◌, IfErr, OnOk};
 ghost use Rattle.std.specs.Io.KnownBytes.{Appends};
@@ -54,7 +54,7 @@ pub fn command<F: Files, K: KeySource, P: Ports, O: Write, E: Write>(
     }
 }
 
-/// Prints the error on `errors`, unless it is that there is no link or a warning, and returns the exit status.
+/// Prints the error on `errors`, except if there is no link or only a warning, and returns the exit status.
 pub fn report<E: Write>(fault: Fault, errors: &mut E) -> u8
     ensures status { result ≡ status_of fault.entry }
     ensures failed { 1 ≤ result }

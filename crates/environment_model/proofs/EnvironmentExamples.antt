@@ -13,14 +13,14 @@ a_list name ts = record { name = name; meaning = Several ts }
 
 -- ---- texts and members that are added
 
--- a name keeps its first text, and takes no member
+-- a name keeps its first text, and gets no member
 first_text_stays : with_member (with_member (with_text (with_text [] (codes "a") (codes "x")) (codes "a") (codes "y")) (codes "a") (codes "z")) (codes "b")
     (codes "q")
     ≡ a_text (codes "a") (codes "x") ∷ a_list (codes "b") (codes "q" ∷ []) ∷ []
 unfolding look_up with_member
 first_text_stays = refl
 
--- a list keeps its place, and its members are in the order in which they came; a text does not replace it
+-- a list keeps its place, and its members are in the order in which they were added; a text does not replace it
 list_grows : with_text
     (with_member (with_member (with_text (with_member (with_text [] (codes "a") (codes "x")) (codes "l") (codes "p")) (codes "b") (codes "y")) (codes "m")
     (codes "r")) (codes "l") (codes "q")) (codes "l") (codes "z")
@@ -50,7 +50,7 @@ members_added = refl
 
 -- ---- look-ups
 
--- a text, a list, an empty text and a list without members; the last two entries are of names that came before
+-- a text, a list, an empty text and a list without members; the last two entries have names that came before
 abbrev variables : Environment
 variables =
     a_text (codes "x") (codes "one")

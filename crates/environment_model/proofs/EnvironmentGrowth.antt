@@ -1,4 +1,4 @@
--- How much an environment grows at most where a text or a member comes, taken or not.
+-- How much an environment grows at most when a text or a member is added.
 use Rattle.std.proofs.Common.{ℕ, ◌+◌, ◌≤◌, true, false, cond, [], ◌∷◌, ◌++◌, length, length-append, arith}
 use Rattle.std.proofs.lemmas.List.Sums.{sum_by-cons, sum_by_push}
 use Rattle.std.specs.Str.{bytes_eq}
@@ -12,7 +12,7 @@ entry_bytes e = meaning_bytes e.meaning
 abbrev entry_members : Entry → ℕ
 entry_members e = meaning_members e.meaning
 
--- ---- a text comes
+-- ---- a text is added
 
 pub byte_count-with_text-le : (env : Environment) (name t : Text) → byte_count (with_text env name t) ≤ byte_count env + length t
 byte_count-with_text-le env name t =
@@ -22,7 +22,7 @@ byte_count-with_text-le env name t =
       | false ↦ omega (arith, sum_by_push entry_bytes env e)
     ]
 
--- ---- a member comes
+-- ---- a member is added
 
 meaning_bytes-more-le : (m : Meaning) (member : Text) → meaning_bytes (more m member) ≤ meaning_bytes m + length member
 meaning_bytes-more-le (Single t) member = omega arith

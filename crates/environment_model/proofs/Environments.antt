@@ -1,4 +1,4 @@
--- Look-ups in an environment, and what a text or a member that comes adds to it.
+-- Look-ups in an environment, and how it changes when a text or a member is added.
 use Rattle.std.proofs.Common.{◌≡◌, ◌+◌, [], ◌∷◌, ◌++◌, Bool, true, false, length, is_some, bytes_eq, Some, None, refl, sym, ap, ◌∙◌, arith, length-append}
 use Rattle.std.proofs.lemmas.List.Sums.{sum_by-cons, sum_by_push}
 use Rattle.text_model.specs.Texts.{Text}
@@ -33,7 +33,7 @@ pub with_member-other : (e : Entry) (env : Environment) (name t : Text) → byte
 unfolding with_member
 with_member-other e env name t other = rw other refl
 
--- an entry that has not the name is no entry of the name
+-- an entry with another name does not matter for the name
 pub other_in_front : (e : Entry) (env : Environment) (name : Text) → is_there (e ∷ env) name ≡ false → bytes_eq e.name name ≡ false
 other_in_front e env name absent = by_cases (bytes_eq e.name name) refl
   where
@@ -44,7 +44,7 @@ other_in_front e env name absent = by_cases (bytes_eq e.name name) refl
 pub absent_behind : (e : Entry) (env : Environment) (name : Text) → is_there (e ∷ env) name ≡ false → is_there env name ≡ false
 absent_behind e env name absent = ap is_some (sym (look_up-other e env name (other_in_front e env name absent))) ∙ absent
 
--- ---- entries that have not the name
+-- ---- entries with other names
 
 pub look_up-append : (front back : Environment) (name : Text) → is_there front name ≡ false → look_up (front ++ back) name ≡ look_up back name
 look_up-append [] back name absent = refl
@@ -171,7 +171,7 @@ member_count-with_member (e ∷ env) name t no_text = by_cases (bytes_eq e.name 
 
 -- ---- which names are defined
 
--- a member of a name that is defined brings no name
+-- a member of a defined name adds no name
 pub is_there-with_member : (env : Environment) (name t other : Text) → is_there env name ≡ true → is_there (with_member env name t) other ≡ is_there env other
 is_there-with_member [] name t other there = let none : is_there [] name ≡ false = ap is_some (look_up-empty name) in absurd (cc)
 is_there-with_member (e ∷ env) name t other there = by_cases (bytes_eq e.name name) refl (is_there-with_member env name t other)

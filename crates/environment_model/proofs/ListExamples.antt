@@ -1,4 +1,4 @@
--- Which names are names of lists, and what rules see of an environment by these names.
+-- Which names are names of lists, and what rules with these names see of an environment.
 use Rattle.std.proofs.Common.{◌≡◌, List, [], ◌∷◌, Option, Some, None, true, false, refl}
 use Rattle.std.specs.Prelude.{codes, map}
 use Rattle.environment_model.specs.Environment.{Meaning, Single, Several, LookUp, is_among, only_text, only_list, view}
@@ -6,7 +6,7 @@ use Rattle.environment_model.specs.Lists.{list_names, is_list}
 
 -- ---- names
 
--- the two keys that may come more than once; the other keys of a journal article or a book are texts
+-- the two keys that may occur more than once; the other keys of a journal article or a book are texts
 standard_names : map (is_list []) (codes "rft.au" ∷ codes "rft_id" ∷ codes "rft.aulast" ∷ codes "rft.a" ∷ codes "rft.id" ∷ codes "rfr_id" ∷ codes
     "rft.issn" ∷ codes "rft.genre" ∷ codes "RFT.AU" ∷ codes "rft_ID" ∷ [] ∷ [])
     ≡ true ∷ true ∷ false ∷ false ∷ false ∷ false ∷ false ∷ false ∷ false ∷ false ∷ false ∷ []
@@ -56,7 +56,7 @@ nothing name = None
 abbrev seen : LookUp → List (Option Meaning)
 seen look = map (view (codes "l" ∷ codes "m" ∷ []) look) (codes "l" ∷ codes "m" ∷ codes "x" ∷ codes "L" ∷ [])
 
--- a text whose name is one of a list, and a list whose name is one of a text, are undefined
+-- a text under the name of a list is undefined, and so is a list under the name of a text
 texts_in_view : seen a_text ≡ None ∷ None ∷ Some (Single (codes "x")) ∷ Some (Single (codes "x")) ∷ []
 texts_in_view = refl
 

@@ -13,13 +13,13 @@ pub record Entry : Type 0 where
   pub name : Text
   pub meaning : Meaning
 
--- the entries in the order in which their names came
+-- the entries in the order in which their names were added
 abbrev pub Environment : Type 0
 Environment = List Entry
 
 -- ---- look-ups
 
--- what a look-up answers of each name: a text, a list of texts, or that it is undefined
+-- what a look-up returns for each name: a text, a list of texts, or that it is undefined
 abbrev pub LookUp : Type 0
 LookUp = Text → Option Meaning
 
@@ -49,7 +49,7 @@ text_of env name = text_in (look_up env name)
 abbrev pub members_of : Environment → Text → List Text
 members_of env name = members_in (look_up env name)
 
--- ---- the view by a set of list names
+-- ---- an environment as rules see it
 
 abbrev pub is_among : Text → List Text → Bool
 is_among name names = list_any (λ n. bytes_eq n name) names
@@ -64,7 +64,7 @@ only_list None = None
 only_list (Some (Single t)) = None
 only_list (Some (Several ts)) = Some (Several ts)
 
--- what a rule set sees: a text whose name is in the set, and a list whose name is not, are undefined
+-- with the names of lists: a text whose name is among them is undefined, and so is a list whose name is not
 abbrev pub view : List Text → LookUp → LookUp
 view lists look name = if is_among name lists then only_list (look name) else only_text (look name)
 
@@ -88,7 +88,7 @@ member_count env = sum_by (λ e. meaning_members e.meaning) env
 
 -- ---- how an environment grows
 
--- the environment after a text comes: the first entry of a name stays
+-- the environment after a text is added: the first entry of a name stays
 abbrev pub with_text : Environment → Text → Text → Environment
 with_text env name t = if is_there env name then env else (env ++ record { name = name; meaning = Single t } ∷ [])
 

@@ -1,16 +1,16 @@
--- Which names denote lists, in a request and in the rules that are asked about it.
+-- Which names denote lists, in a request and in rules.
 use Rattle.std.specs.Prelude.{List, [], ◌∷◌, ◌++◌, Bool, codes}
 use Rattle.text_model.specs.Texts.{Text}
 use Rattle.environment_model.specs.Environment.{is_among}
 
--- the keys of ANSI/NISO Z39.88-2004 that can come more than once: authors, and identifiers of the referent
+-- the keys of ANSI/NISO Z39.88-2004 that can occur more than once: authors, and identifiers of the referent
 abbrev pub standard_lists : List Text
 standard_lists = codes "rft.au" ∷ codes "rft_id" ∷ []
 
--- the names of lists, where these are declared
+-- the names of lists, if these are declared
 abbrev pub list_names : List Text → List Text
 list_names declared = standard_lists ++ declared
 
--- whether the name denotes a list, where these are declared
+-- whether the name denotes a list, if these are declared
 abbrev pub is_list : List Text → Text → Bool
 is_list declared name = is_among name (list_names declared)

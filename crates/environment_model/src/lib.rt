@@ -1,2 +1,2 @@
-//! The environment that templates, guards and code look names up in. Definitions alone; nothing here runs.
+//! The environment that templates, guards and code look names up in. Only definitions; nothing here runs.
 #![tactic(auto)]

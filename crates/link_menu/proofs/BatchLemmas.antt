@@ -1,4 +1,4 @@
--- The next rows of searches, and what becomes of them.
+-- The next rows of searches, and their fates.
 use Rattle.std.proofs.Common.{◌≡◌, ℕ, zero, suc, ◌+◌, ◌<◌, List, [], ◌∷◌, ◌++◌, Option, Some, None, refl, sym, ap, ◌∙◌, arith}
 use Rattle.std.proofs.Common.{length, map, get_or, set, take, drop}
 use Rattle.std.specs.Prelude.{Bool, true, false, if◌then◌else◌, is_some, option_and_then, option_map, slice_get}
@@ -31,13 +31,13 @@ entries_of env = env.entries
 abbrev fate_at : Code × Environment → Fate
 fate_at p = fate_in p.0 p.1
 
--- fates are those of the entries
+-- fates depend only on the entries
 by_entries : (codes : List Code) (envs : List EnvValue) → map fate_of (zip codes envs) ≡ map fate_at (zip codes (map entries_of envs))
 by_entries [] envs = refl
 by_entries (code ∷ codes) [] = refl
 by_entries (code ∷ codes) (env ∷ envs) = ap (λ fates. fate_in code env.entries ∷ fates) (by_entries codes envs)
 
--- the codes and the environments of the next rows, where the first search has this one
+-- the codes and the environments of the next rows, if the first search has this next row
 abbrev codes_from : SearchValue → Option ℕ → List SearchValue → List Code
 codes_from s next searches = cons_option (option_map (λ row. s.target.code) next) (filter_map code_next searches)
 
@@ -54,7 +54,7 @@ side_by_side (s ∷ searches) = by_next s.next (side_by_side searches)
     by_next None rest = rest
     by_next (Some row) rest = ap (λ fates. fate_of_row s.target s.asked.pairs row ∷ fates) rest
 
--- the steps of a code in an environment, where it has a run
+-- the steps of a code in an environment, if it has a run
 abbrev steps_at : Code × Environment → Option ℕ
 steps_at p = steps_in p.0 p.1
 
@@ -63,7 +63,7 @@ one_end : (over : Bool) (run : RunValue) (runs : List RunValue) (ends : List ℕ
 one_end true run runs ends rest = rest
 one_end false run runs ends rest = ap (λ all. end_of run ∷ all) rest
 
--- runs have the steps of the entries
+-- the steps of runs depend only on the entries
 ends_by_entries : (codes : List Code) (envs : List EnvValue) → ends_of (runs_of (zip codes envs)) ≡ filter_map steps_at (zip codes (map entries_of envs))
 ends_by_entries [] envs = refl
 ends_by_entries (code ∷ codes) [] = refl
@@ -92,7 +92,7 @@ as_many (s ∷ searches) = by_next s.next (as_many searches)
     by_next None rest = rest
     by_next (Some row) rest = ap suc rest
 
--- rows that have the names of codes have them at their numbers
+-- rows with the names of codes have them at their numbers
 at_number : (names : List Name) (i : ℕ) → i < length names → slice_get (map (λ name. name.text) names) i ≡ Some (text_of_name (slice_get names i))
 at_number [] i inside = absurd (omega (arith, inside))
 at_number (name ∷ names) zero inside = refl
@@ -137,9 +137,9 @@ pub one_more : {X : Type 0} (f : SearchValue → Option X) (searches : List Sear
 one_more f searches i d inside =
     ap (filter_map f) (take_more searches i d inside) ∙ filter_map-append f (take i searches) (get_or searches i d ∷ [])
 
--- ---- one search after another takes its fate over
+-- ---- one search after another gets its fate
 
--- fates go to opened searches alone
+-- only open searches get fates
 next_fates : (searches : List SearchValue) (i : ℕ) (d : SearchValue) → i < length searches
     → fates_next (drop i searches) ≡ cons_option (fate_next (get_or searches i d)) (fates_next (drop (i + 1) searches))
 next_fates searches i d inside = at_drop_more (fates_next) searches i d inside

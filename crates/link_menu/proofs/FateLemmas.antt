@@ -1,4 +1,4 @@
--- The fates of what was begun.
+-- The fates of the runs of a round.
 use Rattle.std.proofs.Common.{◌≡◌, ℕ, List, [], ◌∷◌, ◌++◌, Option, Some, None, Bool, true, false, cond, refl, sym, ap, ◌∙◌, arith, length, map, count_by}
 use Rattle.std.specs.Prelude.{if◌then◌else◌, is_none, drop, take}
 use Rattle.std.proofs.lemmas.List.{append-nil, drop_all, length-map, take_all}
@@ -14,7 +14,7 @@ use Rattle.link_menu.specs.Fates.{is_over_budget, fate_of, runs_of, said}
 use Rattle.link_menu.specs.Private.Rounds.{AreOfTheSame, same_but_steps}
 use Rattle.link_menu.specs.Private.RunSets.{excess_of, fates_in, outcome_in_the_end}
 
--- ---- what is begun has the fates of all
+-- ---- a set of runs has the fates of all codes
 
 abbrev pub outcomes_in_the_end : List RunValue → List Outcome
 outcomes_in_the_end runs = map outcome_in_the_end runs
@@ -46,7 +46,7 @@ as_many_runs [] = refl
 as_many_runs (p ∷ pairs) = first_count (is_over_budget p.0 p.1) (most_bytes p.0 p.1) (new_run p.0 p.1) (map excess_of pairs) (runs_of pairs)
     (as_many_runs pairs)
 
--- ---- equal runs end with the same
+-- ---- equal runs have the same outcome
 
 pub same_outcomes : (old new : List RunValue) → AreOfTheSame old new → outcomes_in_the_end new ≡ outcomes_in_the_end old
 same_outcomes old new same = outcomes_of_the_same new ∙ ap outcomes_in_the_end same ∙ sym (outcomes_of_the_same old)

@@ -1,4 +1,4 @@
--- Searches after some rounds: the rows that are left to them, and what was shown.
+-- Searches after some rounds: the rows that they still have to try, and what was observed.
 
 use Rattle.std.proofs.Common.{◌≡◌, ℕ, zero, suc, ◌+◌, ◌-◌, ◌<◌, List, [], ◌∷◌, Option, Some, None, Bool, true, false, refl, sym, ap, ◌∙◌, arith, length, map}
 use Rattle.std.proofs.Common.{nat_le, filter, drop}
@@ -16,7 +16,7 @@ use Rattle.link_menu.specs.RowsByRound.{ends_in_round, longest, rounds_of, steps
 use Rattle.link_menu.specs.Private.Searches.{SearchValue, ends_next, is_open, started, after_next_row, after_row_at}
 use Rattle.link_menu.proofs.TurnsOfAll.{max_less}
 
--- ---- the rows that are left to a search
+-- ---- the rows that a search still has to try
 
 abbrev pub AllFromStart : Type 0
 AllFromStart = (target : TargetValue) (pairs : List KeyValue) → filter (nat_le 0) (matching_rows_of target pairs) ≡ matching_rows_of target pairs
@@ -31,7 +31,7 @@ FirstAndRest =
     (target : TargetValue) (pairs : List KeyValue) (from row : ℕ) → first_from from (matching_rows_of target pairs) ≡ Some row
     → filter (nat_le from) (matching_rows_of target pairs) ≡ row ∷ filter (nat_le (row + 1)) (matching_rows_of target pairs)
 
--- what is asked, a target, and the rows that it still has to try
+-- a request, a target, and the rows that it still has to try
 abbrev pub Left : Type 0
 Left = List KeyValue × TargetValue × List ℕ
 

@@ -12,7 +12,7 @@ use Rattle.link_menu.proofs.StepListLemmas.{first_of, rest_of, with_more, with_n
 use Rattle.link_menu.proofs.RoundLemmas.{AllFromStart, FirstAndRest, NoneFrom, all_tried, drop_one, end_at, ends_after, ends_of_searches, left_after}
 use Rattle.link_menu.proofs.RoundLemmas.{left_at_start, left_of, longest_after, none_open, one_less, rounds_left, while_open}
 
--- k rounds were carried out, and all that they show was shown
+-- k rounds were carried out, and the watch has observed all of them
 abbrev pub AfterRounds : List KeyValue → List TargetValue → List SearchValue → Option (List (List ℕ)) → Option (List (List ℕ)) → Type 0
 AfterRounds pairs targets searches told now =
     (k : ℕ) × (map left_of searches ≡ map (left_after k pairs) targets) × (k ≤ rounds_of targets pairs)

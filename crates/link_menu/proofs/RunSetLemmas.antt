@@ -21,7 +21,7 @@ use Rattle.link_menu.specs.Fates.{is_over_budget, run_of, runs_of}
 use Rattle.link_menu.specs.Private.Rounds.{IsFresh, AreFresh}
 use Rattle.link_menu.specs.Private.RunSets.{excess_of, IsRunSetOf}
 
--- what each run ends with is computed
+-- the outcome of each run is the one that is computed
 abbrev pub CoursesAreDecided : Type 0
 CoursesAreDecided = (c : Code) (v : Environment) (k : ℕ) (o : Outcome) → ComesTo c v k o ↔ (course_of c v ≡ course k o)
 
@@ -79,7 +79,7 @@ module _ (pairs : List (Code × EnvValue)) (n : ℕ) (p : Code × EnvValue) (ove
         fresh = subst AreFresh (sym runs) (all_fresh old (runs_of (p ∷ [])) before.fresh fresh);
       })
 
--- ---- a code and its environment, side by side
+-- ---- codes and environments as pairs
 
 module _ {A B C : Type 0} (f : A → B) (xs : List A) (ys : List C) (n : ℕ) where
   pub pair_at : (x : A) (y : C) → n < length xs → n < length ys → ((d : A) → x ≡ get_or xs n d) → ((d : C) → y ≡ get_or ys n d)

@@ -15,9 +15,9 @@ use Rattle.registry.specs.Targets.{TargetValue}
 use Rattle.registry.specs.Entries.{entry_of, matching_rows_of, menu_of, resolution_from, resolution_of, resolution_of_row}
 use Rattle.link_menu.specs.Private.Searches.{SearchValue, entry_so_far, is_open, started, after_next_row, after_row_at}
 
--- ---- the reason that a search ends with
+-- ---- the resolution that a search ends with
 
--- after a row that ended with a reason
+-- the resolution after a row with this resolution
 abbrev pub resolution_after : List KeyValue → TargetValue → ℕ → Resolution → Resolution
 resolution_after pairs target row resolution = if is_link resolution then resolution else resolution_from target pairs (row + 1) resolution
 
@@ -66,7 +66,7 @@ module _ (begins : Begins) (no_more : NoMore) (at_link : AtLink) (past_no_link :
       by_next None is = sym (no_more target pairs from so_far is)
       by_next (Some row) is = by_link row (is_link (resolution_of_row target pairs row)) is refl
 
-  -- a search keeps its outcome
+  -- trying a row does not change the outcome of a search
   tried_comes_to : (s : SearchValue) → entry_in_the_end (after_next_row s) ≡ entry_in_the_end s
   tried_comes_to s = by_next s.next refl
     where
@@ -96,7 +96,7 @@ module _ (begins : Begins) (no_more : NoMore) (at_link : AtLink) (past_no_link :
       ap (λ entry. entry ∷ map entry_in_the_end (map after_next_row searches)) (tried_comes_to s)
       ∙ ap (λ entries. entry_in_the_end s ∷ entries) (menu_after_round searches)
 
--- where no search is open, it has come there
+-- if no search is open, all searches have their outcomes
 pub menu_at_end : (searches : List SearchValue) → list_any is_open searches ≡ false → map entry_in_the_end searches ≡ map entry_so_far searches
 menu_at_end [] none = refl
 menu_at_end (s ∷ searches) none = by_next s.next (menu_at_end searches) none

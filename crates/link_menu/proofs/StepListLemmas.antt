@@ -1,9 +1,9 @@
--- Lists that a watch tells, and others after them.
+-- The lists of a watch, and further ones after them.
 use Rattle.std.proofs.Common.{◌≡◌, ℕ, zero, suc, ◌+◌, ◌-◌, ◌≤◌, List, [], ◌++◌, Option, Some, None, refl, sym, ap, ◌∙◌, arith, append-nil, append_assoc}
 use Rattle.std.specs.Prelude.{Result, Ok, Err, OnErr, OnOk}
 use Rattle.link_menu.specs.StepLists.{HasSeenAll, HasSeenSome, with_lists}
 
--- what holds anyway holds after an answer, and after an error
+-- what holds in any case holds after success, and after an error
 pub on_ok : {T E : Type 0} (r : Result T E) (P : Type 0) → P → OnOk r P
 on_ok (Ok x) P p = p
 on_ok (Err e) P p = tt

@@ -1,4 +1,4 @@
--- Runs that move on, turn after turn.
+-- Runs that move on, turn by turn.
 use Rattle.std.proofs.Common.{◌≡◌, ◌≢◌, ℕ, ◌+◌, ◌<◌, ◌≤◌, List, [], ◌∷◌, ◌++◌, Option, Some, None, Bool, true, false, cond, refl, sym, ap, ◌∙◌, subst, arith}
 use Rattle.std.proofs.Common.{rules, count_by, get_or, take, length, ⊎_elim, append-nil, get_or-set_same, get_or-set_other, tests}
 use Rattle.std.proofs.Math.ListN.{set}
@@ -36,12 +36,12 @@ others_go_on decided r never =
 
 -- ---- one move after another
 
--- the same code on the same environment ends after as many steps
+-- the same code on the same environment ends after the same number of steps
 pub ends_alike : (old new : RunValue) (k : ℕ) → new.code ≡ old.code → new.env ≡ old.env → EndsAfter old.code old.env.entries k
     → EndsAfter new.code new.env.entries k
 ends_alike old new k code env h = subst (λ x. EndsAfter x new.env.entries k) (sym code) (subst (λ x. EndsAfter old.code x.entries k) (sym env) h)
 
--- and its whole run has as many
+-- and its whole run has the same number of steps
 all_alike : (old new : RunValue) → new.code ≡ old.code → new.env ≡ old.env → all_steps new ≡ all_steps old
 all_alike old new code env = ap (λ c. (course_of c new.env.entries).steps) code ∙ ap (λ (e : EnvValue). (course_of old.code e.entries).steps) env
 
@@ -94,7 +94,7 @@ own_no i turn isnt = let no : (turn.0 == i) ≡ false = search (rules, tests) in
 -- ---- one run of all has moved
 
 module _ (old runs : List RunValue) (p n : ℕ) (new : RunValue) where
-  -- what a loop over the runs keeps
+  -- the invariant of a loop over the runs
   pub moved_next : p < length runs → ((d : RunValue) → IsMoved (get_or runs p d) n new)
       → ((i : ℕ) (d : RunValue) → i < p → IsMoved (get_or old i d) n (get_or runs i d))
       → ((i : ℕ) (d : RunValue) → p ≤ i → get_or runs i d ≡ get_or old i d)
@@ -121,7 +121,7 @@ module _ (old runs : List RunValue) (p n : ℕ) (new : RunValue) where
       ∙ sum_by_push (λ r. cond (is_live r) 1 0) (take p runs) new
       ∙ ap (λ b. count_by is_live (take p runs) + cond b 1 0) is
 
-  -- what a schedule keeps
+  -- the invariant of a loop over a schedule
   pub played_next : (turns : List (ℕ × ℕ)) (at : ℕ) (e : ℕ × ℕ) → at < length turns → get_or turns at e ≡ (p, n)
       → p < length runs → ((d : RunValue) → IsMoved (get_or runs p d) n new)
       → ((i : ℕ) (d : RunValue) → i < length old → IsPlayed (get_or old i d) (own_turns i (take at turns)) (get_or runs i d))

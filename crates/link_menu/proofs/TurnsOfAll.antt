@@ -1,4 +1,4 @@
--- All runs, turn after turn of all.
+-- All runs, turn by turn.
 use Rattle.std.proofs.Common.{◌≡◌, ℕ, suc, ◌+◌, ◌-◌, ◌*◌, ◌<◌, ◌≤◌, List, [], ◌∷◌, Option, Bool, true, false, cond, refl, sym, ap, ◌∙◌, subst, arith, count_by}
 use Rattle.std.proofs.Common.{get_or, length, map, ⊎_elim, inl, inr}
 use Rattle.std.specs.Prelude.{min, max, ◌/◌, ◌⊎◌}
@@ -43,9 +43,6 @@ no_steps steps end is = omega (arith, is)
 
 run_at_start : (run : RunValue) → IsFresh run → run ≡ run_after 0 run
 run_at_start run fresh = same_run run (run_after 0 run) refl refl (no_steps run.steps (end_of run) fresh.start)
-
-lives_at_start : (c : Code) (v : Environment) (k : ℕ) → k ≡ 0 → state_after c v k ≡ state_after c v 0
-lives_at_start c v k is = ap (state_after c v) is
 
 started_is_live : (run : RunValue) → IsFresh run → is_live run ≡ true
 unfolding state_after
@@ -201,7 +198,7 @@ pub fewer_left : (t : ℕ) (runs now new : List RunValue) → AreFresh runs → 
 fewer_left t runs now new fresh was is lt =
     one_fewer t (turns_of runs) (turns_of now) (turns_of new) (ap turns_of was ∙ turns_after t runs fresh) (ap turns_of is ∙ turns_after (suc t) runs fresh) lt
 
--- ---- what is shown
+-- ---- what is observed
 
 pub nothing_shown : (told : Option (List (List ℕ))) (ends : List ℕ) → told ≡ with_lists told (step_lists_in 0 ends)
 unfolding step_lists_in
@@ -215,7 +212,7 @@ shown_next told now new t runs before seen =
     seen ∙ ap (λ list. with_list now list) (steps_then (64 * suc t) runs) ∙ ap (λ lists. with_list lists more) before
     ∙ with_more told (step_lists_in t (ends_of runs)) (more ∷ [])
 
--- some first turns show the first of all lists
+-- the first turns give the first of all lists
 pub shown_at_first : (t : ℕ) (ends : List ℕ) (told now : Option (List (List ℕ))) → t ≤ turns_to_end ends → now ≡ with_lists told (step_lists_in t ends)
     → HasSeenSome (step_lists_to_end ends) told now
 unfolding step_lists_in

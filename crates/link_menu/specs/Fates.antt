@@ -1,4 +1,4 @@
--- What becomes of codes on environments.
+-- How codes end on environments.
 use Rattle.std.specs.Prelude.{List, Option, Some, None, Bool, nat_lt, if◌then◌else◌, string_bytes}
 use Rattle.std.specs.List.{filter_map}
 use Rattle.code_model.specs.Code.{Code}
@@ -13,18 +13,18 @@ use Rattle.link_menu.specs.declared.fate.Fate.TheVariants as variant
 abbrev pub fate_of : Code × EnvValue → Fate
 fate_of p = fate_in p.0 p.1.entries
 
--- the budget of the code says that it may print more than is allowed
+-- by its budget the code may print more than the limit
 abbrev pub is_over_budget : Code → EnvValue → Bool
 is_over_budget c e = nat_lt MAX_LINK_BYTES (most_bytes c e)
 
--- the runs that are begun: none of what is over budget
+-- the run that is started, unless the code is over budget
 abbrev pub run_of : Code × EnvValue → Option RunValue
 run_of p = if is_over_budget p.0 p.1 then None else Some (new_run p.0 p.1)
 
 abbrev pub runs_of : List (Code × EnvValue) → List RunValue
 runs_of pairs = filter_map run_of pairs
 
--- what an answer says
+-- the value of a fate of the program
 abbrev pub said : answer.Fate → Fate
 said (variant.OverBudget bytes) = OverBudget bytes
 said (variant.Link link) = Link (string_bytes link)

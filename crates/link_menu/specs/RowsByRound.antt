@@ -1,4 +1,4 @@
--- Which rows of the targets are tried, in which round, and what is shown of their runs.
+-- Which rows of the targets are tried in which round, and what a watch observes of their runs.
 use Rattle.std.specs.Prelude.{ℕ, zero, suc, List, [], ◌∷◌, ◌++◌, Option, Some, None, option_and_then, if◌then◌else◌, length, map, max, nat_lt, slice_get}
 use Rattle.std.specs.List.{filter_map}
 use Rattle.environment_model.specs.Environment.{Environment}
@@ -15,7 +15,7 @@ use Rattle.link_menu.specs.StepLists.{step_lists_to_end}
 
 -- ---- the rows of one target
 
--- of rows in their order, those up to the first that gives a link; where none does, all
+-- the rows up to the first that gives a link; all of them if none does
 abbrev pub up_to_link : TargetValue → List KeyValue → List ℕ → List ℕ
 up_to_link target pairs [] = []
 up_to_link target pairs (row ∷ rows) = row ∷ (if is_link (resolution_of_row target pairs row) then [] else up_to_link target pairs rows)
@@ -24,7 +24,7 @@ up_to_link target pairs (row ∷ rows) = row ∷ (if is_link (resolution_of_row 
 abbrev pub tried_rows : TargetValue → List KeyValue → List ℕ
 tried_rows target pairs = up_to_link target pairs (matching_rows_of target pairs)
 
--- the steps of a code in an environment to its end; what is over budget does not run
+-- the steps of a code in an environment to its end; code that is over budget does not run
 abbrev pub steps_in : Code → Environment → Option ℕ
 steps_in code env = if nat_lt MAX_LINK_BYTES (most_bytes_in code env) then None else Some (course_of code env).steps
 
@@ -33,8 +33,7 @@ steps_of_row target pairs row = steps_in target.code (row_environment target pai
 
 -- ---- all targets, side by side
 
--- the steps of the runs of round k, counted from 0: each target that still has a row to try gives one, but what is
--- over budget
+-- the steps of the runs of round k, counted from 0: one for each target that still has a row to try, unless its code is over budget
 abbrev pub ends_in_round : ℕ → List TargetValue → List KeyValue → List ℕ
 ends_in_round k targets pairs =
     filter_map (λ target. option_and_then (steps_of_row target pairs) (slice_get (tried_rows target pairs) k)) targets
@@ -47,11 +46,11 @@ longest (rows ∷ others) = max (length rows) (longest others)
 abbrev pub rounds_of : List TargetValue → List KeyValue → ℕ
 rounds_of targets pairs = longest (map (λ target. tried_rows target pairs) targets)
 
--- what is shown in the first k rounds, one after another
+-- what is observed in the first k rounds, one after another
 unfoldable pub step_lists_in_rounds : ℕ → List TargetValue → List KeyValue → List (List ℕ)
 step_lists_in_rounds zero targets pairs = []
 step_lists_in_rounds (suc k) targets pairs = step_lists_in_rounds k targets pairs ++ step_lists_to_end (ends_in_round k targets pairs)
 
--- what is shown in all rounds
+-- what is observed in all rounds
 abbrev pub step_lists_in_all_rounds : List TargetValue → List KeyValue → List (List ℕ)
 step_lists_in_all_rounds targets pairs = step_lists_in_rounds (rounds_of targets pairs) targets pairs

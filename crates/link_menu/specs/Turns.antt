@@ -1,4 +1,4 @@
--- Turns of runs, and what they end with together.
+-- Turns of interleaved runs, and what all of them together have done.
 use Rattle.std.specs.Prelude.{◌≡◌, ℕ, ◌+◌, ◌==◌, if◌then◌else◌, List, [], ◌∷◌, Option, Some, Bool, true, false, min}
 use Rattle.std.specs.List.{sum}
 use Rattle.machine_model.specs.States.{State, Ended}
@@ -14,8 +14,8 @@ goes_on s = true
 abbrev pub is_live : RunValue → Bool
 is_live r = goes_on (state_after r.code r.env.entries r.steps)
 
--- a run moved on by n steps: it stays a run of its code on its environment, and its steps are n more, or those of the
--- whole run if these are fewer; the run has an end, at any number of steps at which its code ends
+-- a run moved on by n steps: it is still a run of its code on its environment, with n more steps, or with those of the whole run if these are fewer; the run
+-- has an end, which is where its code ends
 pub record IsMoved (old : RunValue) (n : ℕ) (new : RunValue) : Type 0 where
   pub code : new.code ≡ old.code
   pub env : new.env ≡ old.env
@@ -23,12 +23,12 @@ pub record IsMoved (old : RunValue) (n : ℕ) (new : RunValue) : Type 0 where
   pub in_time : EndsInTime old
   pub steps : (k : ℕ) → EndsAfter old.code old.env.entries k → new.steps ≡ min (old.steps + n) k
 
--- how far each turn of run i goes, of the turns of all runs
+-- the steps of each turn of run i, from the turns of all runs
 abbrev pub own_turns : ℕ → List (ℕ × ℕ) → List ℕ
 own_turns i [] = []
 own_turns i (turn ∷ turns) = if turn.0 == i then turn.1 ∷ own_turns i turns else own_turns i turns
 
--- a run after turns of its own: it has moved by their sum; without any it is as it was
+-- a run after its own turns: it has moved by their sum; without any it is unchanged
 abbrev pub IsPlayed : RunValue → List ℕ → RunValue → Type 0
 IsPlayed old [] new = new ≡ old
 IsPlayed old (n ∷ ns) new = IsMoved old (n + sum ns) new

@@ -10,7 +10,8 @@ use row_scope::RowScope;
 use std::alloc::{AllocError, Global};
 use verifier::Verified;
 
-/// The rows that are tried in one round, each over the request, and their codes, in the order of their targets.
+/// The rows that are tried in one round, each as the environment of row and request, and their codes, in the order of
+/// the targets.
 #[derive(Drop)]
 pub(crate) struct Batch<'t, 'a> {
     pub(crate) codes: Vec<&'t Verified>,

@@ -1,11 +1,11 @@
-//! A watch that does not look.
+//! A watch that observes nothing.
 
 use crate::watch::Watch;
 use std::alloc::AllocError;
 use target_vars::Scope;
 use verified_runs::Run;
 
-/// A watch that observes nothing: it keeps nothing, and never runs out of memory.
+/// A watch that observes nothing. It stores nothing, so it never runs out of memory.
 #[derive(Drop)]
 pub struct Blind;
 
@@ -14,7 +14,7 @@ impl Watch for Blind {
 
     ghost lists = { λ _. None };
 
-    /// Takes no memory, and is never refused any.
+    /// Allocates nothing, so it cannot fail.
     fn seen<E: Scope>(&mut self, _runs: &[Run<'_, E>]) -> Result<(), AllocError>
         ensures never_refused { result ≡ Ok tt }
     {

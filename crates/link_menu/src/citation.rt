@@ -1,4 +1,4 @@
-//! What is asked of all targets.
+//! What is searched for in all targets.
 
 ghost use Rattle.std.specs.Prelude.{◌≡◌, ◌<◌, IfOk, IfSome, length};
 ghost use Rattle.kbart_rows.specs.ColumnNames.{has};
@@ -33,7 +33,7 @@ impl<'a> Model for Citation<'a> {
 }
 
 impl<'a> Citation<'a> {
-    /// What a request cites, for targets whose tables have columns of these names.
+    /// The citation of a request, for targets whose tables have columns with these names.
     ///
     /// `AllocError` if an allocation failed.
     pub(crate) fn new(

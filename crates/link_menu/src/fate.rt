@@ -1,4 +1,4 @@
-//! What becomes of a code on an environment.
+//! How a code ends on an environment.
 
 ghost use Rattle.std.specs.Prelude.{◌≡◌};
 ghost use Rattle.verified_runs.specs.RunValue.{outcome_of};
@@ -9,7 +9,7 @@ ghost use Rattle.link_menu.specs.Fates.{said};
 use menu::{Resolution, Text, is_web_link};
 use verified_runs::Outcome;
 
-/// What becomes of a code on an environment.
+/// How a code ends on an environment.
 #[derive(Debug, Drop)]
 pub enum Fate {
     /// The bound on the run's output in bytes, if it exceeds [`MAX_LINK_BYTES`](verified_runs::MAX_LINK_BYTES). The
@@ -31,7 +31,7 @@ impl Fate {
         }
     }
 
-    /// What the fate of a row says of its target: only a link of the web counts as one.
+    /// The resolution of a target whose row has this fate: only a web link counts as a link.
     pub(crate) fn into_resolution(self, row: usize) -> Resolution
         ensures { result ≡ resolution_by row (said self) }
     {

@@ -1,4 +1,4 @@
-//! A watch that keeps what it was shown.
+//! A watch that records what it observed.
 
 ghost use Rattle.std.specs.Prelude.{◌≡◌, [], map};
 
@@ -8,7 +8,7 @@ use std::marker::Model;
 use target_vars::Scope;
 use verified_runs::Run;
 
-/// A watch that keeps, each time, how many steps each run has carried out. Contracts see its lists, in their order.
+/// A watch that records, each time, how many steps each run has carried out. Contracts see these lists, in their order.
 #[derive(Drop)]
 pub struct Shown {
     alloc: Global,
@@ -24,7 +24,7 @@ impl Model for Shown {
 }
 
 impl Shown {
-    /// A watch that was shown nothing. It takes no memory.
+    /// A watch that has observed nothing yet. It allocates nothing.
     pub fn new(alloc: Global) -> Shown
         ensures { result ≡ [] }
     {
@@ -34,7 +34,7 @@ impl Shown {
         }
     }
 
-    /// What it was shown. It takes no memory.
+    /// What it has recorded: for each observation, the steps of each run.
     pub fn lists(&self) -> &[Vec<u64>]
         ensures { map (λ list. list.items) result.now ≡ self.now }
     {

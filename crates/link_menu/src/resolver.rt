@@ -23,8 +23,8 @@ use registry::{Registry, Target};
 use row_scope::{KnownValues, NameNumbers};
 use std::alloc::{AllocError, Global};
 
-/// The menu of a request: what each target of the registry gives for it, in their order. The matching rows of a target
-/// are tried in their order, and the first that gives a web link gives the target's link.
+/// The menu of a request: what each target of the registry gives for it, in the order of the targets. The matching rows
+/// of a target are tried in order, and the first that gives a web link gives the target's link.
 ///
 /// `AllocError` if an allocation failed.
 pub fn resolve(alloc: Global, registry: &Registry, request: &Request) -> Result<Menu, AllocError>
@@ -33,11 +33,11 @@ pub fn resolve(alloc: Global, registry: &Registry, request: &Request) -> Result<
     resolve_watched(alloc, registry, request, &mut Blind)
 }
 
-/// The menu of a request, with a watch that is shown the runs. It comes in rounds: in each, every target that has no
-/// web link yet tries its next matching row, all of them side by side, as [`round_over`] runs them. The watch is shown
-/// what each round shows, one round after another.
+/// The menu of a request, with a watch that observes the runs. It is computed in rounds: in each, every target that has
+/// no web link yet tries its next matching row, all of them side by side, as [`round_over`] runs them. The watch
+/// observes the rounds one after another.
 ///
-/// `AllocError` if an allocation failed; the watch then has seen what was shown until then.
+/// `AllocError` if an allocation failed; the watch has then observed everything up to that point.
 pub fn resolve_watched<W: Watch>(
     alloc: Global,
     registry: &Registry,
@@ -90,7 +90,7 @@ fn is_any_open(searches: &[TargetSearch]) -> bool
 
 /// One round: the next row of each search that has one is tried, all of them side by side.
 ///
-/// `AllocError` if an allocation failed; the watch then has seen what was shown until then.
+/// `AllocError` if an allocation failed; the watch has then observed everything up to that point.
 fn try_next_rows<W: Watch>(
     alloc: Global,
     searches: &mut [TargetSearch],
@@ -107,9 +107,9 @@ fn try_next_rows<W: Watch>(
     Ok(())
 }
 
-/// What becomes of the next rows, which are run side by side.
+/// The fates of the next rows, which are run side by side.
 ///
-/// `AllocError` if an allocation failed; the watch then has seen what was shown until then.
+/// `AllocError` if an allocation failed; the watch has then observed everything up to that point.
 fn run_next_rows<W: Watch>(
     alloc: Global,
     searches: &[TargetSearch],
@@ -125,7 +125,7 @@ fn run_next_rows<W: Watch>(
     round_over(alloc, &batch.codes, &batch.rows, watch)
 }
 
-/// Takes over the fates of one round, which are those of the searches that have a next row.
+/// Gives the fates of one round to the searches that have a next row, in their order.
 fn take_over_all(searches: &mut [TargetSearch], fates: Vec<Fate>)
     requires { map said fates.items ≡ spec.fates_next searches.old }
     ensures { searches.new ≡ map spec.after_next_row searches.old }

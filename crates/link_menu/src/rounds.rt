@@ -1,4 +1,4 @@
-//! Many codes, run side by side until each has ended.
+//! Rounds: many codes, run side by side until each has ended.
 
 ghost use Rattle.std.specs.Prelude.{◌≡◌, All, IfOk, OnErr, OnOk, length, map};
 ghost use Rattle.std.specs.List.{zip};
@@ -18,14 +18,14 @@ use target_vars::{Env, Scope};
 use verified_runs::Run;
 use verifier::Verified;
 
-/// In one turn of all, each run carries out at most this number of steps.
+/// In one turn, each run carries out at most this number of steps.
 pub(crate) const TURN: u64 = 64;
 
-/// Runs each code on its environment, all side by side, until each has ended, and answers their fates in order. What is
-/// over budget is not run. After each turn of all, of up to 64 steps of each run, the runs are shown to the watch;
-/// where there is no run, nothing is shown.
+/// Runs each code on its environment, all side by side, until each has ended, and returns their fates in order. A code
+/// that is over budget is not run. The watch observes the runs after each turn, in which each run carries out up to 64
+/// steps; if there is no run, it observes nothing.
 ///
-/// `AllocError` if an allocation failed; the watch then has seen what was shown until then.
+/// `AllocError` if an allocation failed; the watch has then observed everything up to that point.
 pub fn round<W: Watch>(
     alloc: Global,
     codes: &[&Verified],
@@ -47,9 +47,10 @@ pub fn round<W: Watch>(
     round_over(alloc, codes, envs, watch)
 }
 
-/// [`round`], over any environments that tell each name of a code by its place in the code's table of names.
+/// [`round`], over any environments in which each name of a code can be looked up by its index in the code's table of
+/// names.
 ///
-/// `AllocError` if an allocation failed; the watch then has seen what was shown until then.
+/// `AllocError` if an allocation failed; the watch has then observed everything up to that point.
 pub fn round_over<E: Scope, W: Watch>(
     alloc: Global,
     codes: &[&Verified],
@@ -73,8 +74,8 @@ pub fn round_over<E: Scope, W: Watch>(
     run_set.finish_all(alloc)
 }
 
-/// Carries all runs on, turn by turn of all, until each has ended, and shows them to the watch after each turn. It
-/// takes no memory, but what the watch takes. Where there is no run, nothing is shown.
+/// Continues all runs, turn by turn, until each has ended; the watch observes them after each turn. Only the watch may
+/// allocate. If there is no run, it observes nothing.
 ///
 /// `AllocError` if the watch ran out of memory; the runs then stay where they last were.
 pub(crate) fn turn_until_ended<E: Scope, W: Watch>(

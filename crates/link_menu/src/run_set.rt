@@ -1,4 +1,4 @@
-//! Runs that are begun together, and what is over budget beside them.
+//! Runs that are begun together, and the codes among them that are over budget.
 
 ghost use Rattle.std.specs.Prelude.{◌≡◌, All, ◌++◌, [], ◌∷◌, IfOk, OnOk, length, map, count_by, is_none};
 ghost use Rattle.std.specs.List.{zip};
@@ -17,13 +17,13 @@ use verifier::Verified;
 /// Codes on environments whose runs are begun together.
 #[derive(Drop)]
 pub(crate) struct RunSet<'a, E: Scope> {
-    /// For each, in order, the bound on its bytes where that is over budget. All others have a run.
+    /// For each code, in order, the bound on its bytes if that is over budget. All other codes have a run.
     pub(crate) over_budget: Vec<Option<u64>>,
     pub(crate) runs: Vec<Run<'a, E>>,
 }
 
 impl<'a, E: Scope> RunSet<'a, E> {
-    /// Begins the run of each code on its environment, but of those that are over budget.
+    /// Begins the run of each code on its environment, except for those that are over budget.
     ///
     /// `AllocError` if an allocation failed.
     pub(crate) fn begin_all(
@@ -67,7 +67,7 @@ impl<'a, E: Scope> RunSet<'a, E> {
         Ok(())
     }
 
-    /// Carries out what is left of each run, and answers the fates in the order in which they were begun.
+    /// Finishes each run, and returns the fates in the order of the codes.
     ///
     /// `AllocError` if an allocation failed.
     pub(crate) fn finish_all(self, alloc: Global) -> Result<Vec<Fate>, AllocError>

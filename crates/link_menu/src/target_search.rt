@@ -14,13 +14,13 @@ use row_scope::{KnownValues, TargetRequest};
 use std::alloc::{AllocError, Global};
 use std::marker::Model;
 
-/// The search for a target's link. Contracts see what is asked, the target, the row to be tried next, and the
-/// resolution so far.
+/// The search for a target's link. Contracts see the citation, the target, the row to be tried next, and the resolution
+/// so far.
 #[derive(Drop)]
 pub(crate) struct TargetSearch<'a> {
     citation: &'a Citation<'a>,
     pub(crate) target: &'a Target,
-    /// The request as the target sees it. A target without a matching row has none.
+    /// The request as the target sees it; `None` if no row matches.
     pub(crate) request: Option<TargetRequest<'a>>,
     /// `None` if a row gave a link, or no more row matches.
     pub(crate) next: Option<usize>,

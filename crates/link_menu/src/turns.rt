@@ -1,4 +1,4 @@
-//! Turns of runs that are carried on side by side.
+//! Turns of interleaved runs.
 
 ghost use Rattle.std.specs.Prelude.{◌≡◌, ℕ, ◌<◌, All, count_by, get_or, length};
 ghost use Rattle.verified_runs.specs.RunValue.{RunValue};
@@ -8,7 +8,7 @@ use machine_laws::states_after_steps_are_decided;
 use target_vars::Scope;
 use verified_runs::Run;
 
-/// Carries out up to `n` steps of each run, in their order, and answers how many have not ended. It takes no memory.
+/// Carries out up to `n` steps of each run, in order, and returns how many have not ended. It allocates nothing.
 pub fn turn_all<E: Scope>(runs: &mut [Run<'_, E>], n: u64) -> usize
     ensures count { length runs.new ≡ length runs.old }
     ensures moved { (i : ℕ) (d : RunValue) → i < length runs.old
@@ -25,9 +25,10 @@ pub fn turn_all<E: Scope>(runs: &mut [Run<'_, E>], n: u64) -> usize
     live
 }
 
-/// Carries out a schedule: in each turn `(i, n)`, up to `n` steps of run i. It takes no memory.
+/// Carries out a schedule: in each turn `(i, n)`, up to `n` steps of run `i`. It allocates nothing.
 ///
-/// A run's own turns move it by their sum, whatever the order of all turns, and those of others leave it as it is.
+/// A run is moved by the sum of its own turns, whatever the order of all turns, and the turns of other runs do not
+/// change it.
 pub fn play<E: Scope>(runs: &mut [Run<'_, E>], turns: &[(usize, u64)])
     requires { All (λ turn. turn.0 < length runs.old) turns.now }
     ensures count { length runs.new ≡ length runs.old }

@@ -1,4 +1,4 @@
-//! The observer of runs that are carried on side by side.
+//! An observer of interleaved runs.
 
 ghost use Rattle.std.specs.Prelude.{◌≡◌, ℕ, List, OnErr, OnOk, Option, map};
 ghost use Rattle.link_menu.specs.StepLists.{with_list, steps_of};
@@ -7,14 +7,14 @@ use std::alloc::AllocError;
 use target_vars::Scope;
 use verified_runs::Run;
 
-/// The observer of runs that are carried on side by side.
+/// An observer of interleaved runs.
 pub trait Watch {
-    /// The lists that it was shown, each of the steps of all runs, where it tells them.
+    /// What it has observed, if it reveals it: a list for each observation, of the steps of all runs.
     ghost lists: { Self → Option (List (List ℕ)) };
 
-    /// Looks at the runs, between two turns of all.
+    /// Observes the runs after a turn.
     ///
-    /// `AllocError` if an allocation failed; what it was shown before stays.
+    /// `AllocError` if an allocation failed; earlier observations are kept.
     fn seen<E: Scope>(&mut self, runs: &[Run<'_, E>]) -> Result<(), AllocError>
         ensures ok { OnOk result (lists self.new ≡ with_list (lists self.old) (steps_of runs.now)) }
         ensures err { OnErr result (lists self.new ≡ lists self.old) };

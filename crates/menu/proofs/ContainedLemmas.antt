@@ -1,4 +1,4 @@
--- What is written of a link and of a name stays where it is.
+-- A link and a name cannot break out of their places.
 use Rattle.std.proofs.Common.{◌≡◌, ◌≢◌, ℕ, Bool, true, false, [], ◌∷◌, ◌++◌, ◌⊎◌, inl, inr, refl, ap, subst, arith}
 use Rattle.std.specs.Prelude.{◌==◌, ◌||◌, if◌then◌else◌, All}
 use Rattle.std.specs.List.{list_all}
@@ -55,7 +55,7 @@ uri_bytes _ (and_triplet t high low u e f) =
     (All-cons in_uri percent (high ∷ low ∷ []) refl (All-cons in_uri high (low ∷ []) (hexadecimal_is_uri high e)
     (All-cons in_uri low [] (hexadecimal_is_uri low f) (All-nil in_uri))))
 
--- what holds of the bytes of the two references, and of each byte that is written as it is
+-- a property that holds for the bytes of the two references, and for each byte that is written unchanged
 module _ (P : ℕ → Type 0) (of_ampersand : All P ampersand_reference) (of_apostrophe : All P apostrophe_reference)
     (of_byte : (b : ℕ) → is_uri_byte b ≡ true → b ≢ apostrophe → P b) where
   one_byte : (b : ℕ) → is_uri_byte b ≡ true → All P (escaped_byte b)

@@ -108,7 +108,7 @@ written_links : map escaped (codes "http://e.org/?a=1&b='c'" ∷ codes "&amp;" �
     "&amp;amp;" ∷ [] ∷ []
 written_links = refl
 
--- the bytes that are written as something else
+-- the bytes that are escaped
 escaped_bytes : filter (λ b. not (bytes_eq (escaped (b ∷ [])) (b ∷ []))) all_bytes ≡ codes "&'"
 escaped_bytes = refl
 

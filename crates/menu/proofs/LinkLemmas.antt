@@ -19,7 +19,7 @@ links_more f menu i d within =
     ∙ (ap (flat_map f) (filter_map-append named_link (take i menu) (get_or menu i d ∷ []))
     ∙ flat_map-append f (links (take i menu)) (links (get_or menu i d ∷ [])))
 
--- the step of a loop that prints them after what was there
+-- the step of a loop that prints the entries after an existing text
 pub links_step : (f : NamedLink → Text) (start before after : Text) (menu : List MenuEntry) (i : ℕ) (d : MenuEntry) → i < length menu
     → before ≡ start ++ flat_map f (links (take i menu)) → after ≡ before ++ flat_map f (links (get_or menu i d ∷ []))
     → after ≡ start ++ flat_map f (links (take (i + 1) menu))
@@ -28,7 +28,7 @@ links_step f start before after menu i d within h g =
     ∙ (append_assoc start (flat_map f (links (take i menu))) (flat_map f (links (get_or menu i d ∷ [])))
     ∙ ap (λ (t : Text). start ++ t) (sym (links_more f menu i d within))))
 
--- no entry has a link exactly where there are no links
+-- no entry has a link exactly if there are no links
 pub no_links : (menu : List MenuEntry) → not (list_any has_link menu) ≡ is_empty menu
 no_links [] = refl
 no_links (entry ∷ menu) = by_resolution entry.resolution (no_links menu)

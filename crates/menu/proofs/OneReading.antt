@@ -1,4 +1,4 @@
--- A page is read in one way.
+-- A page is read in at most one way.
 use Rattle.std.proofs.Common.{◌≡◌, ◌≢◌, ℕ, Bool, true, false, not, List, [], ◌∷◌, ◌++◌, refl, sym, ap, ◌∙◌, subst, arith, codes}
 use Rattle.std.specs.Prelude.{◌==◌, if◌then◌else◌, All}
 use Rattle.std.proofs.lemmas.Bool.{eqb-true}
@@ -13,7 +13,7 @@ use Rattle.menu.proofs.ReadingLemmas.{head_of, rest_of, one_reading}
 
 -- ---- the end of a text or a value
 
--- the rest is empty, or begins with a byte that is not inside
+-- the rest is empty, or begins with a byte that does not pass the test
 abbrev stops : (ℕ → Bool) → Text → Bool
 stops inside [] = true
 stops inside (b ∷ t) = not (inside b)
@@ -22,7 +22,7 @@ not_both : (x : Bool) → x ≡ true → not x ≡ true → ⊥
 not_both true e f = absurd (cc)
 not_both false e f = absurd (cc)
 
--- bytes that are inside, up to the first that is not
+-- bytes that pass the test, up to the first that does not
 one_stop : (inside : ℕ → Bool) (a b r s : Text) → All (λ x. inside x ≡ true) a → All (λ x. inside x ≡ true) b
     → stops inside r ≡ true → stops inside s ≡ true → a ++ r ≡ b ++ s → (a ≡ b) × (r ≡ s)
 unfolding head_of rest_of
@@ -46,7 +46,7 @@ pub data Front : Type 0 where
   at_end at_title at_link at_text at_none : Front
   at_tag : Tag → Front
 
--- what the third byte tells after `</`, and what the second and third tell after `<`
+-- the kind of a token, from the third byte after `</`, and from the second and third bytes after `<`
 abbrev pub end_tag_front : ℕ → Front
 end_tag_front c =
     if c == 0x75 then at_tag list_end

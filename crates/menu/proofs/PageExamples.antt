@@ -50,7 +50,7 @@ page_of_none = (page-tokens no_link (page_tokens no_link) (All-nil IsSoundLink))
 
 -- ---- links among tokens
 
--- the name of a link is the text up to its end, whatever tags it goes through
+-- the name of a link is the text up to its end, whatever tags are in it
 link_through_tags : links_in (text (codes "a") ∷ link (codes "u") ∷ text (codes "b") ∷ tag item_end ∷ text (codes "c") ∷ tag link_end ∷ text (codes "d") ∷ [])
     ≡ record { name = codes "bc"; link = codes "u" } ∷ []
 link_through_tags = refl

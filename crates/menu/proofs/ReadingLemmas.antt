@@ -1,4 +1,4 @@
--- What is read of a link that was written into an attribute: the link, and nothing else.
+-- A link that was written into an attribute is read as the link, and as nothing else.
 use Rattle.std.proofs.Common.{◌≡◌, ℕ, Bool, true, false, [], ◌∷◌, ◌++◌, ◌↔◌, refl, sym, ap, ◌∙◌, subst, arith}
 use Rattle.std.specs.Prelude.{◌==◌, if◌then◌else◌}
 use Rattle.std.proofs.lemmas.Bool.{eqb-true, eqb-false}
@@ -27,7 +27,7 @@ rest_of (b ∷ t) = t
 behind_reference : Text → Text
 behind_reference t = rest_of (rest_of (rest_of (rest_of (rest_of t))))
 
--- a text is read as one text alone
+-- a text is read as only one text
 pub one_reading : (written other t u : Text) → written ≡ other → IsReadAs written t → IsReadAs other u → t ≡ u
 unfolding head_of rest_of behind_reference
 one_reading _ _ _ _ e read_nothing read_nothing = refl

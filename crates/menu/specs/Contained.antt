@@ -1,4 +1,4 @@
--- What keeps a text within its place in HTML, whatever is around it (HTML Living Standard, sections 13.1.2 and 13.1.4).
+-- When a text cannot break out of its place in HTML, whatever is around it (HTML Living Standard, sections 13.1.2 and 13.1.4).
 use Rattle.std.specs.Prelude.{◌≡◌, ℕ, ◌≤◌, ◌==◌, Bool, true, false, ◌||◌, nat_eq, codes, ◌∷◌, ◌++◌, length, All, ◌⊎◌}
 use Rattle.std.specs.List.{list_any}
 use Rattle.std.specs.Char.{is_ascii_alphanumeric}
@@ -9,11 +9,11 @@ use Rattle.menu.specs.Escaping.{ampersand, ampersand_reference, apostrophe_refer
 abbrev pub is_delimiter : ℕ → Bool
 is_delimiter b = list_any (nat_eq b) (codes "\"'<>")
 
--- the text has these at its front
+-- the text begins with these bytes
 abbrev pub BeginsWith : Text → Text → Type 0
 BeginsWith front text = (rest : Text) × (text ≡ front ++ rest)
 
--- no delimiter, and no ampersand but as the beginning of one of the two references
+-- no delimiter, and no ampersand except at the beginning of one of the two references
 pub record IsContained (text : Text) : Type 0 where
   pub no_delimiter : All (λ b. is_delimiter b ≡ false) text
   pub references : (before behind : Text) → text ≡ before ++ (ampersand ∷ behind) → BeginsWith ampersand_reference (ampersand ∷ behind)
@@ -29,7 +29,7 @@ is_markup b = is_delimiter b || b == ampersand
 abbrev pub is_name_character : ℕ → Bool
 is_name_character b = is_ascii_alphanumeric b || list_any (nat_eq b) (codes "-_.")
 
--- 1 to 64 of these
+-- 1 to 64 of these characters
 pub record IsTargetName (name : Text) : Type 0 where
   pub some : 1 ≤ length name
   pub few : length name ≤ 64

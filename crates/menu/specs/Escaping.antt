@@ -18,14 +18,14 @@ ampersand_reference = codes "&amp;"
 abbrev pub apostrophe_reference : Text
 apostrophe_reference = codes "&#39;"
 
--- the ampersand and the apostrophe as references, any other byte as it is
+-- the ampersand and the apostrophe as references, and any other byte unchanged
 abbrev pub escaped_byte : ℕ → Text
 escaped_byte b = if b == ampersand then ampersand_reference else (if b == apostrophe then apostrophe_reference else (b ∷ []))
 
 abbrev pub escaped : Text → Text
 escaped link = flat_map escaped_byte link
 
--- what a reader of HTML makes of a text with these two references: each is one character
+-- how a reader of HTML reads a text with these two references: each reference is one character
 pub data IsReadAs : Text → Text → Type 0 where
   read_nothing : IsReadAs [] []
   read_ampersand : (t u : Text) → IsReadAs t u → IsReadAs (ampersand_reference ++ t) (ampersand ∷ u)

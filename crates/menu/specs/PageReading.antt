@@ -1,6 +1,6 @@
--- How a reader of HTML takes a page apart: token by token, from its beginning (HTML Living Standard, section 13.2.5).
--- Only some pages have a reading here: a few tags, links whose one attribute is `href`, texts, and two character
--- references. A page with anything else, such as `<script>` or a second attribute, has none.
+-- How a reader of HTML parses a page: token by token, from its beginning (HTML Living Standard, section 13.2.5). Only some pages have a reading here: a few
+-- tags, links whose one attribute is `href`, texts, and two character references. A page with anything else, such as `<script>` or a second attribute, has
+-- none.
 use Rattle.std.specs.Prelude.{◌≡◌, ◌≢◌, ℕ, ◌==◌, Bool, true, not, ◌&&◌, ◌||◌, nat_lt, List, [], ◌∷◌, ◌++◌, codes, All, if◌then◌else◌}
 use Rattle.std.specs.List.{flat_map}
 use Rattle.text_model.specs.Texts.{Text}

@@ -46,7 +46,7 @@ html_items menu = flat_map html_item (links menu)
 abbrev pub html_list : List MenuEntry → Text
 html_list menu = codes "<ul>\n" ++ (html_items menu ++ codes "</ul>\n")
 
--- the list, or a paragraph where there are no links
+-- the list, or a paragraph if there are no links
 abbrev pub html : List MenuEntry → Text
 html menu =
     codes "<!DOCTYPE html>\n<title>Links</title>\n" ++ (if is_empty menu then codes "<p>No links</p>\n" else html_list menu)

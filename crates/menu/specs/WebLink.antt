@@ -1,4 +1,4 @@
--- Links of the web.
+-- Web links.
 use Rattle.std.specs.Prelude.{Bool, ◌||◌, codes}
 use Rattle.text_model.specs.Texts.{Text}
 use Rattle.uri_text.specs.AnyCase.{begins_in_any_case}

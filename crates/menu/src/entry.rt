@@ -1,11 +1,11 @@
-//! What a menu has of each target.
+//! The entries of a menu.
 
 ghost use Rattle.std.specs.Prelude.{◌≡◌};
 ghost use Rattle.menu.specs.Links.{has_link};
 
 use uri_text::Text;
 
-/// What a target's rows led to: its link, or the reason why it has none.
+/// The outcome of a target: its link, or the reason why it has none.
 #[derive(Drop)]
 pub enum Resolution {
     /// A row of the target's table gave a link; rows count from 0.
@@ -14,18 +14,18 @@ pub enum Resolution {
     NoRow,
     /// The target's rules gave no link.
     NoLink,
-    /// What they gave is no web link.
+    /// The target's rules gave a link, but not a web link.
     NotAWebLink,
-    /// They did not run: they might have printed that many bytes, which is more than they may.
+    /// The target's rules did not run, because they might have printed that many bytes, which is over the limit.
     OverBudget(u64),
 }
 
-/// What a menu has of one target.
+/// The entry of one target.
 #[derive(Drop)]
 pub struct MenuEntry {
     /// The target's name.
     pub name: Text,
-    /// What its rows led to.
+    /// Its link, or the reason why it has none.
     pub resolution: Resolution,
 }
 

@@ -19,7 +19,7 @@ fn push_escaped_char(out: &mut String, c: char) -> Result<(), AllocError>
     }
 }
 
-// Appends a link unchanged in the value of an attribute.
+// Appends a link as the value of an attribute, escaped so that a reader of HTML gets the same link.
 fn push_escaped(out: &mut String, link: &str) -> Result<(), AllocError>
     ensures { OnOk result (string_bytes out.new ≡ string_bytes out.old ++ escaped link.now) }
 {
@@ -29,7 +29,7 @@ fn push_escaped(out: &mut String, link: &str) -> Result<(), AllocError>
     Ok(())
 }
 
-// Appends the item of a link and the name of its target.
+// Appends the list item with a link and the name of its target.
 fn push_link_item(out: &mut String, name: &str, link: &str) -> Result<(), AllocError>
     ensures { OnOk result
         (string_bytes out.new ≡ string_bytes out.old ++ html_item (record { name = name.now; link = link.now })) }

@@ -6,7 +6,7 @@ ghost use Rattle.menu.specs.Printed.{text, resolution_text, report_line};
 use crate::entry::{MenuEntry, Resolution};
 use std::alloc::AllocError;
 
-// Appends the entry's line of the links, if it has a link.
+// Appends the entry's line of the plain text, if it has a link.
 pub(crate) fn push_text_line(out: &mut String, entry: &MenuEntry) -> Result<(), AllocError>
     ensures { OnOk result (string_bytes out.new ≡ string_bytes out.old ++ text (entry.now ∷ [])) }
 {
@@ -32,7 +32,7 @@ fn push_resolution(out: &mut String, resolution: &Resolution) -> Result<(), Allo
     }
 }
 
-// Appends the entry's line of the reasons.
+// Appends the entry's line of the report.
 pub(crate) fn push_report_line(out: &mut String, entry: &MenuEntry) -> Result<(), AllocError>
     ensures { OnOk result (string_bytes out.new ≡ string_bytes out.old ++ report_line entry.now) }
 {

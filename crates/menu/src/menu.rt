@@ -40,13 +40,6 @@ impl Menu {
         Menu { list: entries }
     }
 
-    /// The entries in their order, lent.
-    pub fn entries(&self) -> &[MenuEntry]
-        ensures { result.now ≡ self.now }
-    {
-        &self.list
-    }
-
     /// Whether no target has a link.
     #[tactic(auto, using(crate::proofs::LinkLemmas::no_links))]
     pub fn is_empty(&self) -> bool
@@ -55,8 +48,8 @@ impl Menu {
         !has_links(&self.list)
     }
 
-    /// The links as plain text: for each a line with its target's name, a tab and the link. Lines end with LF,
-    /// and a menu without links has none. The error is out of memory.
+    /// The links as plain text: for each link a line with its target's name, a tab and the link. Lines end with LF, and
+    /// a menu without links has no lines. The error is out of memory.
     pub fn text(&self, alloc: Global) -> Result<String, AllocError>
         ensures { IfOk result (λ printed. string_bytes printed ≡ text self.now) }
     {
@@ -67,9 +60,9 @@ impl Menu {
         Ok(out)
     }
 
-    /// The reasons as plain text: for each target a line with its name, a tab and `link R`, where R is the row
-    /// that gave the link, from 0; or `no row`, `no link`, `not a web link`, or `over budget N`, where N is
-    /// in bytes. Lines end with LF. The error is out of memory.
+    /// The outcomes as plain text: for each target a line with its name, a tab and `link R`, where R is the row that
+    /// gave the link, counted from 0; or `no row`, `no link`, `not a web link`, or `over budget N`, where N is a number
+    /// of bytes. Lines end with LF. The error is out of memory.
     pub fn report(&self, alloc: Global) -> Result<String, AllocError>
         ensures { IfOk result (λ printed. string_bytes printed ≡ report self.now) }
     {
@@ -80,9 +73,9 @@ impl Menu {
         Ok(out)
     }
 
-    /// The links as a page of HTML (HTML Living Standard, section 13.1): a list with an item for each link,
-    /// whose text is the target's name, or one paragraph where there is none. In a link `&` is written
-    /// `&amp;` and `'` is written `&#39;`; a name is written as it is. The error is out of memory.
+    /// The links as a page of HTML (HTML Living Standard, section 13.1): a list with an item for each link, whose text
+    /// is the target's name, or one paragraph if there is no link. In a link `&` is written `&amp;` and `'` is written
+    /// `&#39;`; a name is written unchanged. The error is out of memory.
     pub fn html(&self, alloc: Global) -> Result<String, AllocError>
         ensures { IfOk result (λ printed. string_bytes printed ≡ html self.now) }
     {

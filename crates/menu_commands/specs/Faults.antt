@@ -13,7 +13,7 @@ use Rattle.registry_file.specs.declared.error.TargetFault.TheVariants as target
 use Rattle.menu_commands.specs.declared.fault.MenuFault.{MenuFault}
 use Rattle.menu_commands.specs.declared.fault.MenuFault.TheVariants.{Registry, Target, Port, NoLink, Base}
 
--- a target that is rejected because a file of it cannot be read has the status of a device
+-- a target that is rejected because one of its files cannot be read has the status of a device error
 abbrev pub status_of_target : TargetFault → ℕ
 status_of_target (target.Device path) = 4
 status_of_target (target.Load e) = 3
@@ -27,7 +27,7 @@ status_of (Port argument) = 4
 status_of NoLink = 1
 status_of (Base fault) = status_of_base fault
 
--- an allocation that fails is one error, wherever it was
+-- an allocation that fails is the same error, wherever it was
 abbrev pub out_of_memory : MenuFault
 out_of_memory = Base Memory
 
@@ -41,7 +41,7 @@ registry_fault path (file.Line n) = Registry n
 registry_fault path (file.Target e) = Target e
 registry_fault path file.NoMemory = out_of_memory
 
--- the output failed, which is told by the path `-`
+-- the output failed: the error has the path `-`
 abbrev pub IsOutput : BaseFault → Type 0
 IsOutput (Query e) = ⊥
 IsOutput Memory = ⊥

@@ -9,7 +9,7 @@ use Rattle.registry_file.specs.declared.error.RegistryError.{RegistryError}
 use Rattle.menu_commands.specs.Faults.{registry_fault}
 use Rattle.menu_commands.specs.declared.fault.MenuFault.{MenuFault}
 
--- the registry file at the path is not loaded, and this is its error
+-- the registry file at the path cannot be loaded, and this is the error
 pub record IsNoRegistry {F K : Type 0} (fails : F → FileCall → Text → F → Type 0) (draws : K → ℕ → ℕ → K → Type 0) (no_keys : K → K → Type 0)
     (disk : Disk) (keys_before : K) (path : Bor Text) (keys_after : K) (fault : MenuFault) : Type 0 where
   pub error : RegistryError

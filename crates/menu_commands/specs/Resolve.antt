@@ -37,13 +37,13 @@ module _ {K : Type 0} (draws : K → ℕ → ℕ → K → Type 0) (disk : Disk)
     pub loaded : IsLoaded draws disk keys_before path keys_after targets
     pub menu : IsMenuText targets query text
 
-  -- the registry file at the path has no menu for the query
+  -- the registry file at the path is loaded, but there is no menu text for the query
   pub record TellsNoMenu (path query : Text) (keys_after : K) (fault : MenuFault) : Type 0 where
     pub targets : List TargetValue
     pub loaded : IsLoaded draws disk keys_before path keys_after targets
     pub no_menu : IsNoMenu targets query fault
 
--- there is no registry at the path, or else it has no menu for the query
+-- the registry cannot be loaded, or else there is no menu text for the query
 abbrev pub IsResolveFault : {F K : Type 0} → (F → FileCall → Text → F → Type 0) → (K → ℕ → ℕ → K → Type 0) → (K → K → Type 0)
     → Disk → K → Bor Text → Text → K → MenuFault → Type 0
 IsResolveFault fails draws no_keys disk keys_before path query keys_after fault =

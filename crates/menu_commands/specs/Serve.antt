@@ -23,7 +23,7 @@ listening_line port = codes "listening 127.0.0.1:" ++ (decimal port ++ 10 ∷ []
 abbrev pub wait : ℕ
 wait = 2_000_000_000
 
--- the registry is loaded, a listener is bound to the port, or to a free one where that is 0, and the line says which
+-- the registry is loaded, a listener is bound to the port, or to a free one if that is 0, and the line says which
 pub record IsListening {K P L : Type 0} (draws : K → ℕ → ℕ → K → Type 0) (binds : P → ℕ → L × ℕ → P → Type 0)
     (disk : Disk) (keys_before : K) (ports_before : P) (service : Service) (keys_after : K) (ports_after : P)
     (targets : List TargetValue) (listener : L) (line : Text) : Type 0 where

@@ -6,7 +6,7 @@ use Rattle.std.specs.Str.Parse.{digits_value}
 use Rattle.text_model.specs.Texts.{Text}
 use Rattle.menu_commands.specs.declared.service.Service.{Service}
 
--- the argument is ASCII digits alone, and this is their value
+-- the argument has only ASCII digits, and this is their value
 pub record IsNumber (argument : Text) (n : ℕ) : Type 0 where
   pub some : 0 < length argument
   pub digits : list_all is_ascii_digit argument ≡ true

@@ -12,14 +12,14 @@ use thiserror::Error;
 /// Why a command on a registry ends without its result.
 #[derive(Debug, Drop, Error)]
 pub enum MenuFault<'a> {
-    /// A line of the registry file, counted from 1 without blank ones, is not that of a target; 0: the file is too
-    /// long.
+    /// This line of the registry file is not that of a target; lines are counted from 1, without blank ones. 0 means
+    /// that the file is too long.
     #[error("registry: line {0}")]
     Registry(usize),
     /// A target of the registry is rejected.
     #[error("target {0}")]
     Target(TargetError),
-    /// Nothing can listen at the port of this machine, or it gives no more connections.
+    /// The port cannot be bound, or accepts no more connections.
     #[error("device: 127.0.0.1:{0}")]
     Port(&'a str),
     /// No target has a link. Nothing is printed.
@@ -45,7 +45,7 @@ impl<'a> MenuFault<'a> {
     }
 }
 
-/// The exit status where a target is rejected.
+/// The exit status if a target is rejected.
 fn status_of_target(fault: &TargetFault) -> u8
     ensures { result ≡ status_of_target fault.now }
 {

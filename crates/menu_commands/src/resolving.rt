@@ -1,4 +1,4 @@
-//! `resolve REGISTRY QUERY`: the menu of links that a registry has for a request.
+//! `resolve REGISTRY QUERY`: the menu of links of a registry for a request.
 
 ghost use Rattle.std.specs.Prelude.{◌≡◌, IfOk, IfErr, string_bytes};
 ghost use Rattle.files.specs.Changes.{Unchanged};

@@ -9,7 +9,7 @@ ghost use Rattle.menu_commands.specs.declared.service.Service.{Service};
 /// The largest port.
 const MAX_PORT: u32 = 65_535;
 
-/// The most connections that one service takes.
+/// The maximum number of connections that one service can serve.
 const MAX_COUNT: u32 = 1_000_000;
 
 /// A service of a registry's menus at a port of this machine, for a number of connections.
@@ -19,15 +19,15 @@ pub struct Service<'a> {
     pub registry: &'a str,
     /// The port as it was written, to name it in an error.
     pub port_text: &'a str,
-    /// The port; 0: a free one.
+    /// The port; 0 means any free port.
     pub port: u16,
     /// The number of connections.
     pub count: u32,
 }
 
 impl<'a> Service<'a> {
-    /// The service of these three arguments, of which the last two are numbers of ASCII digits alone: a port up to
-    /// 65,535, and a count from 1 to 1,000,000.
+    /// The service for these three arguments. The last two are written in ASCII digits only: a port up to 65,535, and a
+    /// count from 1 to 1,000,000.
     pub fn parse(registry: &'a str, port_text: &'a str, count_text: &'a str) -> Option<Service<'a>>
         ensures some { IfSome result (IsServiceOf registry.now port_text.now count_text.now) }
         ensures none { IfNone result ((service : Service)
@@ -47,7 +47,7 @@ impl<'a> Service<'a> {
     }
 }
 
-/// The number of an argument of ASCII digits alone, if it is not more than `most`.
+/// The number of an argument that has only ASCII digits, if it is at most `most`.
 fn number(argument: &str, most: u32) -> Option<u32>
     ensures some { IfSome result (λ n. IsNumber argument.now n × (n ≤ most)) }
     ensures none { IfNone result ((n : ℕ) → IsNumber argument.now n → most < n) }

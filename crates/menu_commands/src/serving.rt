@@ -20,8 +20,8 @@ use registry_file::KeySource;
 use std::alloc::{AllocError, Global};
 use std::io::Write;
 
-/// Serves the menus of the registry at the port, for as many connections as the service says, and returns how they
-/// went. Before the first it prints on `output` where it listens.
+/// Serves the menus of the registry at the port, for the service's number of connections, and returns how they ended.
+/// Before the first connection it prints on `output` where it listens.
 pub fn serve<'a, F: Files, K: KeySource, P: Ports, O: Write>(
     alloc: Global,
     files: &mut F,

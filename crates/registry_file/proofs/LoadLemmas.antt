@@ -1,4 +1,4 @@
--- Targets of a registry file, line after line.
+-- Targets of a registry file, line by line.
 use Rattle.std.proofs.Common.{◌≡◌, ℕ, ◌+◌, ◌<◌, ◌≤◌, List, [], ◌∷◌, ◌++◌, inl, inr, length, map, take, drop, get_or, suc, sym, ap, subst, arith, ◌∙◌}
 use Rattle.std.proofs.lemmas.List.{take_more, map-append, length-map, length-take}
 use Rattle.std.proofs.Math.Seq.{split_at}
@@ -55,7 +55,7 @@ module _ (disk : Disk) (keys : Keys) where
           refused = subst (λ before. IsRefusedLine fails disk targets (before + 1) (cells line) e) count refused;
         }
 
-    -- a line that is refused, of bytes that are few enough
+    -- a line that is rejected, of bytes that are not too many
     pub line_fault : {X : Type 0} (cells : X → Row) (bytes : Text) (lines : List X) (n : ℕ) (targets : List TargetValue) (line : X) (e : RegistryError)
         → length bytes ≤ MAX_REGISTRY_BYTES → AreLines bytes (map cells lines) → IsNext cells lines n targets line
         → IsRefusedLine fails disk targets (n + 1) (cells line) e → IsRegistryFault fails disk keys bytes e

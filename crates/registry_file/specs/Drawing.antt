@@ -1,4 +1,4 @@
--- Keys of tables that are drawn.
+-- Random keys of tables.
 use Rattle.std.specs.Prelude.{◌≡◌, ℕ}
 use Rattle.kbart_rows.specs.Hashing.{begun_by, keyed}
 use Rattle.kbart_rows.specs.declared.keys.Keys.{Keys}

@@ -8,6 +8,6 @@ pub record IsTargetLine (row : Row) (name code table : Text) : Type 0 where
   pub three : row ≡ name ∷ code ∷ table ∷ []
   pub utf8 : IsUtf8 name × IsUtf8 code × IsUtf8 table
 
--- it is the line of no target
+-- it is not the line of a target
 abbrev pub IsNoTargetLine : Row → Type 0
 IsNoTargetLine row = (name code table : Text) → IsTargetLine row name code table → ⊥

@@ -1,4 +1,4 @@
--- What a registry file gives: targets, or its first fault.
+-- Loading a registry file: its targets, or its first fault.
 use Rattle.std.specs.Prelude.{◌≡◌, ◌≢◌, ℕ, ◌+◌, ◌≤◌, ◌<◌, ◌⊎◌, List, [], ◌∷◌, ◌++◌, length, string_bytes}
 use Rattle.text_model.specs.Texts.{Text}
 use Rattle.code_model.specs.Code.{Code}
@@ -31,7 +31,7 @@ pub record IsSafeFile (bytes : Text) (code : Code) : Type 0 where
   pub file : IsCodeFile bytes code
   pub safe : IsSafe code
 
--- there is a file of safe code
+-- there is a code file of safe code
 abbrev pub HasCode : Found → Type 0
 HasCode found = OfFile found (λ bytes. (code : Code) × IsSafeFile bytes code)
 
@@ -67,13 +67,12 @@ pub record AreTargetsOf (disk : Disk) (keys : Keys) (bytes : Text) (targets : Li
 -- ---- faults
 
 module _ {F : Type 0} (fails : F → FileCall → Text → F → Type 0) (disk : Disk) where
-  -- a read failed, and its path is the one that is named: that of the code, or if the code is good, that of the table
+  -- a read failed, and the error has its path: that of the code or, if the code is accepted, that of the table
   abbrev pub IsUnread : Text → Text → Text → Type 0
   IsUnread code_path table_path named =
       ((named ≡ code_path) × HasFailed fails Read code_path) ⊎ (HasCode (disk code_path) × (named ≡ table_path) × HasFailed fails Read table_path)
 
-  -- why a target of this name is not added to others: its code first, then its table, then what `add` decides; running out of memory
-  -- is none of the reasons
+  -- why a target with this name is not added to others: first its code, then its table, then what `add` checks; running out of memory is not among the reasons
   abbrev pub IsTargetFault : List TargetValue → Text → Text → Text → TargetFault → Type 0
   IsTargetFault targets name code_path table_path (fault.Device named) = IsUnread code_path table_path (string_bytes named)
   IsTargetFault targets name code_path table_path (fault.Load e) = (e ≢ load.NoMemory) × OfFile (disk code_path) (λ bytes. IsLoadFault bytes e)
@@ -82,7 +81,7 @@ module _ {F : Type 0} (fails : F → FileCall → Text → F → Type 0) (disk :
   IsTargetFault targets name code_path table_path (fault.Add kind) =
       (kind ≢ add.NoMemory) × HasCode (disk code_path) × HasTable (disk table_path) × IsRefusal targets name kind
 
-  -- the line is that of a target that is not added to others
+  -- the line is that of a target that cannot be added to the others
   pub record IsRefusedTarget (targets : List TargetValue) (row : Row) (e : TargetError) : Type 0 where
     pub code_path : Text
     pub table_path : Text
@@ -97,7 +96,7 @@ module _ {F : Type 0} (fails : F → FileCall → Text → F → Type 0) (disk :
   IsRefusedLine targets number row Device = ⊥
 
   module _ (keys : Keys) where
-    -- the lines before one are those of targets, and this one gives none
+    -- the lines before one are those of targets, and that one gives no target
     pub record StopsAtLine (rows : List Row) (e : RegistryError) : Type 0 where
       pub before : List Row
       pub row : Row
@@ -107,14 +106,14 @@ module _ {F : Type 0} (fails : F → FileCall → Text → F → Type 0) (disk :
       pub held : AreTargets disk keys before targets
       pub refused : IsRefusedLine targets (length before + 1) row e
 
-    -- the bytes are few enough, and a line of them gives no target
+    -- the bytes are not too many, and one of their lines gives no target
     pub record HasLineFault (bytes : Text) (e : RegistryError) : Type 0 where
       pub rows : List Row
       pub short : length bytes ≤ MAX_REGISTRY_BYTES
       pub lines : AreLines bytes rows
       pub stops : StopsAtLine rows e
 
-    -- why bytes are no registry file
+    -- why bytes are not a registry file
     abbrev pub IsRegistryFault : Text → RegistryError → Type 0
     IsRegistryFault bytes (Line n) = ((n ≡ 0) × (MAX_REGISTRY_BYTES < length bytes)) ⊎ HasLineFault bytes (Line n)
     IsRegistryFault bytes (Target e) = HasLineFault bytes (Target e)
@@ -140,8 +139,8 @@ module _ {K : Type 0} (draws : K → ℕ → ℕ → K → Type 0) (disk : Disk)
     pub drawn : IsDrawn draws old keys new
     pub fault : HasLineFault fails disk keys bytes e
 
--- why the file at a path gives no registry: first it is not read, or is too long, and then no keys are drawn; then there are none; then a line
--- gives no target
+-- why the file at a path gives no registry, in this order: it cannot be read or is too long, and then no keys are drawn; no keys can be drawn; a line gives no
+-- target
 abbrev pub IsNotLoaded : {F K : Type 0} → (F → FileCall → Text → F → Type 0) → (K → ℕ → ℕ → K → Type 0) → (K → K → Type 0)
     → Disk → K → Text → K → RegistryError → Type 0
 IsNotLoaded fails draws no_keys disk old path new Device =

@@ -1,4 +1,4 @@
-//! Why a registry file gives no registry.
+//! Why a registry file could not be loaded.
 
 use crate::keys::NoKeys;
 use files::{FileError, ReadError};
@@ -8,17 +8,17 @@ use std::alloc::AllocError;
 use thiserror::Error;
 use verifier::LoadError;
 
-/// Why a registry file gives no registry: its first fault.
-#[derive(Debug, PartialEq, Eq, Drop, Error)]
+/// Why a registry file could not be loaded: its first fault.
+#[derive(Debug, Drop, Error)]
 pub enum RegistryError {
     /// The registry file could not be read, or there were no random keys for the tables.
     #[error("device")]
     Device,
-    /// The line, counted from 1 without blank ones, has not three cells of UTF-8. Line 0: the file has more than
-    /// [`MAX_REGISTRY_BYTES`](crate::MAX_REGISTRY_BYTES).
+    /// This line does not have three cells of UTF-8; lines are counted from 1, without blank ones. Line 0 means that
+    /// the file has more than [`MAX_REGISTRY_BYTES`](crate::MAX_REGISTRY_BYTES).
     #[error("line {0}")]
     Line(usize),
-    /// A target is refused.
+    /// A target is rejected.
     #[error("target {0}")]
     Target(TargetError),
     /// An allocation failed.
@@ -26,28 +26,29 @@ pub enum RegistryError {
     NoMemory,
 }
 
-/// A target that is refused.
-#[derive(Debug, PartialEq, Eq, Drop, Error)]
+/// A target that is rejected, and why.
+#[derive(Debug, Drop, Error)]
 #[error("{name}: {fault}")]
 pub struct TargetError {
-    /// Its name, as the registry file has it.
+    /// Its name in the registry file.
     pub name: String,
+    /// Why it is rejected.
     pub fault: TargetFault,
 }
 
-/// Why a target is refused, in the order in which it is decided: its code, its table, its name.
-#[derive(Debug, PartialEq, Eq, Drop, Error)]
+/// Why a target is rejected, in the order in which it is checked: its code, its table, its name.
+#[derive(Debug, Drop, Error)]
 pub enum TargetFault {
     /// The file at the path could not be read.
     #[error("device: {0}")]
     Device(String),
-    /// The code is not accepted.
+    /// The verifier rejects the code.
     #[error("load: {0}")]
     Load(LoadError),
-    /// The file is no table.
+    /// The file is not a holdings table.
     #[error("table: {0}")]
     Table(TableError),
-    /// There are too many targets, or the name is not one that the target can have.
+    /// There are too many targets, or the name is bad or taken.
     #[error("{0}")]
     Add(AddErrorKind),
 }
@@ -74,7 +75,7 @@ impl From<NoKeys> for RegistryError {
     }
 }
 
-/// Why the registry file is not read.
+/// Why the registry file could not be read.
 impl From<ReadError> for RegistryError {
     ghost use Rattle.registry_file.specs.Private.Stops.{error_of_read};
     ghost use Rattle.std.specs.Prelude.{◌≡◌};

@@ -14,7 +14,7 @@ use thiserror::Error;
 #[error("no random numbers")]
 pub struct NoKeys;
 
-/// Where the keys of tables come from.
+/// A source of secret keys for tables.
 pub trait KeySource {
     /// Between the two states, these two numbers were drawn.
     ghost draws: { Self → ℕ → ℕ → Self → Type 0 };
@@ -22,7 +22,7 @@ pub trait KeySource {
     /// Between the two states, a draw failed.
     ghost fails: { Self → Self → Type 0 };
 
-    /// Keys made of two numbers that are drawn.
+    /// Draws two random numbers, and makes keys of them.
     fn draw(&mut self) -> Result<Keys, NoKeys>
         ensures drawn { IfOk result (λ keys. IsDrawn draws self.old keys self.new) }
         ensures failed { OnErr result (fails self.old self.new) };
@@ -35,7 +35,7 @@ pub struct SystemKeys<'a, R> {
 }
 
 impl<'a, R: RandomSource> SystemKeys<'a, R> {
-    /// The random numbers that the runtime gives.
+    /// The random numbers of this runtime.
     pub fn new(rt: &'a R) -> SystemKeys<'a, R> {
         SystemKeys { rt }
     }

@@ -11,4 +11,4 @@ mod target;
 pub use error::{RegistryError, TargetError, TargetFault};
 pub use keys::{KeySource, NoKeys, SystemKeys};
 pub use lines::MAX_REGISTRY_BYTES;
-pub use load::{load_registry, read_registry};
+pub use load::load_registry;

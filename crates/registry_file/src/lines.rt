@@ -1,7 +1,8 @@
 //! The lines of a registry file.
 
-ghost use Rattle.std.specs.Prelude.{◌≡◌, ◌≤◌, ◌<◌, ◌⊎◌, Err, IfNone, IfOk, IfSome, IsUtf8, OnOk, Some, map};
+ghost use Rattle.std.specs.Prelude.{◌≡◌, ◌++◌, ◌∷◌, [], IfNone, IfOk, IfSome, IsUtf8, Ok, OnOk, Some, map};
 ghost use Rattle.csv.specs.Records.{field_at, fields_of};
+ghost use Rattle.csv.specs.declared.record.ByteRecord.{ByteRecord};
 ghost use Rattle.kbart_rows.specs.Reading.{AreLines};
 ghost use Rattle.registry_file.specs.Lines.{IsNoTargetLine, IsTargetLine};
 
@@ -9,21 +10,28 @@ use csv::ByteRecord;
 use kbart_rows::tab_separated_reader;
 use std::alloc::{AllocError, Global};
 
-/// The largest registry file, in bytes; a byte order mark counts.
+/// The maximum size of a registry file, in bytes; a byte order mark counts.
 pub const MAX_REGISTRY_BYTES: usize = 65_536;
 
-/// The records of a tab separated text, but for blank lines; one byte order mark is dropped.
+/// The records of a tab-separated text, without blank lines; one byte order mark is dropped.
 pub(crate) fn read_lines(alloc: Global, bytes: &[u8]) -> Result<Vec<ByteRecord>, AllocError>
     ensures { IfOk result (λ lines. AreLines bytes.now (map fields_of lines.items)) }
 {
     let mut lines = Vec::new(alloc);
     for record in tab_separated_reader(alloc, bytes).into_byte_records() {
-        let Ok(line) = record else {
-            return Err(AllocError);
-        };
-        lines.push(line)?;
+        push_line(&mut lines, record)?;
     }
     Ok(lines)
+}
+
+/// Adds a line after the others, if it was read. Reading from bytes fails only if memory runs out.
+fn push_line(lines: &mut Vec<ByteRecord>, read: csv::Result<ByteRecord>) -> Result<(), AllocError>
+    ensures { OnOk result ((line : ByteRecord) × (read ≡ Ok line) × (lines.new.items ≡ lines.old.items ++ line ∷ [])) }
+{
+    match read {
+        Ok(line) => Ok(lines.push(line)?),
+        Err(_) => Err(AllocError),
+    }
 }
 
 /// The cells of a target's line.
@@ -34,7 +42,7 @@ pub(crate) struct TargetLine<'a> {
     pub(crate) table: &'a str,
 }
 
-/// The cells of a line, if it has three, and each is UTF-8.
+/// The cells of a line, if there are exactly three and each is UTF-8.
 pub(crate) fn target_line(line: &ByteRecord) -> Option<TargetLine<'_>>
     ensures line { IfSome result
         (λ cells. IsTargetLine (fields_of line.now) cells.name.now cells.code.now cells.table.now) }

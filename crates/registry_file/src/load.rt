@@ -1,13 +1,13 @@
 //! Registries from their files.
 
-ghost use Rattle.std.specs.Prelude.{◌≡◌, ◌≤◌, ◌<◌, ◌+◌, ◌↔◌, ◌++◌, ◌∷◌, [], Err, IfErr, IfOk, OnOk, length};
+ghost use Rattle.std.specs.Prelude.{◌≡◌, ◌≤◌, ◌+◌, ◌++◌, ◌∷◌, [], Err, IfErr, IfOk, OnOk, length};
 ghost use Rattle.csv.specs.Records.{fields_of};
 ghost use Rattle.files.specs.Changes.{Unchanged};
 ghost use Rattle.files.specs.Found.{Absent};
 ghost use Rattle.registry.specs.Targets.{TargetValue};
 ghost use Rattle.registry_file.specs.Loading.{AreTargetsOf, IsLoaded, IsNotLoaded, IsRefusedLine, IsRegistryFault};
 ghost use Rattle.registry_file.specs.Loading.{IsTargetAt};
-ghost use Rattle.registry_file.specs.declared.error.RegistryError.TheVariants.{Device, Line};
+ghost use Rattle.registry_file.specs.declared.error.RegistryError.TheVariants.{Device};
 ghost use Rattle.registry_file.specs.declared.lines.TheConstants.{MAX_REGISTRY_BYTES};
 
 use crate::error::RegistryError;
@@ -42,29 +42,7 @@ pub fn load_registry<F: Files, K: KeySource>(
     registry_of(alloc, files, &bytes, keys)
 }
 
-/// The registry of a registry file with these bytes, whose tables' hashed look-ups have these keys.
-///
-/// Rejects the bytes by their first fault: see [`RegistryError`]. Line 0 says that there are too many, even if memory
-/// has run out.
-pub fn read_registry<F: Files>(
-    alloc: Global,
-    files: &mut F,
-    bytes: &[u8],
-    keys: Keys,
-) -> Result<Registry, RegistryError>
-    ensures limit { MAX_REGISTRY_BYTES ≡ 65536 }
-    ensures ok { IfOk result (AreTargetsOf (F.at files.old) keys bytes.now) }
-    ensures too_long { (result ≡ Err (Line 0)) ↔ (MAX_REGISTRY_BYTES < length bytes.now) }
-    ensures err { IfErr result (IsRegistryFault F.fails (F.at files.old) keys bytes.now) }
-    ensures same { Unchanged (F.at files.old) (F.at files.new) }
-{
-    if bytes.len() > MAX_REGISTRY_BYTES {
-        return Err(RegistryError::Line(0));
-    }
-    registry_of(alloc, files, bytes, keys)
-}
-
-/// The registry of a registry file that is not too long.
+/// The registry of a registry file with these bytes. The hashed look-ups of its tables have these keys.
 fn registry_of<F: Files>(
     alloc: Global,
     files: &mut F,
@@ -76,8 +54,8 @@ fn registry_of<F: Files>(
     ensures err { IfErr result (IsRegistryFault F.fails (F.at files.old) keys bytes.now) }
     ensures same { Unchanged (F.at files.old) (F.at files.new) }
 {
-    let mut registry = Registry::new(alloc);
     let lines = read_lines(alloc, bytes)?;
+    let mut registry = Registry::new(alloc);
     for (before, line) in lines.iter().enumerate() {
         add_line(alloc, files, &mut registry, before + 1, line, keys)?;
     }

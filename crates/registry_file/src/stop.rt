@@ -1,4 +1,4 @@
-//! Why a target is not added, before it is named.
+//! Why a target is not added, without the target's name.
 
 ghost use Rattle.std.specs.Prelude.{◌≡◌, IfOk, string_bytes};
 ghost use Rattle.registry_file.specs.Private.Stops.{IsFaultOf, stop_of_file};
@@ -10,7 +10,7 @@ use registry::AddErrorKind;
 use std::alloc::{AllocError, Global};
 use verifier::LoadError;
 
-/// Why a target is not added, in the order in which it is decided.
+/// Why a target is not added, in the order in which it is checked.
 #[derive(Clone, Copy)]
 pub(crate) enum Stop<'a> {
     /// The file at the path could not be read.

@@ -6,7 +6,7 @@ ghost use Rattle.files.specs.Found.{Absent, OfFile};
 ghost use Rattle.kbart_rows.specs.Reading.{IsTable};
 ghost use Rattle.registry.specs.Targets.{TargetValue};
 ghost use Rattle.registry_file.specs.Loading.{IsSafeFile};
-ghost use Rattle.registry_file.specs.Private.Stops.{IsNoCode, IsNoTable, IsStop, IsTargetOf};
+ghost use Rattle.registry_file.specs.Private.Stops.{IsNoCode, IsNoTable, IsNotAdded, IsStop, IsTargetOf};
 ghost use Rattle.registry_file.specs.declared.stop.Stop.TheVariants.{Device};
 
 use crate::lines::TargetLine;
@@ -36,7 +36,22 @@ pub(crate) fn add_target<'a, F: Files>(
 {
     let code = load_code(alloc, files, line.code)?;
     let table = read_table(alloc, files, line.table, keys)?;
-    let name = String::from_str(alloc, line.name)?;
+    add_named(alloc, registry, line.name, code, table)
+}
+
+/// Adds a target of this name, code and table after the others.
+fn add_named<'a>(
+    alloc: Global,
+    registry: &mut Registry,
+    name: &str,
+    code: Verified,
+    table: Table,
+) -> Result<(), Stop<'a>>
+    ensures ok { OnOk result
+        (registry.new ≡ registry.old ++ record { name = name.now; code = code; table = table } ∷ []) }
+    ensures err { IfErr result (IsNotAdded registry.old name.now) }
+{
+    let name = String::from_str(alloc, name)?;
     match registry.add(name, code, table) {
         Ok(()) => Ok(()),
         Err(refused) => Err(Stop::from(refused.kind)),

@@ -1,4 +1,4 @@
--- What a request alone has under a key.
+-- What a request without a row has under a key.
 use Rattle.std.proofs.Common.{◌≡◌, Bool, true, false, List, [], ◌∷◌, ◌++◌, Option, Some, None, is_some, slice_get, bytes_eq, refl, sym, ap, ◌∙◌, subst}
 use Rattle.std.proofs.Common.{append_assoc}
 use Rattle.std.specs.Prelude.{if◌then◌else◌, sum_by, length}
@@ -9,12 +9,12 @@ use Rattle.environment_model.specs.Environment.{meaning_bytes, meaning_members, 
 use Rattle.environment_model.specs.Lists.{is_list}
 use Rattle.environment_model.proofs.Environments.{look_up-empty, look_up-same, look_up-other, look_up-append, with_member-empty, with_member-same}
 use Rattle.environment_model.proofs.Environments.{with_member-other, with_text-new, with_text-known}
+use Rattle.environment_model.proofs.NameTests.{itself}
+use Rattle.environment_model.proofs.OtherNames.{with_text-differs, with_member-differs}
 use Rattle.kev_read.specs.Pairs.{KeyValue, all_of, first_of}
 use Rattle.kev_read.specs.Filling as by_pairs
 use Rattle.kev_read.specs.Filling.{added, fill_one}
 use Rattle.row_laws.specs.Shadowing.{asked, found_in, first_bytes, asked_bytes, asked_members}
-use Rattle.row_laws.proofs.Shadowing.{look_up-front}
-use Rattle.row_laws.proofs.NameTests.{itself, undefined}
 
 -- what a name is bound to after more values
 abbrev pub grown : List Text → Bool → Option Meaning → Option Meaning
@@ -50,20 +50,6 @@ with_text-same env key t = by_found (look_up env key) refl
     by_found (Some (Single u)) is = ap (λ es. look_up es key) (with_text-known env key t (ap is_some is)) ∙ is ∙ ap (grown (t ∷ []) false) (sym is)
     by_found (Some (Several us)) is = ap (λ es. look_up es key) (with_text-known env key t (ap is_some is)) ∙ is ∙ ap (grown (t ∷ []) false) (sym is)
 
-pub with_text-differs : (env : Environment) (key t other : Text) → bytes_eq key other ≡ false → look_up (with_text env key t) other ≡ look_up env other
-with_text-differs env key t other differs = by_test (is_there env key) refl
-  where
-    by_other : (b : Bool) → is_there env other ≡ b → look_up (env ++ record { name = key; meaning = Single t } ∷ []) other ≡ look_up env other
-    by_other true there = look_up-front env (record { name = key; meaning = Single t } ∷ []) other there
-    by_other false absent =
-        look_up-append env (record { name = key; meaning = Single t } ∷ []) other absent
-        ∙ look_up-other (record { name = key; meaning = Single t }) [] other differs
-        ∙ look_up-empty other ∙ sym (undefined (look_up env other) absent)
-
-    by_test : (b : Bool) → is_there env key ≡ b → look_up (with_text env key t) other ≡ look_up env other
-    by_test true known = ap (λ es. look_up es other) (with_text-known env key t known)
-    by_test false new = ap (λ es. look_up es other) (with_text-new env key t new) ∙ by_other (is_there env other) refl
-
 with_member-grows : (env : Environment) (key t : Text) → look_up (with_member env key t) key ≡ grown (t ∷ []) true (look_up env key)
 with_member-grows [] key t =
     ap (λ es. look_up es key) (with_member-empty key t)
@@ -84,23 +70,6 @@ with_member-grows (e ∷ env) key t = by_name (bytes_eq e.name key) refl (with_m
     by_name false other after =
         ap (λ es. look_up es key) (with_member-other e env key t other) ∙ look_up-other e (with_member env key t) key other
         ∙ after ∙ ap (grown (t ∷ []) true) (sym (look_up-other e env key other))
-
-with_member-differs : (env : Environment) (key t other : Text) → bytes_eq key other ≡ false → look_up (with_member env key t) other ≡ look_up env other
-with_member-differs [] key t other differs =
-    ap (λ es. look_up es other) (with_member-empty key t) ∙ look_up-other (record { name = key; meaning = Several (t ∷ []) }) [] other differs
-with_member-differs (e ∷ env) key t other differs = by_name (bytes_eq e.name key) refl (with_member-differs env key t other differs)
-  where
-    by_name : (b : Bool) → bytes_eq e.name key ≡ b → look_up (with_member env key t) other ≡ look_up env other
-        → look_up (with_member (e ∷ env) key t) other ≡ look_up (e ∷ env) other
-    by_name true same after =
-        let not_other : bytes_eq e.name other ≡ false = ap (λ n. bytes_eq n other) ((bytes_eq-Decides e.name key).0 same) ∙ differs in
-        ap (λ es. look_up es other) (with_member-same e env key t same)
-        ∙ look_up-other (record { name = e.name; meaning = more e.meaning t }) env other not_other ∙ sym (look_up-other e env other not_other)
-    by_name false not_key after = ap (λ es. look_up es other) (with_member-other e env key t not_key) ∙ by_other (bytes_eq e.name other) refl
-      where
-        by_other : (b : Bool) → bytes_eq e.name other ≡ b → look_up (e ∷ with_member env key t) other ≡ look_up (e ∷ env) other
-        by_other true is = look_up-same e (with_member env key t) other is ∙ sym (look_up-same e env other is)
-        by_other false is_not = look_up-other e (with_member env key t) other is_not ∙ after ∙ sym (look_up-other e env other is_not)
 
 own_pair : (env : Environment) (list : Bool) (pair : KeyValue) → look_up (added list env pair) pair.key ≡ grown (pair.value ∷ []) list (look_up env pair.key)
 own_pair env true pair = with_member-grows env pair.key pair.value

@@ -14,14 +14,15 @@ use Rattle.kbart_rows.specs.Cells.{Row, cell_in, cell_of, column_of, defined, is
 use Rattle.kbart_rows.specs.Filling.{with_defined}
 use Rattle.row_laws.specs.Shadowing.{row_of}
 use Rattle.row_laws.proofs.Columns.{entries_of, entries_more}
-use Rattle.row_laws.proofs.NameTests.{differs_back}
-use Rattle.row_laws.proofs.AskedEntries.{grown, with_text-same, with_text-differs}
+use Rattle.environment_model.proofs.NameTests.{differs_back}
+use Rattle.environment_model.proofs.OtherNames.{with_text-differs}
+use Rattle.row_laws.proofs.AskedEntries.{grown, with_text-same}
 
 abbrev single : Option Text → Option Meaning
 single None = None
 single (Some t) = Some (Single t)
 
--- what the columns before n give the name whose first column is given
+-- what the columns before n give for a name, given its first column
 abbrev pub before : Row → ℕ → Option ℕ → Option Meaning
 before cells n None = None
 before cells n (Some k) = if nat_lt k n then single (defined (get_or cells k [])) else None
@@ -76,7 +77,7 @@ no_column header name n none within =
         ⊎_elim (λ lt. absurd (let yes = lt-ltb (position_or_len (bytes_eq name) header) (length header) lt in cc)) (λ le. le)
         (cases_lt (position_or_len (bytes_eq name) header) (length header))
 
--- whether a column of the name is its first
+-- whether a column with the name is the first one
 first_is : (header : Row) (name : Text) (n k : ℕ) → get_or header n [] ≡ name → column_of header name ≡ Some k → is_first header n ≡ (k == n)
 first_is header name n k is found =
     ap (λ x. option_map_or (λ first. first == n) (column_of header x) false) is ∙ ap (λ o. option_map_or (λ first. first == n) o false) found

@@ -7,7 +7,7 @@ use Rattle.environment_model.specs.Environment.{Environment, Entry, Meaning, loo
 use Rattle.environment_model.proofs.Environments.{look_up-empty, look_up-same, look_up-other}
 use Rattle.target_vars.specs.EnvValue.{EachNameOnce}
 use Rattle.row_laws.specs.Shadowing.{found_in, hidden}
-use Rattle.row_laws.proofs.NameTests.{undefined}
+use Rattle.environment_model.proofs.NameTests.{undefined}
 
 module _ (f : Meaning → ℕ) where
   abbrev weigh : Entry → ℕ
@@ -20,7 +20,7 @@ module _ (f : Meaning → ℕ) where
       let rest : hidden [] (x ∷ env) ≡ hidden [] env = rw no refl in
       ap (sum_by weigh) rest ∙ nothing_hidden env
 
-  -- an entry more in the row
+  -- one more entry in the row
   one_name : (e : Entry) (row env : Environment) → is_there row e.name ≡ false → EachNameOnce env
       → sum_by weigh (hidden (e ∷ row) env) ≡ found_in f (look_up env e.name) + sum_by weigh (hidden row env)
   one_name e row [] new once = ap (λ o. found_in f o + 0) (sym (look_up-empty e.name))

@@ -1,4 +1,3 @@
-pub mod NameTests
 pub mod NamesOnce
 pub mod Columns
 pub mod Shadowing
@@ -9,5 +8,4 @@ pub mod CellsByName
 pub mod RowSums
 pub mod HiddenColumns
 pub mod OneMoreList
-pub mod SmallRequests
 pub mod SameValues

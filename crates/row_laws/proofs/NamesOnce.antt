@@ -1,24 +1,16 @@
 -- A row has each name once, and so has a request.
-use Rattle.std.proofs.Common.{◌≡◌, Bool, true, false, List, [], ◌∷◌, ◌++◌, is_some, bytes_eq, refl, sym, ap, ◌∙◌, subst}
+use Rattle.std.proofs.Common.{◌≡◌, Bool, true, false, List, [], ◌∷◌, refl, sym, subst}
 use Rattle.text_model.specs.Texts.{Text}
-use Rattle.environment_model.specs.Environment.{Environment, Entry, Single, Several, is_there, with_text, with_member}
+use Rattle.environment_model.specs.Environment.{Environment, Single, is_there, with_text}
 use Rattle.environment_model.specs.Lists.{is_list}
-use Rattle.environment_model.proofs.Environments.{look_up-empty, look_up-other, other_in_front, absent_behind, is_there-append}
-use Rattle.environment_model.proofs.Environments.{with_text-new, with_text-known, with_member-new, with_member-same, with_member-other, is_there-with_member}
+use Rattle.environment_model.proofs.Environments.{with_text-new, with_text-known}
 use Rattle.target_vars.specs.EnvValue.{EachNameOnce}
+use Rattle.target_vars.proofs.Once.{once-push, once-with_member}
 use Rattle.kev_read.specs.Pairs.{KeyValue}
 use Rattle.kev_read.specs.Filling as by_pairs
 use Rattle.kbart_rows.specs.Cells.{NamedCell}
 use Rattle.kbart_rows.specs.Filling as by_cells
 use Rattle.row_laws.specs.Shadowing.{asked, row_of}
-use Rattle.row_laws.proofs.NameTests.{differs_back}
-
-once-push : (env : Environment) (e : Entry) → EachNameOnce env → is_there env e.name ≡ false → EachNameOnce (env ++ e ∷ [])
-once-push [] e once absent = (ap is_some (look_up-empty e.name), tt)
-once-push (x ∷ env) e once absent =
-    let differs = differs_back x.name e.name (other_in_front x env e.name absent) in
-    let alone : is_there (e ∷ []) x.name ≡ false = ap is_some (look_up-other e [] x.name differs ∙ look_up-empty x.name) in
-    (is_there-append env (e ∷ []) x.name once.0 alone, once-push env e once.1 (absent_behind x env e.name absent))
 
 once-with_text : (env : Environment) (name t : Text) → EachNameOnce env → EachNameOnce (with_text env name t)
 once-with_text env name t once = by_test (is_there env name) refl
@@ -26,25 +18,6 @@ once-with_text env name t once = by_test (is_there env name) refl
     by_test : (b : Bool) → is_there env name ≡ b → EachNameOnce (with_text env name t)
     by_test true known = subst EachNameOnce (sym (with_text-known env name t known)) once
     by_test false new = subst EachNameOnce (sym (with_text-new env name t new)) (once-push env (record { name = name; meaning = Single t }) once new)
-
-once-longer : (env : Environment) (name t : Text) → is_there env name ≡ true → EachNameOnce env → EachNameOnce (with_member env name t)
-once-longer [] name t there once = let none : is_there [] name ≡ false = ap is_some (look_up-empty name) in absurd (cc)
-once-longer (e ∷ env) name t there once = by_name (bytes_eq e.name name) refl (once-longer env name t)
-  where
-    by_name : (b : Bool) → bytes_eq e.name name ≡ b → (is_there env name ≡ true → EachNameOnce env → EachNameOnce (with_member env name t))
-        → EachNameOnce (with_member (e ∷ env) name t)
-    by_name true same rest = subst EachNameOnce (sym (with_member-same e env name t same)) (once.0, once.1)
-    by_name false other rest =
-        let there' : is_there env name ≡ true = ap is_some (sym (look_up-other e env name other)) ∙ there in
-        subst EachNameOnce (sym (with_member-other e env name t other)) (is_there-with_member env name t e.name there' ∙ once.0, rest there' once.1)
-
-once-with_member : (env : Environment) (name t : Text) → EachNameOnce env → EachNameOnce (with_member env name t)
-once-with_member env name t once = by_test (is_there env name) refl
-  where
-    by_test : (b : Bool) → is_there env name ≡ b → EachNameOnce (with_member env name t)
-    by_test true there = once-longer env name t there once
-    by_test false absent =
-        subst EachNameOnce (sym (with_member-new env name t absent)) (once-push env (record { name = name; meaning = Several (t ∷ []) }) once absent)
 
 -- ---- all cells, all pairs
 

@@ -1,4 +1,4 @@
--- What E and M of a request gain where one more list is declared.
+-- How much E and M of a request grow if one more list is declared.
 use Rattle.std.proofs.Common.{◌≡◌, ℕ, ◌+◌, Bool, true, false, ◌||◌, List, [], ◌∷◌, ◌++◌, map, filter, length, None, is_some, bytes_eq, refl, sym, ap, ◌∙◌}
 use Rattle.std.proofs.Common.{subst, append_assoc, append-nil, arith, length-append, if◌then◌else◌}
 use Rattle.std.specs.Prelude.{sum_by}
@@ -15,7 +15,7 @@ use Rattle.environment_model.proofs.Environments.{with_text-known}
 use Rattle.kev_read.specs.Pairs.{KeyValue, all_of, first_of, has_key}
 use Rattle.kev_read.specs.Filling.{added, fill_one, filled}
 use Rattle.row_laws.specs.Shadowing.{asked, first_bytes}
-use Rattle.row_laws.proofs.NameTests.{differs_back}
+use Rattle.environment_model.proofs.NameTests.{differs_back}
 use Rattle.row_laws.proofs.AskedEntries.{grown, look_up-asked, text_asked}
 
 -- ---- one more list
@@ -57,7 +57,7 @@ all_of-none pair key differs = rw differs refl
 asked-push : (lists : List Text) (pairs : List KeyValue) (pair : KeyValue) → asked lists (pairs ++ pair ∷ []) ≡ fill_one lists (asked lists pairs) pair
 asked-push lists pairs pair = fold_push (fill_one lists) [] pairs pair
 
--- what a pair adds to E, where its key has these values already
+-- what a pair adds to E, if its key already has these values
 abbrev weight : List Text → Bool → ℕ → ℕ
 weight [] list n = n
 weight (v ∷ vs) true n = n
@@ -134,11 +134,11 @@ module _ (l : Text) (lists : List Text) (new : is_list lists l ≡ false) where
   other_list : (key : Text) → bytes_eq key l ≡ false → is_list (l ∷ lists) key ≡ is_list lists key
   other_list key differs = one_more l lists key ∙ ap (λ b. is_list lists key || b) (differs_back key l differs) ∙ or_false (is_list lists key)
 
-  -- the claim for the values of the list, where the bytes with it and without it are these
+  -- the claim for the values of the list, given the bytes with it and without it
   abbrev Gain : ℕ → ℕ → List Text → Type 0
   Gain with without vs = with + first_bytes vs ≡ without + sum_by length vs
 
-  -- the values of the list, of which one more came
+  -- the values of the list after one more was added
   grows : (vs : List Text) (v : Text) (with without with' without' : ℕ) → with + first_bytes vs ≡ without + sum_by length vs
       → with' ≡ with + length v → without' ≡ without + weight vs false (length v)
       → with' + first_bytes (vs ++ v ∷ []) ≡ without' + sum_by length (vs ++ v ∷ [])

@@ -1,4 +1,4 @@
--- What is counted of the entries of a row, column by column.
+-- Sums over the entries of a row, column by column.
 use Rattle.std.proofs.Common.{◌≡◌, ℕ, ◌+◌, ◌≤◌, ◌==◌, zero, suc, Bool, true, false, List, [], ◌∷◌, length, get_or, Option, Some, None, is_some, refl, sym, ap}
 use Rattle.std.proofs.Common.{◌∙◌, arith}
 use Rattle.std.specs.Prelude.{sum_by, if◌then◌else◌}
@@ -38,7 +38,7 @@ sum_by-filter_map {X} {Y} f h (x ∷ xs) = by_item (h x) refl (sum_by-filter_map
 
 -- ---- the entries
 
--- a column that is the first of its name is the one at which the name is found
+-- a column that is the first with its name is the one at which the name is found
 first_found : (n : ℕ) (found : Option ℕ) → option_map_or (λ first. first == n) found false ≡ true → found ≡ Some n
 first_found n None is = absurd (cc)
 first_found n (Some k) is = ap Some (eqb-true k n is)
@@ -48,7 +48,7 @@ module _ (weigh : Entry → ℕ) (header cells : Row) where
   of_cell None = 0
   of_cell (Some cell) = weigh (record { name = cell.name; meaning = Single cell.text })
 
-  -- no column before the first of its name gives the row that name
+  -- no column before the first one with a name gives the row that name
   is_new : (n : ℕ) → n ≤ length header → is_first header n ≡ true → is_there (entries_of header cells n) (get_or header n []) ≡ false
   is_new n within first =
       let found = first_found n (column_of header (get_or header n [])) first in

@@ -1,5 +1,5 @@
 -- Two requests with the same values under each key have the same sums.
-use Rattle.std.proofs.Common.{◌≡◌, ℕ, Bool, true, false, List, [], ◌∷◌, Some, None, is_some, bytes_eq, refl, sym, ap, ◌∙◌, arith}
+use Rattle.std.proofs.Common.{◌≡◌, ℕ, Bool, true, false, List, [], ◌∷◌, None, is_some, bytes_eq, refl, sym, ap, ◌∙◌, arith}
 use Rattle.std.specs.Prelude.{sum_by}
 use Rattle.std.proofs.lemmas.List.Sums.{sum_by-cons}
 use Rattle.text_model.specs.Texts.{Text}
@@ -11,7 +11,7 @@ use Rattle.kev_read.specs.Pairs.{KeyValue, all_of}
 use Rattle.row_laws.specs.Shadowing.{asked, found_in, hidden}
 use Rattle.row_laws.proofs.AskedEntries.{grown, look_up-asked}
 use Rattle.row_laws.proofs.HiddenSums.{hidden_sum}
-use Rattle.row_laws.proofs.NameTests.{itself}
+use Rattle.environment_model.proofs.NameTests.{itself}
 use Rattle.row_laws.proofs.NamesOnce.{asked_once}
 
 -- a row that has all names hides all entries

@@ -13,7 +13,7 @@ use Rattle.kbart_rows.specs.Cells.{NamedCell}
 use Rattle.kbart_rows.specs.Filling as by_cells
 use Rattle.row_laws.specs.Shadowing.{row_of, shown}
 
--- ---- a row has texts alone
+-- ---- a row has only texts
 
 abbrev IsText : Meaning → Type 0
 IsText (Single t) = Unit {0}
@@ -96,7 +96,7 @@ with_text-append front back name t absent = by_test (is_there back name) refl
         with_text-new (front ++ back) name t (same_test ∙ new) ∙ append_assoc front back (record { name = name; meaning = Single t } ∷ [])
         ∙ ap (λ es. front ++ es) (sym (with_text-new back name t new))
 
--- ---- what is shown
+-- ---- what is not hidden
 
 pub same_name : (row : Environment) (a b : Text) → bytes_eq a b ≡ true → is_there row a ≡ is_there row b
 same_name row a b same = ap (is_there row) ((bytes_eq-Decides a b).0 same)

@@ -8,11 +8,11 @@ use Rattle.kev_read.specs.Filling as by_pairs
 use Rattle.kbart_rows.specs.Cells.{NamedCell, Row, is_first, defined}
 use Rattle.kbart_rows.specs.Filling as by_cells
 
--- the entries of the cells alone
+-- the entries of the cells, without a request
 abbrev pub row_of : List NamedCell → Environment
 row_of cells = by_cells.filled [] cells
 
--- the entries of the request alone, where these lists are declared
+-- the entries of the request without a row, if these lists are declared
 abbrev pub asked : List Text → List KeyValue → Environment
 asked lists pairs = by_pairs.filled lists [] pairs
 
@@ -33,12 +33,12 @@ hidden row env = filter (is_hidden row) env
 
 -- ---- what a request has under a name
 
--- what is counted of what a look-up found
+-- a count of what a look-up found; 0 if it found nothing
 abbrev pub found_in : (Meaning → ℕ) → Option Meaning → ℕ
 found_in f None = 0
 found_in f (Some m) = f m
 
--- the bytes of the first value, where there is one
+-- the bytes of the first value, if there is one
 abbrev pub first_bytes : List Text → ℕ
 first_bytes [] = 0
 first_bytes (v ∷ vs) = length v
@@ -47,13 +47,13 @@ first_bytes (v ∷ vs) = length v
 abbrev pub asked_bytes : List Text → List KeyValue → Text → ℕ
 asked_bytes lists pairs key = if is_list lists key then sum_by length (all_of pairs key) else first_bytes (all_of pairs key)
 
--- the members that it has under the key
+-- the members that the request has under a key
 abbrev pub asked_members : List Text → List KeyValue → Text → ℕ
 asked_members lists pairs key = if is_list lists key then length (all_of pairs key) else 0
 
 -- ---- what a row hides, column by column
 
--- the column is the first so named, and its cell is defined
+-- the column is the first with its name, and its cell is defined
 abbrev pub has_cell : Row → Row → ℕ → Bool
 has_cell header cells column = is_first header column && is_some (defined (get_or cells column []))
 

@@ -3,23 +3,12 @@
 ghost use Rattle.std.specs.Prelude.{◌≡◌, List, length, sum_by};
 ghost use Rattle.std.specs.List.{range_with_len};
 ghost use Rattle.text_model.specs.Texts.{Text};
-ghost use Rattle.environment_model.specs.Environment.{look_up, byte_count, member_count};
-ghost use Rattle.environment_model.specs.Environment.{meaning_bytes, meaning_members};
+ghost use Rattle.environment_model.specs.Environment.{byte_count, member_count};
 ghost use Rattle.kev_read.specs.Pairs.{KeyValue};
-ghost use Rattle.kbart_rows.specs.Cells.{NamedCell, Row, named_cells};
-ghost use Rattle.row_laws.specs.Shadowing.{asked, row_of, hidden, found_in, hidden_bytes_at, hidden_members_at};
+ghost use Rattle.kbart_rows.specs.Cells.{Row, named_cells};
+ghost use Rattle.row_laws.specs.Shadowing.{asked, row_of, hidden, hidden_bytes_at, hidden_members_at};
 
-/// What a row hides of a request is found name by name of the row.
-pub fn shadowed_sums()
-    ensures bytes { (cells : List NamedCell) (lists : List Text) (pairs : List KeyValue) →
-        byte_count (hidden (row_of cells) (asked lists pairs))
-        ≡ sum_by (λ e. found_in meaning_bytes (look_up (asked lists pairs) e.name)) (row_of cells) }
-    ensures members { (cells : List NamedCell) (lists : List Text) (pairs : List KeyValue) →
-        member_count (hidden (row_of cells) (asked lists pairs))
-        ≡ sum_by (λ e. found_in meaning_members (look_up (asked lists pairs) e.name)) (row_of cells) }
-{}
-
-/// What a row hides of a request is found column by column of the row's table.
+/// The bytes and members that a row hides are the sum over the columns of the row's table.
 pub fn hidden_by_columns()
     ensures bytes { (header cells : Row) (lists : List Text) (pairs : List KeyValue) →
         byte_count (hidden (row_of (named_cells header cells)) (asked lists pairs))

@@ -7,9 +7,9 @@ mod requests;
 mod rows;
 mod shown;
 
-pub use hidden::{hidden_by_columns, shadowed_sums};
+pub use hidden::hidden_by_columns;
 pub use requests::{
-    one_more_list, requests_are_small, requests_by_keys, same_lists, sums_by_values, values_by_keys,
+    one_more_list, requests_are_small, requests_by_keys, same_lists, sums_by_values,
 };
-pub use rows::{names_once, row_bytes_are_cell_bytes, rows_by_names};
+pub use rows::{row_bytes_are_cell_bytes, rows_by_names};
 pub use shown::{rows_shadow_requests, sums_of_rows_over_requests};

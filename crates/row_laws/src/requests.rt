@@ -1,12 +1,11 @@
-//! What a request has under its keys, by the lists that are declared.
+//! What a request has under its keys, depending on the lists that are declared.
 
 ghost use Rattle.std.specs.Prelude.{◌≡◌, ◌≤◌, ◌+◌, ◌∷◌, [], List, None, true, false, length, sum_by, if◌then◌else◌};
 ghost use Rattle.text_model.specs.Texts.{Text};
-ghost use Rattle.environment_model.specs.Environment.{look_up, text_of, members_of, byte_count, member_count};
-ghost use Rattle.environment_model.specs.Environment.{meaning_bytes, meaning_members};
+ghost use Rattle.environment_model.specs.Environment.{text_of, members_of, byte_count, member_count};
 ghost use Rattle.environment_model.specs.Lists.{is_list};
 ghost use Rattle.kev_read.specs.Pairs.{KeyValue, all_of, first_of, value_bytes};
-ghost use Rattle.row_laws.specs.Shadowing.{asked, found_in, first_bytes, asked_bytes, asked_members};
+ghost use Rattle.row_laws.specs.Shadowing.{asked, first_bytes};
 
 /// What a request alone has under a key: a list of all its values, or its first value.
 pub fn requests_by_keys()
@@ -16,15 +15,7 @@ pub fn requests_by_keys()
         members_of (asked lists pairs) key ≡ (if is_list lists key then all_of pairs key else []) }
 {}
 
-/// How many bytes and members a request alone has under a key.
-pub fn values_by_keys()
-    ensures bytes { (lists : List Text) (pairs : List KeyValue) (key : Text) →
-        found_in meaning_bytes (look_up (asked lists pairs) key) ≡ asked_bytes lists pairs key }
-    ensures members { (lists : List Text) (pairs : List KeyValue) (key : Text) →
-        found_in meaning_members (look_up (asked lists pairs) key) ≡ asked_members lists pairs key }
-{}
-
-/// What a request gains where one more list is declared: all values of its key in place of the first.
+/// What a request gains if one more list is declared: all values of its key instead of the first.
 pub fn one_more_list()
     ensures bytes { (l : Text) (lists : List Text) (pairs : List KeyValue) → is_list lists l ≡ false
         → byte_count (asked (l ∷ lists) pairs) + first_bytes (all_of pairs l)
@@ -35,7 +26,7 @@ pub fn one_more_list()
         → asked (l ∷ lists) pairs ≡ asked lists pairs }
 {}
 
-/// Of the declared lists only which keys they make lists counts.
+/// Two declarations that make the same keys lists have the same effect.
 pub fn same_lists()
     ensures { (lists others : List Text) (pairs : List KeyValue)
         → ((key : Text) → is_list lists key ≡ is_list others key)

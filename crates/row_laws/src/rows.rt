@@ -3,10 +3,8 @@
 ghost use Rattle.std.specs.Prelude.{◌≡◌, List, is_some};
 ghost use Rattle.text_model.specs.Texts.{Text};
 ghost use Rattle.environment_model.specs.Environment.{is_there, text_of, byte_count, member_count};
-ghost use Rattle.target_vars.specs.EnvValue.{EachNameOnce};
-ghost use Rattle.kev_read.specs.Pairs.{KeyValue};
 ghost use Rattle.kbart_rows.specs.Cells.{NamedCell, Row, cell_of, cell_bytes, named_cells};
-ghost use Rattle.row_laws.specs.Shadowing.{asked, row_of};
+ghost use Rattle.row_laws.specs.Shadowing.{row_of};
 
 /// A row alone has, under each name, the defined cell of the first column of the name.
 pub fn rows_by_names()
@@ -14,12 +12,6 @@ pub fn rows_by_names()
         text_of (row_of (named_cells header cells)) name ≡ cell_of header cells name }
     ensures there { (header cells : Row) (name : Text) →
         is_there (row_of (named_cells header cells)) name ≡ is_some (cell_of header cells name) }
-{}
-
-/// No entry of a row has the name of another, and neither has one of a request.
-pub fn names_once()
-    ensures row { (cells : List NamedCell) → EachNameOnce (row_of cells) }
-    ensures request { (lists : List Text) (pairs : List KeyValue) → EachNameOnce (asked lists pairs) }
 {}
 
 /// The bytes of a row's entries are those of its defined cells, and a row has no members.

@@ -1,4 +1,4 @@
-//! What is seen of a request under a row.
+//! What a row leaves visible of a request.
 
 ghost use Rattle.std.specs.Prelude.{◌≡◌, ◌+◌, ◌++◌, List, if◌then◌else◌};
 ghost use Rattle.text_model.specs.Texts.{Text};
@@ -18,8 +18,8 @@ pub fn rows_shadow_requests()
         ≡ (if is_there (row_of cells) name then look_up (row_of cells) name else look_up (asked lists pairs) name) }
 {}
 
-/// The bytes of a row over a request are those of the row and those of the request, less those of the hidden entries;
-/// the members are those of the request, less those of the hidden entries.
+/// The bytes of a row over a request are those of the row plus those of the request, minus those of the hidden entries;
+/// the members are those of the request, minus those of the hidden entries.
 pub fn sums_of_rows_over_requests()
     ensures bytes { (lists : List Text) (cells : List NamedCell) (pairs : List KeyValue) →
         byte_count (filled lists (row_of cells) pairs) + byte_count (hidden (row_of cells) (asked lists pairs))

@@ -1,4 +1,4 @@
--- Bindings of names in a request alone, and in a row over it.
+-- Bindings of names in a request without a row, and in a row over it.
 use Rattle.std.proofs.Common.{◌≡◌, ℕ, ◌+◌, ◌<◌, ◌≤◌, true, [], ◌∷◌, All, length, take, drop, Option, Some, None, is_some, refl, sym, ap, ◌∙◌, subst, arith, inl}
 use Rattle.std.proofs.Common.{inr, length-append, if◌then◌else◌}
 use Rattle.std.proofs.lemmas.List.Elements.{All-weaker, All-take, All-drop}
@@ -24,11 +24,11 @@ no_members None t is = refl
 no_members (Some (Single u)) t is = refl
 no_members (Some (Several us)) t is = absurd (cc)
 
--- what a row over a request has of a name: the row's cell, or else what the request has
+-- what a row over a request has under a name: the row's cell, or else what the request has
 module _ (values : EnvValue) (line : Text) (row asked full : Environment) (header cells : Row) (name : Text)
     (shadow : look_up full name ≡ (if is_there row name then look_up row name else look_up asked name))
     (by_name : text_of row name ≡ cell_of header cells name) (there : is_there row name ≡ is_some (cell_of header cells name)) where
-  -- the cell lies at this piece of the line
+  -- the cell is this piece of the line
   pub bound_by_row : (start len : ℕ) → start + len ≤ length line → cell_of header cells name ≡ defined (piece_at line (start, len)) → 0 < len
       → IsBound (laid_over values line full) name (binding.Text (length values.buffer + start) len)
   bound_by_row start len within cell some =

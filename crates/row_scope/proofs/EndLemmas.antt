@@ -28,7 +28,7 @@ ends_more spans ends i end many sums last k d within =
     get_or_push ends end d k (omega (arith, many, same)) ∙ last ∙ ap (λ n. lengths (take n spans)) (sym same))
     (cases_lt k (i + 1))
 
--- the lengths of some spans, by the sums
+-- the lengths of some spans, from the sums
 pub lengths_between : (spans : List (ℕ × ℕ)) (first count : ℕ) → lengths (take (first + count) spans) ≡ lengths (take first spans)
     + lengths (take count (drop first spans))
 lengths_between spans first count =
@@ -52,7 +52,7 @@ ends_between spans ends first count upper lower summed within to from =
     to ∙ summed.are (first + count) upper within ∙ lengths_between spans first count
     ∙ ap (λ n. n + lengths (take count (drop first spans))) (sym (from ∙ summed.are first lower (omega (arith, within))))
 
--- and how many they can be
+-- and a bound on them
 pub few_lengths : (most : ℕ) (spans : List (ℕ × ℕ)) (first count : ℕ) → first + count ≤ length spans → All (λ span. span.1 ≤ most) spans
     → lengths (take count (drop first spans)) ≤ count * most
 few_lengths most spans first count within small =

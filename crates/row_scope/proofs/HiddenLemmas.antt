@@ -17,7 +17,7 @@ use Rattle.row_laws.specs.Shadowing.{first_bytes, asked_bytes, asked_members, hi
 use Rattle.row_scope.specs.Private.Kept.{hidden_key, hidden_keys}
 use Rattle.row_scope.specs.declared.hidden.HiddenKey.{HiddenKey}
 
--- ---- one column more
+-- ---- one more column
 
 counting_more : (a n j : ℕ) → a + n ≡ j → range_with_len a (n + 1) ≡ range_with_len a n ++ j ∷ []
 counting_more a n j e = let on : n + 1 ≡ suc n = omega arith in ap (range_with_len a) on ∙ last a n j e

@@ -31,7 +31,7 @@ named code n name there = ap text_of_name there
 
 -- ---- which names are lists
 
--- a name is one of the standard, or one of these
+-- a list is one of the standard's, or one of these
 pub listed_among : (names : List Text) (name : Text) → is_list names name ≡ (is_list [] name || is_among name names)
 listed_among names name = list_any-append (λ n. bytes_eq n name) standard_lists names
 
@@ -91,7 +91,7 @@ known_adds_nothing lists name q known = by_test (bytes_eq name q) refl where
       ap (λ b. b || true) among ∙ sym among
   by_test false other = or_false (is_list lists q)
 
--- ---- numbers of lists, each new beside those before it
+-- ---- numbers of lists, each of which is not among those before it
 
 abbrev pub AreNew : Code → List ℕ → Type 0
 AreNew code numbers = (k d : ℕ) → k < length numbers → is_list (names_at code (take k numbers)) (name_at code (get_or numbers k d)) ≡ false

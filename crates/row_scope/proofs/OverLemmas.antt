@@ -69,7 +69,7 @@ abbrev pub HasNoCell : Text → List NameColumn → ℕ → ℕ → Type 0
 HasNoCell line places k i =
     (j : ℕ) (place : NameColumn) → j < k → slice_get places j ≡ Some place → place.number ≡ i → defined (get_or (cells_in line) place.column []) ≡ None
 
--- the name is bound in the row, or else as in the request, where no column so far has a cell of it
+-- the name is bound as in the row, or, if no column so far has a cell for it, as in the request
 abbrev pub IsBoundSoFar : TargetRequestValue → Text → List NameColumn → ℕ → ℕ → Text → Binding → Type 0
 IsBoundSoFar t line places k i name b =
     IsBound (laid_over t.request.values line (of_both t line)) name b
@@ -88,7 +88,7 @@ module _ (t : TargetRequestValue) (line : Text) (places : List NameColumn)
     → look_up (of_both t line) name ≡ (if is_there (of_row t line) name then look_up (of_row t line) name else look_up (of_request t) name))
     (by_name : (name : Text) → text_of (of_row t line) name ≡ cell_of t.table.header (cells_in line) name)
     (there : (name : Text) → is_there (of_row t line) name ≡ is_some (cell_of t.table.header (cells_in line) name)) where
-  -- a column more
+  -- one more column
   no_cell_more : (k i : ℕ) (place : NameColumn) → slice_get places k ≡ Some place → (place.number ≡ i → defined (get_or (cells_in line) place.column []) ≡ None)
       → HasNoCell line places k i → HasNoCell line places (k + 1) i
   no_cell_more k i place here none before j other below at same =

@@ -9,7 +9,7 @@ use Rattle.machine_model.specs.Operands.{name_at}
 use Rattle.kbart_rows.specs.Cells.{Row, column_of}
 use Rattle.row_scope.specs.declared.name_columns.NameColumn.{NameColumn}
 
--- all columns of the first names are there
+-- the list has all columns of the first names
 abbrev pub HasColumns : Code → Row → List NameColumn → ℕ → Type 0
 HasColumns code header places n =
     (number column : ℕ) → number < n → column_of header (name_at code number) ≡ Some column → Contains places (record { column = column; number = number })

@@ -1,4 +1,4 @@
--- How many bytes and members a request has, by the lists that are declared.
+-- How many bytes and members a request has, depending on the lists that are declared.
 use Rattle.std.proofs.Common.{◌≡◌, ℕ, ◌+◌, ◌<◌, ◌≤◌, ◌||◌, List, [], ◌∷◌, ◌++◌, length, take, get_or, refl, sym, ap, ◌∙◌, arith}
 use Rattle.std.specs.List.{list_any}
 use Rattle.std.specs.Str.{bytes_eq}
@@ -14,7 +14,7 @@ use Rattle.machine_model.specs.Operands.{name_at}
 use Rattle.row_laws.specs.Shadowing.{hidden, is_hidden, is_shown}
 use Rattle.row_scope.specs.NameColumns.{names_at}
 
--- ---- a row hides no more than there is
+-- ---- a row hides at most everything
 
 pub hidden_bytes_le : (row env : Environment) → byte_count (hidden row env) ≤ byte_count env
 hidden_bytes_le row env = omega (arith, sum_by-filter_both (is_hidden row) (is_shown row) (λ e. refl) (λ (e : Entry). meaning_bytes e.meaning) env)
@@ -22,9 +22,9 @@ hidden_bytes_le row env = omega (arith, sum_by-filter_both (is_hidden row) (is_s
 pub hidden_members_le : (row env : Environment) → member_count (hidden row env) ≤ member_count env
 hidden_members_le row env = omega (arith, sum_by-filter_both (is_hidden row) (is_shown row) (λ e. refl) (λ (e : Entry). meaning_members e.meaning) env)
 
--- ---- one list more
+-- ---- one more list
 
--- the order of the declared lists doesn't count
+-- the order of the declared lists does not matter
 last_is_first : (l : Text) (lists : List Text) (key : Text) → is_list (l ∷ lists) key ≡ is_list (lists ++ l ∷ []) key
 last_is_first l lists key =
     let p = λ (n : Text). bytes_eq n key in

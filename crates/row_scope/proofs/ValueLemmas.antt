@@ -1,6 +1,6 @@
--- The values of a key, by the spans where they lie.
-use Rattle.std.proofs.Common.{◌≡◌, ℕ, zero, suc, ◌+◌, ◌<◌, ◌≤◌, List, ◌∷◌, Some, length, map, take, drop, slice_get, ap, ◌∙◌, arith, length-drop}
-use Rattle.std.proofs.lemmas.List.{drop_more, length-map, length-take-le}
+-- The values of a key, and their spans.
+use Rattle.std.proofs.Common.{◌≡◌, ℕ, zero, suc, ◌+◌, ◌<◌, ◌≤◌, List, ◌∷◌, Some, length, map, take, drop, slice_get, ap, ◌∙◌, arith}
+use Rattle.std.proofs.lemmas.List.{drop_more}
 use Rattle.std.proofs.lemmas.Option.{slice_get_within, get_or_from_slice_get}
 use Rattle.target_vars.specs.EnvValue.{piece_at}
 use Rattle.kev_read.specs.Pairs.{all_of, first_of}
@@ -29,12 +29,3 @@ module _ (request : RequestValue) (key : List ℕ) (first count : ℕ) (at : ℕ
 
   pub first_value_bytes : at.0 + at.1 ≤ length request.values.buffer → first_bytes (all_of request.pairs key) ≡ at.1
   first_value_bytes within = ap first_bytes values.1 ∙ piece_length request.values.buffer at within
-
--- there are count values
-pub values_counted : (request : RequestValue) (key : List ℕ) (first count : ℕ) → AreValuesAt request key first count → length (all_of request.pairs key) ≡ count
-values_counted request key first count place =
-    let spans = request.values.spans in
-    let within = place.within in
-    ap length place.are
-    ∙ length-map (take count (drop first spans)) (piece_at request.values.buffer)
-    ∙ length-take-le count (drop first spans) (omega (arith, length-drop first spans, within))

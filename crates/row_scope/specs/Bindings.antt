@@ -6,7 +6,7 @@ use Rattle.target_vars.specs.EnvValue.{EnvValue, IsTextAt, AreMembersAt}
 use Rattle.row_scope.specs.declared.binding.Binding.{Binding}
 use Rattle.row_scope.specs.declared.binding.Binding.TheVariants as binding
 
--- the binding tells all that the environment has of the name
+-- the binding says what the environment has under the name
 abbrev pub IsBound : EnvValue → Text → Binding → Type 0
 IsBound env name binding.Nothing = (text_of env.entries name ≡ None) × (members_of env.entries name ≡ [])
 IsBound env name (binding.Text start len) = IsTextAt env name (start, len) × (members_of env.entries name ≡ [])
@@ -17,12 +17,12 @@ pub record AreBound (env : EnvValue) (names : List Text) (bindings : List Bindin
   pub one_each : length bindings ≡ length names
   pub bound : (i : ℕ) (name : Text) (b : Binding) → slice_get names i ≡ Some name → slice_get bindings i ≡ Some b → IsBound env name b
 
--- ---- where texts and members lie
+-- ---- where texts and members are
 
--- entries whose texts and members lie in the buffer of a request's values
+-- entries whose texts and members are in the buffer of a request's values
 abbrev pub laid_in : EnvValue → Environment → EnvValue
 laid_in values entries = record { entries = entries; buffer = values.buffer; seam = length values.buffer; spans = values.spans }
 
--- and after it, in a row's line
+-- entries whose texts and members are in that buffer or, after it, in a row's line
 abbrev pub laid_over : EnvValue → Text → Environment → EnvValue
 laid_over values line entries = record { entries = entries; buffer = values.buffer ++ line; seam = length values.buffer; spans = values.spans }

@@ -11,7 +11,7 @@ use Rattle.row_scope.specs.RowEnvironments.{lists_of}
 use Rattle.row_scope.specs.declared.name_columns.NameColumn.{NameColumn}
 use Rattle.row_scope.specs.declared.name_columns.NameColumns.{NameColumns}
 
--- a name of the code, by its number, and the first column of the name
+-- the number of a name of the code, and the first column with the name
 pub record IsNameColumn (code : Code) (header : Row) (place : NameColumn) : Type 0 where
   pub number : place.number < length code.names
   pub column : column_of header (name_at code place.number) ≡ Some place.column
@@ -23,11 +23,11 @@ pub record AreColumns (code : Code) (header : Row) (places : List NameColumn) : 
   pub every : (number column : ℕ) → number < length code.names → column_of header (name_at code number) ≡ Some column
       → Contains places (record { column = column; number = number })
 
--- the names of the numbers
+-- the names with these numbers
 abbrev pub names_at : Code → List ℕ → List Text
 names_at code numbers = map (name_at code) numbers
 
--- the lists that a code declares beside those of the standard, each once
+-- the lists that a code declares in addition to those of the standard, each once
 pub record AreOwnLists (code : Code) (numbers : List ℕ) : Type 0 where
   pub within : All (λ number. number < length code.names) numbers
   pub new : (k d : ℕ) → k < length numbers → is_list (names_at code (take k numbers)) (name_at code (get_or numbers k d)) ≡ false
@@ -38,7 +38,7 @@ pub record AreMarked (code : Code) (marks : List Bool) : Type 0 where
   pub one_each : length marks ≡ length code.names
   pub are : (i : ℕ) (mark : Bool) → slice_get marks i ≡ Some mark → mark ≡ is_list (lists_of code) (name_at code i)
 
--- all that is known of a code over a table, whatever the request
+-- all that is known about a code and a table before any request
 pub record AreNameColumns (code : Code) (header : Row) (names : NameColumns) : Type 0 where
   pub columns : AreColumns code header names.columns.items
   pub lists : AreOwnLists code names.lists.items

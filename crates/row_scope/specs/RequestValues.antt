@@ -21,20 +21,20 @@ pub record RequestValue : Type 0 where
 abbrev pub AreAmong : ColumnNames → Row → Type 0
 AreAmong columns header = (name : Text) → is_some (column_of header name) ≡ true → has columns name ≡ true
 
--- a request that meets no column has no key of these names
+-- if `meets` is false, the request has no key with one of these names
 abbrev pub IsApart : RequestValue → (Text → Bool) → Type 0
 IsApart request names = request.meets ≡ false → (name : Text) → names name ≡ true → all_of request.pairs name ≡ []
 
--- a request that meets no column has no key that is a name of the header
+-- if `meets` is false, the request has no key that is a name in the header
 abbrev pub IsApartFrom : RequestValue → Row → Type 0
 IsApartFrom request header = IsApart request (λ name. is_some (column_of header name))
 
--- the values of the key lie at the spans from first on, count of them, in their order
+-- the values of the key are at `count` spans from `first` on, in their order
 pub record AreValuesAt (request : RequestValue) (key : Text) (first count : ℕ) : Type 0 where
   pub within : first + count ≤ length request.values.spans
   pub are : all_of request.pairs key ≡ map (piece_at request.values.buffer) (take count (drop first request.values.spans))
 
--- the bytes and the members that a request has under a key: of a list all values, of a text the first
+-- the bytes and the members that a request has under a key: all values of a list, the first value of a text
 abbrev pub bytes_of_key : List KeyValue → Bool → Text → ℕ
 bytes_of_key pairs list key = if list then sum_by length (all_of pairs key) else first_bytes (all_of pairs key)
 

@@ -22,6 +22,6 @@ cells_of_row table row = get_or table.rows row []
 abbrev pub entries_of_row : Holdings → ℕ → Environment
 entries_of_row table row = row_of (named_cells table.header (cells_of_row table row))
 
--- and after them the pairs of the request: the first entry of a name stays, so no pair replaces a cell
+-- the entries of a row and, after them, the pairs of the request: the first entry of a name stays, so no pair replaces a cell
 abbrev pub environment_of_row : Code → Holdings → List KeyValue → ℕ → Environment
 environment_of_row code table pairs row = by_pairs.filled (lists_of code) (entries_of_row table row) pairs

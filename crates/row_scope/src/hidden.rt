@@ -11,11 +11,11 @@ use code_file::Code;
 use kbart_rows::{RowCursor, Table};
 use std::alloc::{AllocError, Global};
 
-/// A key of a request that is the name of a column: a row hides its values where its own cell is defined.
+/// A key of a request that is the name of a column: a row hides its values if the row's cell is defined.
 #[derive(Clone, Copy)]
 pub struct HiddenKey {
     pub(crate) column: usize,
-    /// What the key adds to E and to M.
+    /// The bytes and the members that the key contributes.
     pub(crate) bytes: usize,
     pub(crate) members: usize,
 }
@@ -60,7 +60,7 @@ fn keys_of_columns(
     Ok(keys)
 }
 
-/// The key that a column may hide, where its name is a key and no column before it has the name.
+/// The key that a column may hide, if its name is a key and no column before it has the name.
 fn hidden_key(
     code: &Code,
     table: &Table,

@@ -1,4 +1,4 @@
-//! What is known of the names that were looked up in a request before.
+//! What is known about the names that were already looked up in a request.
 
 ghost use Rattle.std.specs.Prelude.{◌≡◌, IfOk, List};
 ghost use Rattle.text_model.specs.Texts.{Text};
@@ -13,7 +13,7 @@ use crate::request_values::RequestValues;
 use std::alloc::{AllocError, Global};
 use std::marker::Model;
 
-/// A name, and where its values lie in a request: the first span, and the number of spans.
+/// A name, and where its values are in a request: the first span, and the number of spans.
 #[derive(Clone, Copy)]
 pub struct KnownName<'a> {
     name: &'a str,
@@ -21,11 +21,11 @@ pub struct KnownName<'a> {
     count: u32,
 }
 
-/// A request, and where the values of names lie that were looked up in it. Contracts see the request.
+/// A request, and where the values of the names are that were already looked up in it. Contracts see the request.
 #[derive(Drop)]
 pub struct KnownValues<'a> {
     request: &'a RequestValues<'a>,
-    // By the numbers of names. Names may share a number, so each is compared before it is used.
+    // Indexed by the numbers of names. Names may share a number, so each is compared before it is used.
     names: Vec<Option<KnownName<'a>>>,
 }
 
@@ -41,7 +41,7 @@ impl<'a> Model for KnownValues<'a> {
 }
 
 impl<'a> KnownValues<'a> {
-    /// A request in which no name was looked up.
+    /// A request in which no name has been looked up yet.
     ///
     /// `AllocError` if an allocation failed.
     pub fn new(
@@ -62,7 +62,7 @@ impl<'a> KnownValues<'a> {
         self.request
     }
 
-    /// What a name is bound to in the request alone, as a list or as a text.
+    /// What a name is bound to in the request without a row, as a list or as a text.
     pub(crate) fn binding(&mut self, number: usize, name: &'a str, is_list: bool) -> Binding
         ensures bound { (declared : List Text) → is_list ≡ lists.is_list declared name.now
             → IsBound (laid_in self.old.values (asked declared self.old.pairs)) name.now result }
@@ -72,7 +72,7 @@ impl<'a> KnownValues<'a> {
         self.request.binding(first, count, is_list)
     }
 
-    /// Where the values of a name lie: the first span, and the number of spans.
+    /// Where the values of a name are: the first span, and the number of spans.
     fn values_of(&mut self, number: usize, name: &'a str) -> (u32, u32)
         ensures place { AreValuesAt self.old name.now result.0 result.1 }
         ensures same { self.new ≡ self.old }

@@ -1,7 +1,7 @@
-//! A row of a table over a request, as an environment that nothing is copied into: a text lies in the row's line, or
-//! among the request's values.
+//! A row of a table over a request, as an environment for which no text is copied: each is a piece of the row's line,
+//! or one of the request's values.
 //!
-//! What is computed when, each from what is to its left:
+//! What is computed, each from those to its left:
 //!
 //! ```text
 //! a request         a code over a table     a request at a target     a row

@@ -19,12 +19,12 @@ pub struct NameColumn {
     pub(crate) number: usize,
 }
 
-/// What is known of a code over a table, whatever the request.
+/// What is known about a code and a table before any request.
 #[derive(Drop)]
 pub struct NameColumns {
     // Each name that has a column, in the order of the columns.
     pub(crate) columns: Vec<NameColumn>,
-    // The numbers of the lists that the code declares beside those of the standard, each once.
+    // The numbers of the lists that the code declares in addition to those of the standard, each once.
     pub(crate) lists: Vec<usize>,
     // For each name of the code, whether it names a list.
     pub(crate) marks: Vec<bool>,
@@ -33,7 +33,7 @@ pub struct NameColumns {
 }
 
 impl NameColumns {
-    /// `AllocError` if an allocation failed.
+    /// The columns of a table that have names of a code. `AllocError` if an allocation failed.
     pub fn new(
         alloc: Global,
         code: &Code,

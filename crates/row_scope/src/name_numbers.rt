@@ -7,11 +7,11 @@ use kbart_rows::Keys;
 use std::alloc::{AllocError, Global};
 use std::collections::HashMap;
 
-/// The number of names that can have numbers of their own.
+/// How many names can have their own numbers.
 const MAX_NUMBERS: usize = 256;
 
-/// A number for each name of many codes, so that what is known of a name in a request is found without a search. The
-/// first names have numbers of their own, from 0; all others share the number after them. No result depends on them.
+/// A number for each name of many codes, so that what is known about a name in a request is found without a search. The
+/// first names have their own numbers, from 0; all others share the next number. No result depends on the numbers.
 #[derive(Drop)]
 pub struct NameNumbers {
     numbers: HashMap<String, usize, Keys>,
@@ -25,14 +25,14 @@ impl NameNumbers {
         }
     }
 
-    /// The number of names with numbers of their own.
+    /// How many names have their own numbers.
     pub fn len(&self) -> usize {
         self.numbers.len()
     }
 
     /// The number of each name of a code, in their order. New names get the next numbers.
     ///
-    /// `AllocError` if an allocation failed; some names may then have got numbers.
+    /// `AllocError` if an allocation failed; some names may then have numbers already.
     pub(crate) fn of(&mut self, alloc: Global, code: &Code) -> Result<Vec<usize>, AllocError>
         ensures { IfOk result (λ numbers. length numbers.items ≡ length code.now.names) }
     {

@@ -21,14 +21,15 @@ use row_laws::{requests_by_keys, sums_by_values};
 use std::alloc::{AllocError, Global};
 use std::marker::Model;
 
-/// A request, with the values of each of its keys side by side. Contracts see the pairs, and where the values lie.
+/// A request, with the values of each of its keys next to each other. Contracts see the pairs, and where the values
+/// are.
 #[derive(Drop)]
 pub struct RequestValues<'a> {
     request: &'a Request,
     values: KeyValues<'a>,
-    // The bytes of all values before each span, and of all of them.
+    // How many bytes of values come before each span, and how many there are in all.
     ends: Vec<u64>,
-    // E and M of the request where no list is declared.
+    // E (bytes) and M (members) of the request if no list is declared.
     bytes: usize,
     members: usize,
     // Whether a key may be the name of a column.
@@ -81,7 +82,7 @@ impl<'a> RequestValues<'a> {
         self.meets
     }
 
-    /// E and M of the request where no list is declared: the bytes of all texts and members, and the number of members.
+    /// E and M of the request if no list is declared: the bytes of all texts and members, and the number of members.
     pub(crate) fn sums(&self) -> (usize, usize)
         ensures bytes { result.0 ≡ byte_count (asked [] self.now.pairs) }
         ensures members { result.1 ≡ member_count (asked [] self.now.pairs) }
@@ -90,7 +91,7 @@ impl<'a> RequestValues<'a> {
         (self.bytes, self.members)
     }
 
-    /// The bytes of all values.
+    /// How many bytes all values have.
     pub(crate) fn size(&self) -> usize
         ensures value { result ≡ length self.now.values.buffer }
         ensures known { AreValues self.now }
@@ -107,7 +108,7 @@ impl<'a> RequestValues<'a> {
         &self.values.buffer()[start..end]
     }
 
-    /// Where a value lies: its offset and its length, in bytes.
+    /// Where a value is: its offset and its length, in bytes.
     pub(crate) fn span(&self, i: usize) -> (u32, u32)
         requires { i < length self.now.values.spans }
         ensures value { slice_get self.now.values.spans i ≡ Some (result.0, result.1) }
@@ -116,7 +117,7 @@ impl<'a> RequestValues<'a> {
         self.values.span(i)
     }
 
-    /// Where the values of a key lie: the first span, and how many.
+    /// Where the values of a key are: the first span, and the number of spans.
     pub(crate) fn values_of(&self, key: &str) -> (u32, u32)
         ensures place { AreValuesAt self.now key.now result.0 result.1 }
         ensures known { AreValues self.now }
@@ -124,8 +125,8 @@ impl<'a> RequestValues<'a> {
         self.values.members_at(key)
     }
 
-    /// What a name is bound to in the request alone, as a list or as a text, if its values are at these spans: the
-    /// first, and the number of spans.
+    /// What a name is bound to in the request without a row, as a list or as a text, if its values are at these spans:
+    /// the first, and the number of spans.
     pub(crate) fn binding(&self, first: u32, count: u32, is_list: bool) -> Binding
         requires { first + count ≤ length self.now.values.spans }
         ensures { (name : Text) (declared : List Text) → AreValuesAt self.now name first count
@@ -143,7 +144,7 @@ impl<'a> RequestValues<'a> {
         }
     }
 
-    /// The bytes and the members that the request has under a key, as a list or as a text.
+    /// How many bytes and members the request has under a key, as a list or as a text.
     pub(crate) fn sums_of(&self, key: &str, is_list: bool) -> (usize, usize)
         ensures bytes { result.0 ≡ bytes_of_key self.now.pairs is_list key.now }
         ensures members { result.1 ≡ members_of_key self.now.pairs is_list key.now }
@@ -159,7 +160,7 @@ impl<'a> RequestValues<'a> {
         }
     }
 
-    /// The bytes of the values at some spans.
+    /// How many bytes the values at some spans have.
     fn bytes_of_spans(&self, first: u32, count: u32) -> usize
         requires { first + count ≤ length self.now.values.spans }
         ensures value { result ≡ sum_by (λ span. span.1) (take count (drop first self.now.values.spans)) }
@@ -182,7 +183,7 @@ fn names_a_column(request: &Request, columns: &ColumnNames) -> bool
     false
 }
 
-/// The bytes of all members before each span, and of all of them.
+/// How many bytes of members come before each span, and how many there are in all.
 fn ends_of(alloc: Global, values: &KeyValues) -> Result<Vec<u64>, AllocError>
     ensures { IfOk result (λ ends. AreEnds values.now.spans ends.items) }
 {
@@ -197,7 +198,7 @@ fn ends_of(alloc: Global, values: &KeyValues) -> Result<Vec<u64>, AllocError>
     Ok(ends)
 }
 
-/// E and M of a request where no list is declared.
+/// E and M of a request if no list is declared.
 fn sums_without_lists(request: &Request) -> (usize, usize)
     ensures bytes { result.0 ≡ byte_count (asked [] request.now.pairs) }
     ensures members { result.1 ≡ member_count (asked [] request.now.pairs) }

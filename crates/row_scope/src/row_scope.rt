@@ -11,15 +11,15 @@ use crate::target_request::TargetRequest;
 use std::marker::Model;
 use target_vars::Scope;
 
-/// A row over a request: each text lies among the request's values, or after them in the row's line. Contracts see the
-/// environment, and the names of the code.
+/// A row over a request. The buffer has the request's values and then the row's line, and each text is a piece of it.
+/// Contracts see the environment, and the names of the code.
 #[derive(Drop)]
 pub struct RowScope<'t, 'a> {
     target: &'t TargetRequest<'a>,
     row: usize,
     line: &'t str,
     bindings: Vec<Binding>,
-    // E and M.
+    // E (bytes) and M (members) of the environment.
     bytes: usize,
     members: usize,
 }
@@ -71,7 +71,7 @@ impl<'t, 'a> RowScope<'t, 'a> {
         }
     }
 
-    /// What the name of a number is bound to.
+    /// What the name with this number is bound to.
     fn binding(&self, number: usize) -> Binding
         requires { number < length self.now.names }
         ensures { (name : Text) → slice_get self.now.names number ≡ Some name → IsBound self.now.env name result }
@@ -80,7 +80,7 @@ impl<'t, 'a> RowScope<'t, 'a> {
     }
 }
 
-/// A name is looked up by its number in the code.
+/// A name is looked up by its index in the code's table of names.
 impl<'t, 'a> Scope for RowScope<'t, 'a> {
     ghost use Rattle.std.specs.Prelude.{◌≡◌, Some, slice_get};
 

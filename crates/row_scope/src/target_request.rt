@@ -33,7 +33,7 @@ pub struct TargetRequest<'a> {
     table: &'a Table,
     names: &'a NameColumns,
     request: &'a RequestValues<'a>,
-    // What the names of the code are bound to in the request alone, and its E and M.
+    // What the names of the code are bound to in the request without a row, and its E (bytes) and M (members).
     bindings: Vec<Binding>,
     bytes: usize,
     members: usize,
@@ -54,7 +54,7 @@ impl<'a> Model for TargetRequest<'a> {
 }
 
 impl<'a> TargetRequest<'a> {
-    /// `AllocError` if an allocation failed.
+    /// A request for a code over a table. `AllocError` if an allocation failed.
     pub fn new(
         alloc: Global,
         code: &'a Code,
@@ -84,9 +84,7 @@ impl<'a> TargetRequest<'a> {
         })
     }
 
-    /// A row of the table, counted from 0, over the request.
-    ///
-    /// `AllocError` if an allocation failed.
+    /// A row of the table, counted from 0, over the request. `AllocError` if an allocation failed.
     pub fn row<'t>(&'t self, alloc: Global, row: usize) -> Result<RowScope<'t, 'a>, AllocError>
         requires { row < length self.now.table.rows }
         ensures entries { IfOk result
@@ -110,7 +108,7 @@ impl<'a> TargetRequest<'a> {
         self.request
     }
 
-    /// What the names are bound to in the request, with the cells of a row's line over it.
+    /// What the names are bound to in a row's line or, if it has no cell for them, in the request.
     fn bindings_over(&self, alloc: Global, line: &str) -> Result<Vec<Binding>, AllocError>
         requires { length line.now ≤ 65537 }
         ensures { IfOk result (λ bindings. AreBound
@@ -133,7 +131,7 @@ impl<'a> TargetRequest<'a> {
         Ok(bindings)
     }
 
-    /// The bytes and the members of the request that the cells of a row's line hide.
+    /// How many bytes and members of the request the cells of a row's line hide.
     fn hidden_by(&self, line: &str) -> (usize, usize)
         requires { length line.now ≤ 65537 }
         ensures bytes { result.0
@@ -159,7 +157,7 @@ impl<'a> TargetRequest<'a> {
     }
 }
 
-/// What each name of a code is bound to in a request alone.
+/// What each name of a code is bound to in a request without a row.
 fn bindings_of<'a>(
     alloc: Global,
     code: &'a Code,
@@ -181,7 +179,7 @@ fn bindings_of<'a>(
     Ok(bindings)
 }
 
-/// E and M of a request where the lists of a code are declared.
+/// E and M of a request in which the lists of a code are declared.
 fn sums_with_lists(code: &Code, lists: &[usize], request: &RequestValues) -> (usize, usize)
     requires { AreOwnLists code.now lists.now }
     ensures bytes { result.0 ≡ byte_count (asked (lists_of code.now) request.now.pairs) }

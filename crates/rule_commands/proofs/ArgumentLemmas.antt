@@ -1,6 +1,6 @@
--- The arguments after `expand` are parsed in one way.
-use Rattle.std.proofs.Common.{◌≡◌, ℕ, ◌+◌, ◌-◌, List, [], ◌∷◌, ◌++◌, length, take, drop, true, false, refl, sym, ◌∙◌, ap, subst, append_assoc, length-append}
-use Rattle.std.proofs.Common.{slice_index_or, ◌≤◌, ◌<◌, arith}
+-- The arguments after `expand` can be parsed in at most one way.
+use Rattle.std.proofs.Common.{◌≡◌, ◌-◌, List, [], ◌∷◌, ◌++◌, length, take, drop, true, false, refl, sym, ◌∙◌, ap, append_assoc, length-append}
+use Rattle.std.proofs.Common.{slice_index_or, take_all, ◌≤◌, ◌<◌, arith}
 use Rattle.std.specs.Prelude.{◌≢◌, codes}
 use Rattle.std.specs.Borrow.{Bor}
 use Rattle.std.specs.Str.{bytes_eq}
@@ -45,6 +45,20 @@ names_of-options : (names : List Text) → names_of (list_options names) ≡ nam
 names_of-options [] = refl
 names_of-options (name ∷ names) = ap (λ more. name ∷ more) (names_of-options names)
 
+-- the name in the option that comes next
+pub one_more_name : (options names pushed rest : List (Bor Text)) (d : Bor Text) → 2 ≤ length rest
+    → names_of (texts_of options) ≡ texts_of names ++ names_of (texts_of rest) → pushed ≡ names ++ slice_index_or rest 1 d ∷ []
+    → names_of (texts_of options) ≡ texts_of pushed ++ names_of (texts_of (take (length rest - 2) (drop 2 rest)))
+one_more_name options names pushed [] d two so_far more = absurd (omega arith)
+one_more_name options names pushed (option ∷ []) d two so_far more = absurd (omega arith)
+one_more_name options names pushed (option ∷ name ∷ rest) d two so_far more =
+    let after : take (length (option ∷ name ∷ rest) - 2) rest ≡ rest = take_all (length (option ∷ name ∷ rest) - 2) rest (omega arith) in
+    so_far
+    ∙ sym (append_assoc (texts_of names) (name.now ∷ []) (names_of (texts_of rest)))
+    ∙ sym (ap (λ texts. texts ++ names_of (texts_of rest)) (map-append (λ argument. argument.now) names (name ∷ [])))
+    ∙ sym (ap (λ items. texts_of items ++ names_of (texts_of rest)) more)
+    ∙ sym (ap (λ left. texts_of pushed ++ names_of (texts_of left)) after)
+
 -- two arguments after the options are the template and the query
 two_after : (arguments options : List (Bor Text)) (template query : Bor Text) → AfterOptions arguments (template ∷ query ∷ [])
     → begins_with_option (texts_of (template ∷ query ∷ [])) ≡ false → options ≡ take (length arguments - 2) arguments
@@ -72,7 +86,7 @@ two_left arguments (template ∷ []) options d so_far more fewer ends taken = ab
 two_left arguments (template ∷ query ∷ []) options d so_far more fewer ends taken = two_after arguments options template query so_far ends taken
 two_left arguments (template ∷ query ∷ third ∷ rest) options d so_far more fewer ends taken = absurd (omega arith)
 
--- ---- arguments that are none of `expand`
+-- ---- arguments that are wrong for `expand`
 
 length-texts_of : (arguments : List (Bor Text)) → length (texts_of arguments) ≡ length arguments
 length-texts_of arguments = length-map arguments (λ argument. argument.now)

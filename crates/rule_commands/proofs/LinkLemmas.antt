@@ -1,4 +1,4 @@
--- The link of rules, from the steps that give it.
+-- The link of rules, from the steps that compute it.
 use Rattle.std.proofs.Common.{◌≡◌, List, [], Option, None, ap, ◌∙◌}
 use Rattle.std.specs.Borrow.{Bor}
 use Rattle.text_model.specs.Texts.{Text, texts_of}

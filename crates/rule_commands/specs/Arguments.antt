@@ -8,7 +8,7 @@ use Rattle.text_model.specs.Texts.{Text}
 abbrev pub list_options : List Text → List Text
 list_options names = flat_map (λ name. codes "--list" ∷ name ∷ []) names
 
--- the names in such options
+-- the names in these options
 abbrev pub names_of : List Text → List Text
 names_of [] = []
 names_of (option ∷ []) = []

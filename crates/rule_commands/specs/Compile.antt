@@ -1,4 +1,4 @@
--- What `compile` makes of a rule file, and why it makes nothing.
+-- The file that `compile` writes for a rule file, and why it writes none.
 use Rattle.std.specs.Prelude.{◌≡◌, ◌⊎◌, Some, None}
 use Rattle.text_model.specs.Texts.{Text}
 use Rattle.code_file.specs.Grammar.{IsCodeFile}
@@ -8,7 +8,6 @@ use Rattle.compiler_model.specs.Compiled.{code_of}
 use Rattle.compiler.specs.Limits.{limit_passed}
 use Rattle.files.specs.Found.{Found, Disk, Gives}
 use Rattle.command_base.specs.Commands.{IsNotPlaced}
-use Rattle.command_base.specs.declared.fault.BaseFault.{BaseFault}
 use Rattle.command_base.specs.declared.fault.BaseFault.TheVariants.{Query, Memory, Device}
 use Rattle.rule_commands.specs.Rules.{IsUnread}
 use Rattle.rule_commands.specs.declared.fault.RuleFault.{RuleFault}
@@ -43,7 +42,7 @@ pub record GivesNoCode (found : Found) (fault : RuleFault) : Type 0 where
   pub read : IsRuleText bytes rules
   pub no_code : IsNoCode rules fault
 
--- the file is not read as rules, or else they have no code, or else that is not placed
+-- the file cannot be read as rules, or else the rules have no code, or else the code file cannot be placed
 abbrev pub IsCompileFault : Disk → Text → Text → Type 0 → Type 0 → RuleFault → Type 0
 IsCompileFault old source target unread unplaced fault =
     IsUnread (old source) source unread fault ⊎ GivesNoCode (old source) fault ⊎ IsNotPlaced Base IsCompiled old source target unplaced fault

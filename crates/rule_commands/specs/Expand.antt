@@ -27,7 +27,7 @@ pub record IsExpansionLine (lists : List Text) (template query line : Text) : Ty
   pub expansion : IsExpansion lists template query text
   pub whole : line ≡ text ++ 10 ∷ []
 
--- the query of a good template is rejected, or an allocation failed
+-- the text is a template, and the query is rejected or an allocation failed
 abbrev pub IsExpandFaultOf : Text → Text → BaseFault → Type 0
 IsExpandFaultOf template query (Query e) = (parts : List Part) × IsTemplate template parts × IsQueryFault query (Query e)
 IsExpandFaultOf template query Memory = Unit {0}

@@ -9,7 +9,6 @@ use Rattle.rule_parser.specs.declared.error.RuleErrorKind.TheVariants as rules
 use Rattle.compiler.specs.declared.error.CompileError.{CompileError}
 use Rattle.compiler.specs.declared.error.CompileError.TheVariants as compile
 use Rattle.command_base.specs.Faults.{status_of as status_of_base}
-use Rattle.command_base.specs.declared.fault.BaseFault.{BaseFault}
 use Rattle.command_base.specs.declared.fault.BaseFault.TheVariants.{Memory}
 use Rattle.rule_commands.specs.declared.fault.RuleFault.{RuleFault}
 use Rattle.rule_commands.specs.declared.fault.RuleFault.TheVariants.{Template, Rules, Compile, NoLink, Base}
@@ -21,7 +20,7 @@ status_of (Compile e) = 3
 status_of NoLink = 1
 status_of (Base fault) = status_of_base fault
 
--- an allocation that fails is one error, wherever it was
+-- an allocation that fails is the same error, wherever it was
 abbrev pub out_of_memory : RuleFault
 out_of_memory = Base Memory
 

@@ -44,6 +44,6 @@ pub record GivesNoLink (found : Found) (query : Text) (fault : RuleFault) : Type
   pub read : IsRuleText bytes rules
   pub no_link : IsNoLink rules query fault
 
--- the file is not read as rules, or else its rules give no link
+-- the file cannot be read as rules, or else its rules give no link
 abbrev pub IsLinkFault : Found → Text → Type 0 → Text → RuleFault → Type 0
 IsLinkFault found path failed query fault = IsUnread found path failed fault ⊎ GivesNoLink found query fault

@@ -1,4 +1,4 @@
--- Why the file at a path is not read as rules.
+-- Why the file at a path cannot be read as rules.
 use Rattle.rule_parser.specs.Faults.{IsRefused}
 use Rattle.text_model.specs.Texts.{Text}
 use Rattle.files.specs.Found.{Found, OfFile}
@@ -6,7 +6,7 @@ use Rattle.command_base.specs.Faults.{IsReadFault}
 use Rattle.rule_commands.specs.declared.fault.RuleFault.{RuleFault}
 use Rattle.rule_commands.specs.declared.fault.RuleFault.TheVariants.{Template, Rules, Compile, NoLink, Base}
 
--- its bytes are no rule text, or it cannot be read
+-- its bytes are not a rule text, or it cannot be read
 abbrev pub IsUnread : Found → Text → Type 0 → RuleFault → Type 0
 IsUnread found path failed (Template e) = ⊥
 IsUnread found path failed (Rules e) = OfFile found (λ bytes. IsRefused bytes e.kind e.line)

@@ -7,14 +7,18 @@ ghost use Rattle.rule_commands.specs.Arguments.{AreExpandArguments, NoExpandArgu
 use std::alloc::{AllocError, Global};
 
 /// The arguments after `expand`: the options `--list NAME`, a template and a query.
-#[derive(Clone, Copy, Debug)]
+#[derive(Clone, Copy)]
 pub struct ExpandArguments<'w, 'a> {
+    /// The options: each is an argument `--list` and the name of a list.
     pub options: &'w [&'a str],
+    /// The template.
     pub template: &'a str,
+    /// The query, without a `?` before it.
     pub query: &'a str,
 }
 
-/// Parses the arguments after `expand`. An argument `--list` before the template is always the option.
+/// Parses the arguments after `expand`; `None` if they are wrong. An argument `--list` before the template is always
+/// the option.
 pub fn expand_arguments<'w, 'a>(arguments: &'w [&'a str]) -> Option<ExpandArguments<'w, 'a>>
     ensures some { IfSome result (λ parsed. AreExpandArguments (texts_of arguments.now)
         (names_of (texts_of parsed.options.now)) parsed.template.now parsed.query.now) }

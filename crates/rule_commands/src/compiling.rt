@@ -1,4 +1,4 @@
-//! `compile RULES CODE`: the code of a rule file, in a file of its own.
+//! `compile RULES CODE`: writes the code of a rule file to a code file.
 
 ghost use Rattle.std.specs.Prelude.{IfOk, IfErr, OnErr, string_bytes};
 ghost use Rattle.files.specs.Placing.{IsAsBefore, IsPlaceFailure};
@@ -13,8 +13,8 @@ use files::Files;
 use rule_parser::Rules;
 use std::alloc::Global;
 
-/// Places the code of the rules at `rules` in a file at `code`, and gives the line that counts its bytes. The code
-/// is written to `CODE.new`, which must not exist, and then renamed.
+/// Writes the code of the rule file at `rules` to a file at `code`, and returns the line with the number of its bytes.
+/// The code is written to `CODE.new`, which must not exist, and then renamed.
 pub fn compile<'a, F: Files>(
     alloc: Global,
     files: &mut F,

@@ -17,8 +17,8 @@ use command_base::{BaseFault, ended, environment};
 use std::alloc::Global;
 use uri_template::Template;
 
-/// The line of the expansion of the template on the environment of the query's pairs. The options are pairs of
-/// `--list` and the name of a list; `rft.au` and `rft_id` are lists too. A template has at most 8,192 bytes.
+/// The expansion of the template on the environment of the query's pairs, as a line. The options are pairs of `--list`
+/// and the name of a list; `rft.au` and `rft_id` are lists too. A template has at most 8,192 bytes.
 pub fn expand<'a>(
     alloc: Global,
     options: &[&str],
@@ -48,7 +48,7 @@ fn expansion<'a>(
     Ok(expanded(alloc, &template, lists, query)?)
 }
 
-/// The expansion of the parsed template, where the names of `lists` are lists.
+/// The expansion of the parsed template, in which the names of `lists` are lists.
 fn expanded<'a>(
     alloc: Global,
     template: &Template,

@@ -13,10 +13,10 @@ use uri_grammar::{TemplateError, TemplateErrorKind};
 /// Why `expand`, `link` or `compile` ends without its result.
 #[derive(Debug, Drop, Error)]
 pub enum RuleFault<'a> {
-    /// The template is none of RFC 6570: its first error, and the byte at which it is.
+    /// The template is not a URI Template (RFC 6570): its first error, and the byte at which it is.
     #[error("template: {0}")]
     Template(TemplateError),
-    /// The file is no rule text: the line of its first error, and its kind.
+    /// The file is not a rule text: the line of its first error, and its kind.
     #[error("rules: {0}")]
     Rules(RuleError),
     /// The code of the rules exceeds this limit.

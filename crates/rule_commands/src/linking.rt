@@ -20,7 +20,7 @@ use files::Files;
 use rule_parser::{Rules, meaning};
 use std::alloc::Global;
 
-/// The line of the link that the rules of the file at the path give for the query.
+/// The link that the rules of the file at the path give for the query, as a line.
 pub fn link<'a, F: Files>(
     alloc: Global,
     files: &mut F,

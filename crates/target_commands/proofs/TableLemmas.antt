@@ -1,4 +1,4 @@
--- A table that is rejected is the fault of the file at its path.
+-- The error of a table that is rejected is that of the file at its path.
 use Rattle.std.proofs.Common.{◌≡◌}
 use Rattle.std.specs.Prelude.{◌≢◌}
 use Rattle.text_model.specs.Texts.{Text}

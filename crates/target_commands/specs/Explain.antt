@@ -1,4 +1,4 @@
--- What `explain` prints, and why it prints nothing, or not all.
+-- What `explain` prints, and why it prints nothing, or only a part.
 use Rattle.std.specs.Prelude.{◌≡◌, ◌⊎◌, ℕ, Bool, None}
 use Rattle.text_model.specs.Texts.{Text}
 use Rattle.files.specs.Found.{Disk}
@@ -47,7 +47,7 @@ module _ {K : Type 0} (draws : K → ℕ → ℕ → K → Type 0) (disk : Disk)
     pub target : IsTarget draws disk old rules_path table_path new rules table
     pub cause : IsQuery query fault
 
-  -- all is read; then an allocation or the output failed
+  -- all files and the query are read; then an allocation or the output failed
   pub record StopsInPart (fault : ReviewFault) : Type 0 where
     pub rules : RuleSet
     pub table : Holdings
@@ -55,7 +55,7 @@ module _ {K : Type 0} (draws : K → ℕ → ℕ → K → Type 0) (disk : Disk)
     pub request : refusal query ≡ None
     pub cause : IsFailure fault
 
--- why nothing is printed: first the rules, then the table, then the query
+-- why nothing is printed: an error of the rules, then of the table, then of the query
 abbrev pub IsUnexplained : {F K : Type 0} → (F → FileCall → Text → F → Type 0) → (K → ℕ → ℕ → K → Type 0) → (K → K → Type 0) → Disk → K
     → Text → Text → Text → K → ReviewFault → Type 0
 IsUnexplained fails draws no_keys disk old rules_path table_path query new fault =

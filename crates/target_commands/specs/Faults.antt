@@ -26,7 +26,7 @@ table_fault e = Table e
 abbrev pub query_fault : KevError → ReviewFault
 query_fault e = Base (query_fault_of_base e)
 
--- the output failed, which is told by the path `-`
+-- the output failed: the error has the path `-`
 abbrev pub IsOutput : BaseFault → Type 0
 IsOutput (Query e) = ⊥
 IsOutput Memory = ⊥

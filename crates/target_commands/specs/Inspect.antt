@@ -6,7 +6,7 @@ use Rattle.kbart_rows.specs.Cells.{Holdings}
 use Rattle.table_inspection.specs.Inspection.{inspection_text, has_warning}
 use Rattle.target_commands.specs.Tables.{IsTableAt}
 
--- the text is what is found in the table at the path, and says whether there is a warning
+-- the text has the findings in the table at the path, and the flag says whether one is a warning
 pub record IsInspection {K : Type 0} (draws : K → ℕ → ℕ → K → Type 0) (disk : Disk) (old : K) (path : Text) (new : K) (text : Text) (warned : Bool)
     : Type 0 where
   pub table : Holdings

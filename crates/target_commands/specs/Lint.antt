@@ -7,7 +7,7 @@ use Rattle.rule_parser.specs.Rules.{RuleSet}
 use Rattle.rule_lint.specs.Findings.{lint_text, has_warning}
 use Rattle.target_commands.specs.Targets.{IsTarget}
 
--- the text is what is found in the rules and the table at the paths, and says whether there is a warning
+-- the text has the findings in the rules and the table at the paths, and the flag says whether one is a warning
 pub record IsLint {K : Type 0} (draws : K → ℕ → ℕ → K → Type 0) (disk : Disk) (old : K) (rules_path table_path : Text) (new : K)
     (text : Text) (warned : Bool) : Type 0 where
   pub rules : RuleSet

@@ -1,4 +1,4 @@
--- What the commands print that look into the files of a target, and why they print nothing, or not all.
+-- What the commands on the files of a target print, and why they print nothing, or only a part.
 use Rattle.std.specs.Prelude.{ℕ, Bool, not}
 use Rattle.text_model.specs.Texts.{Text}
 use Rattle.files.specs.Found.{Disk}
@@ -22,7 +22,7 @@ module _ {K : Type 0} (draws : K → ℕ → ℕ → K → Type 0) (disk : Disk)
   Reviews (Lint rules table) new text clean = IsLint draws disk old rules.now table.now new text (not clean)
   Reviews (Explain rules table query) new text clean = IsExplanation draws disk old rules.now table.now query.now new text clean
 
-  -- the output fails, or an allocation does when `explain` has begun
+  -- the output fails, or an allocation fails after `explain` has begun to print
   abbrev pub StopsReview : Review → K → ReviewFault → Type 0
   StopsReview (Inspect table) new fault =
       (text : Text) × (warned : Bool) × IsInspection draws disk old table.now new text warned × IsOutputFault fault

@@ -14,7 +14,7 @@ use Rattle.target_commands.specs.Tables.{IsTableAt, IsNoTable}
 use Rattle.target_commands.specs.declared.fault.ReviewFault.{ReviewFault}
 use Rattle.target_commands.specs.declared.fault.ReviewFault.TheVariants.{Rule, Table, Warning, Base}
 
--- what is found is the file of the rules
+-- the file of the rules is at the path
 abbrev pub HasRules : Found → RuleSet → Type 0
 HasRules found rules = OfFile found (λ bytes. IsRuleText bytes rules)
 
@@ -24,20 +24,20 @@ pub record IsTarget {K : Type 0} (draws : K → ℕ → ℕ → K → Type 0) (d
   pub rule_file : HasRules (disk rules_path) rules
   pub table_file : IsTableAt draws (disk table_path) old new table
 
--- it is an error of reading rules, of which this holds
+-- it is an error of reading rules, and has the property
 abbrev pub OfRules : (RuleFault → Type 0) → ReviewFault → Type 0
 OfRules P (Rule fault) = P fault
 OfRules P (Table e) = ⊥
 OfRules P Warning = ⊥
 OfRules P (Base fault) = ⊥
 
--- the rules are read, and the table is not
+-- the rules are read, and the table cannot be read
 pub record HasNoTable (disk : Disk) (rules_path table_path : Text) (failed no_keys : Type 0) (fault : ReviewFault) : Type 0 where
   pub rules : RuleSet
   pub rule_file : HasRules (disk rules_path) rules
   pub cause : IsNoTable (disk table_path) table_path failed no_keys fault
 
--- the rules are not read, or else the table is not
+-- the rules cannot be read, or else the table cannot be read
 abbrev pub IsNoTarget : {F : Type 0} → (F → FileCall → Text → F → Type 0) → Disk → Text → Text → Type 0 → ReviewFault → Type 0
 IsNoTarget fails disk rules_path table_path no_keys fault =
     OfRules (IsUnread (disk rules_path) rules_path (HasFailed fails Read rules_path)) fault

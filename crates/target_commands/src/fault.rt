@@ -13,13 +13,13 @@ use thiserror::Error;
 /// Why `inspect`, `lint` or `explain` ends without a clean result.
 #[derive(Debug, Drop, Error)]
 pub enum ReviewFault<'a> {
-    /// The rule file is not read.
+    /// The rule file could not be read.
     #[error("{0}")]
     Rule(RuleFault<'a>),
-    /// The file is no holdings table.
+    /// The file is not a holdings table.
     #[error("table: {0}")]
     Table(TableError),
-    /// A warning, or that no row has a web link. All lines are printed.
+    /// A line is a warning, or no row has a web link. All lines are printed.
     #[error("warning")]
     Warning,
     /// An error that any command may have.

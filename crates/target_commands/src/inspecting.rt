@@ -1,4 +1,4 @@
-//! `inspect TABLE`: what a holdings table is worth.
+//! `inspect TABLE`: the quality of a holdings table.
 
 ghost use Rattle.std.specs.Prelude.{◌≡◌, ◌⊎◌, true, false, Bool, IfOk, IfErr, OnOk, string_bytes};
 ghost use Rattle.std.specs.Io.KnownBytes.{Appends};
@@ -20,7 +20,7 @@ use registry_file::KeySource;
 use std::alloc::Global;
 use std::io::Write;
 
-/// Prints what is found in the holdings table at the path; `Warning` if one of the lines is a warning.
+/// Prints the findings in the holdings table at the path; `Warning` if one of the lines is a warning.
 pub(crate) fn inspect<'a, F: Files, K: KeySource, O: Write>(
     alloc: Global,
     files: &mut F,
@@ -45,7 +45,7 @@ pub(crate) fn inspect<'a, F: Files, K: KeySource, O: Write>(
     print(&findings, output)
 }
 
-/// What is found in the table.
+/// The findings in the table.
 fn inspection<'a, F: Files, K: KeySource>(
     alloc: Global,
     files: &mut F,

@@ -1,4 +1,4 @@
-//! The commands that look into the files of one target: `inspect`, `lint` and `explain`.
+//! The commands that examine the files of one target: `inspect`, `lint` and `explain`.
 #![tactic(auto)]
 
 mod explaining;

@@ -18,7 +18,7 @@ use registry_file::KeySource;
 use std::alloc::Global;
 use std::io::Write;
 
-/// Prints what is found in the rules and the table at the two paths; `Warning` if one of the lines is a warning.
+/// Prints the findings in the rules and the table at the two paths; `Warning` if one of the lines is a warning.
 pub(crate) fn lint<'a, F: Files, K: KeySource, O: Write>(
     alloc: Global,
     files: &mut F,
@@ -43,7 +43,7 @@ pub(crate) fn lint<'a, F: Files, K: KeySource, O: Write>(
     print(&findings, output)
 }
 
-/// What is found in the rules and the table.
+/// The findings in the rules and the table.
 fn findings<'a, F: Files, K: KeySource>(
     alloc: Global,
     files: &mut F,

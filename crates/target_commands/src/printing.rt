@@ -1,4 +1,4 @@
-//! Findings on an output.
+//! Printing findings.
 
 ghost use Rattle.std.specs.Prelude.{◌≡◌, ◌⊎◌, true, false, IfErr, OnOk, string_bytes};
 ghost use Rattle.std.specs.Io.KnownBytes.{Appends};
@@ -10,7 +10,7 @@ use command_base::BaseFault;
 use printed_text::Findings;
 use std::io::Write;
 
-/// Prints the findings, and says whether one of them is a warning.
+/// Prints the findings; the error is `Warning` if one of them is a warning.
 pub(crate) fn print<'a, O: Write>(
     findings: &Findings,
     output: &mut O,

@@ -16,7 +16,7 @@ use registry_file::KeySource;
 use std::alloc::Global;
 use std::io::Write;
 
-/// A command on the files of one target, with what it is given: a query is the text itself, all others are paths.
+/// A command on the files of one target, with its arguments: a query is the text itself, all others are paths.
 #[derive(Clone, Copy)]
 pub enum Review<'a> {
     /// `inspect TABLE`

@@ -13,8 +13,7 @@ use kbart_rows::{MAX_TABLE_BYTES, Table, TableError};
 use registry_file::KeySource;
 use std::alloc::Global;
 
-/// The holdings table at the path, which has at most 16,777,216 bytes. Its hashed look-ups have keys that are drawn
-/// for it.
+/// The holdings table at the path, which has at most 16,777,216 bytes. Random keys are drawn for its hashed look-ups.
 pub(crate) fn read_table<'a, F: Files, K: KeySource>(
     alloc: Global,
     files: &mut F,

@@ -1,4 +1,4 @@
--- Runs on their way to their ends.
+-- Runs from their starts to their ends.
 use Rattle.std.specs.Prelude.{◌≡◌, ℕ, List, map, min}
 use Rattle.std.specs.List.{AllByRecursion}
 use Rattle.machine_model.specs.Runs.{EndsAfter}
@@ -13,11 +13,11 @@ pub record IsFresh (run : RunValue) : Type 0 where
 abbrev pub AreFresh : List RunValue → Type 0
 AreFresh runs = AllByRecursion IsFresh runs
 
--- what a run is of
+-- the run at its start: the same code on the same environment, without steps
 abbrev pub same_but_steps : RunValue → RunValue
 same_but_steps run = record run { steps = 0 }
 
--- runs of the same codes on the same environments, wherever they are
+-- runs of the same codes on the same environments, after any number of steps
 abbrev pub AreOfTheSame : List RunValue → List RunValue → Type 0
 AreOfTheSame old new = map same_but_steps new ≡ map same_but_steps old
 

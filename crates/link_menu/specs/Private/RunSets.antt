@@ -1,4 +1,4 @@
--- Runs that are begun together, and what is over budget beside them.
+-- Runs that are begun together, and the codes among them that are over budget.
 use Rattle.std.specs.Prelude.{◌≡◌, ℕ, List, [], ◌∷◌, Option, Some, None, if◌then◌else◌, map}
 use Rattle.code_model.specs.Code.{Code}
 use Rattle.machine_model.specs.Runs.{Outcome}
@@ -9,11 +9,11 @@ use Rattle.registry.specs.Fates.{Fate, OverBudget, ended}
 use Rattle.link_menu.specs.Fates.{is_over_budget, runs_of}
 use Rattle.link_menu.specs.Private.Rounds.{AreFresh}
 
--- the bound on bytes, where it is over budget
+-- the bound on bytes, if it is over budget
 abbrev pub excess_of : Code × EnvValue → Option ℕ
 excess_of p = if is_over_budget p.0 p.1 then Some (most_bytes p.0 p.1) else None
 
--- each code is over budget on its environment, or its run is at its start
+-- for each code, the bound by which it is over budget on its environment, or its run at the start
 pub record IsRunSetOf (pairs : List (Code × EnvValue)) (over_budget : List (Option ℕ)) (begun : List RunValue) : Type 0 where
   pub excesses : over_budget ≡ map excess_of pairs
   pub runs : begun ≡ runs_of pairs
@@ -23,7 +23,7 @@ pub record IsRunSetOf (pairs : List (Code × EnvValue)) (over_budget : List (Opt
 abbrev pub outcome_in_the_end : RunValue → Outcome
 outcome_in_the_end run = outcome_of run.code run.env.entries
 
--- over budget, or the next outcome
+-- the fates, in order: over budget, or otherwise the next outcome
 abbrev pub fates_in : List (Option ℕ) → List Outcome → List Fate
 fates_in [] outcomes = []
 fates_in (Some bytes ∷ over_budget) outcomes = OverBudget bytes ∷ fates_in over_budget outcomes

@@ -21,19 +21,19 @@ use Rattle.link_menu.specs.Fates.{fate_of, runs_of}
 use Rattle.link_menu.specs.StepLists.{ends_of}
 use Rattle.link_menu.specs.RowsByRound.{steps_of_row}
 
--- what is asked, a target, the matching row that is tried next, and the resolution so far
+-- a request, a target, the matching row that is tried next, and the resolution so far
 pub record SearchValue : Type 0 where
   pub asked : RequestValue
   pub target : TargetValue
   pub next : Option ℕ
   pub resolution : Resolution
 
--- a next row is one of the table, and the request is there as the target sees it
+-- if there is a next row, the table has it, and the request has been prepared for the target
 abbrev pub IsReady : RequestValue → TargetValue → Option TargetRequestValue → Option ℕ → Type 0
 IsReady asked target request next =
     IfSome next (λ row. (row < length target.table.rows) × (request ≡ Some (record { code = target.code; table = target.table; request = asked })))
 
--- no row was tried
+-- no row has been tried
 abbrev pub started : RequestValue → TargetValue → SearchValue
 started asked target =
     record {
@@ -63,7 +63,7 @@ fate_next s = option_map (λ row. fate_of_row s.target s.asked.pairs row) s.next
 abbrev pub fates_next : List SearchValue → List Fate
 fates_next searches = filter_map fate_next searches
 
--- the steps of those that are run
+-- the steps of the codes that are run
 abbrev pub ends_next : List SearchValue → List ℕ
 ends_next searches = filter_map (λ s. option_and_then (steps_of_row s.target s.asked.pairs) s.next) searches
 
@@ -78,9 +78,9 @@ pub record IsBatchOf (searches : List SearchValue) (batch : Batch) : Type 0 wher
   pub fates : map fate_of (zip (map (λ code. code.now) batch.codes.items) (map (λ row. row.env) batch.rows.items)) ≡ fates_next searches
   pub ends : ends_of (runs_of (zip (map (λ code. code.now) batch.codes.items) (map (λ row. row.env) batch.rows.items))) ≡ ends_next searches
 
--- ---- a row after another
+-- ---- one row after another
 
--- the row came to the resolution; after a link there is no next row
+-- the row has given the resolution; after a link there is no next row
 abbrev pub after_row : SearchValue → ℕ → Resolution → SearchValue
 after_row s row resolution =
     record s {
@@ -99,6 +99,6 @@ abbrev pub after_row_at : SearchValue → Option ℕ → SearchValue
 after_row_at s None = s
 after_row_at s (Some row) = after_row s row (resolution_by row (fate_of_row s.target s.asked.pairs row))
 
--- the next row was tried
+-- the next row has been tried
 abbrev pub after_next_row : SearchValue → SearchValue
 after_next_row s = after_row_at s s.next

@@ -1,4 +1,4 @@
--- Why a target is not added, before it is named.
+-- Why a target is not added, without the target's name.
 use Rattle.std.specs.Prelude.{◌≡◌, ◌≢◌, List, string_bytes}
 use Rattle.std.specs.Borrow.{Bor}
 use Rattle.text_model.specs.Texts.{Text}
@@ -18,6 +18,7 @@ use Rattle.kbart_rows.specs.declared.keys.Keys.{Keys}
 use Rattle.kbart_rows.specs.declared.error.TableError.{TableError}
 use Rattle.kbart_rows.specs.declared.error.TableError.TheVariants as table
 use Rattle.registry.specs.Targets.{TargetValue}
+use Rattle.registry.specs.Refusals.{IsRefusal}
 use Rattle.registry.specs.declared.error.AddErrorKind.{AddErrorKind}
 use Rattle.registry.specs.declared.error.AddErrorKind.TheVariants as add
 use Rattle.registry_file.specs.Loading.{IsSafeFile, IsTargetFault, IsUnread}
@@ -30,18 +31,18 @@ use Rattle.registry_file.specs.declared.stop.Stop.TheVariants.{Device, Load, Tab
 
 -- ---- errors of calls
 
--- why the registry file is not read
+-- why the registry file cannot be read
 abbrev pub error_of_read : ReadError → RegistryError
 error_of_read read.TooLong = error.Line 0
 error_of_read (read.File file.Failed) = error.Device
 error_of_read (read.File file.NoMemory) = error.NoMemory
 
--- why the file at a path is not read
+-- why the file at a path cannot be read
 abbrev pub stop_of_file : FileError → Bor Text → Stop
 stop_of_file file.Failed path = Device path
 stop_of_file file.NoMemory path = NoMemory
 
--- each error but the one that memory ran out is a reason of its own
+-- each error, except that memory ran out, is a reason to reject the target
 
 abbrev pub IsLoadStop : LoadError → Stop → Type 0
 IsLoadStop e (Load told) = (told ≡ e) × (e ≢ load.NoMemory)
@@ -60,15 +61,21 @@ IsAddStop kind other = ⊥
 
 -- ---- stops
 
+-- why a target of this name, whose files were read, is not added to others
+abbrev pub IsNotAdded : List TargetValue → Text → Stop → Type 0
+IsNotAdded targets name (Add kind) = (kind ≢ add.NoMemory) × IsRefusal targets name kind
+IsNotAdded targets name NoMemory = Unit {0}
+IsNotAdded targets name other = ⊥
+
 module _ {F : Type 0} (fails : F → FileCall → Text → F → Type 0) where
-  -- why what is at a path is no code
+  -- why what is at a path is not accepted code
   abbrev pub IsNoCode : Found → Text → Stop → Type 0
   IsNoCode found path (Device named) = (named.now ≡ path) × HasFailed fails Read path
   IsNoCode found path (Load e) = (e ≢ load.NoMemory) × OfFile found (λ bytes. IsLoadFault bytes e)
   IsNoCode found path NoMemory = Unit {0}
   IsNoCode found path other = ⊥
 
-  -- why what is at a path is no table
+  -- why what is at a path is not a table
   abbrev pub IsNoTable : Found → Text → Stop → Type 0
   IsNoTable found path (Device named) = (named.now ≡ path) × HasFailed fails Read path
   IsNoTable found path (Table e) = (e ≢ table.NoMemory) × OfFile found (λ bytes. IsFault bytes e)

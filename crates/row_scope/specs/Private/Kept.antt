@@ -20,7 +20,7 @@ use Rattle.row_scope.specs.declared.known_values.KnownName.{KnownName}
 
 -- ---- a request
 
--- the bytes of all spans before each, and of all of them
+-- for each span, the bytes of the spans before it; and last, the bytes of all spans
 pub record AreEnds (spans : List (ℕ × ℕ)) (ends : List ℕ) : Type 0 where
   pub one_more : length ends ≡ length spans + 1
   pub are : (i d : ℕ) → i ≤ length spans → get_or ends i d ≡ sum_by (λ span. span.1) (take i spans)
@@ -31,13 +31,13 @@ pub record IsRequest (request : RequestValue) (ends : List ℕ) (bytes members :
   pub all_bytes : bytes ≡ byte_count (asked [] request.pairs)
   pub all_members : members ≡ member_count (asked [] request.pairs)
 
--- the values of each name that is known lie where it says
+-- the values of each known name are at the spans that are stored
 abbrev pub AreKnown : RequestValue → List (Option KnownName) → Type 0
 AreKnown request names = All (λ known. IfSome known (λ k. AreValuesAt request k.name.now k.first k.count)) names
 
 -- ---- a request at a target
 
--- a key of the request that the column hides where its cell is defined, with what the request has under it
+-- a key of the request that the column hides if its cell is defined, with the bytes and members that the request has under it
 abbrev pub hidden_key : Row → List Text → List KeyValue → ℕ → Option HiddenKey
 hidden_key header lists pairs column =
     let key = get_or header column [] in

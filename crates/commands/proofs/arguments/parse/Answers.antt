@@ -12,7 +12,7 @@ returns-in_err-parse-in-serve-clause-none c =
     rw c.from_residual-in_err-parse-in-serve.ensures
     (no_service c.args.arguments.now c.in-serve.len_at_least c.in-serve.is-serve c.in_err-parse-in-serve.ensures.none)
 
--- by the number of the arguments, none of the names is the first of them
+-- no command with this number of arguments has the first one as its name
 pub returns-in_default-clause-none : goal.returns-in_default-clause-none
 returns-in_default-clause-none c = elim c.in_default.branch [
   | in_default-via-then-arguments-lt1 w ↦ search (rules, none_of_none)

@@ -6,7 +6,7 @@ use Rattle.link_menu.specs.Fates.{fate_of, said}
 use Rattle.link_menu.specs.StepLists.{HasSeenAll, HasSeenSome, step_lists_of}
 use Rattle.link_menu.proofs.rounds.round.Goals as goal
 
--- an environment is what it tells
+-- an `Env` as a scope has the same value
 each_itself : (envs : List EnvValue) → map (λ env. env) envs ≡ envs
 each_itself [] = refl
 each_itself (env ∷ envs) = ap (λ es. env ∷ es) (each_itself envs)

@@ -4,7 +4,7 @@ use Rattle.link_menu.specs.StepLists.{ends_of, step_lists_in, with_lists}
 use Rattle.link_menu.proofs.TurnsOfAll.{all_after, turns_of}
 use Rattle.link_menu.proofs.rounds.turn_until_ended.Given as goal
 
--- after t turns of all
+-- all runs have had t turns
 abbrev pub invariant-loop-live : goal.invariant-loop-live
 invariant-loop-live g l = (t : ℕ)
     × (l.runs ≡ all_after (64 * t) l.fn.runs)

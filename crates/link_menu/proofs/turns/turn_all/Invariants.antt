@@ -3,7 +3,7 @@ use Rattle.verified_runs.specs.RunValue.{RunValue}
 use Rattle.link_menu.specs.Turns.{IsMoved, is_live}
 use Rattle.link_menu.proofs.turns.turn_all.Given as goal
 
--- the runs before the place have moved, and the others are as they were
+-- the runs before the place have moved, and the others are unchanged
 abbrev pub invariant-loop-run : goal.invariant-loop-run
 invariant-loop-run g l = record {
   moved : (i : ℕ) (d : RunValue) → i < l.run-index → IsMoved (get_or l.fn.runs i d) l.n (get_or l.runs i d);

@@ -1,5 +1,4 @@
-use Rattle.std.proofs.Common.{◌≡◌, ◌∙◌, refl, map, rules, true, ◌∷◌, []}
-use Rattle.std.specs.Result.{is_ok}
+use Rattle.std.proofs.Common.{◌∙◌, refl, map, ◌∷◌, []}
 use Rattle.std.proofs.lemmas.List.{map-append}
 use Rattle.csv.specs.Records.{fields_of}
 use Rattle.kbart_rows.proofs.ReadingLines.{reading_starts, reading_goes_on, reading_ends}
@@ -15,12 +14,10 @@ loop-record-init c =
 pub loop-record-preserved : goal.loop-record-preserved
 loop-record-preserved c =
     let inv = c.loop-record.invariant in
-    let step = rw (c.in-Some.is, c.in-Ok.is) at ((c.next.ensures.steps inv.1 inv.0.trim).0 inv.0.ready) in
-    let line = c.in-Ok.line in
-    let good : is_ok c.push.result ≡ true = search rules in
-    let items = rw good at c.push.ensures.items in
-    rw (items, map-append fields_of c.loop-record.lines.items (line ∷ [])) (
-      reading_goes_on _ (map fields_of c.loop-record.lines.items) c.loop-record.record-iterator.rdr c.next.new.self.rdr (fields_of line) inv.0 step.0 step.1,
+    let added = c.in_ok-push_line.ensures in
+    let step = rw (c.in-Some.is, added.1) at ((c.next.ensures.steps inv.1 inv.0.trim).0 inv.0.ready) in
+    rw (added.2, map-append fields_of c.loop-record.lines.items (added.0 ∷ [])) (
+      reading_goes_on _ (map fields_of c.loop-record.lines.items) c.loop-record.record-iterator.rdr c.next.new.self.rdr (fields_of added.0) inv.0 step.0 step.1,
       step.2,
     )
 

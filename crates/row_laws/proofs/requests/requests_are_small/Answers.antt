@@ -1,5 +1,5 @@
 use Rattle.std.proofs.Common.{[], arith}
-use Rattle.row_laws.proofs.SmallRequests.{filled_bytes, filled_members}
+use Rattle.kev_read.proofs.FillingLemmas.{filled_bytes, filled_members}
 use Rattle.row_laws.proofs.requests.requests_are_small.Goals as goal
 
 pub returns-clause-bytes : goal.returns-clause-bytes

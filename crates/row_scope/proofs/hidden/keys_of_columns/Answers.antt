@@ -9,7 +9,7 @@ use Rattle.kbart_rows.specs.Lines.{CursorValue, cells_in}
 use Rattle.row_scope.specs.RowEnvironments.{lists_of}
 use Rattle.row_scope.specs.Private.Kept.{hidden_key}
 use Rattle.row_scope.specs.declared.hidden.HiddenKey.{HiddenKey}
-use Rattle.row_scope.proofs.CellLemmas.{few_cells}
+use Rattle.kbart_rows.proofs.LineCells.{few_cells}
 use Rattle.row_scope.proofs.HiddenLemmas.{one_column_more}
 use Rattle.row_scope.proofs.hidden.keys_of_columns.Goals.{in-Some-hidden_key+in_ok-push, in_default-hidden_key}
 use Rattle.row_scope.proofs.hidden.keys_of_columns.Goals as goal
@@ -21,13 +21,13 @@ named : (header : Row) (cursor : CursorValue) (column : ℕ) (found : Option (Bo
 named header cursor column found name line place cell is =
     ap (λ cells. slice_get cells column) (sym line) ∙ ap (slice_get (cells_in cursor.line)) (sym place) ∙ sym cell ∙ ap option_copied is
 
--- and no column is past the header's last
+-- and no column is after the last one of the header
 within_line : (header : Row) (cursor : CursorValue) (column : ℕ) (name : Text) → cells_in cursor.line ≡ header → slice_get header column ≡ Some name
     → (column < length header) × (column < length cursor.line)
 within_line header cursor column name line is =
     let inside = slice_get_within header column name is in (inside, omega (arith, inside, few_cells cursor.line, ap length line))
 
--- where there is no name, the cursor is past all columns
+-- if there is no name, the cursor is past all columns
 ended : (header : Row) (column : ℕ) → column ≤ length header → slice_get header column ≡ None → column ≡ length header
 ended [] column within none = omega (arith, within)
 ended (name ∷ header) zero within none = absurd (cc)

@@ -1,6 +1,6 @@
 use Rattle.std.proofs.Common.{inl, inr, string_bytes}
 use Rattle.std.proofs.lemmas.Result.{err_from_is_err_and}
-use Rattle.files.specs.Placing.{IsPlaceFailure}
+use Rattle.files.specs.Placing.{IsPlaceFailure, beside}
 use Rattle.command_base.proofs.CommandLemmas.{as_before, makes, not_placed}
 use Rattle.rule_commands.specs.Compile.{IsCompiled}
 use Rattle.rule_commands.specs.declared.fault.RuleFault.TheVariants.{Base}
@@ -10,6 +10,25 @@ pub returns-in_err-parsed-clause-err : goal.returns-in_err-parsed-clause-err
 returns-in_err-parsed-clause-err g c =
     let made = err_from_is_err_and c.from_residual.result c.from_residual.ensures.1 in
     rw (made.1, made.2) (inl c.in_err-parsed.ensures.err)
+
+pub returns-in_err-parsed-clause-kept : goal.returns-in_err-parsed-clause-kept
+returns-in_err-parsed-clause-kept g c =
+    let made = err_from_is_err_and c.from_residual.result c.from_residual.ensures.1 in
+    let same = c.read_rules.ensures.same in
+    rw (made.1) (record { others = λ other apart. same other; nothing_left = inl (same (beside c.args.code.now)) })
+
+pub returns-in_err-file-clause-err : goal.returns-in_err-file-clause-err
+returns-in_err-file-clause-err g c =
+    let read = c.in_ok-parsed.ensures.ok in
+    let made = err_from_is_err_and c.from_residual-in_err-file.result c.from_residual-in_err-file.ensures.1 in
+    rw (made.1, made.2)
+    (inr (inl (record { bytes = read.0; rules = c.in_ok-parsed.parsed; gives = read.1; read = read.2; no_code = c.in_err-file.ensures.err })))
+
+pub returns-in_err-file-clause-kept : goal.returns-in_err-file-clause-kept
+returns-in_err-file-clause-kept g c =
+    let made = err_from_is_err_and c.from_residual-in_err-file.result c.from_residual-in_err-file.ensures.1 in
+    let same = c.in_ok-parsed.ensures.same in
+    rw (made.1) (record { others = λ other apart. same other; nothing_left = inl (same (beside c.args.code.now)) })
 
 pub returns-in_err-place_counted-clause-err : goal.returns-in_err-place_counted-clause-err
 returns-in_err-place_counted-clause-err g c =

@@ -1,6 +1,11 @@
-use Rattle.std.proofs.Common.{inr, string_bytes}
+use Rattle.std.proofs.Common.{inl, inr, string_bytes}
 use Rattle.std.proofs.lemmas.Result.{err_from_is_err_and}
 use Rattle.rule_commands.proofs.linking.link.Goals as goal
+
+pub returns-in_err-rules-clause-err : goal.returns-in_err-rules-clause-err
+returns-in_err-rules-clause-err g c =
+    let made = err_from_is_err_and c.from_residual.result c.from_residual.ensures.1 in
+    rw (made.1, made.2) (inl c.in_err-rules.ensures.err)
 
 pub returns-in_err-link-clause-err : goal.returns-in_err-link-clause-err
 returns-in_err-link-clause-err g c =
@@ -8,6 +13,12 @@ returns-in_err-link-clause-err g c =
     let made = err_from_is_err_and c.from_residual-in_err-link.result c.from_residual-in_err-link.ensures.1 in
     rw (made.1, made.2)
     (inr (record { bytes = read.0; rules = c.in_ok-rules.rules; gives = read.1; read = read.2; no_link = c.in_err-link.ensures.err }))
+
+pub returns-in_err-ended-clause-err : goal.returns-in_err-ended-clause-err
+returns-in_err-ended-clause-err g c =
+    let read = c.in_ok-rules.ensures.ok in
+    let made = err_from_is_err_and c.from_residual-in_err-ended.result c.from_residual-in_err-ended.ensures.1 in
+    rw (made.1, made.2) (inr (record { bytes = read.0; rules = c.in_ok-rules.rules; gives = read.1; read = read.2; no_link = tt }))
 
 pub returns-clause-ok : goal.returns-clause-ok
 returns-clause-ok g c =
