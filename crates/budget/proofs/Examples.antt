@@ -1,4 +1,4 @@
--- The bounds that the sums of every code keep: each is met at its limit, and broken by one more.
+-- The bounds on the sums of every code: each holds at its limit, and fails one above it.
 use Rattle.std.proofs.Common.{ℕ, arith}
 use Rattle.machine_model.specs.Budget.{Sums}
 use Rattle.budget.specs.Small.{IsSmall}

@@ -19,7 +19,7 @@ unfolding total
 totals_le f g k h zero = omega arith
 totals_le f g k h (suc n) = rw (mul-suc k n) (omega (arith, totals_le f g k h n, h n))
 
--- a place counts in one of two sums
+-- a place is counted in one of two sums
 apart_at : (o : Option Body) (a b k : ℕ) → a ≤ k → b ≤ k → (if is_in_body o then 0 else a) + (if is_in_body o then b else 0) ≤ k
 apart_at None a b k ha hb = omega arith
 apart_at (Some body) a b k ha hb = omega arith

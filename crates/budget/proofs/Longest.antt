@@ -18,13 +18,13 @@ longest_step : (l : Literal) (ls : List Literal) → longest_compared (l ∷ ls)
 unfolding longest_compared
 longest_step l ls = refl
 
--- the literals as far as one more
+-- the first literals, with one more
 pub longest_more : (ls : List Literal) (i : ℕ) (d : Literal) → i < length ls
     → longest_compared (take (i + 1) ls) ≡ max (longest_compared (take i ls)) (compared_length (get_or ls i d))
 longest_more ls i d h =
     rw (take_more ls i d h) (max_push longest_compared compared_length longest_none longest_step (take i ls) (get_or ls i d))
 
--- the same where that one is the literal l: a comparison text, or a text of the link
+-- the same if that one is the literal l: a comparison text, or a link text
 module _ (ls : List Literal) (i : ℕ) (l : Literal) (lt : i < length ls) (is : l ≡ get_or ls i l) where
   pub longest_compared_more : (n m : ℕ) → n ≡ longest_compared (take i ls) → l.compared ≡ true → m ≡ max n (length l.bytes)
       → m ≡ longest_compared (take (i + 1) ls)

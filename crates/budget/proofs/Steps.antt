@@ -1,4 +1,4 @@
--- The sums with the share of one more place are those over one more place.
+-- The sums plus the share of one more place are the sums over one more place.
 use Rattle.std.proofs.Common.{◌≡◌, ℕ, ◌+◌, Option, Some, None, true, false, sym, ap, ◌∙◌, subst}
 use Rattle.std.specs.Prelude.{◌&&◌}
 use Rattle.std.proofs.lemmas.Bool.{and_parts}

@@ -1,9 +1,9 @@
--- The bounds that the sums of every code keep.
+-- Bounds on the sums of every code.
 use Rattle.std.specs.Prelude.{◌^◌, ◌<◌, ◌≤◌}
 use Rattle.machine_model.specs.Budget.{Sums}
 
--- A code has at most 4,096 instructions. A PUT or CUT counts three bytes, and a comparison text or a text of the link
--- has at most 65,535 bytes: 4,096 of three times as many are below 2^30.
+-- A code has at most 4,096 instructions. A PUT or CUT counts three bytes for each byte that it writes, and a comparison text or a link text has at most 65,535
+-- bytes. 4,096 times three times 65,535 is below 2^30.
 pub record IsSmall (b : Sums) : Type 0 where
   pub s0 : b.s0 ≤ 4096
   pub s1 : b.s1 ≤ 4096

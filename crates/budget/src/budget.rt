@@ -8,15 +8,15 @@ ghost use Rattle.budget.specs.Private.Shares.{plus_outside, plus_inside, plus_el
 use crate::share::Share;
 use std::marker::Model;
 
-/// The sums over a code's instructions that bound each of its runs, by the members and the bytes of its environment.
-/// [`crate::budget_of`] makes them.
+/// Six sums over the instructions of a code. Together with the number of members and of bytes of an environment they
+/// bound each run of the code on it. [`crate::budget_of`] computes them.
 #[derive(Clone, Copy, Debug, PartialEq, Eq)]
 pub struct Budget {
-    /// Steps, once: at most 4,096.
+    /// Steps that do not depend on the environment: at most 4,096.
     pub s0: u64,
     /// Steps, for each member of all lists: at most 4,096.
     pub s1: u64,
-    /// Bytes of output, once: below 2^30.
+    /// Bytes of output that do not depend on the environment: below 2^30.
     pub o0: u64,
     /// Bytes of output, for each member: below 2^30.
     pub o1: u64,
@@ -41,8 +41,8 @@ impl Model for Budget {
 }
 
 impl Budget {
-    /// How many steps a run takes at most where all lists of the environment have `members` members together, at most
-    /// 65,535.
+    /// The maximum number of steps of a run if all lists of the environment have `members` members together, which is
+    /// at most 65,535.
     pub fn steps(&self, members: u64) -> u64
         requires { members ≤ 65535 }
         ensures value { result ≡ steps_bound self.now members }
@@ -51,8 +51,8 @@ impl Budget {
         self.s0 + self.s1 * members
     }
 
-    /// How many bytes a run prints at most where all lists of the environment have `members` members together, and
-    /// all its texts and members `bytes` bytes, at most 1,048,576.
+    /// The maximum number of bytes that a run prints if all lists of the environment have `members` members together,
+    /// and all its texts and members have `bytes` bytes, which is at most 1,048,576.
     pub fn bytes(&self, members: u64, bytes: u64) -> u64
         requires members { members ≤ 65535 }
         requires bytes { bytes ≤ 1048576 }
@@ -62,7 +62,7 @@ impl Budget {
         self.o0 + self.o1 * members + self.o2 * bytes + self.o3 * (members * bytes)
     }
 
-    /// Adds the share of an instruction in no body.
+    /// Adds the share of an instruction outside all loops.
     pub(crate) fn add_outside(&mut self, share: Share)
         requires { IsSmall (plus_outside self.old share) }
         ensures { self.new ≡ plus_outside self.old share }
@@ -72,7 +72,7 @@ impl Budget {
         self.o2 += share.written;
     }
 
-    /// Adds the share of an instruction in a body.
+    /// Adds the share of an instruction in the body of a loop.
     pub(crate) fn add_inside(&mut self, share: Share)
         requires { IsSmall (plus_inside self.old share) }
         ensures { self.new ≡ plus_inside self.old share }
@@ -82,8 +82,9 @@ impl Budget {
         self.o3 += share.written;
     }
 
-    /// Adds the share of a PUT or CUT of its body's element. A body is entered at most once, its turns are the members
-    /// of one list, and the members of all lists have no more bytes together than the environment.
+    /// Adds the share of a PUT or CUT that prints the element of its loop. A loop is entered at most once, its body
+    /// runs once for each member of one list, and the members of all lists together have no more bytes than the
+    /// environment.
     pub(crate) fn add_element(&mut self, share: Share)
         requires { IsSmall (plus_element self.old share) }
         ensures { self.new ≡ plus_element self.old share }

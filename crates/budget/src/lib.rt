@@ -1,4 +1,4 @@
-//! How many steps a code takes at most, and how many bytes it prints at most: six sums over its instructions.
+//! Bounds on the steps that a code takes and on the bytes that it prints: six sums over its instructions.
 //!
 //! ```rust
 //! let code = Code::read(alloc, file)?;
@@ -12,4 +12,5 @@ mod share;
 mod sums;
 
 pub use budget::Budget;
+pub use code_file::Code;
 pub use sums::budget_of;

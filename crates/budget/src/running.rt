@@ -1,6 +1,6 @@
-//! The loops' bodies, found from the left.
+//! The bodies of loops, found in one walk from the first instruction on.
 
-ghost use Rattle.std.specs.Prelude.{◌≡◌, ◌+◌, ◌-◌, ◌<◌, ◌≤◌, ◌&&◌, ℕ, length};
+ghost use Rattle.std.specs.Prelude.{◌≡◌, ◌+◌, ◌-◌, ◌<◌, ◌≤◌, ◌&&◌, length};
 ghost use Rattle.code_model.specs.Code.{reading_at};
 ghost use Rattle.machine_model.specs.Form as form;
 ghost use Rattle.machine_model.specs.Budget as budget;
@@ -11,7 +11,8 @@ use code_file::{Code, instruction};
 use code_model::Instruction;
 use machine_model::Body;
 
-/// The body that a walk is in, and whether none of its instructions writes its element.
+/// The body that a walk over the instructions is in, and whether none of its instructions writes the register of its
+/// element.
 #[derive(Clone, Copy, Debug)]
 pub(crate) struct Running {
     pub body: Body,
@@ -19,8 +20,8 @@ pub(crate) struct Running {
 }
 
 impl Running {
-    /// Whether the instruction prints the element of the turn: a PUT or CUT of the element's register, which no
-    /// instruction of the body writes.
+    /// Whether the instruction prints the loop's current element: it is a PUT or CUT of the element's register, and no
+    /// instruction of the body writes that register.
     pub fn prints_element(&self, instruction: Option<Instruction>) -> bool
         ensures { result ≡ (budget.prints self.now.body.element instruction && self.now.kept) }
     {
@@ -33,7 +34,7 @@ impl Running {
     }
 }
 
-/// The instruction whose operation is at a place.
+/// The instruction at a place, if its operation is known.
 pub(crate) fn reading(code: &Code, place: usize) -> Option<Instruction>
     requires { place < length code.now.instrs }
     ensures { result ≡ reading_at code.now place }
@@ -41,7 +42,7 @@ pub(crate) fn reading(code: &Code, place: usize) -> Option<Instruction>
     instruction(code.version(), code.instr(place))
 }
 
-/// The body of the place after this one, whose body is given.
+/// The body that the next place is in, given the body that this place is in.
 pub(crate) fn next_running(code: &Code, place: usize, running: Option<Running>) -> Option<Running>
     requires is_code { IsCode code.now }
     requires place { place < length code.now.instrs }
@@ -84,7 +85,7 @@ fn ends_loop(code: &Code, place: usize) -> bool
     matches!(reading(code, place), Some(Instruction::Next))
 }
 
-/// Whether no instruction of the body writes its element.
+/// Whether no instruction of the body writes the register of its element.
 fn keeps_element(code: &Code, body: Body) -> bool
     requires order { body.start ≤ body.end }
     requires end { body.end ≤ length code.now.instrs }

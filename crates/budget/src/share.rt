@@ -1,6 +1,6 @@
-//! What one instruction counts in the sums of output.
+//! What one instruction adds to the sums of output bytes.
 
-ghost use Rattle.std.specs.Prelude.{◌≡◌, ◌*◌, ◌<◌, ◌^◌, length, All};
+ghost use Rattle.std.specs.Prelude.{◌≡◌, ◌*◌, ◌<◌, length, All};
 ghost use Rattle.machine_model.specs.Operands.{literal_at};
 ghost use Rattle.machine_model.specs.Budget as budget;
 ghost use Rattle.code_file.specs.Grammar.{IsLiteral};
@@ -9,14 +9,14 @@ ghost use Rattle.budget.specs.Private.Shares.{IsShareOf};
 use code_file::{Code, Literal};
 use code_model::Instruction;
 
-/// The bytes that an instruction prints at most.
+/// The maximum number of bytes that an instruction prints, in parts.
 #[derive(Clone, Copy, Debug)]
 pub(crate) struct Share {
-    /// Whatever the environment has.
+    /// Bytes that do not depend on the environment.
     pub fixed: u64,
-    /// The text of a SEP.
+    /// The bytes of the text of a SEP.
     pub separator: u64,
-    /// For each byte of the text that it writes.
+    /// Bytes for each byte of the text that a PUT or CUT writes.
     pub written: u64,
 }
 
@@ -26,7 +26,7 @@ const NOTHING: Share = Share {
     written: 0,
 };
 
-/// The share of an instruction, where the longest comparison text has `longest` bytes.
+/// The share of an instruction of code whose longest comparison text has `longest` bytes.
 pub(crate) fn share_of(code: &Code, longest: u16, instruction: Option<Instruction>) -> Share
     requires { longest ≡ budget.longest_compared code.now.literals }
     ensures { IsShareOf code.now instruction result }

@@ -12,8 +12,8 @@ use crate::running::{Running, next_running, reading};
 use crate::share::{longest_compared, share_of};
 use code_file::Code;
 
-/// The budget of a code. It counts every place, also one that no run reaches, and a loop's body once for each member
-/// of all lists. Takes no memory, and time in proportion to the code.
+/// The budget of a code. It counts every place, even one that no run reaches, and a loop's body once for each member of
+/// all lists. It allocates nothing, and its time is proportional to the length of the code.
 pub fn budget_of(code: &Code) -> Budget
     ensures value { result ≡ sums_of code.now }
     ensures small { IsSmall result }
@@ -36,7 +36,7 @@ pub fn budget_of(code: &Code) -> Budget
     budget
 }
 
-/// Adds what the instruction at a place counts.
+/// Adds what the instruction at a place contributes.
 fn add_place(budget: &mut Budget, code: &Code, longest: u16, place: usize, running: Option<Running>)
     requires is_code { IsCode code.now }
     requires place { place < length code.now.instrs }

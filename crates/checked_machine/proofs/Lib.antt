@@ -1,4 +1,3 @@
 pub mod Operands
 pub mod Outcomes
 pub mod Results
-mod Examples

@@ -1,4 +1,4 @@
--- What the right operands of an instruction are.
+-- What is known about operands that are right.
 use Rattle.std.proofs.Common.{◌≡◌, ℕ, List, [], ◌∷◌, Option, Some, None, Bool, true, false, ◌&&◌, not, refl, subst, ◌<◌, arith}
 use Rattle.std.specs.Prelude.{slice_get, length, ◌==◌, if◌then◌else◌}
 use Rattle.std.specs.List.{list_all, AllByRecursion}
@@ -14,7 +14,7 @@ use Rattle.machine_model.specs.Operands.{text_of_literal}
 use Rattle.code_file.specs.Grammar.{IsCode, IsLiteral, IsTextOf}
 use Rattle.checked_machine.specs.Private.Given.{IsGiven, AreGiven}
 
--- the parts of what makes an operand right
+-- the conditions for an operand to be right, one at a time
 in_table : (c : Code) (o : Operand) → is_right c o ≡ true → is_in_table c o ≡ true
 in_table c o e =
     (and_parts (is_in_table c o) (has_table_kind c o)

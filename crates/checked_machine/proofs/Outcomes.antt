@@ -36,7 +36,7 @@ pub gets_stuck : StepIsDecided → (c : Code) (v : Environment) (k : ℕ) (s : F
 gets_stuck decided c v k s h e =
     (k, (s, h, refl, λ new step. let z : None ≡ Some new = sym e ∙ (decided c v (Running s) new).0 step in absurd (cc)))
 
--- after as many steps as any run takes
+-- after the maximum number of steps
 pub is_stuck_last : StepIsDecided → (c : Code) (v : Environment) (s : Frame)
     → ((k : ℕ) (t : State) → After c v k t → k ≤ step_limit c v) → After c v (step_limit c v) (Running s) → HasOutcome c v (Stuck s.place)
 is_stuck_last decided c v s in_time h = (

@@ -1,4 +1,4 @@
--- What an answer says of a run.
+-- What the result of `run_checked` says about a run.
 use Rattle.std.specs.Prelude.{◌≡◌, string_bytes}
 use Rattle.code_model.specs.Code.{Code}
 use Rattle.environment_model.specs.Environment.{Environment}
@@ -11,7 +11,7 @@ outcome_of (Link link) = run.Link (string_bytes link)
 outcome_of NoLink = run.NoLink
 outcome_of (Stuck place) = run.Stuck place
 
--- the run comes to this, and to nothing else
+-- the run ends with this outcome, and with no other
 pub record IsOutcome (c : Code) (v : Environment) (o : run.Outcome) : Type 0 where
   pub comes : run.HasOutcome c v o
   pub only : (other : run.Outcome) → run.HasOutcome c v other → other ≡ o

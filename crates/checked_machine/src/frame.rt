@@ -16,7 +16,7 @@ pub(crate) struct Loop<'a> {
     pub(crate) first: bool,
 }
 
-/// Where a running machine is, what its registers hold, its loop, and what it has printed.
+/// A running machine: its place, its registers, its loop, and its output.
 #[derive(Drop)]
 pub(crate) struct Frame<'a> {
     pub(crate) place: usize,
@@ -25,7 +25,7 @@ pub(crate) struct Frame<'a> {
     pub(crate) output: String,
 }
 
-/// Where an instruction leads: to an end, to a place that is judged, or back to a loop's start.
+/// Where an instruction leads: to an end, to a place (which [`Frame::step`] then tests), or back to a loop's start.
 #[derive(Clone, Copy)]
 pub(crate) enum Move {
     Link,
@@ -72,7 +72,7 @@ impl<'a> Frame<'a> {
         Move::Goes(self.place + 1)
     }
 
-    /// To a place if a test holds, and on if not.
+    /// To a place if a test holds, and otherwise to the next place.
     pub(crate) fn jump_if(&self, test: bool, to: u16) -> Move
         requires { self.now.place < usize.MAX }
         ensures { move_in (frame_of self.now) result

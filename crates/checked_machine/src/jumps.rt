@@ -1,4 +1,4 @@
-//! Instructions that jump where a test of registers holds.
+//! Instructions that jump if a test of registers holds.
 
 ghost use Rattle.std.specs.Prelude.{◌≡◌, ◌<◌, Some, nat_lt, bytes_eq, if◌then◌else◌};
 ghost use Rattle.machine_model.specs.States.{on, at};
@@ -11,7 +11,7 @@ use crate::register::Register;
 use crate::value::Value;
 
 impl<'a> Frame<'a> {
-    /// Jumps where the register is Undefined.
+    /// Jumps if the register is Undefined.
     pub(crate) fn jump_if_undefined(&self, register: Register, to: u16) -> Option<Move>
         requires { self.now.place < usize.MAX }
         ensures { moves (frame_of self.now) result ≡ undef_move (frame_of self.now) to
@@ -24,7 +24,7 @@ impl<'a> Frame<'a> {
         }
     }
 
-    /// Jumps where the register's text is empty.
+    /// Jumps if the register's text is empty.
     pub(crate) fn jump_if_empty(&self, register: Register, to: u16) -> Option<Move>
         requires { self.now.place < usize.MAX }
         ensures { moves (frame_of self.now) result ≡ for_text ((frame_of self.now).registers register.number)
@@ -36,7 +36,7 @@ impl<'a> Frame<'a> {
         }
     }
 
-    /// Jumps where the register's list has no member.
+    /// Jumps if the register's list has no member.
     pub(crate) fn jump_if_no_member(&self, register: Register, to: u16) -> Option<Move>
         requires { self.now.place < usize.MAX }
         ensures { moves (frame_of self.now) result ≡ for_list ((frame_of self.now).registers register.number)
@@ -48,7 +48,7 @@ impl<'a> Frame<'a> {
         }
     }
 
-    /// Jumps where the texts of two registers are not equal.
+    /// Jumps if the texts of two registers are not equal.
     pub(crate) fn jump_if_different(
         &self,
         first: Register,
@@ -66,7 +66,7 @@ impl<'a> Frame<'a> {
         }
     }
 
-    /// Jumps where the first register's number is below the second's.
+    /// Jumps if the first register's number is below the second's.
     pub(crate) fn jump_if_less(&self, first: Register, second: Register, to: u16) -> Option<Move>
         requires { self.now.place < usize.MAX }
         ensures { moves (frame_of self.now) result ≡ for_number ((frame_of self.now).registers first.number)

@@ -1,4 +1,4 @@
-//! The checked machine: runs any code on any environment, with every test that the machine's
+//! The checked machine: runs any code on any environment, and makes at run time every test that the machine's
 //! definitions make.
 #![tactic(auto)]
 

@@ -9,8 +9,8 @@ use crate::register::Register;
 use crate::value::Value;
 
 impl<'a> Frame<'a> {
-    /// Begins a loop over a register's list, with the first member in the element register; jumps
-    /// to the loop's end where there is no member. There is one loop at a time.
+    /// Begins a loop over a register's list, with the first member in the element register; jumps to the loop's end if
+    /// there is no member. At most one loop runs at a time.
     pub(crate) fn begin_loop(&mut self, element: Register, list: Register, end: u16) -> Option<Move>
         requires { self.old.place < usize.MAX }
         ensures { moves (frame_of self.new) result ≡ in_no_loop (frame_of self.old).loop
@@ -38,8 +38,8 @@ impl<'a> Frame<'a> {
         Some(self.load(element, Value::Text(member.as_bytes())))
     }
 
-    /// Puts the loop's next member into the element register and returns to the loop's start; where
-    /// none is left, ends the loop and continues.
+    /// Puts the loop's next member into the element register and returns to the loop's start; if none is left, ends the
+    /// loop and continues.
     pub(crate) fn next_member(&mut self) -> Option<Move>
         requires { self.old.place < usize.MAX }
         ensures { moves (frame_of self.new) result ≡ in_loop (frame_of self.old).loop

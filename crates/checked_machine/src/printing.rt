@@ -24,7 +24,7 @@ fn append(out: &mut String, text: &[u8]) -> Result<(), AllocError>
     out.push_str(str::from_utf8(text).unwrap())
 }
 
-/// Appends a text as the writing has it, which makes at most three bytes of one.
+/// Appends a text, percent-encoded as the writing says; each byte becomes at most three.
 fn append_written(out: &mut String, text: &[u8], writing: Writing) -> Result<(), AllocError>
     ensures { OnOk result (string_bytes out.new ≡ string_bytes out.old ++ written writing text.now) }
 {
@@ -61,7 +61,7 @@ impl<'a> Frame<'a> {
         Ok(Some(self.on()))
     }
 
-    /// Appends the register's text, written, and continues.
+    /// Appends the register's text, percent-encoded, and continues.
     pub(crate) fn put(
         &mut self,
         register: Register,
@@ -79,7 +79,7 @@ impl<'a> Frame<'a> {
         Ok(Some(self.on()))
     }
 
-    /// Appends the first items of the register's text, written, and continues.
+    /// Appends the first items of the register's text, percent-encoded, and continues.
     pub(crate) fn put_first(
         &mut self,
         register: Register,

@@ -1,6 +1,6 @@
 //! The instruction at a place, if it can be read.
 
-ghost use Rattle.std.specs.Prelude.{◌≡◌, ◌<◌, length, IfSome, OnSome};
+ghost use Rattle.std.specs.Prelude.{◌≡◌, ◌<◌, IfSome, OnSome};
 ghost use Rattle.code_model.specs.Operands.{Register, TextName, ListName, LinkText, Compared};
 ghost use Rattle.machine_model.specs.Operands.{is_right, has_right_operands};
 ghost use Rattle.machine_model.specs.Next.{instruction_at};
@@ -37,15 +37,15 @@ fn is_compared(code: &Code, index: u16) -> bool
     index < code.literals().len() && code.literal(index).compared
 }
 
-/// A code of version 1 has 16 registers, and one of version 2 has 64.
+/// Whether a register exists: code of version 1 has 16 registers, and code of version 2 has 64.
 fn is_register(code: &Code, number: u16) -> bool
     ensures { result ≡ is_right code.now (Register number) }
 {
     number < if code.version() == 2 { 64 } else { 16 }
 }
 
-/// Each register, table entry, count and mode that the instruction names is one that there is, of
-/// the kind that it wants.
+/// Whether each register, table entry, count and mode that the instruction names exists and is of the kind that it
+/// needs.
 #[tactic(auto, unfolding(machine_model::specs::Operands::has_right_operands))]
 fn has_right_operands(code: &Code, instruction: Instruction) -> bool
     ensures { result ≡ has_right_operands code.now instruction }
@@ -71,8 +71,8 @@ fn has_right_operands(code: &Code, instruction: Instruction) -> bool
     }
 }
 
-/// The instruction at a place; `None` past the last place, where no operation of the code's version
-/// has the number, where a field that is not used is not 0, and where an operand is not right.
+/// The instruction at a place; `None` if the place is past the last one, if no operation of the code's version has the
+/// number, if an unused field is not 0, or if an operand is wrong.
 pub(crate) fn instruction_at(code: &Code, place: usize) -> Option<Instruction>
     ensures value { result ≡ instruction_at code.now place }
     ensures given { IfSome result (AreGiven code.now) }

@@ -2,7 +2,7 @@
 
 ghost use Rattle.std.specs.Prelude.{◌≡◌, ◌<◌};
 
-/// A register that there is. Whether a code may name it is asked where its instructions are read.
+/// A register that exists. Whether the code's version may name it is tested when an instruction is read.
 #[derive(Clone, Copy)]
 pub(crate) struct Register {
     pub(crate) number: u16,

@@ -22,22 +22,22 @@ pub enum Checked {
     Stuck(usize),
 }
 
-/// No run takes more steps.
+/// A number of steps that no run exceeds.
 fn step_limit(code: &Code, env: &Env) -> usize
     ensures { result ≡ step_limit code.now env.now.entries }
 {
     code.len() * (env.members() + 1)
 }
 
-/// Runs a code on an environment, with every test that the definitions of the machine make, and
-/// answers what the run ends with. Any code may be run, and every run ends.
+/// Runs a code on an environment, with every test that the definitions of the machine make, and returns what the run
+/// ends with. Any code may be run, and every run ends.
 ///
-/// A step takes constant work but for the bytes that it appends or compares; to look a name up is to
-/// compare it with the names of the environment. The only error is that memory for the output runs out.
+/// A step takes constant time, except for the bytes that it appends or compares, and for looking a name up, which
+/// compares it with the names of the environment. The only error is that memory for the output runs out.
 pub fn run_checked<'a>(alloc: Global, code: &'a Code, env: &'a Env) -> Result<Checked, AllocError>
     ensures { IfOk result (λ answer. IsOutcome code.now env.now.entries (outcome_of answer)) }
 {
-    // The laws of the machine on which the answer rests.
+    // The result relies on these laws of the machine.
     step_is_decided();
     every_run_ends();
     course_is_decided();
@@ -50,6 +50,6 @@ pub fn run_checked<'a>(alloc: Global, code: &'a Code, env: &'a Env) -> Result<Ch
             Stepped::Stuck(place) => return Ok(Checked::Stuck(place)),
         }
     }
-    // After as many steps as any run takes, none is possible.
+    // After the maximum number of steps of a run, no step is possible.
     Ok(Checked::Stuck(frame.place))
 }

@@ -22,7 +22,7 @@ pub(crate) enum Stepped {
 }
 
 impl<'a> Frame<'a> {
-    /// The place is in the running loop's body, or no loop is running.
+    /// Whether the place is in the running loop's body, or no loop is running.
     fn is_inside(&self, place: usize) -> bool
         ensures { result ≡ is_inside (frame_of self.now).loop place }
     {
@@ -32,7 +32,7 @@ impl<'a> Frame<'a> {
         }
     }
 
-    /// A step may go from one place to the other.
+    /// Whether a step may go from one place to the other.
     fn is_onward(&self, code: &Code, from: usize, to: usize) -> bool
         ensures { result ≡ is_onward code.now from (at to (frame_of self.now)) }
     {

@@ -2,7 +2,7 @@
 
 use target_vars::Members;
 
-/// What a register holds. Texts and lists stay where they are, in the environment or the code.
+/// What a register holds. Texts and lists are borrowed from the environment or the code.
 #[derive(Clone, Copy)]
 pub(crate) enum Value<'a> {
     Nothing,

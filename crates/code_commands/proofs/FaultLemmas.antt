@@ -1,4 +1,4 @@
--- A code file that is not read, as an error of a command.
+-- A code file that cannot be read, as an error of a command.
 use Rattle.std.proofs.Common.{◌≡◌, inl, inr, sym, subst}
 use Rattle.std.specs.Prelude.{◌≢◌, ◌⊎◌}
 use Rattle.text_model.specs.Texts.{Text}

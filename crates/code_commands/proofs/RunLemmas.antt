@@ -1,4 +1,4 @@
--- How a run ends, or why it is not begun, from what `run_verified` ensures.
+-- How a run ends, or why it is not started, from what `run_verified` ensures.
 use Rattle.std.proofs.Common.{◌≡◌, ℕ, ◌<◌, ◌≤◌, subst}
 use Rattle.std.specs.Prelude.{◌↔◌, Result, Err}
 use Rattle.text_model.specs.Texts.{Text}

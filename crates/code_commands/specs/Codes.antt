@@ -1,4 +1,4 @@
--- The code of the file at a path, and why it is not read or not accepted.
+-- The code of the file at a path, and why it could not be read or is rejected.
 use Rattle.std.specs.Prelude.{◌≢◌}
 use Rattle.text_model.specs.Texts.{Text}
 use Rattle.code_model.specs.Code as model
@@ -21,7 +21,7 @@ pub record IsAcceptedFile (bytes : Text) (code : model.Code) : Type 0 where
   pub typable : IsTypable code
   pub safe : IsSafe code
 
--- the bytes of the file are no code file, or it cannot be read
+-- the bytes of the file are not a code file, or the file cannot be read
 abbrev pub IsUnread : Found → Text → Type 0 → CodeFault → Type 0
 IsUnread found path failed (Code e) = OfFile found (λ bytes. IsFirstFault bytes e)
 IsUnread found path failed (Load e) = ⊥

@@ -19,7 +19,7 @@ status_of (OverBudget n) = 3
 status_of NoLink = 1
 status_of (Base fault) = status_of_base fault
 
--- an allocation that fails is one error, wherever it was
+-- an allocation that fails is the same error, wherever it was
 abbrev pub out_of_memory : CodeFault
 out_of_memory = Base Memory
 

@@ -18,7 +18,7 @@ use Rattle.code_commands.specs.Codes.{IsAcceptedFile, IsUnloaded}
 use Rattle.code_commands.specs.declared.fault.CodeFault.{CodeFault}
 use Rattle.code_commands.specs.declared.fault.CodeFault.TheVariants.{Code, Load, OverBudget, NoLink, Base}
 
--- the environment of the query's pairs, in which the names that the code has as lists are lists
+-- the environment of the query's pairs, in which the names that the code declares as lists are lists
 abbrev pub request_of : model.Code → Text → Environment
 request_of code query = filled (map (λ n. n.text) (filter (λ n. n.list) code.names)) [] (pairs_of query)
 
@@ -27,14 +27,14 @@ pub record IsRequest (code : model.Code) (query : Text) (env : EnvValue) : Type 
   pub request : refusal query ≡ None
   pub filled : env.entries ≡ request_of code query
 
--- the code may print no more for the request than a link may have, and ends so, within the bounds of its budget
+-- the bound of the code for the request is within the limit of a link, and its run ends with this outcome, within its budget
 pub record IsRun (code : model.Code) (query : Text) (end : Outcome) : Type 0 where
   pub env : EnvValue
   pub request : IsRequest code query env
   pub within : most_bytes code env ≤ MAX_LINK_BYTES
   pub ends : EndsSafely code env end
 
--- the code may print this number of bytes for the request, and that is more than a link may have
+-- the code may print this number of bytes for the request, which is more than the limit of a link
 pub record IsOverBudget (code : model.Code) (query : Text) (n : ℕ) : Type 0 where
   pub env : EnvValue
   pub request : IsRequest code query env

@@ -1,4 +1,4 @@
--- What `show` prints of a code file.
+-- What `show` prints for a code file.
 use Rattle.std.specs.Prelude.{◌≡◌}
 use Rattle.text_model.specs.Texts.{Text}
 use Rattle.code_model.specs.Code.{Code}

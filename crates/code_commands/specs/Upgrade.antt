@@ -1,4 +1,4 @@
--- What `upgrade` makes of a code file, and why it makes nothing.
+-- The file that `upgrade` writes, and why it writes none.
 use Rattle.std.specs.Prelude.{◌⊎◌}
 use Rattle.text_model.specs.Texts.{Text}
 use Rattle.code_model.specs.Code.{Code, upgraded}
@@ -15,7 +15,7 @@ pub record IsUpgrade (bytes new : Text) : Type 0 where
   pub old : IsCodeFile bytes code
   pub upgraded : IsCodeFile new (upgraded code)
 
--- the file is not read as code, or else the new one is not placed
+-- the file cannot be read as code, or else the new one cannot be placed
 abbrev pub IsUpgradeFault : Disk → Text → Text → Type 0 → Type 0 → CodeFault → Type 0
 IsUpgradeFault old source target unread unplaced fault =
     IsUnread (old source) source unread fault ⊎ IsNotPlaced Base IsUpgrade old source target unplaced fault

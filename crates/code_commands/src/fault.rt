@@ -13,7 +13,7 @@ use verifier::LoadError;
 /// Why `verify`, `show`, `upgrade` or `run` ends without its result.
 #[derive(Debug, Drop, Error)]
 pub enum CodeFault<'a> {
-    /// The file is no code file: the kind of its first error, and the byte at which it is.
+    /// The file is not a code file: the kind of its first error, and the byte at which it is.
     #[error("code: {0}")]
     Code(CodeError),
     /// The file's code is rejected: the kind of its first error, and the byte or the instruction at which it is.

@@ -14,13 +14,13 @@ use files::Files;
 use std::alloc::Global;
 use verifier::{LoadError, Verified, load};
 
-/// The error of a file of more than 65,536 bytes that is read.
+/// The error of [`read_code`] for a file of more than 65,536 bytes.
 const TOO_LONG: CodeError = CodeError {
     kind: CodeErrorKind::TooLong,
     at: MAX_BYTES,
 };
 
-/// The error of a file of more than 65,536 bytes that is loaded.
+/// The error of [`load_code`] for a file of more than 65,536 bytes.
 const TOO_LONG_TO_LOAD: LoadError = LoadError::Code(CodeErrorKind::TooLong, MAX_BYTES);
 
 /// The code of the file at the path, which has at most 65,536 bytes.

@@ -20,8 +20,8 @@ use target_vars::Env;
 use verified_runs::Outcome;
 use verifier::Verified;
 
-/// The line of the link that the code of the file at the path gives for the query, if it is accepted. A link has at
-/// most 1,048,576 bytes: code that might print more for the request is not begun.
+/// Runs the code of the file at the path on the query's request, if the verifier accepts it, and returns the link as a
+/// line. A link has at most 1,048,576 bytes: code that might print more for the request is not run.
 pub fn run<'a, F: Files>(
     alloc: Global,
     files: &mut F,
@@ -51,7 +51,7 @@ fn link_of<'a>(alloc: Global, code: &Verified, query: &str) -> Result<String, Co
     }
 }
 
-/// The environment of the query's pairs, in which the names that the code has as lists are lists.
+/// The environment of the query's pairs, in which the names that the code declares as lists are lists.
 fn request_environment<'a>(alloc: Global, code: &Code, query: &str) -> Result<Env, BaseFault<'a>>
     ensures request { IfOk result (λ _. refusal query.now ≡ None) }
     ensures pairs { IfOk result (λ env. env.entries ≡ request_of code.now query.now) }

@@ -15,8 +15,8 @@ use command_base::place_counted;
 use files::Files;
 use std::alloc::{AllocError, Global};
 
-/// Places the code of the file at `old`, upgraded to version 2, in a file at `new`, and gives the line that counts its
-/// bytes. The code is written to `NEW.new`, which must not exist, and then renamed.
+/// Writes the code of the file at `old`, upgraded to version 2, to a file at `new`, and returns the line with the
+/// number of its bytes. The code is written to `NEW.new`, which must not exist, and then renamed.
 pub fn upgrade<'a, F: Files>(
     alloc: Global,
     files: &mut F,

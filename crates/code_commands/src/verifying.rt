@@ -13,8 +13,8 @@ use budget::Budget;
 use files::Files;
 use std::alloc::{AllocError, Global};
 
-/// The verdict on the code of the file at the path, if it is accepted: `ok`, its bound on steps, and its bound on bytes
-/// of output.
+/// The lines for the code of the file at the path, if the verifier accepts it: `ok`, its bound on steps, and its bound
+/// on bytes of output.
 pub fn verify<'a, F: Files>(
     alloc: Global,
     files: &mut F,

@@ -1,4 +1,4 @@
--- Each entry and each table is good or faulty.
+-- Each entry and each table is valid or has a fault.
 use Rattle.std.proofs.Common.{◌≡◌, ◌<◌, ◌+◌, ◌*◌, ◌⊎◌, ℕ, zero, suc, Bool, true, false, [], ◌∷◌, ◌++◌, length, take, drop, refl, sym, ◌∙◌, ap, subst, inl, inr}
 use Rattle.std.proofs.Common.{append_assoc, arith}
 use Rattle.std.specs.Prelude.{◌==◌}
@@ -23,7 +23,7 @@ use Rattle.code_file.proofs.PartsLemmas.{first_wrong_of}
 
 -- ---- an entry
 
--- bytes begin with a good entry, or have the fault of one
+-- bytes begin with a valid entry, or have the fault of one
 abbrev IsEntryOrFault : {X : Type 0} → (X → Type 0) → (X → Text) → (Text → CodeError → Type 0) → Text → Type 0
 IsEntryOrFault {X} IsGood field IsFault bytes = BeginsWith IsGood field bytes ⊎ ((e : CodeError) × IsFault bytes e)
 
@@ -116,7 +116,7 @@ literal_or_fault (kind ∷ rest) fits = elim (kind_or_fault kind) [
 
 -- ---- a table
 
--- bytes begin with that many good entries
+-- bytes begin with that many valid entries
 abbrev BeginsWithTable : {X : Type 0} → (X → Type 0) → (X → Text) → ℕ → Text → Type 0
 BeginsWithTable IsGood field count bytes =
     (front : Text) × (rest : Text) × IsTable IsGood field count front × (bytes ≡ front ++ rest)
@@ -125,7 +125,7 @@ abbrev IsTableOrFault : {X : Type 0} → (X → Type 0) → (X → Text) → (Te
 IsTableOrFault IsGood field IsFault count bytes =
     BeginsWithTable IsGood field count bytes ⊎ ((e : CodeError) × IsTableFault IsGood field IsFault count bytes e)
 
--- a good entry before
+-- a valid entry comes before
 entry_more : {X : Type 0} (IsGood : X → Type 0) (field : X → Text) (IsFault : Text → CodeError → Type 0) (count : ℕ)
     (bytes rest : Text) (x : X) → IsGood x → bytes ≡ field x ++ rest → IsTableOrFault IsGood field IsFault count rest
     → IsTableOrFault IsGood field IsFault (suc count) bytes

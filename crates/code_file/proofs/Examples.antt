@@ -1,4 +1,4 @@
--- The bytes of parts, which bytes names have, and the limits, on the definitions alone.
+-- The bytes of parts, the bytes that names may have, and the limits, computed from the definitions.
 use Rattle.std.proofs.Common.{◌≡◌, refl, true, false, [], ◌∷◌, codes, Some, None, arith}
 use Rattle.std.specs.Prelude.{drop, length}
 use Rattle.text_model.specs.Texts.{Text}
@@ -29,7 +29,7 @@ list_code =
     code_of 1 (record { list = true; text = codes "list" } ∷ []) (record { compared = false; bytes = codes "," } ∷ [])
     (row 5 0 0 0 0 ∷ row 16 1 0 0 5 ∷ row 17 0 0 0 0 ∷ row 14 1 0 0 0 ∷ row 18 0 0 0 0 ∷ row 1 0 0 0 0 ∷ [])
 
--- what a rule with the template `http://e.org/{rft.issn}` is compiled to
+-- the code of a rule with the template `http://e.org/{rft.issn}`
 abbrev pub issn_code : Code
 issn_code =
     code_of 1 (record { list = false; text = codes "rft.issn" } ∷ [])

@@ -65,7 +65,7 @@ no_instructions = in_field _ (omega arith) (bad_counts past _ refl)
 
 -- ---- the first name
 
--- a file with one name, no literal and one instruction, from that name on
+-- the bytes of a file with one name, no literal and one instruction, from the name on
 abbrev named : Text → Text
 named rest = codes "OLK1" ++ 0 ∷ 1 ∷ 0 ∷ 0 ∷ 0 ∷ 1 ∷ rest
 
@@ -124,7 +124,7 @@ wrong_byte_in_names =
 
 -- ---- literals, after one name
 
--- a file with one name, one literal and one instruction, from that literal on
+-- the bytes of a file with one name, one literal and one instruction, from the literal on
 abbrev written : Text → Text
 written rest = codes "OLK1" ++ 0 ∷ 1 ∷ 0 ∷ 1 ∷ 0 ∷ 1 ∷ 1 ∷ 1 ∷ 0x61 ∷ rest
 

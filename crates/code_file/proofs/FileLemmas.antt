@@ -30,7 +30,7 @@ bytes_left [] back h i = omega arith
 bytes_left (b ∷ front) back h zero = h 0
 bytes_left (b ∷ front) back h (suc i) = bytes_left front back (λ j. h (suc j)) i
 
--- two bytes are the number that they spell
+-- two bytes are the encoding of their number
 pub number_of_bytes : (high low : ℕ) → high < 256 → low < 256 → number (256 * high + low) ≡ high ∷ low ∷ []
 number_of_bytes high low h l =
     let top : (256 * high + low) / 256 % 256 ≡ high = omega arith in
@@ -40,7 +40,7 @@ number_of_bytes high low h l =
 pub number_small : (high low : ℕ) → high < 256 → low < 256 → 256 * high + low < 65536
 number_small high low h l = omega arith
 
--- eight bytes are an instruction
+-- eight bytes encode an instruction
 one_instr : (op a b b' c c' d d' : ℕ) (rest : Text) → AreBytes (op ∷ a ∷ b ∷ b' ∷ c ∷ c' ∷ d ∷ d' ∷ rest)
     → (i : Instr) × IsInstr i × (op ∷ a ∷ b ∷ b' ∷ c ∷ c' ∷ d ∷ d' ∷ rest ≡ instr_field i ++ rest)
 one_instr op a b b' c c' d d' rest h =

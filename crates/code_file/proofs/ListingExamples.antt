@@ -36,7 +36,7 @@ abbrev fields : List Instr
 fields =
     row 2 0 0 0 0 ∷ row 3 0 0 0 65535 ∷ row 7 1 2 0 3 ∷ row 10 1 0 0 3 ∷ row 11 1 2 0 3 ∷ row 12 1 2 0 3 ∷ row 14 63 0 1 0
     ∷ row 15 1 1 0 0 ∷ row 15 1 9999 1 0
-    -- a count or a mode out of its range, an unused field that is not 0, and a number that names nothing
+    -- a count or a mode out of its range, an unused field that is not 0, and a number that is no operation
     ∷ row 15 1 10000 1 0 ∷ row 15 1 0 0 0 ∷ row 14 1 0 2 0 ∷ row 1 0 0 0 1 ∷ row 14 0 7 0 0 ∷ row 0 0 0 0 0 ∷ row 19 1 0 0 0
     ∷ []
 

@@ -1,4 +1,4 @@
--- Literals can be distinguished, and bytes have one fault of a literal at most.
+-- Bytes begin with at most one literal, and have at most one fault of a literal.
 use Rattle.std.proofs.Common.{◌≡◌, ◌<◌, ◌+◌, ◌*◌, ◌/◌, ◌%◌, ◌^◌, ◌⊎◌, ℕ, Bool, true, false, [], ◌∷◌, ◌++◌, length, take, refl, sym, ◌∙◌, ap, subst, inl, inr}
 use Rattle.std.proofs.Common.{arith, length-append}
 use Rattle.std.specs.Prelude.{Result, Ok, Err, nat_lt, ◌==◌, if◌then◌else◌}
@@ -47,7 +47,7 @@ kind_back : (b : Bool) → (kind_byte b == 1) ≡ b
 kind_back true = refl
 kind_back false = refl
 
--- a number is what its two bytes say
+-- a number can be computed from its two bytes
 pub number_back : (n : ℕ) → n < 65536 → 256 * (n / 256 % 256) + n % 256 ≡ n
 number_back n small = omega arith
 

@@ -1,5 +1,5 @@
--- Names can be distinguished, and bytes have one fault of a name at most.
-use Rattle.std.proofs.Common.{◌≡◌, ◌<◌, ◌≤◌, ◌+◌, ◌⊎◌, ℕ, Bool, true, false, [], ◌∷◌, ◌++◌, length, take, get_or, refl, sym, ◌∙◌, ap, subst, inl, inr, arith}
+-- Bytes begin with at most one name, and have at most one fault of a name.
+use Rattle.std.proofs.Common.{◌≡◌, ◌<◌, ◌+◌, ◌⊎◌, ℕ, Bool, true, false, [], ◌∷◌, ◌++◌, length, take, get_or, refl, sym, ◌∙◌, ap, subst, inl, inr, arith}
 use Rattle.std.proofs.Common.{length-append}
 use Rattle.std.specs.Prelude.{Result, Ok, Err, nat_lt, nat_le, ◌&&◌, slice_index, if◌then◌else◌}
 use Rattle.std.proofs.lemmas.Bool.{cases_order, cases_Bool, lt-ltb, le-ltb, le-leb, ltb-true, leb-true, and_from, and_parts}
@@ -11,13 +11,13 @@ use Rattle.code_file.specs.declared.error.CodeError.{CodeError}
 use Rattle.code_file.specs.declared.error.CodeErrorKind.TheVariants.{BadKind, BadName}
 use Rattle.code_file.specs.declared.limits.TheConstants.{MAX_NAME_BYTES}
 use Rattle.code_file.specs.Grammar.{kind_byte, name_field, IsNameByte, IsName}
-use Rattle.code_file.specs.Fault.{fault, cut_short, IsFirstWrong, IsNameLength, IsKindFault, no_kind, bad_kind, IsNameFault, in_kind, no_length, bad_length}
+use Rattle.code_file.specs.Fault.{fault, cut_short, IsFirstWrong, IsNameLength, no_kind, bad_kind, IsNameFault, in_kind, no_length, bad_length}
 use Rattle.code_file.specs.Fault.{no_text, bad_text}
 use Rattle.code_file.proofs.StageLemmas.{IsApart}
 
 -- ---- lists and kinds
 
--- fronts of one length
+-- beginnings with the same length
 pub same_front : (a b s t : Text) → length a ≡ length b → a ++ s ≡ b ++ t → (a ≡ b) × (s ≡ t)
 same_front [] [] s t n h = (refl, h)
 same_front [] (y ∷ b) s t n h = absurd (omega arith)
@@ -34,18 +34,9 @@ same_kind true false h = absurd (omega arith)
 same_kind false true h = absurd (omega arith)
 same_kind false false h = refl
 
-kind_small : (b : Bool) → kind_byte b ≤ 1
-kind_small true = omega arith
-kind_small false = omega arith
-
-kind_no_fault : (b : Bool) (rest : Text) (e : CodeError) → IsKindFault (kind_byte b ∷ rest) e → ⊥
-kind_no_fault b rest e (no_kind h) = cc
-kind_no_fault b rest e (bad_kind kind t h k) =
-    let same : kind_byte b ≡ kind = cc in omega (arith, kind_small b, same)
-
 -- ---- names
 
--- what bytes say of the name at their beginning, short of its text: that text, or a fault
+-- the text of the name at the beginning, whatever its bytes are, or a fault
 abbrev name_shape_from : ℕ → ℕ → Text → Result Text CodeError
 name_shape_from kind len rest =
     if (nat_lt 0 len && nat_le len MAX_NAME_BYTES)

@@ -1,4 +1,4 @@
--- Parts that are given as values, and the faults of the file that they spell.
+-- Parts that are given as values, and the faults of the file that they would make.
 use Rattle.std.proofs.Common.{◌≡◌, ◌<◌, ◌≤◌, ◌+◌, ◌*◌, ◌^◌, ◌⊎◌, ℕ, suc, Bool, true, false, List, [], ◌∷◌, ◌++◌, length, take, drop, refl, sym, ◌∙◌, ap, inl}
 use Rattle.std.proofs.Common.{inr, append_assoc, arith, length-append, drop-cons, cond, Some, None}
 use Rattle.std.specs.Prelude.{All, min, Option, nat_lt, ◌==◌, is_some, IfSome, IfNone}
@@ -23,7 +23,7 @@ pub length-instrs : (is : List Instr) → length (flat_map instr_field is) ≡ 8
 length-instrs [] = refl
 length-instrs (i ∷ is) = omega (arith, length-instrs is)
 
--- each entry takes a byte or more
+-- each entry has at least one byte
 entries_le : {X : Type 0} (field : X → Text) → ((x : X) → 0 < length (field x)) → (xs : List X) → length xs ≤ length (flat_map field xs)
 entries_le field some [] = omega arith
 entries_le field some (x ∷ xs) =
@@ -89,7 +89,7 @@ literal_fault_of l rest short bad = bad_text l rest refl short (λ t. bad (recor
 
 -- ---- the first fault of the file of parts
 
--- the first bad entry, after the good ones and before the others
+-- the first bad entry, after the valid ones and before the others
 parted : {X : Type 0} (field : X → Text) (xs : List X) (place : ℕ) (d : X) → place < length xs
     → flat_map field xs ≡ flat_map field (take place xs) ++ (field (slice_index_or xs place d) ++ flat_map field (drop (suc place) xs))
 parted field xs place d within =

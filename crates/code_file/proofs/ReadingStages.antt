@@ -1,4 +1,4 @@
--- A file is read in stages, each of which gives one answer: its header, the tables, and the end.
+-- A file is read in stages, each of which has one result: its header, the tables, and the end.
 use Rattle.std.proofs.Common.{◌≡◌, ◌<◌, ◌+◌, ◌*◌, ◌/◌, ◌%◌, ℕ, List, [], ◌++◌, length, refl, sym, ◌∙◌, ap, append_assoc, arith, Option, Some, None}
 use Rattle.std.specs.Prelude.{All, Result, Ok, Err}
 use Rattle.std.specs.List.{flat_map}

@@ -3,7 +3,7 @@ use Rattle.std.proofs.Common.{◌≡◌, ◌<◌, ◌≤◌, ◌+◌, ◌-◌, �
 use Rattle.std.proofs.Common.{length-append}
 use Rattle.std.specs.Prelude.{All}
 use Rattle.std.specs.List.{flat_map}
-use Rattle.std.proofs.lemmas.List.{append-nil, take-append-drop, nil_from_length}
+use Rattle.std.proofs.lemmas.List.{append-nil, take-append-drop}
 use Rattle.std.proofs.Math.Seq.{take-append_seam}
 use Rattle.std.proofs.lemmas.List.Concat.{flat_map-append}
 use Rattle.std.proofs.lemmas.List.Elements.{All-nil, All-cons, All-push, All-head, All-tail}
@@ -27,7 +27,7 @@ table_more {IsGood = IsGood} {field = field} {bytes = bytes} {entries = entries}
       ∙ sym (flat_map-append field entries (x ∷ []));
 }
 
--- the first bytes are a table, and so are they with one more entry
+-- the first bytes are a table, and are one with one more entry
 pub so_far_more : {X : Type 0} (IsGood : X → Type 0) (field : X → Text) (n at next : ℕ) (bytes rest after : Text)
     → IsTable IsGood field n (take at bytes) → at ≤ length bytes → rest ≡ drop at bytes
     → (x : X) → IsGood x → rest ≡ field x ++ after → next ≡ length bytes - length after
@@ -41,7 +41,7 @@ so_far_more IsGood field n at next bytes rest after t within is x good spells eq
     ap (λ (n : ℕ). take n bytes) place ∙ ap (take (length (take at bytes ++ field x))) whole ∙ take-append_seam (take at bytes ++ field x) after in
     ((t.0 ++ x ∷ [], subst (λ (b : Text). IsTableOf IsGood field (n + 1) b (t.0 ++ x ∷ [])) (sym front) (table_more t.1 x good)), omega (arith, eq))
 
--- one entry more, and less of the bytes
+-- one more entry is read, and fewer bytes are left
 pub spells_more : {X : Type 0} (field : X → Text) (bytes rest after : Text) (built : List X) (x : X)
     → bytes ≡ flat_map field built ++ rest → rest ≡ field x ++ after → bytes ≡ flat_map field (built ++ x ∷ []) ++ after
 spells_more field bytes rest after built x h s =
@@ -49,7 +49,7 @@ spells_more field bytes rest after built x h s =
     ∙ ap (λ (t : Text). t ++ after)
     (ap (λ (t : Text). flat_map field built ++ t) (sym (append-nil (field x))) ∙ sym (flat_map-append field built (x ∷ [])))
 
--- A table of which the entries `built` are read, and `rest` is not.
+-- A table of which the entries `built` have been read, and the bytes `rest` are left.
 pub record IsBuilding {X : Type 0} (IsGood : X → Type 0) (field : X → Text) (count : ℕ) (bytes rest : Text) (built : List X) : Type 0 where
   pub left : List X
   pub good : All IsGood built
@@ -58,18 +58,7 @@ pub record IsBuilding {X : Type 0} (IsGood : X → Type 0) (field : X → Text) 
   pub left_spells : rest ≡ flat_map field left
   pub spells : bytes ≡ flat_map field built ++ rest
 
-pub building_none : {X : Type 0} {IsGood : X → Type 0} {field : X → Text} {count : ℕ} {bytes : Text}
-    → IsTable IsGood field count bytes → IsBuilding IsGood field count bytes bytes []
-building_none {IsGood = IsGood} t = record {
-  left = t.0;
-  good = All-nil IsGood;
-  left_good = t.1.good;
-  counted = omega (arith, t.1.counted);
-  left_spells = t.1.spells;
-  spells = refl;
-}
-
--- an entry comes next, as long as fewer are read than are counted
+-- an entry comes next, as long as fewer have been read than the count says
 pub building_next : {X : Type 0} {IsGood : X → Type 0} {field : X → Text} {count : ℕ} {bytes rest : Text} {built : List X}
     → IsBuilding IsGood field count bytes rest built → length built < count
     → (x : X) × (after : Text) × IsGood x × (rest ≡ field x ++ after) × IsBuilding IsGood field count bytes after (built ++ x ∷ [])
@@ -94,16 +83,6 @@ building_next {X = X} {IsGood = IsGood} {field = field} {count = count} {bytes =
       },
     )
 
-pub building_all : {X : Type 0} {IsGood : X → Type 0} {field : X → Text} {count : ℕ} {bytes rest : Text} {built : List X}
-    → IsBuilding IsGood field count bytes rest built → length built ≡ count → IsTableOf IsGood field count bytes built
-building_all {field = field} {built = built} b n =
-    let none : b.left ≡ [] = nil_from_length b.left (omega (arith, b.counted)) in
-    record {
-      good = b.good;
-      counted = n;
-      spells = b.spells ∙ ap (λ (t : Text). flat_map field built ++ t) (b.left_spells ∙ ap (flat_map field) none) ∙ append-nil (flat_map field built);
-    }
-
 pub table_cons : {X : Type 0} (IsGood : X → Type 0) (field : X → Text) (count : ℕ) (bytes whole : Text) (entries : List X)
     → IsTableOf IsGood field count bytes entries → (x : X) → IsGood x → whole ≡ field x ++ bytes
     → IsTableOf IsGood field (suc count) whole (x ∷ entries)
@@ -113,7 +92,7 @@ table_cons IsGood field count bytes whole entries t x good h = record {
   spells = h ∙ ap (λ (b : Text). field x ++ b) t.spells;
 }
 
--- one instruction more, and eight bytes less
+-- one more instruction is read, and eight fewer bytes are left
 pub instrs_more : (count n : ℕ) (bytes rest after : Text) (built : List Instr) (instr : Instr)
     → All IsInstr built × (length built ≡ n) × (length rest ≡ 8 * (count - n)) × (bytes ≡ flat_map instr_field built ++ rest)
     → n < count → IsInstr instr → rest ≡ instr_field instr ++ after → length rest ≡ 8 + length after

@@ -1,4 +1,4 @@
--- URI text read from the left: what a reader's loop needs of the set, which grows at its end.
+-- URI text read from the left: what the loop of a reader needs to know of the set, whose texts are extended at the end.
 use Rattle.std.proofs.Common.{◌≡◌, ◌<◌, ◌≤◌, ◌⊎◌, ℕ, Bool, true, false, [], ◌∷◌, ◌++◌, length, drop, get_or, refl, ◌∙◌, subst, inl, inr, append_assoc, arith}
 use Rattle.std.proofs.Common.{cond}
 use Rattle.std.specs.Prelude.{◌&&◌, ◌==◌}
@@ -13,7 +13,7 @@ pub and_true : {a b : Bool} → a && b ≡ true → (a ≡ true) × (b ≡ true)
 and_true {a = true} {b = b} h = (refl, h)
 and_true {a = false} {b = b} h = cc
 
--- which way a test went
+-- the two cases of a test
 pub chosen : (q x y : Bool) → cond q x y ≡ true → ((q ≡ true) × (x ≡ true)) ⊎ ((q ≡ false) × (y ≡ true))
 chosen true x y h = inl (refl, h)
 chosen false x y h = inr (refl, h)
@@ -39,7 +39,7 @@ pub is_uri_text-triplet : (high low : ℕ) (t : Text) → is_hexadecimal high �
 unfolding is_uri_text
 is_uri_text-triplet high low t h l = rw (h, l) refl
 
--- more of it, from the left
+-- URI text followed by more URI text
 grows : (s : Text) (t : Text) → is_uri_text t ≡ true → IsUriText s → IsUriText (s ++ t)
 unfolding is_uri_text
 grows s [] h u = rw append-nil u

@@ -1,5 +1,4 @@
--- The first fault of bytes that are no code file. Fields are read from the left: good ones come first, and
--- then one that is not all there, or is wrong.
+-- The first fault of bytes that are not a code file. Fields are read from the left: first fields without a fault, and then one that is incomplete or wrong.
 use Rattle.std.specs.Prelude.{◌≡◌, ℕ, ◌+◌, ◌*◌, ◌^◌, ◌<◌, ◌≤◌, ◌⊎◌, Bool, List, [], ◌∷◌, ◌++◌, length, take, slice_index, All, Option, Some, None, nat_lt, ◌==◌}
 use Rattle.std.specs.Prelude.{if◌then◌else◌}
 use Rattle.std.specs.List.{flat_map}
@@ -21,11 +20,11 @@ fault kind at = record { kind = kind; at = at }
 abbrev pub cut_short : Text → CodeError
 cut_short bytes = fault Truncated (length bytes)
 
--- the same fault, with this number of bytes before
+-- the same fault, if this number of bytes comes before those that were examined
 abbrev pub after : ℕ → CodeError → CodeError
 after n e = fault e.kind (n + e.at)
 
--- ---- the fault of the entry with which bytes begin, or should
+-- ---- the fault of an entry at the beginning of bytes
 
 -- the byte at a place is the first that no name may have
 pub record IsFirstWrong (text : Text) (place : ℕ) : Type 0 where
@@ -62,7 +61,7 @@ pub data IsLiteralFault (bytes : Text) : CodeError → Type 0 where
 
 -- ---- the fault of a table
 
--- the bytes are these entries, one after another: that many, all of them good
+-- the bytes are these entries, one after another: that many, none with a fault
 pub record IsTableOf {X : Type 0} (IsGood : X → Type 0) (field : X → Text) (count : ℕ) (bytes : Text) (entries : List X) : Type 0 where
   pub good : All IsGood entries
   pub counted : length entries ≡ count
@@ -77,7 +76,7 @@ AreNames count bytes = IsTable IsName name_field count bytes
 abbrev pub AreLiterals : ℕ → Text → Type 0
 AreLiterals count bytes = IsTable IsLiteral literal_field count bytes
 
--- fewer good entries than are counted, and then a faulty one
+-- fewer entries without a fault than the count says, and then one with a fault
 pub record IsTableFault {X : Type 0} (IsGood : X → Type 0) (field : X → Text) (IsFault : Text → CodeError → Type 0)
     (count : ℕ) (bytes : Text) (e : CodeError) : Type 0 where
   pub before : ℕ
@@ -113,7 +112,7 @@ pub record IsHeaderField (h : Header) : Type 0 where
   pub literals : h.literals < 2 ^ 16
   pub instrs : h.instrs < 2 ^ 16
 
--- ---- bytes whose first fields are good
+-- ---- bytes whose first fields have no fault
 
 pub record PastMagic (bytes : Text) : Type 0 where
   pub version : ℕ
@@ -121,7 +120,7 @@ pub record PastMagic (bytes : Text) : Type 0 where
   pub known : IsVersion version
   pub spells : bytes ≡ magic version ++ rest
 
--- the counts are present, over their limits or not
+-- the counts are complete; they may be over their limits
 pub record PastCounts (bytes : Text) : Type 0 where
   pub header : Header
   pub rest : Text
@@ -154,7 +153,7 @@ pub record PastLiterals (bytes : Text) : Type 0 where
 
 -- ---- the fault of a file
 
--- the fault of the field that comes after good ones
+-- the fault of the field that comes after fields without a fault
 pub data IsFieldFault (bytes : Text) : CodeError → Type 0 where
   bad_magic : (PastMagic bytes → ⊥) → IsFieldFault bytes (fault BadMagic 0)
   no_counts : (p : PastMagic bytes) → length p.rest < 6 → IsFieldFault bytes (cut_short bytes)
@@ -166,11 +165,11 @@ pub data IsFieldFault (bytes : Text) : CodeError → Type 0 where
   trailing : (front rest : Text) (b : ℕ) (c : Code) → IsCodeFile front c → bytes ≡ front ++ b ∷ rest
       → IsFieldFault bytes (fault Trailing (length front))
 
--- the length comes before all fields
+-- the length of the file is checked before all fields
 pub data IsFirstFault (bytes : Text) : CodeError → Type 0 where
   too_long : MAX_BYTES < length bytes → IsFirstFault bytes (fault TooLong MAX_BYTES)
   in_field : (e : CodeError) → length bytes ≤ MAX_BYTES → IsFieldFault bytes e → IsFirstFault bytes e
 
--- the answer to bytes that are not read: their first fault, or, only if they have none, out of memory
+-- the error for bytes that are rejected: their first fault, or, only if they have none, out of memory
 abbrev pub IsRefusal : Text → CodeError → Type 0
 IsRefusal bytes e = IsFirstFault bytes e ⊎ ((e ≡ fault NoMemory 0) × ((c : Code) × IsCodeFile bytes c))

@@ -13,7 +13,7 @@ use Rattle.code_file.specs.Grammar.{magic}
 
 -- ---- instructions
 
--- how a text is written: 0 is U, 1 is UR
+-- how a text is percent-encoded: 0 is U, 1 is UR
 abbrev pub mode_word : ℕ → Text
 mode_word c = if c == 0 then codes "u" else codes "ur"
 
@@ -39,7 +39,7 @@ instruction_text (instruction.Sep b) = codes "SEP l" ++ decimal b
 instruction_text instruction.Next = codes "NEXT"
 instruction_text (instruction.Count a b) = codes "COUNT r" ++ (decimal a ++ (codes " r" ++ decimal b))
 
--- the fields as they are
+-- the numbers of an instruction's fields
 abbrev pub fields_text : Instr → Text
 fields_text i =
     codes "? " ++ (decimal i.op ++ (codes " " ++ (decimal i.a ++ (codes " " ++ (decimal i.b ++ (codes " " ++ (decimal i.c ++ (codes " " ++ decimal i.d))))))))

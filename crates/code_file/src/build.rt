@@ -1,6 +1,6 @@
-//! The parts of a code, made of tables that are good.
+//! The parts of a code, built from tables without a fault.
 
-ghost use Rattle.std.specs.Prelude.{◌≡◌, ◌≤◌, ◌<◌, ◌+◌, ◌*◌, ◌++◌, ℕ, List, length, IfOk, All};
+ghost use Rattle.std.specs.Prelude.{◌≡◌, ◌<◌, ◌+◌, ◌*◌, ◌++◌, ℕ, List, length, IfOk};
 ghost use Rattle.code_model.specs.Code as code;
 ghost use Rattle.code_file.specs.Grammar.{name_field, literal_field, instr_field, IsName, IsLiteral, IsInstr};
 ghost use Rattle.code_file.specs.Fault.{AreNames, AreLiterals, IsTableOf};
@@ -25,7 +25,7 @@ fn read_name(alloc: Global, bytes: &[u8]) -> Result<(Name, &[u8]), AllocError>
     Ok((Name { list, text }, rest))
 }
 
-/// The names of a good table.
+/// The names of a table without a fault.
 pub(crate) fn read_names(alloc: Global, bytes: &[u8], count: u16) -> Result<Vec<Name>, AllocError>
     requires { AreNames count bytes.now }
     ensures { IfOk result (λ v. IsTableOf IsName name_field count bytes.now v.items) }
@@ -53,7 +53,7 @@ fn read_literal(alloc: Global, bytes: &[u8]) -> Result<(Literal, &[u8]), AllocEr
     Ok((Literal { compared, bytes }, rest))
 }
 
-/// The literals of a good table.
+/// The literals of a table without a fault.
 pub(crate) fn read_literals(
     alloc: Global,
     bytes: &[u8],

@@ -56,8 +56,8 @@ impl Model for Code {
 }
 
 impl Code {
-    /// Reads a code file of at most 65,536 bytes. A refusal is the first fault of the bytes and its place;
-    /// it is decided before memory is taken, so `NoMemory` comes only to bytes that are a code file.
+    /// Reads a code file of at most 65,536 bytes. The error is the first fault of the bytes and its place. It is found
+    /// before anything is allocated, so `NoMemory` is returned only for bytes that are a code file.
     pub fn read(alloc: Global, bytes: &[u8]) -> Result<Code, CodeError>
         ensures code { IfOk result (IsCodeFile bytes.now) }
         ensures refused { IfErr result (IsRefusal bytes.now) }
@@ -74,8 +74,8 @@ impl Code {
         })
     }
 
-    /// The code of version 1 of these parts, or the kind of the first fault of the file that they spell,
-    /// in which the length of a name is any number. Refused parts are dropped.
+    /// The code of version 1 of these parts, or the kind of the first fault in the file that they would make, in which
+    /// a name may have any length. Rejected parts are dropped.
     pub fn from_parts(
         names: Vec<Name>,
         literals: Vec<Literal>,
@@ -123,7 +123,7 @@ impl Code {
         })
     }
 
-    /// The same tables and instructions as a code of version 2; of a code of version 2 that code again.
+    /// The same tables and instructions as a code of version 2. Upgrading a code of version 2 gives a copy of it.
     pub fn upgrade(&self, alloc: Global) -> Result<Code, AllocError>
         ensures upgraded { IfOk result (λ c. c ≡ upgraded self.now) }
         ensures again { IfOk result (λ c. self.now.version ≡ 2 → c ≡ self.now) }
@@ -139,7 +139,7 @@ impl Code {
         })
     }
 
-    /// The version of the code, 1 or 2, which says what its instructions are.
+    /// The version of the code, 1 or 2, which determines the meaning of its instructions.
     pub fn version(&self) -> u8
         ensures value { result ≡ self.now.version }
         ensures known { IsVersion result }
@@ -147,7 +147,7 @@ impl Code {
         self.version
     }
 
-    /// The table of names; an instruction names an entry by its place.
+    /// The table of names; an instruction names an entry by its index.
     pub fn names(&self) -> &[Name]
         ensures { result.now ≡ self.now.names }
     {
@@ -177,8 +177,8 @@ impl Code {
         &self.literals[i]
     }
 
-    /// How many instructions there are. The clause `is_code` says what holds of each code: its version,
-    /// its limits, and what its names, literals and fields may be; `limits` says what the limits are.
+    /// The number of instructions. The clause `is_code` says what holds for each code: its version, its limits, and
+    /// what its names, literals and fields may be; `limits` says what the limits are.
     pub fn len(&self) -> usize
         ensures count { result ≡ length self.now.instrs }
         ensures is_code { IsCode self.now }
@@ -210,7 +210,7 @@ impl Code {
         Ok(lists)
     }
 
-    /// The file of the code, which has one spelling.
+    /// The bytes of the code's file. A code has exactly one file.
     pub fn write(&self, alloc: Global) -> Result<Vec<u8>, AllocError>
         ensures { IfOk result (λ v. IsCodeFile v.items self.now) }
     {

@@ -1,4 +1,4 @@
-//! The instructions that fields spell.
+//! Instructions and the fields that encode them.
 
 ghost use Rattle.std.specs.Prelude.{◌≡◌};
 ghost use Rattle.std.specs.List.{list_all};
@@ -7,8 +7,8 @@ ghost use Rattle.code_model.specs.Operands as operands;
 
 use code_model::{Instr, Instruction};
 
-/// The instruction that an operation's number names in a version of the code file, whatever the fields
-/// hold that it does not use. `Count` is an operation of version 2 alone.
+/// The instruction that the fields encode in a version of code files. Fields that its operation does not use are
+/// ignored. `Count` is an operation of version 2 only.
 #[tactic(auto, unfolding(code_model::specs::Code::reading))]
 pub fn instruction(version: u8, instr: Instr) -> Option<Instruction>
     ensures { result ≡ code.reading version instr }
@@ -45,7 +45,7 @@ fn row(op: u8, a: u8, b: u16, c: u16, d: u16) -> Instr
     Instr { op, a, b, c, d }
 }
 
-/// How an instruction is spelled: the fields that it does not use are 0.
+/// The fields that encode an instruction; those that it does not use are 0.
 pub fn spelling(instruction: Instruction) -> Instr
     ensures { result ≡ code.spelling instruction }
 {

@@ -2,11 +2,12 @@
 
 use std::marker::Model;
 
-/// The name of a variable: of a list, or of a text. A code's has 1 to 255 bytes from 21 to 7e
-/// hexadecimal.
+/// The name of a variable: of a list, or of a text. In a code it has 1 to 255 bytes, each from 21 to 7e hexadecimal.
 #[derive(Drop)]
 pub struct Name {
+    /// Whether it is the name of a list.
     pub list: bool,
+    /// The name itself.
     pub text: String,
 }
 
@@ -23,7 +24,9 @@ impl Model for Name {
 /// which is URI text (RFC 3986, sections 2.1 to 2.3).
 #[derive(Drop)]
 pub struct Literal {
+    /// Whether it is a text to compare with.
     pub compared: bool,
+    /// The text itself.
     pub bytes: Vec<u8>,
 }
 

@@ -1,4 +1,4 @@
-//! Why a code file is refused.
+//! Why a code file is rejected.
 
 ghost use Rattle.std.specs.Prelude.{◌≡◌, ◌+◌, ◌<◌, ◌^◌};
 ghost use Rattle.code_file.specs.Fault.{fault, after};
@@ -7,7 +7,7 @@ use std::alloc::{AllocError, AllocFailed};
 use std::fmt;
 use thiserror::Error;
 
-/// What is wrong with a code file, in the order in which it is decided.
+/// What is wrong with a code file, in the order in which it is checked.
 #[derive(Clone, Copy, Debug, PartialEq, Eq, Error)]
 pub enum CodeErrorKind {
     /// The file has more than 65,536 bytes.
@@ -24,8 +24,7 @@ pub enum CodeErrorKind {
     BadName,
     /// The kind of a name or a literal is neither 0 nor 1.
     BadKind,
-    /// A link text is no URI text (RFC 3986, sections 2.1 to 2.3), or a comparison text no UTF-8
-    /// (RFC 3629).
+    /// A link text is not URI text (RFC 3986, sections 2.1 to 2.3), or a comparison text is not UTF-8 (RFC 3629).
     BadLiteral,
     /// Bytes follow the last instruction.
     Trailing,
@@ -39,11 +38,13 @@ impl fmt::Display for CodeErrorKind {
     }
 }
 
-/// What is wrong with a code file, and the byte at which it is; 0 where memory ran out.
+/// What is wrong with a code file, and the byte at which it is; 0 if memory ran out.
 #[derive(Clone, Copy, Debug, PartialEq, Eq, Error)]
 #[error("{kind} at {at}")]
 pub struct CodeError {
+    /// What is wrong.
     pub kind: CodeErrorKind,
+    /// The byte at which it is, counted from 0.
     pub at: usize,
 }
 
@@ -56,7 +57,7 @@ impl CodeErrorKind {
 }
 
 impl CodeError {
-    /// The same fault, with this number of bytes before.
+    /// The same fault, when this number of bytes comes before the ones that were examined.
     pub(crate) fn after(self, front: usize) -> CodeError
         requires { front + self.at < 2 ^ 64 }
         ensures { result ≡ after front self }

@@ -1,6 +1,6 @@
-//! The fields of a code file, from the beginning of its bytes. Nothing here takes memory.
+//! The fields of a code file, from the beginning of its bytes. Nothing here allocates.
 
-ghost use Rattle.std.specs.Prelude.{◌≡◌, ◌≤◌, ◌<◌, ◌+◌, ◌^◌, ◌++◌, ◌∷◌, ◌↔◌, ℕ, length, take, IsTrue, IfOk, IfErr};
+ghost use Rattle.std.specs.Prelude.{◌≡◌, ◌≤◌, ◌<◌, ◌+◌, ◌^◌, ◌++◌, ◌∷◌, ◌↔◌, length, IsTrue, IfOk, IfErr};
 ghost use Rattle.std.specs.Prelude.{IfNone, IfSome, All};
 ghost use Rattle.code_model.specs.Code.{Name, Literal};
 ghost use Rattle.code_file.specs.Grammar.{kind_byte, number, name_field, literal_field, instr_field, IsNameByte};

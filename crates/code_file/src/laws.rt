@@ -1,4 +1,4 @@
-//! What holds of every file and its code. These functions do nothing: their contracts are the laws.
+//! What holds for every file and its code. These functions have empty bodies; each contract is a theorem.
 
 ghost use Rattle.std.specs.Prelude.{◌≡◌, ◌<◌, ◌^◌, ◌⊎◌, ℕ, [], ◌∷◌, All};
 ghost use Rattle.byteorder.specs.Endian.{big_number};
@@ -16,7 +16,7 @@ pub fn number_has_two_bytes()
         ≡ high ∷ low ∷ [] }
 {}
 
-/// All bytes are the file of a code, or have a first fault.
+/// Any bytes are the file of a code, or have a first fault.
 pub fn bytes_have_a_code_or_a_fault()
     ensures { (bytes : Text) → All (λ b. b < 2 ^ 8) bytes → ((c : Code) × IsCodeFile bytes c)
         ⊎ ((e : CodeError) × IsFirstFault bytes e) }
@@ -37,7 +37,7 @@ pub fn file_has_no_fault()
     ensures { (bytes : Text) (c : Code) (e : CodeError) → IsCodeFile bytes c → IsFirstFault bytes e → ⊥ }
 {}
 
-/// What was written is read as the code that it was written from, or memory runs out.
+/// Reading the file of a code gives that code, or memory runs out.
 pub fn written_code_is_read()
     ensures { (bytes : Text) (c : Code) → IsCodeFile bytes c
         → ((d : Code) → IsCodeFile bytes d → d ≡ c)

@@ -1,4 +1,4 @@
-//! The code files `OLK1` and `OLK2`: read exactly, written in their one spelling, and listed as text.
+//! The code files `OLK1` and `OLK2`: read, written and listed as text. A code has exactly one file.
 //!
 //! ```rust
 //! let cut = Instr { op: 15, a: 1, b: 2, c: 3, d: 4 };
@@ -24,7 +24,7 @@ mod uri_text;
 mod write;
 
 pub use code::Code;
-pub use code_model::Instr;
+pub use code_model::{Instr, Instruction};
 pub use decode::{instruction, spelling};
 pub use entry::{Literal, Name};
 pub use error::{CodeError, CodeErrorKind};

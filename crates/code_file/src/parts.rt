@@ -1,10 +1,9 @@
-//! The fault of parts that are given as values.
+//! The first fault of a code's parts that are given as values.
 
-ghost use Rattle.std.specs.Prelude.{◌≡◌, ◌≤◌, ◌<◌, ◌*◌, ◌++◌, ℕ, length, take, min, IfNone, IfSome, All, IsTrue, ◌↔◌};
-ghost use Rattle.std.specs.Prelude.{◌^◌};
+ghost use Rattle.std.specs.Prelude.{◌≡◌, ◌<◌, ℕ, length, min, IfNone, IfSome, All, IsTrue, ◌↔◌};
 ghost use Rattle.std.specs.List.{flat_map};
-ghost use Rattle.code_file.specs.Grammar.{IsCode, spelled, code_of, name_field, literal_field, instr_field, IsVersion};
-ghost use Rattle.code_file.specs.Grammar.{IsName, IsLiteral, IsTextOf};
+ghost use Rattle.code_file.specs.Grammar.{IsCode, spelled, code_of, name_field, literal_field, IsVersion};
+ghost use Rattle.code_file.specs.Grammar.{IsName, IsLiteral};
 ghost use Rattle.code_file.specs.Fault.{fault, IsFirstFault};
 ghost use Rattle.code_file.specs.Private.Tables.{IsFirstBad};
 
@@ -15,7 +14,7 @@ use crate::header::Header;
 use crate::limits::MAX_BYTES;
 use code_model::Instr;
 
-/// How many bytes the names take, at most `usize::MAX`.
+/// How many bytes the names have in a file, at most `usize::MAX`.
 fn names_len(names: &[Name]) -> usize
     ensures { result ≡ min (length (flat_map name_field names.now)) usize.MAX }
 {
@@ -26,7 +25,7 @@ fn names_len(names: &[Name]) -> usize
     total
 }
 
-/// How many bytes the literals take, at most `usize::MAX`.
+/// How many bytes the literals have in a file, at most `usize::MAX`.
 fn literals_len(literals: &[Literal]) -> usize
     ensures { result ≡ min (length (flat_map literal_field literals.now)) usize.MAX }
 {
@@ -61,7 +60,7 @@ fn is_literal(literal: &Literal) -> bool
     literal.bytes.len() < 65_536 && is_text_of(literal.compared, &literal.bytes)
 }
 
-/// The place of the first name that no file has.
+/// The place of the first name that no file may have.
 fn first_bad_name(names: &[Name]) -> Option<usize>
     ensures none { IfNone result (All IsName names.now) }
     ensures some { IfSome result (IsFirstBad IsName names.now) }
@@ -69,7 +68,7 @@ fn first_bad_name(names: &[Name]) -> Option<usize>
     names.iter().position(|name| !is_name(name))
 }
 
-/// The place of the first literal that no file has.
+/// The place of the first literal that no file may have.
 fn first_bad_literal(literals: &[Literal]) -> Option<usize>
     ensures none { IfNone result (All IsLiteral literals.now) }
     ensures some { IfSome result (IsFirstBad IsLiteral literals.now) }
@@ -77,7 +76,7 @@ fn first_bad_literal(literals: &[Literal]) -> Option<usize>
     literals.iter().position(|literal| !is_literal(literal))
 }
 
-/// The kind of the first fault of the file that the parts spell.
+/// The kind of the first fault in the file that the parts would make.
 pub(crate) fn parts_fault(
     version: u8,
     names: &[Name],

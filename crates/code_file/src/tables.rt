@@ -1,6 +1,6 @@
-//! The tables of a code file, found in its bytes. Nothing here takes memory.
+//! The tables of a code file, found in its bytes. Nothing here allocates.
 
-ghost use Rattle.std.specs.Prelude.{◌≡◌, ◌≤◌, ◌<◌, ◌+◌, ◌*◌, ◌^◌, ◌++◌, ℕ, List, length, IfNone, IfSome, IfOk, IfErr};
+ghost use Rattle.std.specs.Prelude.{◌≡◌, ◌≤◌, ◌<◌, ◌+◌, ◌*◌, ◌++◌, length, IfNone, IfSome, IfOk, IfErr};
 ghost use Rattle.code_file.specs.Grammar.{magic, header_field, IsVersion, IsHeader};
 ghost use Rattle.code_file.specs.Fault.{AreNames, AreLiterals, IsFaultOfNames, IsFaultOfLiterals, PastMagic};
 ghost use Rattle.code_file.specs.Fault.{IsFieldFault, IsFirstFault};
@@ -85,6 +85,7 @@ fn split_header(bytes: &[u8]) -> Result<(Header, &[u8]), CodeError>
     let Some((version, rest)) = split_magic(bytes) else {
         return Err(CodeErrorKind::BadMagic.at(0));
     };
+    // Three counts of two bytes each.
     if rest.len() < 6 {
         return Err(cut_short(bytes));
     }

@@ -1,4 +1,4 @@
-//! The bytes of a code's parts, put at the end of a file.
+//! The bytes of a code's parts, appended to a file.
 
 ghost use Rattle.std.specs.Prelude.{◌≡◌, ◌++◌, OnOk, All};
 ghost use Rattle.std.specs.List.{flat_map};

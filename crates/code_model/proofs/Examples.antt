@@ -1,4 +1,4 @@
--- What fields say in both versions, and the bounds of operands, on the definitions alone.
+-- The instructions that fields encode in both versions, and the bounds of operands, computed from the definitions.
 use Rattle.std.proofs.Common.{◌≡◌, refl, true, false, Some, None}
 use Rattle.code_model.specs.Code.{row, reading, spelling, is_same_instr}
 use Rattle.code_model.specs.Operands.{Items, Mode, is_in_range}

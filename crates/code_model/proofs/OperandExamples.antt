@@ -1,4 +1,4 @@
--- What the fields of each instruction are, and where each part of an instruction is looked up.
+-- The operands of each instruction, and instructions as fields.
 use Rattle.std.proofs.Common.{◌≡◌, ℕ, List, [], ◌∷◌, Some, None, true, false, refl, codes}
 use Rattle.std.specs.Prelude.{map}
 use Rattle.code_model.specs.Code.{Code, row, is_same_instr, reading, reading_at, upgraded}
@@ -15,7 +15,7 @@ record Row : Type 0 where
 abbrev having : Instruction → List Operand → Row
 having i os = record { instruction = i; operands = os }
 
--- a is 1, b 2, c 3 and d 4; the place of a jump is no operand
+-- a is 1, b 2, c 3 and d 4; the place of a jump is not an operand
 abbrev table : List Row
 table =
     having instruction.Halt []
@@ -42,7 +42,7 @@ table =
 table_holds : map (λ x. operands x.instruction) table ≡ map (λ x. x.operands) table
 table_holds = refl
 
--- of the other operands each number is in range here: that it has a register or an entry is another question
+-- for all other operands any number is in range; whether the register or the entry exists is tested elsewhere
 others_in_range : map is_in_range (Register 64 ∷ TextName 256 ∷ ListName 256 ∷ LinkText 1024 ∷ Compared 1024 ∷ Mode 0 ∷ [])
     ≡ true ∷ true ∷ true ∷ true ∷ true ∷ true ∷ []
 others_in_range = refl
@@ -65,7 +65,7 @@ counting version =
       instrs = row 19 1 0 0 0 ∷ row 99 0 0 0 0 ∷ row 1 0 0 0 0 ∷ [];
     }
 
--- COUNT, a number that names no operation, HALT, and a place past the end
+-- COUNT, a number that is no operation, HALT, and a place past the end
 read_in_version_1 : map (reading_at (counting 1)) (0 ∷ 1 ∷ 2 ∷ 3 ∷ []) ≡ None ∷ None ∷ Some instruction.Halt ∷ None ∷ []
 unfolding reading
 read_in_version_1 = refl
@@ -74,6 +74,6 @@ read_in_version_2 : map (reading_at (counting 2)) (0 ∷ 1 ∷ 2 ∷ 3 ∷ []) �
 unfolding reading
 read_in_version_2 = refl
 
--- the version changes, and nothing else
+-- only the version changes
 upgraded_codes : map upgraded (counting 1 ∷ counting 2 ∷ []) ≡ counting 2 ∷ counting 2 ∷ []
 upgraded_codes = refl

@@ -3,6 +3,7 @@
 /// One instruction as a code file has it: the number of an operation, and four fields.
 #[derive(Clone, Copy, PartialEq, Eq)]
 pub struct Instr {
+    /// The number of the operation.
     pub op: u8,
     pub a: u8,
     pub b: u16,
@@ -27,30 +28,30 @@ pub enum Instruction {
     List(u8, u16),
     /// Loads a comparison text into a register.
     Const(u8, u16),
-    /// Loads the leading number of the second register's text into the first; jumps where it has none.
+    /// Loads the leading number of the second register's text into the first; jumps if it has none.
     Number(u8, u16, u16),
-    /// Jumps where the register is Undefined.
+    /// Jumps if the register is Undefined.
     Undef(u8, u16),
-    /// Jumps where the register's text is empty.
+    /// Jumps if the register's text is empty.
     Empty(u8, u16),
-    /// Jumps where the register's list has no member.
+    /// Jumps if the register's list has no member.
     NoList(u8, u16),
-    /// Jumps where the texts of two registers are not equal.
+    /// Jumps if the texts of two registers are not equal.
     Differ(u8, u16, u16),
-    /// Jumps where the first register's number is below the second's.
+    /// Jumps if the first register's number is below the second's.
     Less(u8, u16, u16),
     /// Appends a link text to the output.
     Emit(u16),
-    /// Appends the register's text, written by a mode.
+    /// Appends the register's text, percent-encoded as a mode says.
     Put(u8, u16),
-    /// Appends the first items of the register's text, written by a mode.
+    /// Appends the first items of the register's text, percent-encoded as a mode says.
     Cut(u8, u16, u16),
     /// Begins a loop over the second register's list, with the element in the first.
     Each(u8, u16, u16),
-    /// Appends a link text to the output, but in the first turn of a loop.
+    /// Appends a link text to the output, except in the first turn of a loop.
     Sep(u16),
-    /// Goes on with the loop's next member, or leaves the loop.
+    /// Continues with the loop's next member, or leaves the loop.
     Next,
-    /// Loads the number of members of the second register's list into the first (version 2 alone).
+    /// Loads the number of members of the second register's list into the first (only version 2).
     Count(u8, u16),
 }

@@ -1,5 +1,5 @@
-//! Code as data: its tables, its instructions, and what an instruction's fields spell. Definitions alone;
-//! nothing here runs.
+//! Code as data: its tables, its instructions, and the fields that encode an instruction. Only definitions; nothing
+//! here runs.
 #![tactic(auto)]
 
 mod code;

@@ -1,4 +1,4 @@
--- A file that is made of another: it is placed, or not.
+-- A file that is made from another: it is placed, or not.
 use Rattle.std.proofs.Common.{◌≡◌, inl, inr, length, refl, subst, ap, ◌∙◌}
 use Rattle.std.specs.Prelude.{◌⊎◌}
 use Rattle.text_model.specs.Texts.{Text}
@@ -10,7 +10,7 @@ use Rattle.command_base.specs.declared.fault.BaseFault.{BaseFault}
 use Rattle.command_base.specs.Faults.{IsPlaceFault}
 use Rattle.command_base.specs.Commands.{Makes, IsNotPlaced, count_line}
 
--- what is placed after calls that changed nothing
+-- a file that is placed after calls that changed nothing
 placed_after : (old between new : Disk) (path bytes : Text) → Unchanged old between → IsPlaced between path bytes new → IsPlaced old path bytes new
 placed_after old between new path bytes same p =
     record {
@@ -42,7 +42,7 @@ same_or : {A : Type 0} {Failed : Type 0} (new between old : A) → between ≡ o
 same_or new between old same (inl e) = inl (e ∙ same)
 same_or new between old same (inr failed) = inr failed
 
--- what is left by a placing that failed after calls that changed nothing
+-- the files after a placing that failed, which came after calls that changed nothing
 pub as_before : {F : Type 0} (fails : F → FileCall → Text → F → Type 0) (old between new : Disk) (path : Text) → Unchanged old between
     → IsAsBefore fails between path new → IsAsBefore fails old path new
 as_before fails old between new path same p =

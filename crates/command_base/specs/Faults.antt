@@ -1,4 +1,4 @@
--- The errors that all commands have in common: when each comes, and its exit status.
+-- The errors that all commands have in common: when each is returned, and its exit status.
 use Rattle.std.specs.Prelude.{◌≡◌, ◌≢◌, ℕ, Some}
 use Rattle.text_model.specs.Texts.{Text}
 use Rattle.files.specs.Found.{Found, Absent}
@@ -23,13 +23,13 @@ IsQueryFault query (Query e) = refusal query ≡ Some e
 IsQueryFault query Memory = Unit {0}
 IsQueryFault query (Device path) = ⊥
 
--- the file at the path is not read: the call failed, or an allocation did, which is never told of a file that does not exist
+-- the file at the path cannot be read: the call failed, or an allocation failed, which is never reported for a file that does not exist
 abbrev pub IsReadFault : Found → Text → Type 0 → BaseFault → Type 0
 IsReadFault found path failed (Query e) = ⊥
 IsReadFault found path failed Memory = found ≢ Absent
 IsReadFault found path failed (Device named) = (named.now ≡ path) × failed
 
--- the file at the path is not placed: a call failed, or an allocation did
+-- the file at the path cannot be placed: a call or an allocation failed
 abbrev pub IsPlaceFault : Text → Type 0 → BaseFault → Type 0
 IsPlaceFault path failed (Query e) = ⊥
 IsPlaceFault path failed Memory = Unit {0}

@@ -22,7 +22,7 @@ pub const FAILED: u8 = 4;
 /// An error that any command may have.
 #[derive(Debug, Drop, Error)]
 pub enum BaseFault<'a> {
-    /// The query is no OpenURL request.
+    /// The query is not an OpenURL request.
     #[error("query: {0}")]
     Query(KevError),
     /// An allocation failed.

@@ -1,4 +1,4 @@
-//! What the commands share: files that they read and place, the request of a query, and why a command fails.
+//! What the commands share: files that they read and write, the request of a query, and why a command fails.
 #![tactic(auto)]
 
 mod fault;

@@ -1,4 +1,4 @@
-//! Files that a command places.
+//! Files that a command writes.
 
 ghost use Rattle.std.specs.Prelude.{◌≡◌, IfOk, IfErr, OnOk, OnErr, length, string_bytes};
 ghost use Rattle.files.specs.Placing.{IsAsBefore, IsPlaced, IsPlaceFailure};
@@ -9,7 +9,7 @@ use crate::fault::BaseFault;
 use files::{FileError, Files, place};
 use std::alloc::{AllocError, Global};
 
-/// Places a file of these bytes at the path, and gives the line that counts them. The file is written to `PATH.new`,
+/// Places a file of these bytes at the path, and returns the line with their number. The file is written to `PATH.new`,
 /// which must not exist, and then renamed.
 pub fn place_counted<'a, F: Files>(
     alloc: Global,

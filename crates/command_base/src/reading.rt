@@ -10,8 +10,8 @@ use crate::fault::BaseFault;
 use files::{FileError, Files, ReadError, read_whole};
 use std::alloc::Global;
 
-/// All bytes of the file at the path, or `None` if it has more than `limit`. A longer file takes memory for `limit`
-/// bytes and one more.
+/// All bytes of the file at the path, or `None` if it has more than `limit`. Of a longer file, `limit` + 1 bytes are
+/// read into memory.
 pub fn read_file<'a, F: Files>(
     alloc: Global,
     files: &mut F,

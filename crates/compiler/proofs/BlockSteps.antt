@@ -4,7 +4,7 @@ use Rattle.std.proofs.lemmas.List.{drop_more}
 use Rattle.compiler_model.specs.declared.lines.Line.{Line}
 use Rattle.compiler_model.specs.Blocks.{Block, lines}
 
--- what is pushed with the lines of the elements that are left is the whole
+-- what has been pushed, with the lines of the elements that are left, is the whole
 pub block_step : {X : Type 0} (all : List X → Block) (one : X → Block) → ((x : X) (xs : List X) → lines (all (x ∷ xs)) ≡ lines (one x) ++ lines (all xs))
     → (xs : List X) (i : ℕ) (x : X) (before after whole : List Line) → i < length xs → x ≡ get_or xs i x
     → before ++ lines (all (drop i xs)) ≡ whole → after ≡ before ++ lines (one x) → after ++ lines (all (drop (i + 1) xs)) ≡ whole

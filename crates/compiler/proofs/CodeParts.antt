@@ -1,5 +1,5 @@
--- The parts of rules' code: the size of their file, and that within the limits a code file may have them.
-use Rattle.std.proofs.Common.{◌≡◌, ℕ, suc, ◌+◌, ◌*◌, ◌^◌, ◌<◌, ◌≤◌, List, [], ◌∷◌, ◌++◌, length, Bool, true, false, Some, None, refl, ap, inl, inr, arith}
+-- The parts of the code of rules: the size of their file, and that a code file may have them if they are within the limits.
+use Rattle.std.proofs.Common.{◌≡◌, ℕ, suc, ◌+◌, ◌*◌, ◌^◌, ◌<◌, ◌≤◌, List, [], ◌∷◌, ◌++◌, length, Bool, true, false, Some, refl, ap, inl, inr, arith}
 use Rattle.std.proofs.Common.{length-append}
 use Rattle.std.specs.Prelude.{All, min, not, sum_by, slice_get, if◌then◌else◌}
 use Rattle.std.specs.List.{flat_map}
@@ -87,7 +87,7 @@ is_code c version file names utf8 few_names few_literals few_instrs short =
       short = short;
     }
 
--- parts that are those of the rules' code make it
+-- the parts of the rules' code make that code
 pub whole_code : (rules : RuleSet) (counts : Bool) (names : List Name) (literals : List Literal) (instrs : List Instr) → counts ≡ has_counts rules
     → names ≡ (code_of rules).names → literals ≡ (code_of rules).literals → instrs ≡ (code_of rules).instrs
     → code_of_parts (if counts then 2 else 1) names literals instrs ≡ code_of rules
@@ -97,7 +97,7 @@ pub known_version : (b : Bool) → IsVersion (if b then 2 else 1)
 known_version true = inr refl
 known_version false = inl refl
 
--- what a file may have but for its length is refused for its length
+-- parts whose only fault is the length of the file are rejected for the length
 pub refused_long : ((bytes : Text) (c : Code) (e : CodeError) → IsCodeFile bytes c → IsFirstFault bytes e → ⊥) → (c : Code) (e : CodeError)
     → (length (spelled c) ≤ MAX_BYTES → IsCode c) → All IsInstr c.instrs → IsFirstFault (spelled c) e → MAX_BYTES < file_size c
 refused_long no_fault c e good fields fault = elim (cases_lt MAX_BYTES (length (spelled c))) [
@@ -107,15 +107,11 @@ refused_long no_fault c e good fields fault = elim (cases_lt MAX_BYTES (length (
 
 -- ---- the limits
 
-pub none_passed : (names literals instrs bytes : ℕ) → names ≤ MAX_NAMES → literals ≤ MAX_LITERALS → instrs ≤ MAX_INSTRS
-    → bytes ≤ MAX_BYTES → first_passed names literals instrs bytes ≡ None
-none_passed names literals instrs bytes n l i b = grind (arith, nat_tests)
-
 pub file_passed : (names literals instrs bytes : ℕ) → names ≤ MAX_NAMES → literals ≤ MAX_LITERALS → instrs ≤ MAX_INSTRS
     → MAX_BYTES < bytes → first_passed names literals instrs bytes ≡ Some FileTooLong
 file_passed names literals instrs bytes n l i b = grind (arith, nat_tests)
 
--- a count that stops at the largest number passes the limit where the whole count does
+-- a count that stops at the largest number exceeds the limit exactly if the whole count does
 pub counted : (names literals lines n bytes : ℕ) → lines ≡ min n 18446744073709551615 → first_passed names literals lines bytes
     ≡ first_passed names literals n bytes
 counted names literals lines n bytes e = elim (cases_lt MAX_INSTRS n) [

@@ -1,4 +1,4 @@
--- The limits of code, each kept and passed by one.
+-- The limits of code, each reached and exceeded by one.
 use Rattle.std.proofs.Common.{◌≡◌, ℕ, List, [], ◌∷◌, ◌++◌, Option, Some, None, map, flat_map, replicate, codes, refl}
 use Rattle.uri_grammar.specs.declared.parts.Part.{Part}
 use Rattle.uri_grammar.specs.declared.parts.Part.TheVariants.{Literal}
@@ -8,7 +8,7 @@ use Rattle.compiler.specs.Limits.{first_passed, limit_passed}
 use Rattle.compiler.specs.declared.error.CompileError.{CompileError}
 use Rattle.compiler.specs.declared.error.CompileError.TheVariants.{TooManyNames, TooManyLiterals, TooManyInstructions, FileTooLong}
 
--- ---- the first limit passed, of each number at its limit and one more
+-- ---- the first limit that is exceeded, for each number at its limit and one above it
 
 abbrev by_bytes : ℕ → ℕ → ℕ → List (Option CompileError)
 by_bytes names literals instrs = map (first_passed names literals instrs) (65536 ∷ 65537 ∷ [])

@@ -1,4 +1,4 @@
--- The limits: what is counted of the tables and the lines is what the code of the rules has.
+-- The limits: the counts of tables and lines are those of the code of the rules.
 use Rattle.std.proofs.Common.{◌≡◌, ℕ, ◌≤◌, List, length, sym, ap, ◌∙◌, subst, arith}
 use Rattle.std.specs.Prelude.{min}
 use Rattle.code_model.specs.Code.{Name, Literal}
@@ -10,7 +10,7 @@ use Rattle.compiler.specs.Limits.{first_passed, limit_passed}
 use Rattle.compiler.proofs.CodeParts.{counted}
 use Rattle.compiler.proofs.RuleSteps.{length-code}
 
--- the code of the rules has few enough of each
+-- the code of the rules is within all limits
 pub record IsWithin (rules : RuleSet) : Type 0 where
   pub names : length (code_of rules).names ≤ MAX_NAMES
   pub literals : length (code_of rules).literals ≤ MAX_LITERALS

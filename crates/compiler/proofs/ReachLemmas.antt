@@ -8,10 +8,6 @@ use Rattle.compiler_model.specs.declared.lines.Line.TheVariants.{Acts, Jumps, Tu
 use Rattle.compiler_model.specs.Blocks.{Block, Nothing, Does, Then, Unless, Either, ForEach, LeaveIf, Leave, lines}
 use Rattle.compiler.specs.Private.Reach.{reach, StayWithin}
 
-within_more : (few many : ℕ) (ls : List Line) → few ≤ many → StayWithin few ls → StayWithin many ls
-within_more few many [] le h = tt
-within_more few many (l ∷ ls) le h = (omega (arith, h.0, le), within_more few many ls le h.1)
-
 within_both : (more : ℕ) (a b : List Line) → StayWithin (length b + more) a → StayWithin more b → StayWithin more (a ++ b)
 within_both more [] b h k = k
 within_both more (l ∷ a) b h k = (omega (arith, h.0, length-append a b), within_both more a b h.1 k)

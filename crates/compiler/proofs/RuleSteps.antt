@@ -1,4 +1,4 @@
--- One more rule: what is counted, and what instructions there are, with it and with the rules that are left.
+-- One more rule: the counts and the instructions with it, and with the rules that are left.
 use Rattle.std.proofs.Common.{◌≡◌, ℕ, ◌+◌, ◌<◌, List, [], ◌∷◌, ◌++◌, length, drop, get_or, map, sym, ap, ◌∙◌, arith, append_assoc, length-append}
 use Rattle.std.specs.List.{flat_map}
 use Rattle.std.proofs.lemmas.List.{drop_more, map-append, length-map}

@@ -1,4 +1,4 @@
--- Which shape a choice of the code's leads to.
+-- The shape for each case of the compiler.
 use Rattle.std.proofs.Common.{◌≡◌, ℕ, zero, suc, [], ◌∷◌, ◌++◌, length, ◌==◌, true, false, refl, sym, ◌∙◌, codes}
 use Rattle.std.proofs.Math.Dec.{eqb-suc-zero}
 use Rattle.text_model.specs.Texts.{Text}

@@ -1,4 +1,4 @@
--- Tables: where an entry is. And a table that grows by the entries that are used has each of them once, in the order of first use.
+-- The place of an entry in a table. A table that grows by the entries that are used has each of them once, in the order of first use.
 use Rattle.std.proofs.Common.{◌≡◌, ℕ, suc, ◌+◌, ◌<◌, ◌≤◌, length, drop, get_or, arith, List, [], ◌∷◌, ◌++◌, Option, Some, None, Bool, true, false, refl, sym}
 use Rattle.std.proofs.Common.{ap, ◌∙◌, subst}
 use Rattle.std.specs.Prelude.{◌||◌, not, filter, if◌then◌else◌, nat_lt, unwrap_or}
@@ -17,7 +17,7 @@ use Rattle.compiler_model.specs.Compiled.{rule_lines, all_lines}
 use Rattle.compiler_model.proofs.Entries.{same_names, same_literals}
 use Rattle.compiler.specs.Private.Growth.{added, with_entry, gathered}
 
--- the place of the first that passes is at most the length
+-- the place of the first element that passes is at most the length
 pub first_within : {X : Type 0} (p : X → Bool) (xs : List X) → position_or_len p xs ≤ length xs
 first_within p [] = omega arith
 first_within p (x ∷ xs) = by_test (p x) (first_within p xs)
@@ -40,7 +40,7 @@ gathered_entry same xs None ys = refl
 gathered_entry same xs (Some x) ys = refl
 
 module _ {X : Type 0} (same : X → X → Bool) (decides : (x y : X) → Decides (same x y) (x ≡ y)) where
-  -- whether an entry is present does not change where another one is taken out
+  -- whether an entry is present does not change when another one is removed
   among_others : (x y : X) (ys : List X) → same x y ≡ false → list_any (same x) (filter (λ z. not (same y z)) ys) ≡ list_any (same x) ys
   among_others x y [] d = refl
   among_others x y (z ∷ ys) d = by_test (same y z) refl (among_others x y ys d)
@@ -76,7 +76,7 @@ module _ {X : Type 0} (same : X → X → Bool) (decides : (x y : X) → Decides
           unlike true g = absurd (false≢true (sym e ∙ (decides x y).1 (sym ((decides y x).0 g))))
           unlike false g = g
 
-  -- what entries make of a table of earlier ones
+  -- a table of earlier entries, after further entries
   pub gathered_firsts : (xs ys : List X) → gathered same (firsts same xs) ys ≡ firsts same (xs ++ ys)
   gathered_firsts xs [] = ap (firsts same) (sym (append-nil xs))
   gathered_firsts xs (y ∷ ys) =
@@ -86,12 +86,12 @@ gathered-append : {X : Type 0} (same : X → X → Bool) (xs ys zs : List X) →
 gathered-append same xs [] zs = refl
 gathered-append same xs (y ∷ ys) zs = gathered-append same (added same xs y) ys zs
 
--- what lines and later lines make of a table
+-- a table after some lines and then later lines
 pub gathered_lines : {X : Type 0} (same : X → X → Bool) (used : Line → Option X) (xs : List X) (a b : List Line) → gathered same xs (filter_map used (a ++ b))
     ≡ gathered same (gathered same xs (filter_map used a)) (filter_map used b)
 gathered_lines same used xs a b = ap (gathered same xs) (filter_map-append used a b) ∙ gathered-append same xs (filter_map used a) (filter_map used b)
 
--- FAIL after all lines uses nothing
+-- FAIL after all lines uses no entry
 unused_end : {X : Type 0} (used : Line → Option X) (ls : List Line) → used Fails ≡ None → filter_map used (ls ++ Fails ∷ []) ≡ filter_map used ls
 unused_end used ls e = filter_map-append used ls (Fails ∷ []) ∙ rw e (append-nil (filter_map used ls))
 

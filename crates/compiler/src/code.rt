@@ -90,7 +90,8 @@ fn of_parts(
     }
 }
 
-// Code of the parts of rules' code. Within the other limits it is refused for its length alone.
+// The code of the parts that the rules' code has. The other limits hold, so it can only be rejected for the length of
+// its file.
 fn finish(rules: &Rules, tables: Tables, instrs: Vec<Instr>) -> Result<Code, CompileError>
     requires names { tables.names.items ≡ (code_of rules.now).names }
     requires literals { tables.literals.items ≡ (code_of rules.now).literals }
@@ -114,12 +115,12 @@ fn finish(rules: &Rules, tables: Tables, instrs: Vec<Instr>) -> Result<Code, Com
     }
 }
 
-/// The code of the rules, of version 2 where a rule has a guard `counts` and of version 1 otherwise. It is accepted,
-/// and comes on every environment to the link of the first rule whose guards all hold, or to no link where there is
-/// none.
+/// The code of the rules, of version 2 if a rule has a guard `counts` and of version 1 otherwise. The verifier accepts
+/// it. On every environment it ends with the link of the first rule whose guards all hold, or without a link if there
+/// is no such rule.
 ///
-/// Code has at most 256 names, 1,024 literals, 4,096 instructions and 65,536 bytes of file: the first limit that would
-/// be passed is the error. `NoMemory` if an allocation failed.
+/// Code has at most 256 names, 1,024 literals, 4,096 instructions and 65,536 bytes of file; the error is the first
+/// limit that would be exceeded. `NoMemory` if an allocation failed.
 pub fn compile(alloc: Global, rules: &Rules) -> Result<Code, CompileError>
     ensures ok { IfOk result (λ code. (code ≡ code_of rules.now) × (limit_passed rules.now ≡ None)) }
     ensures err { IfErr result (λ e. (e ≡ NoMemory) ⊎ (limit_passed rules.now ≡ Some e)) }

@@ -60,7 +60,7 @@ impl Tables {
         Ok(tables)
     }
 
-    /// Whether code may have that many names, literals and instructions; otherwise the first limit that they pass.
+    /// Whether code may have that many names, literals and instructions; otherwise the first limit that they exceed.
     pub(crate) fn check(&self) -> Result<(), CompileError>
         ensures names { OnOk result (length self.now.names.items ≤ MAX_NAMES) }
         ensures literals { OnOk result (length self.now.literals.items ≤ MAX_LITERALS) }

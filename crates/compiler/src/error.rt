@@ -4,7 +4,7 @@ use std::alloc::{AllocError, AllocFailed};
 use std::fmt;
 use thiserror::Error;
 
-/// Why rules have no code, in the order in which it is decided.
+/// Why rules have no code, in the order in which it is checked.
 #[derive(Clone, Copy, Debug, PartialEq, Eq, Error)]
 pub enum CompileError {
     /// More than 256 names.

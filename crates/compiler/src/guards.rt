@@ -15,7 +15,7 @@ use compiler_model::{Action, Line, Target, Test};
 use rule_parser::{Bound, Guard, Rules};
 use std::alloc::{AllocError, Global};
 
-/// A name into r0, as it is declared.
+/// Loads a name into r0, as a list or a text, as it is declared.
 pub(crate) fn push_loading(
     alloc: Global,
     out: &mut Vec<Line>,
@@ -31,7 +31,7 @@ pub(crate) fn push_loading(
     }
 }
 
-/// Whether what was loaded is not defined.
+/// The test whether what was loaded is undefined.
 pub(crate) fn missing(list: bool) -> Test
     ensures { result ≡ is_missing list }
 {
@@ -42,7 +42,7 @@ pub(crate) fn missing(list: bool) -> Test
     }
 }
 
-// The number of the text in r2 into r3, where it has one, and a test with it.
+// Loads the number of the text in r2 into r3 and tests it, if the text has one.
 fn push_number(alloc: Global, out: &mut Vec<Line>, test: Test) -> Result<(), AllocError>
     ensures { OnOk result (out.new.items ≡ out.old.items ++ lines (Unless (tests.HasNoNumber 3 2) (LeaveIf test))) }
 {
@@ -85,7 +85,7 @@ fn push_bound(
     }
 }
 
-// The rule is left where the number in r1 is out of bounds.
+// Leaves the rule if the number in r1 is out of bounds.
 fn push_bounds(
     alloc: Global,
     out: &mut Vec<Line>,
@@ -117,7 +117,7 @@ fn push_lacks(alloc: Global, out: &mut Vec<Line>, list: bool, name: &str) -> Res
     push_unless(out, missing(list), body)
 }
 
-// A text into r0; the rule is left where it is not defined.
+// Loads a text into r0; leaves the rule if it is undefined.
 fn push_text(alloc: Global, out: &mut Vec<Line>, name: &str) -> Result<(), AllocError>
     ensures { OnOk result
         (out.new.items ≡ out.old.items
@@ -164,7 +164,7 @@ fn push_holds(alloc: Global, out: &mut Vec<Line>, name: &str, text: &str) -> Res
     push_leave_if(out, Test::IsEmpty(2))
 }
 
-// The number that a text begins with into r1; the rule is left where there is none.
+// Loads the number that a text begins with into r1; leaves the rule if there is none.
 fn push_leading_number(alloc: Global, out: &mut Vec<Line>, name: &str) -> Result<(), AllocError>
     ensures { OnOk result (out.new.items ≡ out.old.items
         ++ lines (Then (Then (Does (loading false name.now)) (LeaveIf (tests.IsUndefined 0)))
@@ -174,7 +174,7 @@ fn push_leading_number(alloc: Global, out: &mut Vec<Line>, name: &str) -> Result
     push_leave_if(out, Test::HasNoNumber(1, 0))
 }
 
-// How many members a list has, into r1.
+// Loads the number of a list's members into r1.
 fn push_count(alloc: Global, out: &mut Vec<Line>, name: &str) -> Result<(), AllocError>
     ensures { OnOk result
         (out.new.items ≡ out.old.items

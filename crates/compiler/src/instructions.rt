@@ -105,7 +105,7 @@ fn of_line(
     }
 }
 
-/// One more instruction; its fields fit their widths, as those of all instructions do.
+/// Appends an instruction. Its fields fit their widths, as those of all instructions do.
 pub(crate) fn push_instr(instrs: &mut Vec<Instr>, instr: Instr) -> Result<(), AllocError>
     requires { All IsInstr instrs.old.items }
     ensures pushed { OnOk result (instrs.new.items ≡ instrs.old.items ++ instr ∷ []) }

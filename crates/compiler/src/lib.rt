@@ -17,4 +17,6 @@ mod rule_lines;
 mod tables;
 
 pub use code::compile;
+pub use code_file::Code;
 pub use error::CompileError;
+pub use rule_parser::Rules;

@@ -71,7 +71,7 @@ pub(crate) fn push_separator(
     Ok(())
 }
 
-/// A test that leaves the rule where it holds.
+/// A test that leaves the rule if it holds.
 pub(crate) fn push_leave_if(out: &mut Vec<Line>, test: Test) -> Result<(), AllocError>
     ensures { OnOk result (out.new.items ≡ out.old.items ++ Tests test Away ∷ []) }
 {
@@ -79,7 +79,7 @@ pub(crate) fn push_leave_if(out: &mut Vec<Line>, test: Test) -> Result<(), Alloc
     Ok(())
 }
 
-/// A test that leads past the body where it holds, and the body.
+/// A test that jumps past the body if it holds, and the body.
 pub(crate) fn push_unless(
     out: &mut Vec<Line>,
     test: Test,
@@ -92,7 +92,7 @@ pub(crate) fn push_unless(
     Ok(())
 }
 
-/// A loop over the list of a register, with the member in the first, and its body.
+/// A loop over the list of the second register, with the member in the first, and its body.
 pub(crate) fn push_each(
     out: &mut Vec<Line>,
     element: u8,

@@ -1,11 +1,11 @@
 //! The lines of templates.
 
-ghost use Rattle.std.specs.Prelude.{◌≡◌, ◌++◌, [], false, true, OnOk, codes};
+ghost use Rattle.std.specs.Prelude.{◌≡◌, ◌++◌, [], true, OnOk, codes};
 ghost use Rattle.compiler_model.specs.declared.lines.Action.TheVariants as actions;
 ghost use Rattle.compiler_model.specs.declared.lines.Test.TheVariants as tests;
-ghost use Rattle.compiler_model.specs.Blocks.{Does, Then, Unless, Either, ForEach, lines};
+ghost use Rattle.compiler_model.specs.Blocks.{Does, Then, Either, lines};
 ghost use Rattle.compiler_model.specs.Shapes.{lead_block, writing_action, named_block, item_block, head_block};
-ghost use Rattle.compiler_model.specs.Shapes.{members_block, shown_block, spec_block, specs_block, part_block};
+ghost use Rattle.compiler_model.specs.Shapes.{shown_block, spec_block, specs_block, part_block};
 ghost use Rattle.compiler_model.specs.Shapes.{parts_block};
 ghost use Rattle.uri_template.specs.Expansion.{style_of};
 
@@ -18,7 +18,7 @@ use text_model::Writing;
 use uri_grammar::{Op, Part, Spec, Text};
 use uri_template::Style;
 
-// What is written before a piece, with nothing before the first.
+// Writes the separator before a piece, except before the first.
 fn push_later_lead(alloc: Global, out: &mut Vec<Line>, sep: &str) -> Result<(), AllocError>
     ensures { OnOk result (out.new.items ≡ out.old.items ++ lines (lead_block [] sep.now)) }
 {
@@ -56,7 +56,7 @@ fn push_lead(alloc: Global, out: &mut Vec<Line>, first: &str, sep: &str) -> Resu
     }
 }
 
-// The text of a register, written; 0 is no prefix.
+// The action that writes the text of a register, or its first `cut` items; 0 means the whole text.
 #[tactic(auto, using(crate::proofs::ShapeChoice::writes_prefix))]
 fn writing(register: u8, writing: Writing, cut: u16) -> Action
     ensures { result ≡ writing_action register writing cut }
@@ -85,7 +85,7 @@ fn push_name_sign(alloc: Global, out: &mut Vec<Line>, name: &str) -> Result<(), 
     Ok(())
 }
 
-// A name, and the equals sign and the value where the value is not empty.
+// A name, and, if the value is not empty, the equals sign and the value.
 fn push_bare(
     alloc: Global,
     out: &mut Vec<Line>,
@@ -140,7 +140,7 @@ fn push_named(
     }
 }
 
-// The text of a register, with its name where values are named.
+// The text of a register, with its name if the values have names.
 fn push_item(
     alloc: Global,
     out: &mut Vec<Line>,

@@ -1,12 +1,12 @@
 -- The whole code of small rule sets, and the bytes of its file.
 use Rattle.std.proofs.Common.{◌≡◌, [], ◌∷◌, Some, None, refl}
 use Rattle.std.specs.Prelude.{codes}
-use Rattle.code_model.specs.Code.{reading, upgraded}
+use Rattle.code_model.specs.Code.{reading}
 use Rattle.code_model.specs.declared.code.Instruction.TheVariants as instruction
 use Rattle.uri_grammar.specs.declared.parts.Part.TheVariants.{Literal}
 use Rattle.rule_parser.specs.declared.rule.Guard.TheVariants as guard
 use Rattle.rule_parser.specs.Rules.{RuleSet}
-use Rattle.machine_model.proofs.Listings.{list_name, text_name, link_text, compared_text, code, issn_code}
+use Rattle.machine_model.proofs.Listings.{text_name, link_text, compared_text, code, issn_code, authors_code}
 use Rattle.machine_model.specs.Operands.{has_right_operands}
 use Rattle.machine_model.specs.Next.{course_from, outcome_of}
 use Rattle.compiler_model.specs.Answer.{answer}
@@ -39,28 +39,7 @@ issn_size = refl
 
 -- ---- counting
 
-authors_compiled : code_of authors_rule ≡
-    upgraded (code (list_name (codes "rft.au") ∷ [])
-    (compared_text (codes "2") ∷ link_text (codes "http://e.org/") ∷ compared_text [] ∷ link_text (codes ",") ∷ compared_text (codes "1") ∷ [])
-    (instruction.List 0 0
-    ∷ instruction.Count 1 0
-    ∷ instruction.Const 2 0
-    ∷ instruction.Number 3 2 5
-    ∷ instruction.Less 1 3 17
-    ∷ instruction.Emit 1
-    ∷ instruction.Const 4 2
-    ∷ instruction.List 0 0
-    ∷ instruction.NoList 0 16
-    ∷ instruction.Empty 4 11
-    ∷ instruction.Emit 3
-    ∷ instruction.Const 4 4
-    ∷ instruction.Each 5 0 16
-    ∷ instruction.Sep 3
-    ∷ instruction.Put 5 0
-    ∷ instruction.Next
-    ∷ instruction.Halt
-    ∷ instruction.Fail
-    ∷ []))
+authors_compiled : code_of authors_rule ≡ authors_code
 authors_compiled = refl
 
 authors_size : file_size (code_of authors_rule) ≡ 193

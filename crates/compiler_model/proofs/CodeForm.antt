@@ -1,4 +1,4 @@
--- The code of rules has good form, and is what a code file may have.
+-- The code of rules has good form, and can be that of a code file.
 use Rattle.std.proofs.Common.{◌≡◌, ℕ, zero, suc, ◌+◌, ◌≤◌, List, [], ◌∷◌, length, None, Bool, true, false, refl, ap, ◌∙◌, subst, arith, ⊎_elim}
 use Rattle.std.specs.Prelude.{slice_get, if◌then◌else◌, not, filter}
 use Rattle.std.specs.List.{AllByRecursion, filter_map, flat_map}

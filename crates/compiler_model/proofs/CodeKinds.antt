@@ -1,4 +1,4 @@
--- A code in which typed blocks lie has a table of kinds: the code of rules is typable.
+-- A code that contains typed blocks has a table of kinds: the code of rules is typable.
 
 use Rattle.std.proofs.Common.{◌≡◌, ℕ, suc, ◌+◌, ◌<◌, ◌≤◌, List, [], ◌∷◌, ◌++◌, length, Option, Some, None, refl, sym, ap, ◌∙◌, subst, arith, ⊎_elim}
 use Rattle.std.specs.Prelude.{slice_get}
@@ -17,7 +17,7 @@ use Rattle.machine_model.specs.Form.{is_in_body, body_at}
 use Rattle.machine_model.specs.Kinds.{Kinds, any_kinds, IsBelow, edge, edges, needs, for_instruction, needs_at, edges_at}
 use Rattle.machine_model.specs.Typable.{Table, Holds, IsMet}
 use Rattle.machine_model.proofs.Moves.{some_one}
-use Rattle.machine_model.proofs.Orders.{kind_le_refl, below_trans}
+use Rattle.machine_model.proofs.Orders.{below_trans}
 use Rattle.machine_model.proofs.Readings.{Reads-reading_at}
 use Rattle.compiler_model.specs.declared.lines.Action.{Action}
 use Rattle.compiler_model.specs.declared.lines.Action.TheVariants.{LoadText, LoadList, LoadConst, CountMembers, Emits, Separates, Puts, Cuts}
@@ -31,7 +31,7 @@ use Rattle.compiler_model.proofs.Places.{IsPlaced, Lie, lie_both}
 use Rattle.compiler_model.proofs.Formed.{IsFormed}
 use Rattle.compiler_model.proofs.Forming.{Room, room_less, body_next, loop_body, body_begins, test_each, each_read, none_outside, body_behind}
 use Rattle.compiler_model.proofs.NoFaults.{test_read}
-use Rattle.compiler_model.proofs.Typed.{MeetsAction, after_action, MeetsTest, after_test, Typed, rows, length-rows, below_any}
+use Rattle.compiler_model.proofs.Typed.{MeetsAction, after_action, MeetsTest, after_test, Typed, rows, length-rows, below_any, exactly}
 
 -- kinds for places one after another
 abbrev pub RowsLie : Table → ℕ → List Kinds → Type 0
@@ -52,10 +52,7 @@ rows_both t place (x ∷ a) b h =
     ((h.0, both.0), subst (λ p. RowsLie t p b) e both.1)
 
 module _ (c : Code) (t : Table) where
-  below_itself : (ks : Kinds) → IsBelow ks ks
-  below_itself ks = record { at = λ r. kind_le_refl (ks r) }
-
-  -- kinds that are carried to a place are at or below its own
+  -- the kinds of an edge to a place are at or below those of the place
   abbrev Takes : ℕ → Kinds → Type 0
   Takes place ks = Holds t (edge place ks)
 
@@ -65,7 +62,7 @@ module _ (c : Code) (t : Table) where
   takes_below : (place : ℕ) (ks ms : Kinds) → IsBelow ks ms → Takes place ms → Takes place ks
   takes_below place ks ms below h = (h.0, h.1, below_trans ks ms h.0 below h.2)
 
-  -- the edges of a place lead where its kinds are taken, and its needs are met
+  -- the edges of a place have kinds at or below those of the places they lead to, and its needs are met
   abbrev pub IsSettled : ℕ → Type 0
   IsSettled place = (ks : Kinds) → t place ≡ Some ks → AllByRecursion (Holds t) (edges_at c place ks) × AllByRecursion (IsMet ks) (needs_at c place)
 
@@ -114,11 +111,11 @@ module _ (c : Code) (t : Table) where
       settled q instruction.Next ns (Reads-reading_at c q _ r) e
       (subst (λ o. AllByRecursion (Holds t) (edges q ns o instruction.Next)) (sym at) (back, (out, tt))) tt
 
-  -- what a block's kinds say of its places, and that its first place takes the kinds before it
+  -- the places of a block have the block's kinds, and the kinds before it are at or below those of its first place
   abbrev Fits : ℕ → ℕ → Kinds → Type 0
   Fits p q ks = Settled p q × Takes p ks
 
-  -- a block outside of loops may be left, to a place that takes all kinds
+  -- a block outside of loops may be left, to a place where nothing is known
   abbrev TakesAll : Option Body → ℕ → Type 0
   TakesAll o away = o ≡ None → Takes away any_kinds
 
@@ -134,7 +131,7 @@ module _ (c : Code) (t : Table) where
   block_fits (Does a) version away p q o f h eq lt room m at ks ms y r k =
       let same : q ≡ p + 1 = omega (arith, eq) in (
         settled_one p q eq (action_settled a away p ks h.0 r.0 y.0 (takes_below (p + 1) _ ms y.1 (subst (λ n. Takes n ms) same k))),
-        takes_row p ks r.0 ks (below_itself ks),
+        takes_row p ks r.0 ks (exactly ks),
       )
   block_fits (Then x z) version away p q o f h eq lt room m at ks ms y r k =
       let mid = p + length (lines x) in
@@ -155,7 +152,7 @@ module _ (c : Code) (t : Table) where
             (settled_one p (p + 1) refl (test_settled test p q ks (test_read c test _ away p q (omega (arith, eq)) h.0) r.0 y.0 (takes_below q ks ms y.1 k)
             body.1))
             body.0,
-        takes_row p ks r.0 ks (below_itself ks),
+        takes_row p ks r.0 ks (exactly ks),
       )
   block_fits (Either test x z) version away p q o f h eq lt room m at ks ms y r k =
       let mid = p + 1 + length (lines x) in
@@ -170,7 +167,7 @@ module _ (c : Code) (t : Table) where
       let other = body_next c mid _ lie.1.0.reads refl o middle (room_less c o (mid + 1) q (omega (arith, eq2)) room) in
       let second = block_fits z version away (mid + 1) q o f.2 lie.1.1 eq2 lt room m other ks ms y.2 later.1 k in
       let first = block_fits x version away (p + 1) mid o f.1 lie.0 refl (omega (arith, eq2, lt)) room1 m inner (after_test test ks) ms y.1 both.0
-      (takes_row mid ms later.0 ms (below_itself ms)) in (
+      (takes_row mid ms later.0 ms (exactly ms)) in (
         settled_both p (p + 1) q
             (settled_one p (p + 1) refl (test_settled test p (mid + 1) ks (test_read c test _ away p (mid + 1) (omega arith) h.0) r.0 y.0 second.1 first.1))
             (settled_both (p + 1) mid q first.0
@@ -179,7 +176,7 @@ module _ (c : Code) (t : Table) where
             (settled mid (instruction.Jump q) ms (Reads-reading_at c mid _ (subst (λ d. Reads c mid (instruction.Jump d)) over lie.1.0.reads)) later.0
             (k, tt) tt))
             second.0)),
-        takes_row p ks r.0 ks (below_itself ks),
+        takes_row p ks r.0 ks (exactly ks),
       )
   block_fits (ForEach a b x) version away p q o f h eq lt room m at ks ms y r k =
       let last = p + 1 + length (lines x) in
@@ -193,24 +190,24 @@ module _ (c : Code) (t : Table) where
       let end = body_behind c x version away (p + 1) last (Some (loop_body c p last a)) f.3 lie.0 refl (omega (arith, eq2, lt)) (omega arith) inner in
       let out : Takes (last + 1) ms = subst (λ n. Takes n ms) (sym eq2) k in
       let turn = block_fits x version away (p + 1) last (Some (loop_body c p last a)) f.3 lie.0 refl (omega (arith, eq2, lt)) (omega arith)
-      (no_way (loop_body c p last a) away) inner y.0 y.1 y.3 both.0 (takes_row last y.1 later.0 y.1 (below_itself y.1)) in (
+      (no_way (loop_body c p last a) away) inner y.0 y.1 y.3 both.0 (takes_row last y.1 later.0 y.1 (exactly y.1)) in (
         settled_both p (p + 1) q
             (settled_one p (p + 1) refl (settled p (instruction.Each a b (last + 1)) ks (Reads-reading_at c p _ here) r.0
             (takes_below (p + 1) (put ks a kind.Text) y.0 y.2.enters turn.1, (takes_below (last + 1) (put ks a kind.Any) ms y.2.skips out, tt)) (y.2.list, tt)))
             (settled_both (p + 1) last q turn.0
             (settled_one last q eq2 (next_settled p last a y.1 lie.1.0.reads end later.0
             (takes_below (p + 1) (put y.1 a kind.Text) y.0 y.2.returns turn.1) (takes_below (last + 1) (put y.1 a kind.Any) ms y.2.leaves out)))),
-        takes_row p ks r.0 ks (below_itself ks),
+        takes_row p ks r.0 ks (exactly ks),
       )
   block_fits (LeaveIf test) version away p q o f h eq lt room m at ks ms y r k =
       let same : q ≡ p + 1 = omega (arith, eq) in (
         settled_one p q eq (test_settled test p away ks h.0.reads r.0 y.0 (takes_below away ks any_kinds (below_any ks) (m (none_outside c o f.0)))
             (takes_below (p + 1) _ ms y.1 (subst (λ n. Takes n ms) same k))),
-        takes_row p ks r.0 ks (below_itself ks),
+        takes_row p ks r.0 ks (exactly ks),
       )
   block_fits Leave version away p q o f h eq lt room m at ks ms y r k = (
     settled_one p q eq
         (settled p (instruction.Jump away) ks (Reads-reading_at c p _ h.0.reads) r.0
         (takes_below away ks any_kinds (below_any ks) (m (none_outside c o f)), tt) tt),
-    takes_row p ks r.0 ks (below_itself ks),
+    takes_row p ks r.0 ks (exactly ks),
   )

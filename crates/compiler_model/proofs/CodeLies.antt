@@ -1,4 +1,4 @@
--- The lines of rules lie in their code, and it ends with what the rules mean.
+-- The code of rules contains their lines one after another, and ends with what the rules mean.
 use Rattle.std.proofs.Common.{◌≡◌, ℕ, suc, ◌+◌, List, [], ◌∷◌, ◌++◌, length, map, Option, Some, None, Bool, true, false, refl, sym, ap, ◌∙◌, subst, arith}
 use Rattle.std.specs.Prelude.{slice_get, if◌then◌else◌}
 use Rattle.std.specs.List.{AllByRecursion, list_any, filter_map, cons_option, position_or_len, flat_map}
@@ -64,7 +64,7 @@ length-instructions_from names literals away place [] = refl
 length-instructions_from names literals away place (l ∷ ls) = ap suc (length-instructions_from names literals away (place + 1) ls)
 
 module _ (c : Code) where
-  -- what has to hold of a line wherever it is
+  -- what has to hold for a line wherever it is
   pub record IsFounded (line : Line) : Type 0 where
     pub formed : IsFormedLine c.version line
     pub entries : HasEntries c line

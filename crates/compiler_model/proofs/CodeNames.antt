@@ -1,4 +1,4 @@
--- The names of the code of rules are names of the grammar, each of the kind that the rules declare.
+-- The names of the code of rules are names of the grammar, each with the kind that the rules declare.
 use Rattle.std.proofs.Common.{◌≡◌, List, Bool, true, not, refl}
 use Rattle.std.specs.Prelude.{All}
 use Rattle.std.proofs.lemmas.Bool.{and_parts, not-true}

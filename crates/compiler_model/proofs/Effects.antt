@@ -1,5 +1,4 @@
--- What a block does to registers and output, backwards: what has to hold before it so that something holds after it.
--- No place is spoken of.
+-- What a block does to registers and output, as weakest preconditions: what has to hold before it so that a claim holds after it. Places do not occur.
 use Rattle.std.proofs.Common.{◌≡◌, ℕ, ◌<◌, ◌≤◌, List, [], ◌∷◌, ◌++◌, length, Option, Some, None, Bool, true, false, ◌⊎◌}
 use Rattle.text_model.specs.Texts.{Text}
 use Rattle.text_model.specs.Writing.{written}
@@ -26,7 +25,7 @@ keeping a x s = record s { registers = put s.registers a x }
 abbrev pub saying : Text → Store → Store
 saying t s = record s { output = s.output ++ t }
 
--- what may hold of a store
+-- a property of a store
 abbrev pub Claim : Type 1
 Claim = Store → Type 0
 
@@ -47,7 +46,7 @@ Acted v turn (Separates t) s Q = Separated turn t s Q
 Acted v turn (Puts a w) s Q = (t : Text) × (s.registers a ≡ value.Text t) × Q (saying (written w t) s)
 Acted v turn (Cuts a n w) s Q = (t : Text) × (s.registers a ≡ value.Text t) × Q (saying (written w (cut w t n)) s)
 
--- where the test holds the first claim does, and otherwise the second
+-- if the test holds, the first claim holds, and otherwise the second
 abbrev pub Tested : Test → Store → Type 0 → Claim → Type 0
 Tested (IsUndefined a) s J Q =
     ((s.registers a ≡ value.Undefined) × J) ⊎ ((t : Text) × (s.registers a ≡ value.Text t) × Q s)
@@ -65,12 +64,12 @@ Tested (IsLess a b) s J Q =
     (m : ℕ) × (n : ℕ) × (s.registers a ≡ value.Number m) × (s.registers b ≡ value.Number n)
     × (((m < n) × J) ⊎ ((n ≤ m) × Q s))
 
--- the turns of a loop, one for each member, each done to the next
+-- the turns of a loop, one for each member, each leading to the next
 abbrev pub InTurns : (Bool → Store → Claim → Type 0) → ℕ → List Text → Bool → Store → Claim → Type 0
 InTurns turn a [] first s Q = Q s
 InTurns turn a (t ∷ ts) first s Q = turn first (keeping a (value.Text t) s) (λ next. InTurns turn a ts false next Q)
 
--- after the block the first claim holds, or the block is left away and the second does
+-- after the block the first claim holds; if the rule is left in the block, the second claim holds
 abbrev pub Brings : Environment → Option Bool → Block → Store → Claim → Claim → Type 0
 Brings v turn Nothing s Q R = Q s
 Brings v turn (Does action) s Q R = Acted v turn action s Q

@@ -13,7 +13,7 @@ use Rattle.compiler_model.specs.Tables.{is_same_name, is_same_literal, firsts}
 
 -- ---- entries are distinguished
 
--- a text and a flag, where these two are all of an entry
+-- equality of entries that consist of a text and a flag
 decides_both : {X : Type 0} (text : X → Text) (flag : X → Bool) → ((x y : X) → text x ≡ text y → flag x ≡ flag y → x ≡ y) → (x y : X)
     → Decides (bytes_eq (text x) (text y) && beq (flag x) (flag y)) (x ≡ y)
 decides_both text flag whole x y = (
@@ -29,19 +29,15 @@ same_names = decides_both (λ (n : Name). n.text) (λ n. n.list) (λ n m text li
 pub same_literals : (l m : Literal) → Decides (is_same_literal l m) (l ≡ m)
 same_literals = decides_both (λ (l : Literal). l.bytes) (λ l. l.compared) (λ l m bytes compared t. record { compared = compared t; bytes = bytes t })
 
+pub or_second : (b c : Bool) → c ≡ true → (b || c) ≡ true
+or_second true c h = refl
+or_second false c h = h
+
 module _ {X : Type 0} (same : X → X → Bool) (decides : (x y : X) → Decides (same x y) (x ≡ y)) where
   abbrev IsAmong : X → List X → Type 0
   IsAmong x xs = list_any (same x) xs ≡ true
 
-  or_false : (b c : Bool) → b ≡ false → (b || c) ≡ true → c ≡ true
-  or_false true c e h = absurd (cc)
-  or_false false c e h = h
-
-  or_second : (b c : Bool) → c ≡ true → (b || c) ≡ true
-  or_second true c h = refl
-  or_second false c h = h
-
-  -- what differs from another entry stays where that one is taken out
+  -- an entry stays when another one that differs from it is removed
   kept : (x y : X) (ys : List X) → same y x ≡ false → IsAmong x ys → IsAmong x (filter (λ z. not (same y z)) ys)
   kept x y [] d h = h
   kept x y (z ∷ ys) d h = by_test (same x z) refl (same y z) refl h (kept x y ys d)

@@ -7,7 +7,7 @@ use Rattle.text_model.specs.declared.writing.Writing.{Writing}
 use Rattle.text_model.specs.declared.writing.Writing.TheVariants.{U, UR}
 use Rattle.uri_template.specs.Expansion.{prefix}
 
--- items of which the first begins with a byte
+-- items the first of which begins with a byte
 pub record BeginWith (b : ℕ) (points : List Text) : Type 0 where
   pub first : Text
   pub others : List Text

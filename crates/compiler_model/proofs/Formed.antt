@@ -1,5 +1,5 @@
--- Blocks that are correctly assembled: registers, counts and link texts as code wants them, no loop in a loop, and no
--- way out of one. The blocks of rules are.
+-- Blocks that are correctly assembled: their registers, counts and link texts are allowed, no loop is in a loop, and no jump leaves a loop. The blocks of rules
+-- are correctly assembled.
 use Rattle.std.proofs.Common.{◌≡◌, ℕ, zero, suc, ◌≤◌, List, [], ◌∷◌, ◌++◌, Bool, true, false, refl, arith}
 use Rattle.std.specs.Prelude.{codes, if◌then◌else◌, nat_lt, nat_le, ◌&&◌, ◌||◌, All}
 use Rattle.std.specs.List.{AllByRecursion, list_any}
@@ -32,6 +32,7 @@ use Rattle.compiler_model.specs.Blocks.{Block, Nothing, Does, Then, Unless, Eith
 use Rattle.compiler_model.specs.Shapes.{loading, is_missing, bound_block, bounds_block, guard_block, guards_block, lead_block, writing_action, named_block}
 use Rattle.compiler_model.specs.Shapes.{item_block, head_block, members_block, shown_block, specs_block, part_block, parts_block, rule_block}
 use Rattle.compiler_model.specs.Compiled.{is_counts}
+use Rattle.compiler_model.proofs.Entries.{or_second}
 
 -- ---- what has to hold
 
@@ -91,7 +92,7 @@ module _ (version : ℕ) where
   bounds_formed : (low high : Bound) → IsFormed version false (bounds_block low high)
   bounds_formed low high = (bound_formed (IsLess 1 3) (refl, refl) low, bound_formed (IsLess 3 1) (refl, refl) high)
 
-  -- only `counts` wants version 2
+  -- only `counts` needs version 2
   guard_formed : (lists : List Text) (g : Guard) → (is_counts g ≡ true → version ≡ 2) → IsFormed version false (guard_block lists g)
   guard_formed lists (guard.Has name) h = (loading_formed false (is_list lists name) name, (refl, missing_formed (is_list lists name)))
   guard_formed lists (guard.Lacks name) h = (loading_formed false (is_list lists name) name, (missing_formed (is_list lists name), refl))
@@ -105,15 +106,11 @@ module _ (version : ℕ) where
   first_true true c h = refl
   first_true false c h = absurd (cc)
 
-  second_true : (b c : Bool) → c ≡ true → (b || c) ≡ true
-  second_true true c h = refl
-  second_true false c h = h
-
   guards_formed : (lists : List Text) (gs : List Guard) → (list_any is_counts gs ≡ true → version ≡ 2) → IsFormed version false (guards_block lists gs)
   guards_formed lists [] h = tt
   guards_formed lists (g ∷ gs) h = (
     guard_formed lists g (λ e. h (first_true (is_counts g) (list_any is_counts gs) e)),
-    guards_formed lists gs (λ e. h (second_true (is_counts g) (list_any is_counts gs) e)),
+    guards_formed lists gs (λ e. h (or_second (is_counts g) (list_any is_counts gs) e)),
   )
 
   -- ---- texts of the operators' table
@@ -222,5 +219,5 @@ module _ (version : ℕ) where
       let sound = All-head (IsSoundRule lists) rule rules h in (
         rule_formed lists rule (trees rule.template.text rule.template.parts sound.template)
             (λ t. e (first_true (counts_in rule) (list_any counts_in rules) t)),
-        rules_formed trees lists rules (All-tail (IsSoundRule lists) rule rules h) (λ t. e (second_true (counts_in rule) (list_any counts_in rules) t)),
+        rules_formed trees lists rules (All-tail (IsSoundRule lists) rule rules h) (λ t. e (or_second (counts_in rule) (list_any counts_in rules) t)),
       )

@@ -34,7 +34,7 @@ module _ (c : Code) where
   none_fails [] h = refl
   none_fails (k ∷ ks) h = rw h.0 (none_fails ks h.1)
 
-  -- what is right of each operand, check by check
+  -- the checks of operands, one at a time
   abbrev PassFour : List Operand → Type 0
   PassFour os = (list_all is_in_range os ≡ true) × (list_all (is_register c) os ≡ true) × (list_all (is_in_table c) os ≡ true)
       × (list_all (has_table_kind c) os ≡ true)
@@ -57,7 +57,7 @@ module _ (c : Code) where
   unfolding has_right_operands
   right_four i h = four_from (operands i) h
 
-  -- what the checks ask of an instruction besides its operands: of its target, of loops, and that it is not the last
+  -- what the checks require of an instruction besides its operands: of its target, of loops, and that it is not the last
   pub record Passes (p : ℕ) (i : Instruction) : Type 0 where
     pub reads : Reads c p i
     pub aims : (goes_to (λ d. nat_lt p d) (target i) ≡ true) × (goes_to (λ d. nat_lt d (length c.instrs)) (target i) ≡ true)
@@ -90,7 +90,7 @@ module _ (c : Code) where
   room_less None p q le r = tt
   room_less (Some b) p q le r = omega (arith, le, r)
 
-  -- what neither begins nor ends a body continues in the same one
+  -- an instruction that neither begins nor ends a body is followed by a place in the same body
   pub body_next : (p : ℕ) (i : Instruction) → Reads c p i → is_each i ≡ false → (o : Option Body) → body_at c p ≡ o → Room o (p + 1) → body_at c (p + 1) ≡ o
   body_next p i r e None h room = rw add-one (rw (body_suc c p, h, Reads-reading_at c p i r) (begun_none c p i e))
   body_next p i r e (Some b) h room = rw add-one (body_on c p b h (omega (arith, room)))
@@ -136,7 +136,7 @@ module _ (c : Code) where
   action_each (Puts a w) away p = refl
   action_each (Cuts a n w) away p = refl
 
-  -- EACH as it is read where its loop ends
+  -- EACH, with the place where its loop ends
   pub each_read : (away p q a b places : ℕ) → p + places ≡ q + 1 → IsPlaced c away p (Begins a b places) → Reads c p (instruction.Each a b (q + 1))
   each_read away p q a b places e h = subst (λ d. Reads c p (instruction.Each a b d)) e h.reads
 

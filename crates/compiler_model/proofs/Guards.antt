@@ -23,7 +23,7 @@ use Rattle.compiler_model.specs.Shapes.{loading, is_missing, bound_block, bounds
 use Rattle.compiler_model.proofs.Effects.{Store, keeping, Claim, Acted, Tested, Brings}
 use Rattle.compiler_model.proofs.SpecPieces.{seen_as}
 
--- the first claim holds where the answer is yes, the second where it is no, whatever the registers are
+-- if the Boolean is true, the first claim holds, and otherwise the second, whatever the registers are
 abbrev pub Settles : Bool → Text → Claim → Claim → Type 0
 Settles true out Q R = (n : Store) → n.output ≡ out → Q n
 Settles false out Q R = (n : Store) → n.output ≡ out → R n
@@ -32,7 +32,7 @@ pub settles_not : (b : Bool) (out : Text) (Q R : Claim) → Settles (not b) out 
 settles_not true out Q R k = k
 settles_not false out Q R k = k
 
--- the second answer is needed only if the first is yes
+-- the second Boolean matters only if the first is true
 pub settles_and : (a b : Bool) (out : Text) (Q R : Claim) → Settles (a && b) out Q R → Settles a out (λ n. Settles b n.output Q R) R
 settles_and false b out Q R k = k
 settles_and true true out Q R k = λ n e m f. k m (f ∙ e)
@@ -40,12 +40,12 @@ settles_and true false out Q R k = λ n e m f. k m (f ∙ e)
 
 -- ---- numbers
 
--- r1 still has its number where the answer is yes
+-- if the Boolean is true, r1 still has its number
 abbrev Bounds : ℕ → Bool → Text → Claim → Claim → Type 0
 Bounds i true out Q R = (n : Store) → n.registers 1 ≡ value.Number i → n.output ≡ out → Q n
 Bounds i false out Q R = (n : Store) → n.output ≡ out → R n
 
--- a test between r1 and r3 jumps where the number of a bound does not allow that of r1
+-- a test between r1 and r3 jumps if the number of a bound does not allow that of r1
 record Compares (i : ℕ) (test : Test) (allows : Option ℕ → Bool) : Type 1 where
   unbounded : allows None ≡ true
   decides : (m : ℕ) (s : Store) (Q R : Claim) → s.registers 1 ≡ value.Number i → s.registers 3 ≡ value.Number m → Bounds i (allows (Some m)) s.output Q R

@@ -23,7 +23,7 @@ use Rattle.compiler_model.proofs.ExampleRules.{plain, exploded}
 
 -- ---- guards
 
--- the lines of a guard, where `rft.au` is a list and `x` a text
+-- the lines of a guard, if `rft.au` is a list and `x` a text
 abbrev guarded : Guard → List Line
 guarded g = lines (guard_block [] g)
 

@@ -1,4 +1,4 @@
--- What the blocks of guards on lists do, and of every guard.
+-- What the blocks of guards on lists do, and then those of all guards.
 
 use Rattle.std.proofs.Common.{◌≡◌, List, [], ◌∷◌, length, Some, None, Bool, true, false, refl, sym, ◌∙◌, subst, ◌⊎◌, inl, inr}
 use Rattle.std.specs.Prelude.{codes, ◌||◌, not, option_and_then}
@@ -25,7 +25,7 @@ use Rattle.compiler_model.proofs.Guards.{Settles, between_brings, bounds_bring, 
 use Rattle.compiler_model.proofs.Guards.{settles_not, text_looked}
 
 module _ (v : Environment) (lists : List Text) where
-  -- r2 is empty until the member is found
+  -- the text in r2, which is empty until the member is found
   abbrev mark : Bool → Text
   mark true = one
   mark false = []
@@ -33,12 +33,12 @@ module _ (v : Environment) (lists : List Text) where
   abbrev found : Text → List Text → Bool
   found text ts = list_any (λ t. bytes_eq t text) ts
 
-  -- whatever earlier turns found, the text is found by now
+  -- whether or not earlier turns have found the text, it has been found now
   found_now : (earlier : Bool) → (earlier || true) ≡ true
   found_now true = refl
   found_now false = refl
 
-  -- the turns of the loop of `holds`, of which earlier ones found the text or not
+  -- the turns of the loop of `holds`, when earlier ones have found the text or not
   turns_find : (text : Text) (ts : List Text) (first before : Bool) (s : Store) (Q : Claim) → s.registers 1 ≡ value.Text text
       → s.registers 2 ≡ value.Text (mark before) → ((n : Store) → n.registers 2 ≡ value.Text (mark (before || found text ts)) → n.output ≡ s.output → Q n)
       → InTurns (λ turn next Claimed. Brings v (Some turn) (Unless (Differs 3 1) (Does (LoadConst 2 (codes "1")))) next Claimed (λ never. ⊥)) 3 ts first s Q

@@ -38,7 +38,7 @@ module _ (c : Code) where
   goes_on_to : (p : ℕ) (i : Instruction) → p + 1 < length c.instrs → (nat_lt (p + 1) (length c.instrs) || ends_run i) ≡ true
   goes_on_to p i lt = rw (lt-ltb (p + 1) (length c.instrs) lt) refl
 
-  -- an instruction that leads to the next place alone
+  -- an instruction that leads only to the next place
   plain_good : (p : ℕ) (i : Instruction) → Reads c p i → is_each i ≡ false → is_next (Some i) ≡ false → target i ≡ None
       → (not (is_sep i) || is_in_body (body_at c p)) ≡ true → p + 1 < length c.instrs → fault_at c p ≡ None
   plain_good p i r e n t s lt =
@@ -49,7 +49,7 @@ module _ (c : Code) where
         last = goes_on_to p i lt;
       })
 
-  -- an instruction that may jump within its body, or where no loop runs
+  -- an instruction that may jump within its body, or outside of loops
   jump_good : (p d : ℕ) (i : Instruction) (o : Option Body) → Reads c p i → is_each i ≡ false → is_next (Some i) ≡ false → is_sep i ≡ false → target i ≡ Some d
       → p < d → d < length c.instrs → body_at c p ≡ o → body_at c d ≡ o → fault_at c p ≡ None
   jump_good p d i o r e n s t low high at there =
@@ -116,7 +116,7 @@ module _ (c : Code) where
   test_good (Differs a b) p d o r low high at there = jump_good p d _ o r refl refl refl refl low high at there
   test_good (IsLess a b) p d o r low high at there = jump_good p d _ o r refl refl refl refl low high at there
 
-  -- a test as it is read where its target is
+  -- a test, with the place of its target
   pub test_read : (t : Test) (g : Target) (away p d : ℕ) → place_of away p g ≡ d → IsPlaced c away p (Tests t g) → Reads c p (test_instruction t d)
   test_read t g away p d e h = subst (λ x. Reads c p (test_instruction t x)) e h.reads
 

@@ -38,12 +38,12 @@ equated_nothing style x e = ap (equated style) e
 equated_some : (style : Style) (x : Text) (b : ℕ) (rest : Text) → x ≡ b ∷ rest → equated style x ≡ codes "=" ++ written style.writing x
 equated_some style x b rest e = ap (equated style) e ∙ ap (λ y. codes "=" ++ written style.writing y) (sym e)
 
--- with the equals sign for an empty value too
+-- an operator that writes the equals sign for an empty value too
 equated_always : (style : Style) (x : Text) → style.ifemp ≡ codes "=" → equated style x ≡ codes "=" ++ written style.writing x
 equated_always style [] e = e ∙ ap (λ y. codes "=" ++ y) (sym (written_nothing style.writing))
 equated_always style (b ∷ x) e = refl
 
--- what the table of operators has for an empty value
+-- what the table of operators has for an empty value: an equals sign or nothing
 abbrev pub EndsName : Text → Type 0
 EndsName ifemp = (ifemp ≡ []) ⊎ (ifemp ≡ codes "=")
 
@@ -85,7 +85,7 @@ module _ (v : Environment) where
   value_brings turn r w zero t s Q e k = (t, e, k)
   value_brings turn r w (suc n) t s Q e k = (t, e, k)
 
-  -- registers stay, and the text is appended to the output
+  -- registers are unchanged, and the text is appended to the output
   abbrev pub Adds : Store → Text → Claim → Type 0
   Adds s text Q = (out : Text) → out ≡ s.output ++ text → Q (record s { output = out })
 
@@ -128,11 +128,11 @@ module _ (v : Environment) where
   parted sep true texts = joined_by sep texts
   parted sep false texts = flat_map (λ next. sep ++ next) texts
 
-  -- r4 stays, and the text is appended to the output
+  -- r4 is unchanged, and the text is appended to the output
   abbrev pub Shows : Store → Text → Claim → Type 0
   Shows s text Q = (n : Store) → n.registers 4 ≡ s.registers 4 → n.output ≡ s.output ++ text → Q n
 
-  -- the block appends the text of r5 as it is shown
+  -- the block appends the text of r5 as a member is written
   abbrev pub ShowsMember : Block → (Text → Text) → Type 1
   ShowsMember block shown = (turn : Option Bool) (t : Text) (s : Store) (Q : Claim) → s.registers 5 ≡ value.Text t → Adds s (shown t) Q
       → Brings v turn block s Q (λ never. ⊥)

@@ -1,4 +1,4 @@
--- Lines that lie in a code, and frames from which the machine ends.
+-- Lines that a code contains, and frames from which the machine reaches an end.
 use Rattle.std.proofs.Common.{◌≡◌, ℕ, suc, ◌+◌, ◌<◌, List, [], ◌∷◌, ◌++◌, length, Option, true, false, refl, sym, subst, arith}
 use Rattle.std.proofs.lemmas.Option.{slice_get_within}
 use Rattle.environment_model.specs.Environment.{Environment}
@@ -29,7 +29,7 @@ pub record IsPlaced (c : Code) (away place : ℕ) (line : Line) : Type 0 where
   pub reads : Reads c place (line_instruction c.names c.literals away place line)
   pub text : HasText c line
 
--- lines lie one after another from a place on
+-- the code has the lines one after another from a place on
 abbrev pub Lie : Code → ℕ → ℕ → List Line → Type 0
 Lie c away place [] = Unit {0}
 Lie c away place (line ∷ rest) = IsPlaced c away place line × Lie c away (place + 1) rest
@@ -57,7 +57,7 @@ one_more : (c : Code) (v : Environment) (k : ℕ) (old new : State) → After c 
 unfolding After
 one_more c v k old new h st = (old, h, st)
 
--- what reaches such a frame reaches the end
+-- a run that reaches such a frame reaches the end
 pub finishes_after : (c : Code) (v : Environment) (e : End) (s : Frame) → Finishes c v e s → (k : ℕ) → After c v k (Running s) → (j : ℕ) × After c v j (Ended e)
 finishes_after c v e _ (ends s st) k h = (suc k, one_more c v k (Running s) (Ended e) h st)
 finishes_after c v e _ (goes s t st f) k h = finishes_after c v e t f (suc k) (one_more c v k (Running s) (Running t) h st)

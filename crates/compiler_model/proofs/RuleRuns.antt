@@ -1,4 +1,4 @@
--- Rules that lie in a code one after another: the machine ends with their meaning.
+-- A code that contains rules one after another: the machine ends with their meaning.
 use Rattle.std.proofs.Common.{◌≡◌, ℕ, ◌+◌, List, [], ◌∷◌, ◌++◌, length, Option, Some, None, Bool, true, false, refl, sym, ap, ◌∙◌, arith}
 use Rattle.std.specs.Prelude.{if◌then◌else◌, All}
 use Rattle.std.specs.List.{list_all, find}
@@ -29,7 +29,7 @@ use Rattle.compiler_model.proofs.SpecPieces.{parts_bring}
 use Rattle.compiler_model.proofs.Guards.{Settles}
 use Rattle.compiler_model.proofs.ListGuards.{guards_bring}
 
--- the lines of the rules lie from a place on, and FAIL after them
+-- the code has the lines of the rules from a place on, and FAIL after them
 abbrev pub RulesLie : Code → List Text → ℕ → List Rule → Type 0
 RulesLie c lists p [] = Reads c p instruction.Fail
 RulesLie c lists p (rule ∷ rules) =
@@ -52,7 +52,7 @@ module _ (c : Code) (v : Environment) (lists : List Text) where
   abbrev pub first_link : List Rule → Option Text
   first_link rules = option_map (λ (rule : Rule). expansion look rule.template.parts) (find (guards_hold look) rules)
 
-  -- where its guards hold a rule appends its link, and otherwise it is left
+  -- if its guards hold, a rule appends its link, and otherwise it is left
   rule_brings : (rule : Rule) → IsSoundRule lists rule → (s : Store) (Q R : Claim)
       → Settles (guards_hold look rule) s.output (λ n. Brings v None (parts_block lists rule.template.parts) n Q R) R
       → Brings v None (rule_block lists rule) s Q R

@@ -1,4 +1,4 @@
--- A block that lies in a code does what it brings: the machine goes from its first place to the place after it, or away.
+-- A block in a code has the effect that `Brings` describes: the machine goes from its first place to the place after it, or leaves the rule.
 use Rattle.std.proofs.Common.{◌≡◌, ℕ, ◌+◌, ◌<◌, ◌≤◌, List, [], ◌∷◌, length, Option, Some, None, Bool, true, false, refl, sym, ap, ◌∙◌, subst, arith, ◌⊎◌, inl}
 use Rattle.std.proofs.Common.{inr}
 use Rattle.std.proofs.lemmas.List.{length-append}
@@ -15,7 +15,7 @@ use Rattle.machine_model.specs.Values.{text_or_undefined}
 use Rattle.machine_model.specs.Values as value
 use Rattle.machine_model.specs.States.{Loop, End}
 use Rattle.machine_model.specs.Step as step
-use Rattle.machine_model.specs.Step.{begun_loop, IsInside}
+use Rattle.machine_model.specs.Step.{IsInside}
 use Rattle.compiler_model.specs.declared.lines.Action.{Action}
 use Rattle.compiler_model.specs.declared.lines.Action.TheVariants.{LoadText, LoadList, LoadConst, CountMembers, Emits, Separates, Puts, Cuts}
 use Rattle.compiler_model.specs.declared.lines.Test.{Test}
@@ -37,7 +37,7 @@ abbrev pub turn_of : Option Loop → Option Bool
 turn_of None = None
 turn_of (Some l) = Some l.first
 
--- the places after p up to q lie in the loop's body, if a loop runs
+-- the places after p up to q are in the loop's body, if a loop runs
 abbrev pub Around : Option Loop → ℕ → ℕ → Type 0
 Around l p q = (x : ℕ) → p < x → x ≤ q → IsInside l x
 
@@ -78,7 +78,7 @@ module _ (c : Code) (v : Environment) (e : End) where
       onward c v e (at_place p l s) _ _ h.reads (step.cut_text a n _ b.0 b.1) (omega arith) i
       (subst (λ x. Finishes c v e (at_place (p + 1) l (saying (written x (cut x b.0 n)) s))) (sym (writing_of-mode_of w)) (k _ b.2))
 
-  -- a test leads to the place d, or on
+  -- a test leads to the place d, or to the next place
   tests : (t : Test) (g : Target) (away p d : ℕ) (l : Option Loop) (s : Store) (J : Type 0) (Q : Claim) → IsPlaced c away p (Tests t g) → place_of away p g ≡ d
       → p < d → IsInside l (p + 1) → Tested t s J Q → (J → IsInside l d × Ends d l s) → ((n : Store) → Q n → Ends (p + 1) l n) → Ends p l s
   tests (IsUndefined a) g away p d l s J Q h eq lt i (inl b) j k =
@@ -120,7 +120,7 @@ module _ (c : Code) (v : Environment) (e : End) where
           onward c v e (at_place p l s) _ _ h.reads (step.less a x _ b.0 b.1 b.2 b.3 n.0) (rw eq lt) (rw eq at.0) (rw eq at.1)
       by_numbers (inr n) = onward c v e (at_place p l s) _ _ h.reads (step.not_less a x _ b.0 b.1 b.2 b.3 n.0) (omega arith) i (k s n.1)
 
-  -- ---- loops: the body lies from p + 1 to before q, where NEXT is
+  -- ---- loops: the body is from p + 1 to before q, where NEXT is
 
   abbrev loop_at : ℕ → ℕ → ℕ → List Text → Bool → Loop
   loop_at p q a ts first = record { start = p + 1; end = q + 1; element = a; left = ts; first = first }
@@ -131,7 +131,7 @@ module _ (c : Code) (v : Environment) (e : End) where
       (ts : List Text) (first : Bool) (s : Store) (Q : Claim) → turn first s Q → ((n : Store) → Q n → Ends q (Some (loop_at p q a ts first)) n)
       → Ends (p + 1) (Some (loop_at p q a ts first)) s
 
-  -- from NEXT on, with these members left
+  -- the run from NEXT on, with these members left
   turns : (away p q a : ℕ) (turn : Bool → Store → Claim → Type 0) → RunsBody p q a turn → IsPlaced c away q Turns
       → (ts : List Text) (first : Bool) (s : Store) (Q : Claim) → InTurns turn a ts false s Q → ((n : Store) → Q n → Ends (q + 1) None n)
       → Ends q (Some (loop_at p q a ts first)) s
@@ -152,7 +152,7 @@ module _ (c : Code) (v : Environment) (e : End) where
 
   -- ---- blocks
 
-  -- a block goes from p to q, or away
+  -- a block goes from p to q, or leaves the rule
   abbrev Goes : ℕ → ℕ → ℕ → Option Loop → Block → Type 1
   Goes away p q l b =
       (s : Store) (Q R : Claim) → Brings v (turn_of l) b s Q R → ((n : Store) → Q n → Ends q l n)

@@ -22,11 +22,11 @@ use Rattle.compiler_model.proofs.Effects.{Store, Claim, Brings}
 use Rattle.compiler_model.proofs.Pieces.{EndsName, item_brings, lead_brings, members_bring, next_flag, opened, opening, style_ends_name}
 
 module _ (v : Environment) where
-  -- a name as it is declared
+  -- what rules see of a name, as it is declared
   abbrev pub seen_as : Bool → Option Meaning → Option Meaning
   seen_as list m = if list then only_list m else only_text m
 
-  -- r4 has the next flag, and what was opened is appended to the output
+  -- r4 has the next flag, and the opening is appended to the output
   abbrev pub Opens : Style → Text → Option Text → Store → Claim → Type 0
   Opens style flag p s Q = (n : Store) → n.registers 4 ≡ value.Text (next_flag p flag) → n.output ≡ s.output ++ opened style flag p → Q n
 
@@ -77,7 +77,7 @@ module _ (v : Environment) where
 
   -- ---- all specs of an expression
 
-  -- the pieces that are left, by the flag
+  -- the text of the pieces that are left, depending on the flag
   abbrev pub left_over : Style → Text → List Text → Text
   left_over style [] ps = led style ps
   left_over style (b ∷ flag) ps = flat_map (λ next. style.sep ++ next) ps

@@ -1,4 +1,4 @@
--- The code of rules: its lines are founded on its tables, and lie in it.
+-- The code of rules: its tables have the entries of its lines, and it contains the lines.
 use Rattle.std.proofs.Common.{◌≡◌, ℕ, ◌<◌, List, [], ◌∷◌, ◌++◌, length, Some, Bool, true, false, refl, ap, arith}
 use Rattle.std.specs.Prelude.{slice_get, if◌then◌else◌, nat_lt, nat_le, ◌==◌}
 use Rattle.std.specs.List.{AllByRecursion}
@@ -53,7 +53,7 @@ lines_formed version inside (ForEach a b x) h = ((h.1, h.2), all_append _ (lines
 lines_formed version inside (LeaveIf t) h = (h.1, tt)
 lines_formed version inside Leave h = (tt, tt)
 
--- ---- what a line says can be read in its code
+-- ---- the instruction of a line can be read in its code
 
 -- the tables have the entries of a line
 abbrev pub HasEntries : Code → Line → Type 0
@@ -143,7 +143,7 @@ module _ (c : Code) where
   version_knows away place Halts f = refl
   version_knows away place Fails f = refl
 
-  -- a line whose instruction is at its place
+  -- the instruction of a line is at its place
   pub placed : (away place : ℕ) (line : Line) → IsFormedLine c.version line → HasEntries c line
       → slice_get c.instrs place ≡ Some (spelling (said away place line)) → IsPlaced c away place line
   placed away place line f h at = record {

@@ -56,11 +56,11 @@ kinds_as_declared :
     ≡ text_name c ∷ list_name b ∷ list_name (codes "rft.au") ∷ list_name a ∷ []
 kinds_as_declared = refl
 
--- a declared list that no rule uses is no name of the code
+-- a declared list that no rule uses is not a name of the code
 unused_list : names (record { lists = a ∷ []; rules = rule [] (variable b ∷ []) ∷ [] }) ≡ text_name b ∷ []
 unused_list = refl
 
--- one name, of a text and of a list, is two names
+-- one name, used as a text and as a list, gives two entries
 name_of_each_kind : names (one_rule (guard.Given a ∷ guard.Holds a b ∷ []) []) ≡ text_name a ∷ list_name a ∷ []
 name_of_each_kind = refl
 
@@ -73,6 +73,6 @@ literals_in_order :
     ≡ map compared_text (d ∷ c ∷ [] ∷ codes "1" ∷ codes "7" ∷ []) ++ map link_text (a ∷ codes "," ∷ c ∷ [])
 literals_in_order = refl
 
--- one text, to compare with and of the link, is two literals
+-- one text, used as a comparison text and as a link text, gives two literals
 literal_of_each_kind : literals (one_rule (guard.Same a b ∷ []) (part.Literal b ∷ part.Literal b ∷ [])) ≡ compared_text b ∷ link_text b ∷ []
 literal_of_each_kind = refl

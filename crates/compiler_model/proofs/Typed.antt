@@ -9,7 +9,7 @@ use Rattle.machine_model.specs.declared.kind.Kind.{Kind}
 use Rattle.machine_model.specs.declared.kind.Kind.TheVariants as kind
 use Rattle.machine_model.specs.States.{put}
 use Rattle.machine_model.specs.Kinds.{kind_le, Kinds, any_kinds, IsBelow}
-use Rattle.machine_model.proofs.Orders.{below_trans}
+use Rattle.machine_model.proofs.Orders.{kind_le_refl, below_trans}
 use Rattle.compiler_model.specs.declared.lines.Action.{Action}
 use Rattle.compiler_model.specs.declared.lines.Action.TheVariants.{LoadText, LoadList, LoadConst, CountMembers, Puts, Cuts}
 use Rattle.compiler_model.specs.declared.lines.Test.{Test}
@@ -35,7 +35,7 @@ after_action (LoadConst a t) ks = put ks a kind.Text
 after_action (CountMembers a b) ks = put ks a kind.Number
 after_action action ks = ks
 
--- what a test needs, and the kinds if it continues with the next place; if it jumps they stay
+-- what a test needs, and the kinds if it continues with the next place; if it jumps, they are unchanged
 abbrev pub MeetsTest : Test → Kinds → Type 0
 MeetsTest (IsUndefined a) ks = HasKindIn ks a kind.OptText
 MeetsTest (IsEmpty a) ks = HasKindIn ks a kind.Text
@@ -49,7 +49,7 @@ after_test (IsUndefined a) ks = put ks a kind.Text
 after_test (HasNoNumber a b) ks = put ks a kind.Number
 after_test test ks = ks
 
--- a loop: its list, the kinds at its first place and at NEXT, and what is carried there and out
+-- a loop: its list, the kinds at its first place and at NEXT, and those of the edges to them and out of the loop
 pub record LoopFits (a b : ℕ) (ks hs ns ms : Kinds) : Type 0 where
   pub list : HasKindIn ks b kind.List
   pub enters : IsBelow (put ks a kind.Text) hs
@@ -57,7 +57,7 @@ pub record LoopFits (a b : ℕ) (ks hs ns ms : Kinds) : Type 0 where
   pub leaves : IsBelow (put ns a kind.Any) ms
   pub skips : IsBelow (put ks a kind.Any) ms
 
--- from these kinds the block has all that it needs, and those after it are at or below the second
+-- with the first kinds the needs of the block are met, and the kinds after it are at or below the second
 abbrev pub Typed : Block → Kinds → Kinds → Type 0
 Typed Nothing ks ms = IsBelow ks ms
 Typed (Does action) ks ms = MeetsAction action ks × IsBelow (after_action action ks) ms
@@ -114,6 +114,10 @@ wider (ForEach a b x) ks ms ns le h =
     )
 wider (LeaveIf t) ks ms ns le h = (h.0, below_trans (after_test t ks) ms ns h.1 le)
 wider Leave ks ms ns le h = tt
+
+-- the kinds after an action, and no more than these
+pub exactly : (ks : Kinds) → IsBelow ks ks
+exactly ks = record { at = λ r. kind_le_refl (ks r) }
 
 -- ---- kinds of which little is known
 

@@ -19,13 +19,13 @@ use Rattle.compiler_model.specs.declared.lines.Action.TheVariants.{Separates, Pu
 use Rattle.compiler_model.specs.Blocks.{Block, Does, Then, Unless, ForEach}
 use Rattle.compiler_model.specs.Shapes.{loading, is_missing, lead_block, writing_action, named_block, item_block, head_block, members_block, shown_block}
 use Rattle.compiler_model.specs.Shapes.{specs_block, part_block, parts_block, rule_block}
-use Rattle.compiler_model.proofs.Typed.{HasKindIn, Typed, below_any, known_only, known_pair, only, pair, wider}
-use Rattle.compiler_model.proofs.TypedGuards.{exactly, guards_typed}
+use Rattle.compiler_model.proofs.Typed.{HasKindIn, Typed, below_any, exactly, known_only, known_pair, only, pair, wider}
+use Rattle.compiler_model.proofs.TypedGuards.{guards_typed}
 
 abbrev flagged : Kinds
 flagged = only 4 kind.Text
 
--- r0 holds a text or a list besides
+-- r0 holds a text or a list, too
 abbrev loaded : Kind → Kinds
 loaded k = pair 4 kind.Text 0 k
 
@@ -45,7 +45,7 @@ writing_typed : (r : ℕ) (w : Writing) (n : ℕ) (ks ms : Kinds) → HasKindIn 
 writing_typed r w zero ks ms h below = (h, below)
 writing_typed r w (suc n) ks ms h below = (h, below)
 
--- a value with its name, where r holds a text
+-- a value with its name, if r holds a text
 item_typed : (style : Style) (r : ℕ) (name : Text) (w : Writing) (n : ℕ) (ks ms : Kinds) → HasKindIn ks r kind.Text → IsBelow ks ms
     → Typed (item_block style r name (writing_action r w n)) ks ms
 item_typed style r name w n ks ms h below = by_test style.named style.ifemp

@@ -6,7 +6,7 @@ use Rattle.environment_model.specs.Lists.{is_list}
 use Rattle.machine_model.specs.declared.kind.Kind.{Kind}
 use Rattle.machine_model.specs.declared.kind.Kind.TheVariants as kind
 use Rattle.machine_model.specs.States.{put}
-use Rattle.machine_model.specs.Kinds.{Kinds, any_kinds, IsBelow}
+use Rattle.machine_model.specs.Kinds.{Kinds, any_kinds}
 use Rattle.machine_model.proofs.Orders.{kind_le_refl}
 use Rattle.rule_parser.specs.declared.rule.Bound.{Bound}
 use Rattle.rule_parser.specs.declared.rule.Bound.TheVariants as bound
@@ -16,7 +16,7 @@ use Rattle.compiler_model.specs.declared.lines.Test.{Test}
 use Rattle.compiler_model.specs.declared.lines.Test.TheVariants.{HasNoNumber, IsLess}
 use Rattle.compiler_model.specs.Blocks.{Does, Unless, LeaveIf}
 use Rattle.compiler_model.specs.Shapes.{loading, is_missing, bound_block, bounds_block, guard_block, guards_block}
-use Rattle.compiler_model.proofs.Typed.{HasKindIn, MeetsTest, Typed, after_test, below_any, known_only, known_pair, only, pair, put_above, wider}
+use Rattle.compiler_model.proofs.Typed.{HasKindIn, MeetsTest, Typed, after_test, below_any, exactly, known_only, known_pair, only, pair, put_above, wider}
 
 -- the kind of what is loaded
 abbrev loaded_kind : Bool → Kind
@@ -56,10 +56,6 @@ bounds_typed low high = (
   wider (bound_block (IsLess 3 1) high) numbered numbered any_kinds (below_any numbered)
       (bound_typed (IsLess 3 1) (λ ks one three. ((three, one), known_only ks 1 kind.Number one)) high),
 )
-
--- the kinds after an action, and no more than these
-pub exactly : (ks : Kinds) → IsBelow ks ks
-exactly ks = record { at = λ r. kind_le_refl (ks r) }
 
 guard_typed : (lists : List Text) (g : Guard) → Typed (guard_block lists g) any_kinds any_kinds
 guard_typed lists (guard.Has name) =

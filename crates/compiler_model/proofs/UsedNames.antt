@@ -1,4 +1,4 @@
--- What holds of each name that the code of rules loads, as a text or as a list.
+-- A property of all names that the code of rules loads, as texts or as lists.
 use Rattle.std.proofs.Common.{ℕ, zero, suc, List, [], ◌∷◌, ◌++◌, Bool, true, false, sym, subst}
 use Rattle.std.specs.Prelude.{All, if◌then◌else◌}
 use Rattle.std.specs.List.{AllByRecursion, filter_map, flat_map}
@@ -35,7 +35,7 @@ use Rattle.compiler_model.proofs.Standing.{all_append}
 use Rattle.compiler_model.proofs.CodeForm.{firsts_keep}
 
 module _ (Right : Bool → Text → Type 0) where
-  -- ---- what is right, where `Right list name` says it of a name that is loaded as a list or as a text
+  -- ---- the property `Right list name` of a name that is loaded as a list or as a text, for actions and lines
 
   abbrev LoadsRightly : Action → Type 0
   LoadsRightly (LoadText a name) = Right false name
@@ -59,7 +59,7 @@ module _ (Right : Bool → Text → Type 0) where
   abbrev pub IsRightName : Name → Type 0
   IsRightName name = Right name.list name.text
 
-  -- the same of what rules consist of
+  -- the same for the parts of rules
 
   abbrev pub IsRightBound : Bound → Type 0
   IsRightBound bound.Open = Unit {0}

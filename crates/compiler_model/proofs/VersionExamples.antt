@@ -25,7 +25,7 @@ version rules = (code_of rules).version
 abbrev version_with : List Guard → ℕ
 version_with guards = version (one_rule guards (variable authors ∷ []))
 
--- every guard but `counts`
+-- every guard except `counts`
 abbrev others : List Guard
 others =
     guard.Has x ∷ guard.Has authors ∷ guard.Lacks x ∷ guard.Lacks authors ∷ guard.Given x ∷ guard.Same x (codes "1") ∷ guard.Holds authors x
@@ -40,12 +40,12 @@ all_others_have_version_1 = refl
 no_guard_has_version_1 : version_with [] ≡ 1
 no_guard_has_version_1 = refl
 
--- with any bounds
+-- `counts` with any bounds
 counts_has_version_2 :
     map (λ g. version_with (g ∷ [])) (counting ∷ guard.Counts authors one one ∷ guard.Counts authors bound.Open (bound.Name x) ∷ []) ≡ 2 ∷ 2 ∷ 2 ∷ []
 counts_has_version_2 = refl
 
--- after all others, and in another rule than the first
+-- `counts` after all other guards, and in a rule other than the first
 counts_last_has_version_2 : version_with (others ++ counting ∷ []) ≡ 2
 counts_last_has_version_2 = refl
 

@@ -1,4 +1,4 @@
--- How code ends, by what its rules mean.
+-- The outcome that rules mean.
 use Rattle.std.specs.Prelude.{Option, Some, None}
 use Rattle.text_model.specs.Texts.{Text}
 use Rattle.machine_model.specs.Runs.{Outcome, Link, NoLink}

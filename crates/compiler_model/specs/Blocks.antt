@@ -1,4 +1,4 @@
--- Code in blocks: each jump leads past a block, or away from the rule.
+-- Code as blocks: each jump leads past a block, or out of the rule.
 use Rattle.std.specs.Prelude.{ℕ, ◌+◌, List, [], ◌∷◌, ◌++◌, length}
 use Rattle.compiler_model.specs.declared.lines.Action.{Action}
 use Rattle.compiler_model.specs.declared.lines.Test.{Test}
@@ -17,7 +17,7 @@ pub data Block : Type 0 where
   Either : (test : Test) (first second : Block) → Block
   -- the body once for each member of the second register's list, with the member in the first
   ForEach : (element list : ℕ) (body : Block) → Block
-  -- away where the test holds
+  -- leaves the rule if the test holds
   LeaveIf : (test : Test) → Block
   Leave : Block
 

@@ -39,7 +39,7 @@ abbrev pub mode_of : Writing → ℕ
 mode_of U = 0
 mode_of UR = 1
 
--- the place that a line at a place leads to, where the rule ends before the place away
+-- the place that a line at a place leads to; `away` is the place after the rule
 abbrev pub place_of : ℕ → ℕ → Target → ℕ
 place_of away place (Ahead places) = place + places
 place_of away place Away = away
@@ -78,7 +78,7 @@ instructions_from names literals away place [] = []
 instructions_from names literals away place (line ∷ rest) =
     line_instruction names literals away place line ∷ instructions_from names literals away (place + 1) rest
 
--- rules from a place on; away from each is the place after its lines
+-- the instructions of rules from a place on; a test that leaves a rule leads to the place after its lines
 abbrev pub rules_instructions : List Name → List Literal → List Text → ℕ → List Rule → List Instruction
 rules_instructions names literals lists place [] = instruction.Fail ∷ []
 rules_instructions names literals lists place (rule ∷ rules) =
@@ -95,7 +95,7 @@ is_counts g = false
 abbrev pub has_counts : RuleSet → Bool
 has_counts rules = list_any (λ (rule : Rule). list_any is_counts rule.guards) rules.rules
 
--- version 2 where a rule has a guard `counts`, and version 1 otherwise
+-- of version 2 if a rule has a guard `counts`, and of version 1 otherwise
 abbrev pub code_of : RuleSet → Code
 code_of rules =
     let names : List Name = names_of (all_lines rules) in

@@ -20,26 +20,26 @@ use Rattle.compiler_model.specs.Blocks.{Block, Nothing, Does, Then, Unless, Eith
 
 -- ---- the value of a name, in r0
 
--- a name is loaded as what it is declared
+-- a name is loaded as a list or as a text, as it is declared
 abbrev pub loading : Bool → Text → Action
 loading true name = LoadList 0 name
 loading false name = LoadText 0 name
 
--- what was loaded is not defined
+-- the test whether what was loaded is undefined
 abbrev pub is_missing : Bool → Test
 is_missing true = HasNoMember 0
 is_missing false = IsUndefined 0
 
 -- ---- guards
 
--- where a bound has a number, it goes into r3, and the rule is left where the test holds
+-- if a bound has a number, it is loaded into r3, and the rule is left if the test holds
 abbrev pub bound_block : Test → Bound → Block
 bound_block test bound.Open = Nothing
 bound_block test (bound.Digits digits) = Then (Does (LoadConst 2 digits)) (Unless (HasNoNumber 3 2) (LeaveIf test))
 bound_block test (bound.Name name) =
     Then (Does (LoadText 2 name)) (Unless (IsUndefined 2) (Unless (HasNoNumber 3 2) (LeaveIf test)))
 
--- the rule is left where the number in r1 is out of bounds
+-- the rule is left if the number in r1 is out of bounds
 abbrev pub bounds_block : Bound → Bound → Block
 bounds_block low high = Then (bound_block (IsLess 1 3) low) (bound_block (IsLess 3 1) high)
 
@@ -63,19 +63,19 @@ abbrev pub guards_block : List Text → List Guard → Block
 guards_block lists [] = Nothing
 guards_block lists (g ∷ gs) = Then (guard_block lists g) (guards_block lists gs)
 
--- ---- expressions: r4 is empty until the first piece
+-- ---- expressions: the text in r4 is empty until the first piece is printed
 
 -- what comes before a piece
 abbrev pub lead_block : Text → Text → Block
 lead_block [] sep = Then (Unless (IsEmpty 4) (Does (Emits sep))) (Does (LoadConst 4 (codes "1")))
 lead_block (b ∷ first) sep = Then (Either (IsEmpty 4) (Does (Emits sep)) (Does (Emits (b ∷ first)))) (Does (LoadConst 4 (codes "1")))
 
--- the text of a register, written; 0 is no prefix
+-- the text of a register, percent-encoded; 0 means no prefix
 abbrev pub writing_action : ℕ → Writing → ℕ → Action
 writing_action register writing zero = Puts register writing
 writing_action register writing (suc n) = Cuts register (suc n) writing
 
--- a name, and the equals sign and the value where the value is not empty; or the name with the equals sign, and the value
+-- a name and, if the value is not empty, the equals sign and the value; or the name with the equals sign, and the value
 abbrev pub named_block : Text → ℕ → Text → Action → Block
 named_block [] register name value =
     Then (Does (Emits name)) (Unless (IsEmpty register) (Then (Does (Emits (codes "="))) (Does value)))

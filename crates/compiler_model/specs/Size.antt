@@ -1,4 +1,4 @@
--- The size of a code, and the limit that it passes first.
+-- The size of a code's file.
 use Rattle.std.specs.Prelude.{ℕ, ◌+◌, ◌*◌, length, sum_by}
 use Rattle.code_model.specs.Code.{Name, Literal, Code}
 

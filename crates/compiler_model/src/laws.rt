@@ -18,7 +18,7 @@ use machine_laws::{course_is_decided, typable_code_is_safe};
 use uri_grammar::laws::trees_are_sound;
 
 /// On every environment the code of rules ends with the link of the first rule whose guards all hold, or with no link
-/// if there is no such rule. It ends with nothing else, and is never stuck.
+/// if there is no such rule. It ends with nothing else, and never gets stuck.
 pub fn code_comes_to_what_rules_mean()
     ensures { (rules : RuleSet) → IsSound rules → (v : Environment) (o : Outcome) →
         HasOutcome (code_of rules) v o ↔ (answer (meaning rules v) ≡ o) }
@@ -27,9 +27,9 @@ pub fn code_comes_to_what_rules_mean()
     course_is_decided();
 }
 
-/// The code of rules is what a code file may have: it has an instruction, its names are names of the grammar, and its
-/// link texts are URI text. Each name has the kind that the rules declare. The code has good form, and there is a table
-/// of kinds for it. So it is accepted, and safe.
+/// The code of rules can be a code file: it has an instruction, its names are names of the grammar, and its link texts
+/// are URI text. Each name has the kind that the rules declare. The code has good form, and there is a table of kinds
+/// for it. So it is accepted, and safe.
 pub fn compiled_code_is_accepted()
     ensures names { (rules : RuleSet) → IsSound rules → All (λ (name : Name). IsName name.text) (code_of rules).names }
     ensures declared { (rules : RuleSet) → IsSound rules

@@ -3,7 +3,7 @@
 use text_model::Writing;
 use uri_grammar::Text;
 
-/// What continues with the next place.
+/// An instruction that continues with the next place.
 #[derive(Drop)]
 pub enum Action {
     /// TEXT: the text of a name into a register.
@@ -16,7 +16,7 @@ pub enum Action {
     CountMembers(u8, u8),
     /// EMIT: a link text.
     Emits(Text),
-    /// SEP: a link text, but in the first turn of a loop.
+    /// SEP: a link text, except in the first turn of a loop.
     Separates(Text),
     /// PUT: a register's text.
     Puts(u8, Writing),
@@ -24,7 +24,7 @@ pub enum Action {
     Cuts(u8, u16, Writing),
 }
 
-/// What jumps if it holds, and otherwise continues with the next place.
+/// An instruction that jumps if its test holds, and otherwise continues with the next place.
 #[derive(Clone, Copy)]
 pub enum Test {
     /// UNDEF: the register is Undefined.
@@ -33,7 +33,7 @@ pub enum Test {
     IsEmpty(u8),
     /// NOLIST: the register's list has no member.
     HasNoMember(u8),
-    /// NUMBER: the second register's text has no number; where it has one, that goes into the first.
+    /// NUMBER: the second register's text has no number; if it has one, the number is loaded into the first.
     HasNoNumber(u8, u8),
     /// DIFFER: the texts of the two registers are not equal.
     Differs(u8, u8),
@@ -50,10 +50,12 @@ pub enum Target {
     Away,
 }
 
-/// An instruction, with its text in place of an index and its target in place of a place.
+/// An instruction, with a text instead of an index into a table, and a target instead of a place.
 #[derive(Drop)]
 pub enum Line {
+    /// An action.
     Acts(Action),
+    /// A test, and where it jumps if it holds.
     Tests(Test, Target),
     /// JUMP
     Jumps(Target),

@@ -1,9 +1,9 @@
--- What calls on files change. What is not told stays so.
+-- What calls on files change. A path about which nothing is known stays unknown.
 use Rattle.std.specs.Prelude.{◌≡◌, ◌≢◌}
 use Rattle.text_model.specs.Texts.{Text}
 use Rattle.files.specs.Found.{Found, Disk, NotTold, Absent, Unfinished, File, Other}
 
--- there is nothing any more
+-- after the removal there is nothing at the path
 abbrev pub removed : Found → Found
 removed NotTold = NotTold
 removed Absent = Absent
@@ -11,7 +11,7 @@ removed Unfinished = Absent
 removed (File all) = Absent
 removed Other = Absent
 
--- there is a new file, which is being written
+-- after the creation there is a new file, which is being written
 abbrev pub created : Found → Found
 created NotTold = NotTold
 created Absent = Unfinished
@@ -19,7 +19,7 @@ created Unfinished = Unfinished
 created (File all) = Unfinished
 created Other = Unfinished
 
--- there is a file of these bytes
+-- after the file is finished, there is a file of these bytes
 abbrev pub kept : Text → Found → Found
 kept bytes NotTold = NotTold
 kept bytes Absent = File bytes
@@ -31,6 +31,6 @@ kept bytes Other = File bytes
 abbrev pub Unchanged : Disk → Disk → Type 0
 Unchanged old new = (path : Text) → new path ≡ old path
 
--- each path but this one is as it was
+-- each path except this one is as it was
 abbrev pub ChangesOnly : Text → Disk → Disk → Type 0
 ChangesOnly path old new = (other : Text) → other ≢ path → new other ≡ old other

@@ -1,4 +1,4 @@
--- Calls that failed, by an implementer's `fails`. Code that is generic over `Files` has these facts from failed calls alone.
+-- Calls that failed, as an implementer's `fails` says. Code that is generic over `Files` can know these facts only from calls that failed.
 use Rattle.text_model.specs.Texts.{Text}
 use Rattle.files.specs.declared.call.FileCall.{FileCall}
 

@@ -1,4 +1,4 @@
--- A file that is placed whole: it is written beside its path, and renamed.
+-- A file that is placed as a whole: it is written at `PATH.new`, and renamed.
 use Rattle.std.specs.Prelude.{◌≡◌, ◌≢◌, ◌⊎◌, ◌++◌, codes}
 use Rattle.text_model.specs.Texts.{Text}
 use Rattle.files.specs.Found.{Disk, Other, IsFile, IsFree}
@@ -11,14 +11,15 @@ use Rattle.files.specs.declared.call.FileCall.TheVariants.{Remove}
 abbrev pub beside : Text → Text
 beside path = path ++ codes ".new"
 
--- there was a regular file at the path or none, and nothing beside it; there is the file of these bytes, and nothing else has changed
+-- before, there was a regular file or nothing at the path, and nothing at that of the new file; after, the file of these bytes is at the path, and nothing else
+-- has changed
 pub record IsPlaced (old : Disk) (path bytes : Text) (new : Disk) : Type 0 where
   pub regular : old path ≢ Other
   pub free : IsFree (old (beside path))
   pub placed : IsFile (new path) bytes
   pub others : ChangesOnly path old new
 
--- nothing has changed, except that the new file is left beside the path if its removal failed
+-- nothing has changed, except that the new file is left if its removal failed
 pub record IsAsBefore {F : Type 0} (fails : F → FileCall → Text → F → Type 0) (old : Disk) (path : Text) (new : Disk) : Type 0 where
   pub others : ChangesOnly (beside path) old new
   pub nothing_left : (new (beside path) ≡ old (beside path)) ⊎ HasFailed fails Remove (beside path)

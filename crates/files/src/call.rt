@@ -1,6 +1,7 @@
 //! Kinds of calls on files.
 
-/// The kind of a call on files: contracts name the call that failed.
+/// The kind of a call on files, by the method of [`Files`](crate::Files); `Check` is `check_place`. Contracts use it to
+/// name the call that failed.
 #[derive(Clone, Copy)]
 pub enum FileCall {
     Read,
@@ -8,7 +9,7 @@ pub enum FileCall {
     Create,
     Write,
     Keep,
-    /// Its path is the first of the two.
+    /// The path that contracts name is the first of the two.
     Rename,
     Remove,
 }

@@ -9,7 +9,7 @@ use thiserror::Error;
 /// Why a call on files fails.
 #[derive(Clone, Copy, Debug, PartialEq, Eq, Error)]
 pub enum FileError {
-    /// The system refused the call, or there is nothing at the path that the call needs.
+    /// The system rejected the call, or what the call needs is not at the path.
     #[error("file error")]
     Failed,
     /// An allocation failed, in the program or in the system.
@@ -54,7 +54,7 @@ impl<T: Drop> From<AllocFailed<T>> for FileError {
     }
 }
 
-/// Why a file is not read whole.
+/// Why a whole file could not be read.
 #[derive(Clone, Copy, Debug, PartialEq, Eq, Error)]
 pub enum ReadError {
     /// The file has more bytes than the limit.

@@ -17,7 +17,7 @@ pub trait Files {
     /// A new file that is being written.
     type Draft: Drop;
 
-    /// What the implementer tells of a path.
+    /// What an implementer says is at a path.
     ghost at: { Self → List ℕ → Found };
 
     /// Between the two states, a call of this kind failed at the path.
@@ -26,8 +26,8 @@ pub trait Files {
     /// The path of a new file, and the bytes that have been written to it so far.
     ghost drafted: { Self.Draft → List ℕ → List ℕ → Type 0 };
 
-    /// Reads the first bytes of the file at the path: at most `limit` and one more, so that a longer file is seen to be
-    /// longer.
+    /// Reads the first `limit` + 1 bytes of the file at the path, or all if it has fewer. So a file that is longer than
+    /// `limit` can be recognised.
     fn read(&mut self, alloc: Global, path: &str, limit: usize) -> Result<Vec<u8>, FileError>
         requires { limit + 1 < 2 ^ 63 }
         ensures front { IfOk result (λ front. IsFrontOf limit (at self.old path.now) front.items) }
@@ -35,7 +35,7 @@ pub trait Files {
         ensures same { Unchanged (at self.old) (at self.new) }
         ensures failed { result ≡ Err Failed → fails self.old Read path.now self.new };
 
-    /// Fails if there is something at the path that is no regular file.
+    /// Fails if there is something at the path that is not a regular file.
     fn check_place(&mut self, path: &str) -> Result<(), FileError>
         ensures ok { OnOk result (at self.old path.now ≢ Other) }
         ensures same { Unchanged (at self.old) (at self.new) }
@@ -58,7 +58,8 @@ pub trait Files {
         ensures failed { result ≡ Err Failed → (path before : List ℕ) → drafted draft.old path before
             → fails self.old Write path self.new };
 
-    /// Finishes a new file: the system stores what was written, and then the file counts as one of these bytes.
+    /// Finishes a new file: the system stores what was written, and from then on there is a file of these bytes at its
+    /// path.
     fn keep(&mut self, draft: Self::Draft) -> Result<(), FileError>
         ensures here { OnOk result ((path bytes : List ℕ) → drafted draft path bytes
             → at self.new path ≡ kept bytes (at self.old path)) }

@@ -1,4 +1,4 @@
-//! Files at paths: read whole, up to a limit, or placed whole.
+//! Files at paths: each is read as a whole, up to a limit, or placed as a whole.
 //!
 //! Code that opens files is generic over the trait [`Files`]. [`SystemFiles`] are those of the system.
 #![tactic(auto)]

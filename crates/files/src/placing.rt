@@ -1,4 +1,4 @@
-//! Files that are placed whole.
+//! Placing a whole file: after any failure the old file or the new one is complete.
 
 ghost use Rattle.std.specs.Prelude.{◌≡◌, ◌≢◌, ℕ, List, [], Err, IfOk, OnErr, OnOk, string_bytes};
 ghost use Rattle.files.specs.Found.{IsFile, IsFree};
@@ -13,11 +13,11 @@ use std::alloc::{AllocError, Global};
 
 /// Places a file of these bytes at the path, or leaves the path as it was.
 ///
-/// The bytes are written to a new file, `PATH.new`. Once the system has stored it, it is renamed to `PATH`, so that a
-/// crash leaves the old file or the new one whole. After a failure `PATH.new` is removed.
+/// The bytes are written to a new file, `PATH.new`. Once the system has stored it, it is renamed to `PATH`, so that
+/// after a crash the old file or the new one is complete. After a failure `PATH.new` is removed.
 ///
-/// Fails if `PATH.new` exists, which then stays as it is, or if there is something at the path that is no regular file.
-/// A symbolic link counts as what it leads to, and the link itself is replaced.
+/// Fails if `PATH.new` exists, which then stays as it is, or if there is something at the path that is not a regular
+/// file. A symbolic link counts as what it leads to, and the link itself is replaced.
 pub fn place<F: Files>(
     alloc: Global,
     files: &mut F,

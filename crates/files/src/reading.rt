@@ -1,4 +1,4 @@
-//! Files that are read whole.
+//! Reading a whole file, up to a limit.
 
 ghost use Rattle.std.specs.Prelude.{◌≡◌, ◌≤◌, ◌<◌, ◌+◌, ◌^◌, Err, IfOk, length};
 ghost use Rattle.files.specs.Found.{Absent, Gives, IsLong};
@@ -11,8 +11,8 @@ use crate::error::ReadError;
 use crate::files::Files;
 use std::alloc::Global;
 
-/// Reads all bytes of the file at the path, if they are not more than `limit`. A longer file takes memory for `limit`
-/// bytes and one more.
+/// Reads all bytes of the file at the path, if they are not more than `limit`. Of a longer file, `limit` + 1 bytes are
+/// read into memory.
 pub fn read_whole<F: Files>(
     alloc: Global,
     files: &mut F,

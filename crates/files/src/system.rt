@@ -1,6 +1,6 @@
 //! The files of the system.
 //!
-//! Contracts tell nothing of them, so each method is only a call or two of std.
+//! No contract describes them, so each method is only one or two calls of std.
 
 use crate::error::FileError;
 use crate::files::Files;

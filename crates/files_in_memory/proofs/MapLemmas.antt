@@ -1,4 +1,4 @@
--- What a map of paths tells after a change at one path.
+-- A map of paths after a change at one path.
 use Rattle.std.proofs.Common.{◌≡◌, ◌≢◌, Option, String, Global, string_bytes, ap, refl, sym, ◌∙◌}
 use Rattle.std.specs.BTreeMap.{BTreeMap, UpdatesBy, get_by_text}
 use Rattle.std.specs.Cmp.Lexicographic.{slice_cmp}

@@ -1,4 +1,4 @@
--- What files in memory tell.
+-- What is known about files in memory.
 use Rattle.std.specs.Prelude.{Option, Some, None}
 use Rattle.std.specs.BTreeMap.{get_by_text}
 use Rattle.files.specs.Found.{Found, Disk, Absent}
@@ -13,6 +13,6 @@ found_of (Some Unfinished) = found.Unfinished
 found_of (Some (File bytes)) = found.File bytes.items
 found_of (Some Other) = found.Other
 
--- what is told of each path
+-- what is at each path
 abbrev pub disk_of : Memory → Disk
 disk_of memory path = found_of (get_by_text memory.files path)

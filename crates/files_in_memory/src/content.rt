@@ -12,7 +12,7 @@ pub enum Content {
     Unfinished,
     /// A regular file of these bytes.
     File(Vec<u8>),
-    /// Something that is no regular file, as a folder or a device.
+    /// Something that is not a regular file, such as a folder or a device.
     Other,
 }
 

@@ -1,4 +1,4 @@
-//! Files in memory, for tests: they tell all, and a call can be made to fail.
+//! Files in memory, for tests: contracts see all of their content, and a call can be made to fail.
 #![tactic(auto)]
 
 mod content;

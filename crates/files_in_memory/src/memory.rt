@@ -10,7 +10,7 @@ use files::{FileError, Files};
 use std::alloc::{AllocError, Global};
 use std::collections::BTreeMap;
 
-/// Files in memory, of whose calls one can be made to fail.
+/// Files in memory. One of the calls on them can be made to fail.
 #[derive(Drop)]
 pub struct Memory {
     files: BTreeMap<String, Content>,
@@ -38,7 +38,7 @@ impl Memory {
         }
     }
 
-    /// Makes one call fail: the first of those to come that has `calls` calls before it.
+    /// Makes one call fail: the one after the next `calls` calls.
     pub fn fail_after(&mut self, calls: usize)
         ensures { Unchanged (disk_of self.old) (disk_of self.new) }
     {
@@ -93,7 +93,7 @@ impl Files for Memory {
 
     ghost at = { disk_of };
 
-    // Which calls failed is not told.
+    // Contracts do not see which calls failed.
     ghost fails = { λ _ _ _ _. Unit {0} };
 
     ghost drafted = { λ draft path bytes. (path ≡ string_bytes draft.path) × (bytes ≡ draft.bytes.items) };

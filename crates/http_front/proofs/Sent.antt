@@ -1,4 +1,4 @@
--- A reply that was written, whole or in part, as the outcome of an exchange.
+-- A reply that was written, completely or in part, as the outcome of an exchange.
 use Rattle.std.proofs.Common.{◌≡◌, ℕ, ◌<◌, ◌++◌, Bool, false, List, Result, Ok, Err, length, subst, sym, ap, ◌∙◌}
 use Rattle.registry.specs.Targets.{TargetValue}
 use Rattle.http_streams.specs.HeadReading.{IsReadWhole}
@@ -37,14 +37,14 @@ pub reply-no_room : (targets : List TargetValue) (old new : Heard) (text : List 
 reply-no_room targets old new text unread f =
     subst (λ (t : List ℕ). IsReplyToInput targets old new 503 t) (sym f) (no_room unread)
 
--- the bytes that were read are lent to what makes the reply
+-- the bytes that were read are borrowed to make the reply
 pub reply-request : (targets : List TargetValue) (old new : Heard) (bytes lent : List ℕ) (status : ℕ) (reply : List ℕ)
     → IsReadWhole MAX_HEAD_BYTES old bytes new → 0 < length bytes → lent ≡ bytes → IsReply targets lent status reply
     → IsReplyToInput targets old new status reply
 reply-request targets old new bytes lent status reply whole some same is =
     request bytes status reply whole some (subst (λ (b : List ℕ). IsReply targets b status reply) same is)
 
--- ---- how far it went
+-- ---- how much was written
 
 pub exchange-by_sent : (targets : List TargetValue) (old new : Heard) (before after : Said) (status : ℕ) (reply : List ℕ) (result : Result Served ServeError)
     → IsReplyToInput targets old new status reply → IsSent before status reply result after → IsExchange targets old before result new after

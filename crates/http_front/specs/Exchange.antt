@@ -14,15 +14,14 @@ use Rattle.http_front.specs.declared.exchange.ServeError.TheVariants.{ReadFault,
 
 -- ---- the reply
 
--- the status and the bytes of a reply to the bytes of a request: of the reply to what they ask for, or of the one
--- if an allocation failed
+-- the status and the bytes of a reply to the bytes of a request: of the reply for its route, or of the one for a failed allocation
 pub data IsReply (targets : List TargetValue) (bytes : List ℕ) : ℕ → List ℕ → Type 0 where
   front : (route : RouteValue) (without_body : Bool) (reply : ReplyValue) → IsRouted bytes route without_body → IsReplyTo targets route reply
       → IsReply targets bytes reply.status (printed reply without_body)
   no_memory : (route : RouteValue) (without_body : Bool) → IsRouted bytes route without_body
       → IsReply targets bytes unavailable.status (printed unavailable without_body)
 
--- the same of what was read; if there was no room to read, nothing was read
+-- the same for the bytes that were read; if the buffer could not be allocated, nothing was read
 pub data IsReplyToInput (targets : List TargetValue) (old new : Heard) : ℕ → List ℕ → Type 0 where
   request : (bytes : List ℕ) (status : ℕ) (reply : List ℕ) → IsReadWhole MAX_HEAD_BYTES old bytes new → 0 < length bytes
       → IsReply targets bytes status reply → IsReplyToInput targets old new status reply
@@ -30,9 +29,9 @@ pub data IsReplyToInput (targets : List TargetValue) (old new : Heard) : ℕ →
 
 -- ---- the exchange
 
--- what an exchange does to its input and its output, by how it ends: the input ended at once, and nothing was written; a reply
--- with this status was written whole; a read failed that requested more, and nothing was written; or a write failed after that
--- many bytes of a reply, its first ones and not all
+-- what an exchange does to its input and its output, depending on how it ends: the input ended at once, and nothing was written; a whole reply with this status
+-- was written; a read failed before the head was complete, and nothing was written; or a write failed after that many bytes from the beginning of a reply, but
+-- not all
 abbrev pub IsExchange : List TargetValue → Heard → Said → Result Served ServeError → Heard → Said → Type 0
 IsExchange targets old before (Ok Nothing) new after = IsReadWhole MAX_HEAD_BYTES old [] new × (after ≡ before)
 IsExchange targets old before (Ok (Replied status)) new after =
@@ -41,7 +40,7 @@ IsExchange targets old before (Err ReadFault) new after = (bytes : List ℕ) × 
 IsExchange targets old before (Err (WriteFault n)) new after =
     (status : ℕ) × (reply : List ℕ) × IsReplyToInput targets old new status reply × (n < length reply) × SaysInPart before (take n reply) n after
 
--- the reply was written whole, or its first bytes
+-- the whole reply was written, or its first bytes
 abbrev pub IsSent : Said → ℕ → List ℕ → Result Served ServeError → Said → Type 0
 IsSent before status reply (Ok Nothing) after = ⊥
 IsSent before status reply (Ok (Replied named)) after = (named ≡ status) × Says before reply (length reply) after

@@ -27,13 +27,13 @@ page_text page.Html entries = menu.html entries
 page_text page.Text entries = menu.text entries
 page_text page.Report entries = menu.report entries
 
--- the page of the menu that a registry and a request have
+-- the page of the menu of a registry for a request
 abbrev pub menu_reply : List TargetValue → Page → List KeyValue → ReplyValue
 menu_reply targets page pairs = record { status = 200; html = is_html page; body = page_text page (menu_of targets pairs) }
 
 -- ---- replies
 
--- the reply to a query, which is refused for this reason or for none; no query of a head is too long
+-- the reply to a query, which is rejected for this reason or not at all; a query in a head is never too long
 abbrev pub IsQueryReply : List TargetValue → Page → List ℕ → Option KevError → ReplyValue → Type 0
 IsQueryReply targets page query None reply = reply ≡ menu_reply targets page (pairs_of query)
 IsQueryReply targets page query (Some TooManyPairs) reply = reply ≡ plain 400 (codes "query: too many pairs\n")

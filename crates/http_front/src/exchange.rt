@@ -12,22 +12,22 @@ use registry::Registry;
 use std::alloc::{AllocError, Global};
 use thiserror::Error;
 
-/// How an exchange went.
+/// How an exchange ended.
 #[derive(Clone, Copy, Debug, PartialEq, Eq)]
 pub enum Served {
     /// The input ended at once, and nothing was written.
     Nothing,
-    /// A reply with this status went out whole.
+    /// A whole reply with this status was written.
     Replied(u16),
 }
 
-/// Why an exchange has no whole reply.
+/// Why no whole reply was written.
 #[derive(Clone, Copy, Debug, PartialEq, Eq, Error)]
 pub enum ServeError {
     /// A read failed; nothing was written.
     #[error("ReadFault")]
     ReadFault,
-    /// A write failed; exactly that many bytes of the reply, its first ones, went out.
+    /// A write failed; exactly that many bytes from the beginning of the reply were written.
     #[error("WriteFault after {0} bytes")]
     WriteFault(usize),
 }
@@ -74,11 +74,12 @@ fn answer<O: Output>(
 /// Reads one request, until an empty line ends its head, the input ends or
 /// [`MAX_HEAD_BYTES`](http_streams::MAX_HEAD_BYTES) bytes have come, and writes its reply: the head, and then the body,
 /// which is not copied. If nothing came, nothing is written. If an allocation fails, the reply has the status 503; if
-/// it is that of the room for the request's head, nothing was read then.
+/// it is the first one, of the buffer for the request's head, nothing has been read then.
 ///
-/// The status is that of the first reason: no head of the grammar, 431 if that many bytes came and the head has
-/// not ended, otherwise 400; a wrong number of Host fields, 400; a method that is neither GET nor HEAD, 405; a
-/// target of another form, 400; a path that is none of the pages, 404; a query that is refused, 400; and 200.
+/// The status is decided by the first of these that applies: the bytes begin with no valid head, 431 if that many bytes
+/// came and the head has not ended, and otherwise 400; a wrong number of Host fields, 400; a method that is neither GET
+/// nor HEAD, 405; a target of another form, 400; a path that is none of the pages, 404; a query that is rejected, 400;
+/// otherwise 200.
 pub fn serve_one<I: Input, O: Output>(
     alloc: Global,
     input: &mut I,

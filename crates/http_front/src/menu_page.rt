@@ -27,7 +27,7 @@ fn page_text(alloc: Global, page: Page, menu: &Menu) -> Result<String, AllocErro
     }
 }
 
-// The page of the menu that a request has.
+// The page of the menu for a request.
 fn menu_reply(
     alloc: Global,
     registry: &Registry,
@@ -41,7 +41,7 @@ fn menu_reply(
     Ok(Reply::new(StatusCode::OK, page == Page::Html, text))
 }
 
-// The page for a query, or why it is none.
+// The page of the menu for a query, or the reply that says why the query is rejected.
 fn query_reply(
     alloc: Global,
     registry: &Registry,

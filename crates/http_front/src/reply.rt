@@ -69,7 +69,7 @@ impl Reply {
         write!(out, "Content-Length: {length}\r\n")
     }
 
-    // The line of the methods that are answered, in a reply to another one (RFC 9110, section 15.5.6).
+    // The Allow field, in a reply to a method that is not served (RFC 9110, section 15.5.6).
     fn allow_line(&self) -> &'static str
         ensures { result.now ≡ spec.allow_line self.now.status }
     {
@@ -105,7 +105,7 @@ impl Reply {
 /// The status of the reply if an allocation failed.
 pub(crate) const NO_MEMORY: u16 = 503;
 
-/// The head of that reply, which takes no allocation.
+/// The head of that reply, which needs no allocation.
 pub(crate) fn unavailable_head() -> &'static [u8]
     ensures bytes { result.now ≡ spec.head_of spec.unavailable }
     ensures status { NO_MEMORY ≡ spec.unavailable.status }

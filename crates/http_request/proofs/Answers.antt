@@ -1,4 +1,4 @@
--- The route of bytes, by the head that was found or by none.
+-- The route of bytes, with the head that was found or without one.
 use Rattle.std.proofs.Common.{◌≡◌, ◌∙◌, ℕ, ◌<◌, Bool, false, List, length, subst, sym, ap, arith}
 use Rattle.httparse.specs.Grammar.{ReadsRequest, RequestHead}
 use Rattle.http_request.specs.declared.request.TheConstants.{MAX_FIELDS}

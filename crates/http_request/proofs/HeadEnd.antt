@@ -1,4 +1,4 @@
--- A head ends where its bytes are first closed.
+-- A head ends at the first empty line.
 use Rattle.std.proofs.Common.{◌≡◌, ℕ, zero, suc, ◌+◌, ◌<◌, Bool, true, false, List, [], ◌∷◌, ◌++◌, length, take, refl, sym, ap, ◌∙◌, arith, subst, append_assoc}
 use Rattle.std.specs.Prelude.{All, IsTrue, ◌==◌, ◌||◌, ◌&&◌, if◌then◌else◌}
 use Rattle.std.specs.List.{flat_map}
@@ -11,7 +11,7 @@ use Rattle.httparse.proofs.GrammarLemmas.{cons-append}
 use Rattle.http_streams.specs.Closing.{begins_with_empty_line, begins_with_lf, has_empty_line, is_closed}
 use Rattle.http_request.specs.HeadEnd.{IsFirstClosedAt}
 
--- the bytes pass the test, and none of their fronts does
+-- the bytes pass the test, and no shorter beginning of them does
 record EndsFirst (test : List ℕ → Bool) (bytes : List ℕ) : Type 0 where
   whole : test bytes ≡ true
   front : (n : ℕ) → n < length bytes → test (take n bytes) ≡ false

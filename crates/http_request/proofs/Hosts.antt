@@ -1,4 +1,4 @@
--- The Host fields, counted by where they lie.
+-- The Host fields, counted by their places.
 use Rattle.std.proofs.Common.{◌≡◌, ◌∙◌, ℕ, ◌+◌, List, [], ◌∷◌, map, refl, sym, ap}
 use Rattle.std.specs.Prelude.{count_by, cond}
 use Rattle.std.specs.List.{sum_by}

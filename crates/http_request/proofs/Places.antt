@@ -27,7 +27,7 @@ place-some test xs i = by_test (nat_lt (position_or_len test xs) (length xs))
     by_test true h = cc
     by_test false h = cc
 
--- where there is none
+-- if there is none
 pub place-none : (test : ℕ → Bool) (xs : List ℕ) → position test xs ≡ None → length xs ≤ position_or_len test xs
 place-none test xs = by_test (nat_lt (position_or_len test xs) (length xs)) refl
   where

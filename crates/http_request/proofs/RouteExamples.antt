@@ -1,4 +1,4 @@
--- Routes computed: what becomes of heads of requests is written out here, and the checker compares.
+-- Routes computed: the routes of requests' heads are written out here, and the checker compares.
 use Rattle.std.proofs.Common.{◌≡◌, ℕ, true, false, List, [], ◌∷◌, ◌++◌, refl, codes, map}
 use Rattle.std.specs.List.{repeat}
 use Rattle.httparse.specs.Grammar.{Field, RequestHead, crlf}
@@ -12,7 +12,7 @@ use Rattle.http_request.specs.declared.route.Page.TheVariants.{Html, Text, Repor
 abbrev field : List ℕ → Field
 field name = record { name = name; raw = codes " a"; end = crlf }
 
--- a head with this number of Host fields beside another field
+-- a head with this number of Host fields and one other field
 abbrev head : List ℕ → List ℕ → ℕ → ℕ → RequestHead
 head method target minor hosts =
     record {
@@ -76,7 +76,7 @@ page_and_query : map (λ target. head_route (head (codes "GET") target 1 1))
     ≡ Menu Text (codes "a#b") ∷ Menu Report [] ∷ Menu Html (codes "url_ver=1") ∷ []
 page_and_query = refl
 
--- ---- bytes that are no head
+-- ---- bytes that are not a head
 
 few_bytes_are_a_bad_request : map route_without_head ([] ∷ codes "GET /openurl HTTP/1.1\r\n" ∷ codes "\r\n\r\n" ∷ [])
     ≡ BadRequest ∷ BadRequest ∷ BadRequest ∷ []

@@ -1,4 +1,4 @@
--- Bytes have one route, since they begin with one head at most.
+-- Bytes have one route, since they begin with at most one head.
 use Rattle.std.proofs.Common.{◌≡◌, ◌++◌, ℕ, Bool, List, ap, refl}
 use Rattle.httparse.proofs.GrammarLemmas.{ReadsRequest-append, request_unique}
 use Rattle.httparse.specs.Grammar.{RequestHead}

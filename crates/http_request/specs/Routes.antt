@@ -1,4 +1,4 @@
--- The route of a request: the page that it gets, or why it gets none.
+-- The route of a request: the page that it is for, or why there is none.
 use Rattle.std.specs.Prelude.{ℕ, ◌≤◌, ◌==◌, Bool, false, ◌&&◌, ◌||◌, not, List, Option, Some, None, codes, length, if◌then◌else◌}
 use Rattle.std.specs.Str.{bytes_eq}
 use Rattle.httparse.specs.Grammar.{RequestHead, ReadsRequest}
@@ -16,7 +16,7 @@ pub data RouteValue : Type 0 where
   Menu : (page : Page) (query : List ℕ) → RouteValue
   NotFound MethodNotAllowed BadRequest HeadTooLarge : RouteValue
 
--- a route of the code
+-- the value of a route of the program
 abbrev pub route_value : Route → RouteValue
 route_value (route.Menu page query) = Menu page query.now
 route_value route.NotFound = NotFound
@@ -40,7 +40,7 @@ is_right_host_count minor hosts = (hosts == 1) || ((hosts == 0) && (minor == 0))
 abbrev pub is_head_method : List ℕ → Bool
 is_head_method method = bytes_eq method (codes "HEAD")
 
--- GET and HEAD, in these letters (RFC 9110, section 9.1)
+-- GET and HEAD, in upper case (RFC 9110, section 9.1)
 abbrev pub is_answered : List ℕ → Bool
 is_answered method = bytes_eq method (codes "GET") || is_head_method method
 
@@ -66,17 +66,17 @@ head_route head = route_of head.method head.target head.minor (host_count head.f
 
 -- ---- the bytes
 
--- that many bytes whose head has not ended are too many, and any others are no request
+-- if there are as many bytes as are read, and their head has not ended, it is too large; any other bytes are a bad request
 abbrev pub route_without_head : List ℕ → RouteValue
 route_without_head bytes = if (length bytes == MAX_HEAD_BYTES) && not (is_closed bytes) then HeadTooLarge else BadRequest
 
--- the bytes are a head with few enough fields, whatever lies after it
+-- the bytes begin with a head with few enough fields; what follows it does not matter
 pub record IsHeadOf (bytes : List ℕ) (head : RequestHead) : Type 0 where
   pub rest : List ℕ
   pub reads : ReadsRequest bytes head rest
   pub fields : length head.fields ≤ MAX_FIELDS
 
--- the route of the bytes, and whether the reply goes without its body: by the head that they begin with; and without one
+-- the route of the bytes, and whether the reply is sent without its body; they may begin with a head or not
 pub data IsRouted (bytes : List ℕ) : RouteValue → Bool → Type 0 where
   by_head : (head : RequestHead) → IsHeadOf bytes head → IsRouted bytes (head_route head) (is_head_method head.method)
   without_head : ((head : RequestHead) → ¬ (IsHeadOf bytes head)) → IsRouted bytes (route_without_head bytes) false

@@ -18,13 +18,13 @@ abbrev pub begins_with_slash : List ℕ → Bool
 begins_with_slash [] = false
 begins_with_slash (b ∷ bytes) = is_slash b
 
--- ---- absolute form (section 3.2.2): a scheme, an authority, and then the same, where the path may be empty
+-- ---- absolute form (section 3.2.2): a scheme, an authority, and then the same, but the path may be empty
 
--- a scheme is written in either case
+-- the letters of a scheme may be in either case
 abbrev pub after_scheme : List ℕ → List ℕ → Option (List ℕ)
 after_scheme scheme target = if begins_in_any_case target scheme then Some (drop (length scheme) target) else None
 
--- an authority ends before a `/`, a `?` or with the target
+-- an authority ends before a `/` or a `?`, or with the target
 abbrev pub authority_length : List ℕ → ℕ
 authority_length bytes = position_or_len (λ b. is_slash b || is_question_mark b) bytes
 
@@ -39,7 +39,7 @@ resource_by (Some behind_http) behind_https = after_authority behind_http
 resource_by None (Some behind_https) = after_authority behind_https
 resource_by None None = None
 
--- the path and the query of a target; none at a target of another form
+-- the path and the query of a target; none for a target of another form
 abbrev pub resource_of : List ℕ → Option (List ℕ)
 resource_of target =
     if begins_with_slash target then Some target

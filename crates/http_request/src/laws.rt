@@ -5,7 +5,7 @@ ghost use Rattle.httparse.specs.Grammar.{ReadsRequest, RequestHead, print_reques
 ghost use Rattle.http_request.specs.Routes.{IsRouted, IsHeadOf, RouteValue};
 ghost use Rattle.http_request.specs.HeadEnd.{IsFirstClosedAt};
 
-/// Bytes have one route, and their reply has a body or none.
+/// Bytes have exactly one route, and their reply either has a body or not.
 pub fn one_route()
     ensures { (bytes : List ℕ) (route other : RouteValue) (without_body other_only : Bool) →
         IsRouted bytes route without_body → IsRouted bytes other other_only → (route ≡ other)
@@ -17,8 +17,8 @@ pub fn what_follows_a_head_is_ignored()
     ensures { (bytes more : List ℕ) (head : RequestHead) → IsHeadOf bytes head → IsHeadOf (bytes ++ more) head }
 {}
 
-/// A head of the grammar ends exactly where the bytes are first closed: at the empty line with which the reading of a
-/// head stops. So the head has been read whole when reading stops there.
+/// A head of the grammar ends exactly at the first empty line, which is where reading stops. So the whole head has been
+/// read then.
 pub fn a_head_ends_where_it_is_closed()
     ensures { (bytes rest : List ℕ) (head : RequestHead) → ReadsRequest bytes head rest
         → IsFirstClosedAt bytes (length (print_request head)) }

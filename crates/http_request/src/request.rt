@@ -11,10 +11,10 @@ use http_streams::{MAX_HEAD_BYTES, is_closed};
 use httparse::Status;
 use httparse::spans::{EMPTY_HEADER_SPAN, HeaderSpan, RequestSpans, parse_request};
 
-/// The most fields that a head may have.
+/// The maximum number of fields of a head.
 pub const MAX_FIELDS: usize = 128;
 
-// The spans of the head that the bytes begin with, if there is one with so few fields.
+// The spans of the head that the bytes begin with, if there is one and `fields` has room for its fields.
 fn find_head(bytes: &[u8], fields: &mut [HeaderSpan]) -> Option<RequestSpans>
     ensures found { IfSome result (λ spans. (head : RequestHead) × IsRequestAt bytes.now fields.new spans head
         × (length head.fields ≤ length fields.old)) }
@@ -41,10 +41,11 @@ fn route_without_head(bytes: &[u8]) -> Route<'_>
 
 /// The request that the bytes begin with (RFC 9112, section 2.1). Bytes after its head are ignored.
 ///
-/// The first of these reasons decides: there is no head with at most [`MAX_FIELDS`] fields, and then the bytes are
-/// too many exactly where they are [`MAX_HEAD_BYTES`] and not closed; the Host fields are not one, or none in
-/// HTTP/1.0 (section 3.2); the method is neither GET nor HEAD; the target begins with neither `/` nor `http://` or
-/// `https://` and an authority (sections 3.2.1 and 3.2.2); its path is none of the pages. It takes no memory.
+/// If there is no page, the first of these reasons is the route: the bytes begin with no head of at most [`MAX_FIELDS`]
+/// fields (too large if there are [`MAX_HEAD_BYTES`] bytes without an empty line, and otherwise bad); there is not
+/// exactly one Host field, or more than one in HTTP/1.0 (section 3.2); the method is neither GET nor HEAD; the target
+/// begins neither with `/` nor with `http://` or `https://` and an authority (sections 3.2.1 and 3.2.2); its path is
+/// none of the pages. Nothing is allocated.
 ///
 /// Differences from RFC 9112, each with its test in `checks/commands.d/requests_over_http.py`:
 /// - Only the versions 1.0 and 1.1 are accepted, so HTTP/1.2 is a bad request (`test_whole_requests`).

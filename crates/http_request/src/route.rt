@@ -1,4 +1,4 @@
-//! Routes: the page that a request gets, or why it gets none.
+//! Routes: the page that a request is for, or why there is none.
 
 ghost use Rattle.std.specs.Prelude.{◌≡◌, ◌≤◌, length};
 ghost use Rattle.http_request.specs.Routes as spec;
@@ -12,30 +12,32 @@ pub enum Page {
     Html,
     /// The links as plain text, at `/openurl.txt`.
     Text,
-    /// The reasons of all targets, at `/report`.
+    /// The outcome of every target, at `/report`.
     Report,
 }
 
-/// The page of the menu that a request gets, or why it gets none.
+/// The page of the menu that a request is for, or why there is none.
 #[derive(Clone, Copy, Debug, PartialEq, Eq)]
 pub enum Route<'a> {
-    /// A page of the menu for the query, whose bytes are as they came.
+    /// A page of the menu for the query, whose bytes are as the peer sent them.
     Menu { page: Page, query: &'a [u8] },
-    /// Another path.
+    /// The path is none of the pages.
     NotFound,
-    /// Another method than GET and HEAD.
+    /// The method is neither GET nor HEAD.
     MethodNotAllowed,
-    /// No head of a request, or one with a wrong number of Host fields or with another form of target.
+    /// There is no valid head, or it has a wrong number of Host fields or a target of another form.
     BadRequest,
     /// The head does not end within [`MAX_HEAD_BYTES`](http_streams::MAX_HEAD_BYTES) bytes.
     HeadTooLarge,
 }
 
-/// A request, by its head (RFC 9112, section 3): its route, and whether the reply goes without its body, since the
-/// method is HEAD.
+/// What the head of a request says (RFC 9112, section 3): its route, and whether the reply is sent without its body
+/// because the method is HEAD.
 #[derive(Clone, Copy, Debug, PartialEq, Eq)]
 pub struct HttpRequest<'a> {
+    /// The page that the request is for, or why there is none.
     pub route: Route<'a>,
+    /// Whether the reply is sent without its body.
     pub without_body: bool,
 }
 

@@ -14,7 +14,7 @@ fn authority_end(bytes: &[u8]) -> Option<usize>
     bytes.iter().position(|byte| *byte == b'/' || *byte == b'?')
 }
 
-// How many bytes it has.
+// How many bytes the authority at the beginning has.
 #[tactic(auto, using(crate::proofs::Places::place_or_length))]
 fn authority_length(bytes: &[u8]) -> usize
     ensures length { result ≡ spec.authority_length bytes.now }
@@ -23,7 +23,7 @@ fn authority_length(bytes: &[u8]) -> usize
     authority_end(bytes).unwrap_or(bytes.len())
 }
 
-// What follows an authority that is not empty.
+// What follows the authority, if that is not empty.
 fn after_authority(bytes: &[u8]) -> Option<&[u8]>
     ensures after { option_copied result ≡ spec.after_authority bytes.now }
     ensures within { IfSome result (λ rest. length rest.now ≤ length bytes.now) }
@@ -34,7 +34,7 @@ fn after_authority(bytes: &[u8]) -> Option<&[u8]>
     }
 }
 
-// What follows the scheme, which is written in either case.
+// What follows the scheme, whose letters may be in either case.
 fn after_scheme<'a>(target: &'a [u8], scheme: &[u8]) -> Option<&'a [u8]>
     ensures after { option_copied result ≡ spec.after_scheme scheme.now target.now }
     ensures within { IfSome result (λ rest. length rest.now ≤ length target.now) }
@@ -46,8 +46,8 @@ fn after_scheme<'a>(target: &'a [u8], scheme: &[u8]) -> Option<&'a [u8]>
     }
 }
 
-/// The path and the query of a target in origin form, or in absolute form with a scheme of the web. `None` at any
-/// other target.
+/// The path and the query of a target in origin form, or in absolute form with the scheme `http` or `https`. `None` for
+/// any other target.
 pub(crate) fn resource_of(target: &[u8]) -> Option<&[u8]>
     ensures resource { option_copied result ≡ spec.resource_of target.now }
     ensures within { IfSome result (λ resource. length resource.now ≤ length target.now) }
@@ -61,7 +61,7 @@ pub(crate) fn resource_of(target: &[u8]) -> Option<&[u8]>
     }
 }
 
-// Where the query's mark is.
+// Where the `?` before the query is.
 fn query_mark(resource: &[u8]) -> Option<usize>
     ensures { result ≡ position spec.is_question_mark resource.now }
 {

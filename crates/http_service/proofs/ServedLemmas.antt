@@ -1,4 +1,4 @@
--- One connection more is served, and counted.
+-- One more connection is served and counted.
 use Rattle.std.proofs.Common.{◌≡◌, ℕ, ◌+◌, List, [], ◌∷◌, ◌++◌, length, map, Option, Result, Ok, Err, refl, sym, ap, ◌∙◌, subst, arith}
 use Rattle.std.proofs.lemmas.List.{map-append, length-map}
 use Rattle.registry.specs.Targets.{TargetValue}

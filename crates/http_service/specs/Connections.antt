@@ -1,4 +1,4 @@
--- Connections that are served one after the other, and how they are counted.
+-- Connections that are served one at a time, and how they are counted.
 use Rattle.std.specs.Prelude.{◌≡◌, ℕ, ◌+◌, ◌<◌, List, [], ◌∷◌, length, map, Option, Some, None, Result, Ok, Err}
 use Rattle.registry.specs.Targets.{TargetValue}
 use Rattle.http_streams.specs.Streams.{Heard, Said, AreFresh}
@@ -11,30 +11,30 @@ use Rattle.http_service.specs.declared.counts.Counts.{Counts}
 
 -- ---- connections
 
--- a connection that was accepted: one that does not take the time-out, and is not read; or one with an exchange: its streams
--- before, how the exchange ended, and its streams after
+-- a connection that was accepted: one whose time-out could not be set, and which is not read; or one with an exchange: its streams before, how the exchange
+-- ended, and its streams after
 pub data Connection (I O : Type 0) : Type 0 where
   Unread : Connection I O
   Exchanged : I → O → Result Served ServeError → I → O → Connection I O
 
--- how it ended: one that is not read counts as one whose read failed
+-- how the connection ended: one that is not read counts as one whose read failed
 abbrev pub outcome : {I O : Type 0} → Connection I O → Result Served ServeError
 outcome Unread = Err ReadFault
 outcome (Exchanged input output result input2 output2) = result
 
--- its streams were new, each of their calls may take that many nanoseconds, and it had its exchange
+-- its streams were new, each of their calls may take that many nanoseconds, and this was its exchange
 abbrev pub IsServed : {I O : Type 0} → List TargetValue → (I → Heard) → (O → Said) → ℕ → Connection I O → Type 0
 IsServed targets heard said wait Unread = Unit {0}
 IsServed targets heard said wait (Exchanged input output result input2 output2) =
     AreFresh wait (heard input) (said output) × IsExchange targets (heard input) (said output) result (heard input2) (said output2)
 
--- the listener gave its streams, and took them back when it ended
+-- the listener accepted the connection with its streams, and closed it afterwards
 abbrev pub IsAccepted : {L I O : Type 0} → (L → Option (I × O) → L → Type 0) → (L → I × O → L → Type 0) → L → Connection I O → L → Type 0
 IsAccepted gives closes old Unread new = gives old None new
 IsAccepted gives closes old (Exchanged input output result input2 output2) new =
     (between : _) × gives old (Some (input, output)) between × closes between (input2, output2) new
 
--- the connections were accepted one after the other, and each was served, and closed before the next
+-- the connections were accepted one at a time, and each was served and closed before the next
 abbrev pub AreServed : {L I O : Type 0} → List TargetValue → (L → Option (I × O) → L → Type 0) → (L → I × O → L → Type 0)
     → (I → Heard) → (O → Said) → ℕ → L → List (Connection I O) → L → Type 0
 AreServed targets gives closes heard said wait old [] new = old ≡ new
@@ -44,7 +44,7 @@ AreServed targets gives closes heard said wait old (c ∷ cs) new =
 
 -- ---- counts
 
--- one connection more, by how it ended
+-- the counts with one more connection, which ended in this way
 abbrev pub counted : Counts → Result Served ServeError → Counts
 counted counts (Ok (Replied status)) = record counts { replied = counts.replied + 1 }
 counted counts (Ok Nothing) = record counts { nothing = counts.nothing + 1 }

@@ -1,18 +1,18 @@
-//! How connections went.
+//! How connections ended.
 
 ghost use Rattle.std.specs.Prelude.{◌≡◌, ◌+◌, ◌<◌};
 ghost use Rattle.http_service.specs.Connections.{counted, none_yet};
 
 use http_front::{ServeError, Served};
 
-/// How many connections went how.
+/// The number of connections that ended in each way.
 #[derive(Clone, Copy, Debug, PartialEq, Eq)]
 pub struct Counts {
-    /// A reply went out whole.
+    /// A whole reply was written.
     pub replied: u32,
     /// The peer sent nothing, and nothing was written.
     pub nothing: u32,
-    /// A read or a write failed, or took too long; or the connection does not take the time-out.
+    /// A read or a write failed or took too long, or the time-out could not be set.
     pub faults: u32,
 }
 

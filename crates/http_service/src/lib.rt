@@ -1,4 +1,4 @@
-//! The service: connections of a listener, one after the other, each with one exchange.
+//! The service: serves the connections of a listener one at a time, each with one exchange.
 #![tactic(auto)]
 
 mod counts;

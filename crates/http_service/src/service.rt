@@ -12,7 +12,7 @@ use std::alloc::Global;
 use std::io;
 use std::time::Duration;
 
-/// Serves `count` connections of the listener as [`serve_within`] does, with a wait of 2 seconds.
+/// Serves `count` connections of the listener as [`serve_within`] does, with a time-out of 2 seconds.
 pub fn serve_on<L: Listener>(
     alloc: Global,
     listener: &mut L,
@@ -29,13 +29,13 @@ pub fn serve_on<L: Listener>(
     serve_within(alloc, listener, count, registry, Duration::from_secs(2))
 }
 
-/// Serves `count` connections of the listener, one after the other: each has one exchange, as
-/// [`serve_one`](http_front::serve_one) has it, and is closed before the next is accepted. A read or a write that takes
-/// longer than `wait` has failed. So a peer that sends nothing holds the service for one wait, and one that sends a
-/// byte within each wait for up to 16,384 of them. A connection that does not take the time-out, as for a wait of 0, is
-/// not read, and counts with the faults.
+/// Serves `count` connections of the listener, one at a time: each has one exchange, as
+/// [`serve_one`](http_front::serve_one) does it, and is closed before the next is accepted. A read or a write that
+/// takes longer than `wait` fails. So a peer that sends nothing blocks the service for one `wait`, and one that sends a
+/// byte within each `wait` can block it for up to 16,384 of them. If the time-out cannot be set, as with a `wait` of 0,
+/// the connection is not read, and counts with the faults.
 ///
-/// The error is that of the listener, if it cannot accept a connection; no more are served then.
+/// The error is that of the listener, if it cannot accept a connection; no further connection is served then.
 pub fn serve_within<L: Listener>(
     alloc: Global,
     listener: &mut L,

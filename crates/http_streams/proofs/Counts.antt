@@ -1,8 +1,8 @@
--- Counts that stop at the greatest number of 64 bits.
+-- Counts that stop at the largest number of 64 bits.
 use Rattle.std.proofs.Common.{◌≡◌, ℕ, ◌+◌, ◌-◌, ◌^◌, ◌≤◌, ◌<◌, min, arith}
 use Rattle.http_streams.specs.Streams.{raised}
 
--- ---- the same for any greatest number
+-- ---- the same for any largest number
 
 none_to : (most count : ℕ) → count + min 0 (most - count) ≡ count
 none_to most count = omega arith

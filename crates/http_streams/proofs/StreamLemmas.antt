@@ -1,14 +1,14 @@
 -- Reads and writes that follow one another.
-use Rattle.std.proofs.Common.{◌≡◌, ℕ, ◌+◌, ◌<◌, ◌≤◌, List, [], ◌++◌, Option, Some, None, length, take, drop, refl, sym, ap, ◌∙◌, subst, append_assoc, arith}
+use Rattle.std.proofs.Common.{◌≡◌, ℕ, ◌+◌, ◌≤◌, List, [], ◌++◌, Option, Some, None, length, take, drop, refl, sym, ap, ◌∙◌, subst, append_assoc, arith}
 use Rattle.std.proofs.Common.{inr}
 use Rattle.std.proofs.Math.Nat.{add-zero}
 use Rattle.std.proofs.Math.Seq.{take-add, take-append-add}
-use Rattle.std.proofs.lemmas.List.{append-nil, length-append, length-take-le, take-append-le}
+use Rattle.std.proofs.lemmas.List.{append-nil, length-append, length-take-le}
 use Rattle.http_streams.specs.HeadReading.{IsReadWhole}
 use Rattle.http_streams.specs.Streams.{Heard, Hears, IsAtEnd, Reads, Said, Says, SaysInPart, Writes, raised}
 use Rattle.http_streams.proofs.Counts.{raised-more, raised-none}
 
--- ---- bytes, where they are told
+-- ---- bytes, if they are known
 
 Reads-none : (bytes : Option (List ℕ)) → Reads bytes [] bytes
 Reads-none (Some bytes) = refl
@@ -38,7 +38,7 @@ Writes-append None (Some between) after first second one two = absurd one
 Writes-append None None (Some after) first second one two = two
 Writes-append None None None first second one two = tt
 
--- a read of nothing leaves the end of the input the end
+-- after a read of nothing at the end of the input, it is still the end
 IsAtEnd-read : (before after : Option (List ℕ)) → IsAtEnd before → Reads before [] after → IsAtEnd after
 IsAtEnd-read (Some before) (Some after) ended read = sym read ∙ ended
 IsAtEnd-read (Some before) None ended read = tt
@@ -50,7 +50,7 @@ IsAtEnd-read None None ended read = tt
 pub Hears-none : (heard : Heard) → Hears heard [] 0 heard
 Hears-none heard = record { left = Reads-none heard.left; taken = sym (raised-none heard.taken); failures = refl; wait = refl }
 
--- what two reads gave was read
+-- the bytes of two reads were read
 pub Hears-append : (before between after : Heard) (first second : List ℕ) (i n : ℕ)
     → Hears before first i between → Hears between second n after → Hears before (first ++ second) (i + n) after
 Hears-append before between after first second i n one two = record {
@@ -67,7 +67,7 @@ Hears-end before between after bytes i one two =
     subst (λ (k : ℕ). Hears before bytes k after) (add-zero i)
     (subst (λ (b : List ℕ). Hears before b (i + 0) after) (append-nil bytes) (Hears-append before between after bytes [] i 0 one two))
 
--- all is read where a read gives nothing
+-- everything has been read if a read returns nothing
 pub read-ended : (most : ℕ) (before between after : Heard) (old new rest : List ℕ) (i n : ℕ) → n ≡ 0 → i ≤ most → i ≤ length new
     → take i new ≡ take i old → Hears before (take i old) i between → Hears between (take n rest) n after → IsAtEnd between.left
     → IsReadWhole most before (take i new) after
@@ -82,7 +82,7 @@ read-ended most before between after old new rest i n none few fits kept one two
       stopped = inr (inr (IsAtEnd-read between.left after.left ended nothing.left));
     }
 
--- the first bytes of a room after one read more
+-- the first bytes of a buffer after one more read
 pub take-read : (old new : List ℕ) (i n : ℕ) → take i new ≡ take i old → take (i + n) new ≡ take i old ++ take n (drop i new)
 take-read old new i n kept = take-add i n new ∙ ap (λ x. x ++ take n (drop i new)) kept
 
@@ -91,7 +91,7 @@ take-read old new i n kept = take-add i n new ∙ ap (λ x. x ++ take n (drop i 
 pub Says-none : (said : Said) → Says said [] 0 said
 Says-none said = record { written = Writes-none said.written; sent = sym (raised-none said.sent); failures = refl; wait = refl }
 
--- what two writes took was written
+-- the bytes of two writes were written
 pub Says-append : (before between after : Said) (first second : List ℕ) (i n : ℕ)
     → Says before first i between → Says between second n after → Says before (first ++ second) (i + n) after
 Says-append before between after first second i n one two = record {
@@ -115,11 +115,6 @@ pub Says-both : (before between after : Said) (first second : List ℕ)
 Says-both before between after first second one two =
     subst (λ (n : ℕ). Says before (first ++ second) n after) (sym (length-append first second))
     (Says-append before between after first second (length first) (length second) one two)
-
-pub SaysInPart-first : (before after : Said) (first second : List ℕ) (n : ℕ) → n < length first
-    → SaysInPart before (take n first) n after → SaysInPart before (take n (first ++ second)) n after
-SaysInPart-first before after first second n few said =
-    subst (λ (b : List ℕ). SaysInPart before b n after) (sym (take-append-le n first second (omega arith))) said
 
 pub SaysInPart-second : (before between after : Said) (first second : List ℕ) (n : ℕ)
     → Says before first (length first) between → SaysInPart between (take n second) n after

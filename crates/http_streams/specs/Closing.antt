@@ -1,4 +1,4 @@
--- Where the empty line comes that ends the head of a request (RFC 9112, sections 2.1 and 2.2).
+-- The empty line that ends the head of a request (RFC 9112, sections 2.1 and 2.2).
 use Rattle.std.specs.Prelude.{ℕ, List, [], ◌∷◌, Bool, false, ◌&&◌, ◌||◌, ◌==◌, if◌then◌else◌}
 
 abbrev pub line_feed : ℕ
@@ -7,7 +7,7 @@ line_feed = 10
 abbrev pub carriage_return : ℕ
 carriage_return = 13
 
--- LF is the next byte
+-- the next byte is LF
 abbrev pub begins_with_lf : List ℕ → Bool
 begins_with_lf [] = false
 begins_with_lf (b ∷ rest) = b == line_feed
@@ -17,12 +17,12 @@ abbrev pub begins_with_empty_line : List ℕ → Bool
 begins_with_empty_line [] = false
 begins_with_empty_line (b ∷ rest) = (b == line_feed) || ((b == carriage_return) && begins_with_lf rest)
 
--- somewhere a line ends with LF, and an empty line follows at once
+-- some line ends with LF, and an empty line follows directly
 abbrev pub has_empty_line : List ℕ → Bool
 has_empty_line [] = false
 has_empty_line (b ∷ rest) = ((b == line_feed) && begins_with_empty_line rest) || has_empty_line rest
 
--- after some byte that is neither CR nor LF, an LF is followed at once by LF or by CR LF
+-- after some byte that is neither CR nor LF, an LF is followed directly by LF or by CR LF
 abbrev pub is_closed : List ℕ → Bool
 is_closed [] = false
 is_closed (b ∷ rest) = if (b == line_feed) || (b == carriage_return) then is_closed rest else has_empty_line rest

@@ -3,13 +3,13 @@ use Rattle.std.specs.Prelude.{◌≡◌, ℕ, ◌<◌, ◌≤◌, ◌⊎◌, Lis
 use Rattle.http_streams.specs.Closing.{is_closed}
 use Rattle.http_streams.specs.Streams.{Heard, Hears, IsAtEnd, after_failed_read}
 
--- the bytes were read, and nothing more is: they are closed or as many as may be read, or the input has ended
+-- the bytes were read, and reading is complete: an empty line ends the head, or there are as many bytes as may be read, or the input has ended
 pub record IsReadWhole (most : ℕ) (old : Heard) (bytes : List ℕ) (new : Heard) : Type 0 where
   pub read : Hears old bytes (length bytes) new
   pub limit : length bytes ≤ most
   pub stopped : (is_closed bytes ≡ true) ⊎ (length bytes ≡ most) ⊎ IsAtEnd new.left
 
--- the bytes were read, and then a read failed that requested more: they are open and fewer than may be read
+-- the bytes were read, and then the next read failed: no empty line has ended the head, and there are fewer bytes than may be read
 pub record IsReadInPart (most : ℕ) (old : Heard) (bytes : List ℕ) (new : Heard) : Type 0 where
   pub before : Heard
   pub read : Hears old bytes (length bytes) before

@@ -1,14 +1,14 @@
--- What a stream over a socket tells of itself.
+-- What is known about a stream over a socket.
 use Rattle.std.specs.Prelude.{ℕ, Option, None}
 use Rattle.http_streams.specs.Streams.{Heard, Said}
 use Rattle.http_streams.specs.declared.tally.Tally.{Tally}
 
--- how many bytes it moved and how many calls have failed, and the nanoseconds that a call may take, where they are known
+-- how many bytes it has moved and how many calls have failed, and the nanoseconds that a call may take, if that is known
 pub record WireValue : Type 0 where
   pub tally : Tally
   pub wait : Option ℕ
 
--- its bytes are not told
+-- its bytes are unknown
 abbrev pub heard_on : WireValue → Heard
 heard_on wire = record { left = None; taken = wire.tally.moved; failures = wire.tally.failures; wait = wire.wait }
 

@@ -1,57 +1,57 @@
--- What a stream tells of itself, and what a call of it changes.
+-- What is known about a stream, and what a call of it changes.
 use Rattle.std.specs.Prelude.{◌≡◌, ℕ, ◌+◌, ◌-◌, ◌^◌, List, [], ◌++◌, Option, Some, None, min}
 
--- a count after that many more of what it counts; it stops at the greatest number of 64 bits
+-- a count that is raised by that many; it stops at the largest number of 64 bits
 unfoldable pub raised : ℕ → ℕ → ℕ
 raised count more = count + min more (2 ^ 64 - 1 - count)
 
--- ---- what a stream tells
+-- ---- what is known about a stream
 
--- of an input: the bytes that are left to read, where it tells them; in any case how many bytes were read and how many reads
--- have failed; and the nanoseconds that a read may take, where it tells them
+-- of an input: the bytes that are left to read, if they are known; how many bytes were read and how many reads have failed; and the nanoseconds that a read may
+-- take, if they are known
 pub record Heard : Type 0 where
   pub left : Option (List ℕ)
   pub taken : ℕ
   pub failures : ℕ
   pub wait : Option ℕ
 
--- of an output: the bytes that were written, where it tells them; in any case how many they are and how many writes have
--- failed; and the nanoseconds that a write may take, where it tells them
+-- of an output: the bytes that were written, if they are known; how many there are and how many writes have failed; and the nanoseconds that a write may take,
+-- if they are known
 pub record Said : Type 0 where
   pub written : Option (List ℕ)
   pub sent : ℕ
   pub failures : ℕ
   pub wait : Option ℕ
 
--- ---- bytes, where they are told
+-- ---- bytes, if they are known
 
--- the bytes were read: what was left is they, and then what is left now
+-- the bytes were read: what was left before is these bytes, followed by what is left now
 abbrev pub Reads : Option (List ℕ) → List ℕ → Option (List ℕ) → Type 0
 Reads (Some old) bytes (Some new) = old ≡ bytes ++ new
 Reads (Some old) bytes None = ⊥
 Reads None bytes (Some new) = ⊥
 Reads None bytes None = Unit {0}
 
--- the bytes were written: what is written now is what was written before, and then they
+-- the bytes were written: what is written now is what was written before, followed by these bytes
 abbrev pub Writes : Option (List ℕ) → List ℕ → Option (List ℕ) → Type 0
 Writes (Some old) bytes (Some new) = new ≡ old ++ bytes
 Writes (Some old) bytes None = ⊥
 Writes None bytes (Some new) = ⊥
 Writes None bytes None = Unit {0}
 
--- nothing is left, as far as the stream tells
+-- nothing is left, if the bytes are known
 abbrev pub IsAtEnd : Option (List ℕ) → Type 0
 IsAtEnd (Some left) = left ≡ []
 IsAtEnd None = Unit {0}
 
--- nothing was written, as far as the stream tells
+-- nothing was written, if the bytes are known
 abbrev pub IsBlank : Option (List ℕ) → Type 0
 IsBlank (Some written) = written ≡ []
 IsBlank None = Unit {0}
 
 -- ---- calls
 
--- the bytes, which are that many, were read, and no read failed
+-- these bytes were read, `count` of them, and no read failed
 pub record Hears (old : Heard) (bytes : List ℕ) (count : ℕ) (new : Heard) : Type 0 where
   pub left : Reads old.left bytes new.left
   pub taken : new.taken ≡ raised old.taken count
@@ -62,7 +62,7 @@ pub record Hears (old : Heard) (bytes : List ℕ) (count : ℕ) (new : Heard) : 
 abbrev pub after_failed_read : Heard → Heard
 after_failed_read heard = record heard { failures = raised heard.failures 1 }
 
--- the bytes, which are that many, were written, and no write failed
+-- these bytes were written, `count` of them, and no write failed
 pub record Says (old : Said) (bytes : List ℕ) (count : ℕ) (new : Said) : Type 0 where
   pub written : Writes old.written bytes new.written
   pub sent : new.sent ≡ raised old.sent count
@@ -73,7 +73,7 @@ pub record Says (old : Said) (bytes : List ℕ) (count : ℕ) (new : Said) : Typ
 abbrev pub after_failed_write : Said → Said
 after_failed_write said = record said { failures = raised said.failures 1 }
 
--- the bytes, which are that many, were written, and then a write failed
+-- these bytes were written, `count` of them, and then a write failed
 pub record SaysInPart (old : Said) (bytes : List ℕ) (count : ℕ) (new : Said) : Type 0 where
   pub before : Said
   pub said : Says old bytes count before

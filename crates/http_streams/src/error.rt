@@ -1,4 +1,4 @@
-//! Why a head is not read.
+//! Why a head could not be read.
 
 ghost use Rattle.std.specs.Prelude.{◌≡◌};
 
@@ -6,7 +6,7 @@ use crate::stream::Failed;
 use std::alloc::AllocError;
 use thiserror::Error;
 
-/// Why a head is not read.
+/// Why a head could not be read.
 #[derive(Clone, Copy, Debug, PartialEq, Eq, Error)]
 pub enum HeadError {
     /// An allocation failed before anything was read.

@@ -1,10 +1,10 @@
 //! Streams of bytes that come in and go out, the connections that they belong to, and the reading of a request's
 //! head (RFC 9112, section 2) from any of them.
 //!
-//! A stream may give or take any number of the bytes requested, one at least, and may fail at any
-//! call. Contracts see how many bytes it moved and how many of its calls have failed, and its bytes if it tells
-//! them: streams over memory do, a socket does not. Likewise they see which connections a listener accepted and
-//! closed, if it tells them.
+//! A call may read or write fewer bytes than requested, but at least one, unless the input has ended. Any call may
+//! fail. Contracts see how many bytes a stream has moved and how many of its calls have failed. They see the bytes
+//! themselves only if the implementer reveals them: streams over memory do, a socket does not. The same holds for the
+//! connections that a listener accepted and closed.
 #![tactic(auto)]
 
 mod error;

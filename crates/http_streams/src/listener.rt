@@ -1,4 +1,4 @@
-//! What connections come from.
+//! Listeners, which accept connections.
 
 ghost use Rattle.std.specs.Prelude.{Option, IfOk, IfSome, OnErr};
 ghost use Rattle.std.specs.Duration.{as_nanos};
@@ -11,27 +11,27 @@ use std::io;
 use std::net::{TcpListener, TcpStream};
 use std::time::Duration;
 
-/// Connections that come in, one after the other.
+/// A source of connections, which are accepted one at a time.
 ///
-/// What a listener tells are relations between its state before a call and its state after it.
+/// An implementer describes each call by relations between the listener's states before and after it.
 pub trait Listener {
-    /// What a connection sends.
+    /// The stream of bytes that a connection's peer sends.
     type In: Input + Drop;
 
-    /// What goes out to a connection.
+    /// The stream of bytes that are sent to a connection's peer.
     type Out: Output + Drop;
 
-    /// A connection was accepted: its two streams, or none, if it does not take the time-out.
+    /// A connection was accepted: its two streams, or `None` if the time-out could not be set.
     ghost gives: { Self → Option (Self.In × Self.Out) → Self → Type 0 };
 
-    /// A connection ended, whose streams are these.
+    /// The connection with these streams was closed.
     ghost closes: { Self → Self.In × Self.Out → Self → Type 0 };
 
     /// A connection could not be accepted.
     ghost fails: { Self → Self → Type 0 };
 
-    /// Accepts the next connection, and returns its streams, each of whose calls may take `wait`; `None`, if the
-    /// connection does not take that time-out.
+    /// Accepts the next connection, and returns its streams, whose calls time out after `wait`; `None` if that time-out
+    /// could not be set.
     fn accept(&mut self, wait: Duration) -> io::Result<Option<(Self::In, Self::Out)>>
         ensures gives { IfOk result (λ streams. gives self.old streams self.new) }
         ensures fresh { IfOk result
@@ -39,12 +39,12 @@ pub trait Listener {
             (λ pair. AreFresh (as_nanos wait) (Self.In.heard pair.0) (Self.Out.said pair.1))) }
         ensures fails { OnErr result (fails self.old self.new) };
 
-    /// Ends a connection.
+    /// Closes a connection.
     fn close(&mut self, streams: (Self::In, Self::Out))
         ensures { closes self.old streams self.new };
 }
 
-/// The system's listener, which tells nothing.
+/// The system's listener, whose states are not described.
 impl Listener for TcpListener {
     type In = TimedWire;
 
@@ -68,7 +68,7 @@ impl Listener for TcpListener {
     }
 }
 
-/// The two directions of a connection. `None` if it does not take the time-out.
+/// The two directions of a connection; `None` if the time-out could not be set.
 fn wires(stream: TcpStream, wait: Duration) -> Option<(TimedWire, TimedWire)>
     ensures { IfSome result (λ pair. AreFresh (as_nanos wait) (heard_on pair.0) (said_on pair.1)) }
 {

@@ -1,4 +1,4 @@
-//! What listeners come from.
+//! Ports, at which listeners are bound.
 
 ghost use Rattle.std.specs.Prelude.{◌≡◌, ◌≢◌, ℕ, IfOk, OnErr};
 
@@ -8,9 +8,9 @@ use std::net::{Ipv4Addr, Net, TcpListener, TcpStream};
 
 /// The ports of this machine's own address, 127.0.0.1.
 ///
-/// What they tell are relations between their state before a call and their state after it.
+/// An implementer describes each call by relations between the states before and after it.
 pub trait Ports {
-    /// A listener at one of them.
+    /// A listener at a port.
     type Bound: Listener + Drop;
 
     /// This port was bound, or a free one if it is 0: the listener and its port.
@@ -26,7 +26,7 @@ pub trait Ports {
         ensures fails { OnErr result (fails self.old port self.new) };
 }
 
-/// The system's ports, which tell nothing.
+/// The system's ports, whose states are not described.
 #[derive(Drop)]
 pub struct Loopback<'a, R> {
     net: &'a R,

@@ -1,15 +1,15 @@
-//! How far the bytes of a head have come.
+//! How far the reading of a head has come.
 
 ghost use Rattle.std.specs.Prelude.{◌≡◌, [], ◌∷◌, ◌++◌, ℕ, List};
 ghost use Rattle.http_streams.specs.Closing.{is_closed};
 ghost use Rattle.http_streams.specs.Private.Progress.{closes_with};
 
-/// What the bytes so far leave to be seen before the head is closed.
+/// What has been read of a head so far.
 #[derive(Clone, Copy)]
 pub(crate) enum Progress {
     /// Nothing but line ends has come.
     BeforeText,
-    /// The last byte ends no line.
+    /// The last byte does not end a line.
     InLine,
     /// The last byte is the LF of a line.
     AfterLineFeed,
@@ -20,14 +20,14 @@ pub(crate) enum Progress {
 }
 
 impl Progress {
-    // Whether the bytes so far are closed.
+    // Whether the empty line has been read.
     pub(crate) fn is_done(self) -> bool
         ensures { result ≡ closes_with self [] }
     {
         matches!(self, Progress::Closed)
     }
 
-    // The progress after one byte more.
+    // The progress after one more byte.
     fn after(self, byte: u8) -> Progress
         ensures { (more : List ℕ) → closes_with result more ≡ closes_with self (byte ∷ more) }
     {
@@ -53,7 +53,7 @@ impl Progress {
         }
     }
 
-    // The progress after these bytes more.
+    // The progress after these further bytes.
     pub(crate) fn after_all(self, bytes: &[u8]) -> Progress
         ensures { (more : List ℕ) → closes_with result more ≡ closes_with self (bytes.now ++ more) }
     {
@@ -65,8 +65,8 @@ impl Progress {
     }
 }
 
-/// Whether the bytes are closed: after some byte that is neither CR nor LF, an LF is followed at once by LF or
-/// by CR LF, so that an empty line ends the head. In one pass.
+/// Whether an empty line ends the head: after some byte that is neither CR nor LF, an LF is followed directly by LF or
+/// by CR LF. It makes one pass over the bytes.
 #[tactic(auto, using(crate::proofs::ClosedLemmas::appended))]
 pub fn is_closed(bytes: &[u8]) -> bool
     ensures { result ≡ is_closed bytes.now }

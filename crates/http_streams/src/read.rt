@@ -10,10 +10,10 @@ use crate::progress::Progress;
 use crate::stream::{Failed, Input};
 use std::alloc::Global;
 
-/// The most bytes that are read of a request.
+/// The maximum number of bytes that are read of a request.
 pub const MAX_HEAD_BYTES: usize = 16_384;
 
-// One read into the room after its first `filled` bytes.
+// One read into the buffer, after its first `filled` bytes.
 fn read_more<I: Input>(input: &mut I, room: &mut [u8], filled: usize) -> Result<usize, Failed>
     requires { filled < length room.old }
     ensures within { IfOk result (λ n. filled + n ≤ length room.new) }
@@ -25,8 +25,8 @@ fn read_more<I: Input>(input: &mut I, room: &mut [u8], filled: usize) -> Result<
     input.read(&mut room[filled..])
 }
 
-// Reads to the beginning of the room until its bytes are closed, the input has ended or the room is full, and
-// returns how many bytes came.
+// Reads into the buffer until an empty line ends the head, the input ends or the buffer is full, and returns the number
+// of bytes.
 fn fill<I: Input>(input: &mut I, room: &mut [u8]) -> Result<usize, Failed>
     ensures within { IfOk result (λ n. n ≤ length room.new) }
     ensures whole { IfOk result
@@ -47,7 +47,7 @@ fn fill<I: Input>(input: &mut I, room: &mut [u8]) -> Result<usize, Failed>
     Ok(filled)
 }
 
-// The same into room of its own, for at most that many bytes.
+// The same into a new buffer, for at most `most` bytes.
 fn read_up_to<I: Input>(alloc: Global, input: &mut I, most: usize) -> Result<Vec<u8>, HeadError>
     ensures whole { IfOk result (λ head. IsReadWhole most (I.heard input.old) head.items (I.heard input.new)) }
     ensures in_part { result ≡ Err head_error.Failed
@@ -60,15 +60,15 @@ fn read_up_to<I: Input>(alloc: Global, input: &mut I, most: usize) -> Result<Vec
     Ok(room)
 }
 
-/// Reads until an empty line ends the head, the input ends, or [`MAX_HEAD_BYTES`] bytes have come, and returns
-/// what was read. What came after the head with its last bytes is part of it.
+/// Reads until an empty line ends the head, the input ends, or [`MAX_HEAD_BYTES`] bytes have come, and returns what was
+/// read. Bytes after the head that came with its last ones are included.
 ///
 /// The error is `NoMemory` before anything is read, or `Failed` if a read fails.
 pub fn read_head<I: Input>(alloc: Global, input: &mut I) -> Result<Vec<u8>, HeadError>
     ensures whole { IfOk result
         (λ head. IsReadWhole MAX_HEAD_BYTES (I.heard input.old) head.items (I.heard input.new)) }
 
-    // A read failed, and more was to be read.
+    // A read failed before the head was complete.
     ensures in_part { result ≡ Err head_error.Failed
         → ((bytes : List ℕ) × IsReadInPart MAX_HEAD_BYTES (I.heard input.old) bytes (I.heard input.new)) }
 

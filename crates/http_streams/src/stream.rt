@@ -1,4 +1,4 @@
-//! What the server reads from and writes to.
+//! The streams that a server reads from and writes to.
 
 ghost use Rattle.std.specs.Prelude.{◌≡◌, ◌<◌, ◌≤◌, length, take, IfOk, OnErr};
 ghost use Rattle.http_streams.specs.Streams.{Heard, Hears, IsAtEnd, Said, Says, after_failed_read, after_failed_write};
@@ -10,14 +10,14 @@ use thiserror::Error;
 #[error("the stream failed")]
 pub struct Failed;
 
-/// Bytes that come in.
+/// A stream of bytes to read.
 pub trait Input {
-    /// What the implementer tells: always how many bytes were read and how many reads have failed.
-    /// [`Tally`](crate::Tally) counts both.
+    /// What contracts see: how many bytes were read, how many reads have failed, and the bytes if the implementer
+    /// reveals them. [`Tally`](crate::Tally) counts bytes and failures.
     ghost heard: { Self → Heard };
 
-    /// Puts some of the bytes that are left, the first ones, at the beginning of the room, and returns how many;
-    /// 0 is the end of the input. What follows them in the room, or all of it after a failure, is unspecified.
+    /// Reads the next bytes to the beginning of `room`, and returns how many there are; 0 means the end of the input.
+    /// What follows them in `room`, or all of it after a failure, is unspecified.
     fn read(&mut self, room: &mut [u8]) -> Result<usize, Failed>
         requires { 0 < length room.old }
         ensures within { IfOk result (λ n. n ≤ length room.new) }
@@ -26,12 +26,13 @@ pub trait Input {
         ensures failed { OnErr result (heard self.new ≡ after_failed_read (heard self.old)) };
 }
 
-/// Bytes that go out.
+/// A stream of bytes to write.
 pub trait Output {
-    /// What the implementer tells: always how many bytes were written and how many writes have failed.
+    /// What contracts see: how many bytes were written, how many writes have failed, and the bytes if the implementer
+    /// reveals them.
     ghost said: { Self → Said };
 
-    /// Writes some of the bytes, the first ones, and returns how many: at least one, if there is one.
+    /// Writes some bytes from the beginning of `bytes`, and returns how many: at least one, if there is one.
     fn write(&mut self, bytes: &[u8]) -> Result<usize, Failed>
         ensures within { IfOk result (λ n. n ≤ length bytes.now) }
         ensures some { IfOk result (λ n. 0 < length bytes.now → 0 < n) }

@@ -12,7 +12,7 @@ use std::marker::Model;
 use std::net::TcpStream;
 use std::time::Duration;
 
-/// A socket that is lent. It does not tell its bytes, nor how long a call may take.
+/// A borrowed socket. Contracts see neither its bytes nor how long a call may take.
 #[derive(Drop)]
 pub struct Wire<'a> {
     stream: &'a TcpStream,
@@ -29,7 +29,7 @@ impl<'a> Model for Wire<'a> {
 }
 
 impl<'a> Wire<'a> {
-    /// A stream over the socket, of which no call has failed.
+    /// A stream over the socket, none of whose calls has failed yet.
     pub fn new(stream: &'a TcpStream) -> Wire<'a>
         ensures { result ≡ record { tally = record { moved = 0; failures = 0 }; wait = None } }
     {
@@ -84,7 +84,7 @@ impl<'a> Output for Wire<'a> {
     }
 }
 
-/// One direction of an accepted connection. It does not tell its bytes, but how long a call may take.
+/// One direction of an accepted connection. Contracts do not see its bytes, but they see how long a call may take.
 #[derive(Drop)]
 pub struct TimedWire {
     stream: TcpStream,
@@ -103,7 +103,7 @@ impl Model for TimedWire {
 }
 
 impl TimedWire {
-    /// A stream over the socket, each of whose calls may take `wait`. `None` if the socket does not take that time-out.
+    /// A stream over the socket, whose calls time out after `wait`; `None` if that time-out could not be set.
     pub(crate) fn new(stream: TcpStream, wait: Duration) -> Option<TimedWire>
         ensures { IfSome result
             (λ wire. wire ≡ record { tally = record { moved = 0; failures = 0 }; wait = Some (as_nanos wait) }) }
@@ -171,7 +171,7 @@ fn read_from<R: Read>(reader: &mut R, room: &mut [u8]) -> Result<usize, Failed>
     }
 }
 
-/// One write of a writer. A write that takes nothing has failed, since it would be repeated for ever.
+/// One write of a writer. A write of no bytes counts as failed, since it would be repeated for ever.
 fn write_to<W: Write>(writer: &mut W, bytes: &[u8]) -> Result<usize, Failed>
     ensures within { WritesAtMost result bytes.now }
     ensures some { IfOk result (λ n. 0 < n) }

@@ -5,8 +5,8 @@ ghost use Rattle.http_streams.specs.Streams.{Says, SaysInPart};
 
 use crate::stream::{Failed, Output};
 
-/// Writes all of the bytes, in as many writes as it takes. Returns, if a write fails, how many of the bytes, the
-/// first ones, went out before.
+/// Writes all of the bytes, in several writes if necessary. If a write fails, the error is the number of bytes that
+/// were written before.
 pub fn write_all<O: Output>(output: &mut O, bytes: &[u8]) -> Result<(), usize>
     ensures all { OnOk result (Says (O.said output.old) bytes.now (length bytes.now) (O.said output.new)) }
     ensures first { IfErr result (λ n. SaysInPart (O.said output.old) (take n bytes.now) n (O.said output.new)) }
@@ -22,7 +22,8 @@ pub fn write_all<O: Output>(output: &mut O, bytes: &[u8]) -> Result<(), usize>
     Ok(())
 }
 
-/// Writes all of `first` and then all of `second`, as [`write_all`] writes them joined, and joins them nowhere.
+/// Writes all of `first` and then all of `second`, without joining them. The result is that of [`write_all`] for the
+/// joined bytes.
 pub fn write_both<O: Output>(output: &mut O, first: &[u8], second: &[u8]) -> Result<(), usize>
     ensures all { OnOk result (Says (O.said output.old) (first.now ++ second.now) (length (first.now ++ second.now))
         (O.said output.new)) }

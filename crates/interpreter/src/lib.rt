@@ -1,6 +1,6 @@
-//! The interpreter: runs of accepted code, and the checked machine that tests compare them with.
+//! The interpreter: runs accepted code. It also exports the checked machine, with which tests compare these runs.
 //!
-//! [`prepare`] makes a [`Run`] of code that the verifier accepted. A run tests no tag, no index and no jump, and can be
+//! [`prepare`] makes a [`Run`] of code that the verifier accepted. A run tests no tags, indexes or jumps, and can be
 //! carried out in turns of any number of steps. [`run_checked`] runs any code on any environment, with every test that
 //! the machine's definitions make.
 //!
@@ -14,6 +14,9 @@
 #![tactic(auto)]
 
 pub use checked_machine::{Checked, run_checked};
+pub use code_file::Code;
+pub use target_vars::{Env, Scope};
 pub use verified_runs::{
     MAX_LINK_BYTES, Outcome, PrepareError, Run, Step, Turn, Words, prepare, step,
 };
+pub use verifier::Verified;

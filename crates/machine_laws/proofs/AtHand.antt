@@ -1,4 +1,4 @@
--- The member at hand in a loop whose body keeps its element: the element's register holds it until the next turn.
+-- The current member of a loop whose body does not write its element: the element's register holds it until the next turn.
 use Rattle.std.proofs.Common.{◌≡◌, ℕ, zero, suc, ◌+◌, ◌-◌, ◌<◌, ◌≤◌, length, Option, Some, None, Bool, true, false, refl, sym, ap, subst, arith, ⊎_elim}
 use Rattle.std.specs.Prelude.{if◌then◌else◌, option_map, not}
 use Rattle.std.proofs.lemmas.Bool.{and_parts, cases_lt}
@@ -19,7 +19,7 @@ value_bytes (TextValue t) = length t
 value_bytes x = 0
 
 module _ (c : Code) where
-  -- the bytes of the member at hand, where its loop's body keeps it
+  -- the length of the current member, if the loop's body does not write its element
   abbrev pub hand_in : (ℕ → Value) → Option Loop → ℕ
   hand_in regs None = 0
   hand_in regs (Some l) = if keeps_element c (body_of l) then value_bytes (regs l.element) else 0
@@ -27,7 +27,7 @@ module _ (c : Code) where
   abbrev pub at_hand : Frame → ℕ
   at_hand s = hand_in s.registers s.loop
 
-  -- no instruction of a body that keeps its element writes it
+  -- in a body that does not write its element no instruction does
   kept_at : (r p n q : ℕ) → is_kept c r p n ≡ true → p ≤ q → q < p + n → writes r (reading_at c q) ≡ false
   unfolding is_kept
   kept_at r p zero q k low high = absurd (omega arith)
@@ -47,7 +47,7 @@ module _ (c : Code) where
       let high : p < b.end = i.high in
       kept_at b.element b.start (b.end - b.start) p k low (omega arith)
 
-  -- on in the same loop, or in none, it stays
+  -- the member stays as long as the same loop, or none, runs
   pub hand_stays : (s f : Frame) (i : Instruction) → option_map body_of s.loop ≡ body_at c s.place → reading_at c s.place ≡ Some i → f.loop ≡ s.loop
       → KeepsOthers i s f → at_hand f ≡ at_hand s
   hand_stays s f i b r same kept = subst (λ l. hand_in f.registers l ≡ hand_in s.registers s.loop) (sym same) (by_loop s.loop b)
@@ -61,7 +61,7 @@ module _ (c : Code) where
           by_test false k = refl
           by_test true k = ap value_bytes (kept l.element (subst (λ o. writes l.element o ≡ false) r (unwritten s.place (body_of l) (sym e) k)))
 
-  -- at the head of a turn it is the member of the turn
+  -- at the beginning of a turn it is the member of the turn
   pub hand_of_turn : (regs : ℕ → Value) (l : Loop) (u : Text) → regs l.element ≡ TextValue u → hand_in regs (Some l) ≤ length u
   hand_of_turn regs l u holds = by_test (keeps_element c (body_of l))
     where

@@ -26,14 +26,14 @@ module _ (c : Code) (v : Environment) where
   passed zero k x h = let e : 0 + k ≡ k = omega arith in (h.0, x, subst (λ n. After c v n h.0) e h.1, h.2)
   passed (suc j) k x h = let e : suc j + k ≡ suc (j + k) = omega arith in passed j k h.0 (subst (λ n. After c v n h.0) e h.1)
 
-  -- so a state without a step is the last
+  -- so a state without a next step is the last
   no_later : (k m : ℕ) (s x : State) → ((new : State) → Step c v s new → ⊥) → k < m → After c v k s → After c v m x → ⊥
   no_later k m s x ended lt h g =
       let e : m ≡ suc ((m - suc k) + k) = omega arith in
       let p = passed (m - suc k) k x (subst (λ n. After c v n x) e g) in
       ended p.1 (subst (λ y. Step c v y p.1) (after_one c v k p.0 s p.2 h) p.3)
 
-  -- two states without a step are one, after as many steps
+  -- two states without a next step are the same, after the same number of steps
   last_once : (k m : ℕ) (s x : State) → ((new : State) → Step c v s new → ⊥) → ((new : State) → Step c v x new → ⊥) → After c v k s → After c v m x → k ≡ m
   last_once k m s x es ex h g =
       ⊎_elim (λ e. e) (λ o. ⊎_elim (λ lt. absurd (no_later k m s x es lt h g)) (λ lt. absurd (no_later m k x s ex lt g h)) o) (cases_order k m)
@@ -51,7 +51,7 @@ module _ (c : Code) (v : Environment) where
 
   -- ---- courses
 
-  -- what a run ends with is its last state
+  -- the outcome of a run is that of its last state
   last_state : (k : ℕ) (o : Outcome) → ComesTo c v k o → (s : State) × After c v k s × ((new : State) → Step c v s new → ⊥) × (outcome_at s ≡ o)
   last_state k (linked t) h = (Ended (Link t), h, λ new st. st, refl)
   last_state k unlinked h = (Ended NoLink, h, λ new st. st, refl)
@@ -90,7 +90,7 @@ module _ (c : Code) (v : Environment) where
   courses_same : (x : Course) (k : ℕ) (o : Outcome) → (x.steps ≡ k) × (x.outcome ≡ o) → x ≡ record { outcome = o; steps = k }
   courses_same x k o h = λ i. record { outcome = h.1 i; steps = h.0 i }
 
-  -- a run ends with what is computed, and with nothing else
+  -- a run has exactly the course that is computed
   pub course_decided : (k : ℕ) (o : Outcome) → ComesTo c v k o ↔ (course_of c v ≡ record { outcome = o; steps = k })
   course_decided k o = (
     λ h. courses_same (course_of c v) k o (one_course (course_of c v).steps k (course_of c v).outcome o course_found h),

@@ -16,7 +16,7 @@ use Rattle.machine_laws.proofs.Potential.{spent_at_end}
 use Rattle.machine_laws.proofs.AtHand.{at_hand}
 use Rattle.machine_laws.proofs.Spending.{StateSpent, within_weight, spent_step}
 
--- where no place has the second weight, the bodies have none
+-- if no place has the second weight, the bodies have none
 no_second : (c : Code) → inside c (λ p. 0) ≡ 0
 no_second c = total_zero (where_inside c (λ p. 0)) (length c.instrs) (λ p. by_body (is_in_body (body_at c p)) 0 refl)
   where
@@ -25,7 +25,7 @@ no_second c = total_zero (where_inside c (λ p. 0)) (length c.instrs) (λ p. by_
     by_body false n e = refl
 
 module _ (c : Code) (form : HasGoodForm c) (some : 0 < length c.instrs) (t : Table) (closed : IsClosed c t) (meets : MeetsNeeds c t) (v : Environment) where
-  -- each step is worth one
+  -- each step costs one
   steps_spent : (k : ℕ) (s : State) → After c v k s → StateSpent c (λ p. 1) (λ p. 0) (member_count v) (byte_count v) s k
   unfolding After
   steps_spent zero s h = subst (λ x. StateSpent c (λ p. 1) (λ p. 0) (member_count v) (byte_count v) x 0) (sym h) (omega arith)

@@ -1,5 +1,4 @@
--- The least table of a code: there is at most one, it decides whether the code is typable, and with it the first
--- mismatch.
+-- The least table of a code: there is at most one, and it decides whether the code is typable, and which mismatch is the first.
 use Rattle.std.proofs.Common.{◌≡◌, ℕ, ◌≤◌, List, [], ◌∷◌, length, Option, Some, None, Bool, true, false, refl, sym, ap, ◌∙◌, subst, ⊎_elim}
 use Rattle.std.specs.Prelude.{◌↔◌, if◌then◌else◌, option_and_then}
 use Rattle.std.specs.List.{AllByRecursion}
@@ -85,7 +84,7 @@ mismatch_decides c t = (
   },
 )
 
--- a code has at most one first mismatch, and with one it is not typable
+-- a code has at most one first mismatch, and a code that has one is not typable
 pub one_first_mismatch : (c : Code) (m n : Located ℕ) → IsFirstMismatch c m → IsFirstMismatch c n → m ≡ n
 one_first_mismatch c m n h g = some_one (sym h.2 ∙ ap (first_mismatch c) (least_once c h.0 g.0 h.1 g.1) ∙ g.2)
 

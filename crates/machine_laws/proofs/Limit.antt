@@ -1,4 +1,4 @@
--- No run of any code takes more steps than its instructions times one more than the members.
+-- No run of any code takes more steps than the number of its instructions times one more than that of the members.
 use Rattle.std.proofs.Common.{◌≡◌, ℕ, zero, suc, ◌+◌, ◌-◌, ◌*◌, ◌<◌, ◌≤◌, length, Option, Some, None, refl, sym, ap, ◌∙◌, subst, arith, ⊎_elim}
 use Rattle.std.specs.Prelude.{slice_get}
 use Rattle.std.proofs.lemmas.Bool.{cases_lt}
@@ -16,7 +16,7 @@ use Rattle.machine_model.specs.Budget.{inside}
 use Rattle.machine_laws.proofs.Shapes.{Shape, ends, onward, enters, again, leaves, shape}
 use Rattle.machine_laws.proofs.Small.{FrameSmall, IsSmall, text_limit, small_after}
 
--- an instruction is read in the code alone
+-- an instruction can be read only at a place of the code
 pub reads_within : (c : Code) (p : ℕ) (i : Instruction) → Reads c p i → p < length c.instrs
 reads_within c p i r = ⊎_elim (λ lt. lt) (λ le. let e : slice_get c.instrs p ≡ None = slice_get_past c.instrs p le in absurd (cc (e, r.spelled)))
     (cases_lt p (length c.instrs))
@@ -39,7 +39,7 @@ at_least : (m n : ℕ) → n ≤ (m + 1) * n
 at_least m n = omega arith
 
 module _ (c : Code) (v : Environment) where
-  -- k steps lead to place p of a loop at most
+  -- place p of a loop has been reached after at most k steps
   pub record InTurn (l : Loop) (p k : ℕ) : Type 0 where
     pub low : l.start ≤ p
     pub high : p < l.end
@@ -62,7 +62,7 @@ module _ (c : Code) (v : Environment) where
       let e : l.start + (l.end - l.start) ≡ l.end = omega arith in
       subst (λ n. k + 1 ≤ (member_count v + 1) * n) e over
 
-  -- the last turn is cut short by the end of the code, or its body is whole
+  -- the last turn ends at the end of the code, or its body is complete
   left_in_turn : (p k : ℕ) (l : Loop) (h : InTurn l p k) (turns : ℕ) → h.turns ≡ turns → p < length c.instrs → k + 1 ≤ (member_count v + 1) * length c.instrs
   left_in_turn p k l h zero e lt =
       let low : l.start ≤ p = h.low in

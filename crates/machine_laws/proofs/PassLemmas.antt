@@ -1,4 +1,4 @@
--- Passes along all edges stay at or below every closed table, so where they are closed they are the least.
+-- Passes along all edges stay at or below every closed table, so if their table is closed, it is the least.
 use Rattle.std.proofs.Common.{◌≡◌, ℕ, zero, suc, ◌-◌, ◌<◌, ◌≤◌, List, [], ◌∷◌, length, Option, Some, None, true, refl, sym, ap, ◌∙◌, subst, arith, ⊎_elim}
 use Rattle.std.specs.Prelude.{option_map, option_and_then}
 use Rattle.std.specs.List.{list_all, AllByRecursion}
@@ -43,13 +43,13 @@ within_below ks [] r h = refl
 within_below ks (k ∷ row) zero h = (and_parts (kind_le (ks 0) k) _ h).0
 within_below ks (k ∷ row) (suc r) h = within_below (λ q. ks (suc q)) row r (and_parts (kind_le (ks 0) k) _ h).1
 
--- ---- what all rows of a table have, they have after an edge too
+-- ---- a property of all rows of a table also holds after an edge
 
--- each row has it
+-- each row has the property
 abbrev AllRows : (ℕ → Row → Type 0) → Rows → Type 0
 AllRows P rows = (p : ℕ) (row : Row) → row_at rows p ≡ Some row → P p row
 
--- what arrives at a place has it, where what was there had it
+-- the row of a place after an edge has the property, if it had it before
 abbrev Arrives : (ℕ → Row → Type 0) → ℕ → ℕ → Kinds → Type 0
 Arrives P n to ks = (o : Option Row) → ((row : Row) → o ≡ Some row → P to row) → P to (arrived n ks o)
 
@@ -69,7 +69,7 @@ all_carried P n (e ∷ es) rows all a = all_carried P n es (carried n e.to e.kin
 -- ---- at or below a closed table
 
 module _ (c : Code) (form : HasGoodForm c) (u : Table) (closed : IsClosed c u) where
-  -- nothing is known past the registers, and the row is at or below the table's
+  -- nothing is known past the registers, and the row is at or below that of the table
   abbrev Lies : ℕ → Row → Type 0
   Lies p row = IsAnyFrom (register_count c) (kinds_in row) × ((ms : Kinds) × (u p ≡ Some ms) × IsBelow (kinds_in row) ms)
 
@@ -138,7 +138,7 @@ module _ (c : Code) (form : HasGoodForm c) (u : Table) (closed : IsClosed c u) w
   passes_lie zero = first_lies
   passes_lie (suc n) = pass_lies (length c.instrs) (passes c n) (passes_lie n)
 
-  -- what passes find is at or below every closed table
+  -- the table that passes find is at or below every closed table
   pub passes_below : (n : ℕ) → TableBelow (table_in (passes c n)) u
   passes_below n p ks known = by_row (row_at (passes c n) p) (passes_lie n p) known
     where
@@ -200,6 +200,6 @@ module _ (c : Code) (rows : Rows) where
               let r : reading_at c p ≡ None = ap (option_and_then (reading c.version)) (slice_get_past c.instrs p le) in
               subst (λ o. AllByRecursion (Holds (table_in rows)) (for_instruction o (edges p ks (body_at c p)))) (sym r) tt
 
--- where passes are closed they are the least table
+-- if the table that passes find is closed, it is the least table
 pub passes_least : (c : Code) → HasGoodForm c → (n : ℕ) → is_closed c (length c.instrs) (passes c n) ≡ true → IsLeast c (table_in (passes c n))
 passes_least c form n h = record { closed = closed_rows c (passes c n) h; least = λ u closed. passes_below c form u closed n }

@@ -1,5 +1,5 @@
--- What a run has spent by a place, where each place has two weights: what a step there spends at most,
--- and what it spends at most for each byte of the member of the turn.
+-- What a run has spent when it reaches a place. Each place has two weights: what a step there spends at most, and what it spends at most for each byte of the
+-- current member.
 use Rattle.std.proofs.Common.{◌≡◌, ℕ, suc, ◌+◌, ◌-◌, ◌*◌, ◌<◌, ◌≤◌, ◌∷◌, length, Option, Some, None, sym, ap, ◌∙◌, arith}
 use Rattle.std.specs.Prelude.{option_map, sum_by}
 use Rattle.std.proofs.Math.Nat.{mul-le-mul_left}
@@ -25,7 +25,7 @@ one_more : (x member turns past B D e w d t g g' : ℕ) → e + w ≤ B → d + 
     → g' ≤ x + (turns + 1) * B + (past + member) * D
 one_more x member turns past B D e w d t g g' le ld h k = let m = mul-le-mul_left member ld in omega arith
 
--- a loop that is over, where turns and members are bounded
+-- a loop that is over, with bounds on turns and members
 all_turns : (o a b M E turns bytes B D g : ℕ) → turns ≤ M → bytes ≤ E → g ≤ o + M * a + E * b + turns * B + bytes * D → g ≤ o + M * (a + B) + E * (b + D)
 all_turns o a b M E turns bytes B D g lt lb h =
     let m = mul-le-mul_left B lt in
@@ -33,8 +33,7 @@ all_turns o a b M E turns bytes B D g lt lb h =
     omega arith
 
 module _ (c : Code) (w t : ℕ → ℕ) (M E : ℕ) where
-  -- g was spent before place p of a loop's turn, whose member has that many bytes: the turns that are over, and the
-  -- bytes of their members
+  -- g was spent before place p of a loop's turn, whose member has that many bytes; the record has the turns that are over, and the bytes of their members
   pub record SpentInLoop (l : Loop) (member p g : ℕ) : Type 0 where
     pub turns : ℕ
     pub past : ℕ
@@ -49,7 +48,7 @@ module _ (c : Code) (w t : ℕ → ℕ) (M E : ℕ) where
   SpentIn None member p g = g ≤ outer c w p + M * inner c w p + E * inner c t p
   SpentIn (Some l) member p g = SpentInLoop l member p g
 
-  -- what a step at p may spend; outside of loops no byte of a member
+  -- what a step at p may spend; outside of loops nothing for bytes of a member
   abbrev pub Within : Option Loop → ℕ → ℕ → ℕ → ℕ → Type 0
   Within None member p g g' = g' ≤ g + w p
   Within (Some l) member p g g' = g' ≤ g + w p + t p * member
@@ -63,7 +62,7 @@ module _ (c : Code) (w t : ℕ → ℕ) (M E : ℕ) where
       let on' = total_le (where_inside c f) (suc p) q (omega arith) in
       omega arith
 
-  -- on in the same loop, or in none
+  -- a step within the same loop, or outside of loops
   pub spent_onward : (p q g g' member : ℕ) (l : Option Loop) → option_map body_of l ≡ body_at c p → p < q → SpentIn l member p g → Within l member p g g'
       → SpentIn l member q g'
   spent_onward p q g g' member None e lt h le =
@@ -90,7 +89,7 @@ module _ (c : Code) (w t : ℕ → ℕ) (M E : ℕ) where
       let m3 = mul-le-mul_left E (total_le (where_inside c t) p l.start (omega arith)) in
       record { turns = 0; past = 0; few = omega arith; small = omega arith; bound = omega arith }
 
-  -- the whole of a loop, at its last place
+  -- a whole loop, at its last place
   whole : (p g g' member : ℕ) (l : Loop) → Some (body_of l) ≡ body_at c p → SpentIn (Some l) member p g → Within (Some l) member p g g'
       → g' ≤ outer c w l.start + M * inner c w l.end + E * inner c t l.end
   whole p g g' member l e h le =

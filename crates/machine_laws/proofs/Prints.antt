@@ -60,7 +60,7 @@ sep_link c b h =
     let y = and_parts (nat_lt b (length c.literals) && is_link_text (slice_get c.literals b)) true h in
     (and_parts (nat_lt b (length c.literals)) (is_link_text (slice_get c.literals b)) y.0).1
 
--- a SEP prints in a body alone
+-- a SEP prints only in a body
 abbrev pub separated : Option Body → ℕ → ℕ
 separated None n = 0
 separated (Some b) n = n
@@ -68,7 +68,7 @@ separated (Some b) n = n
 -- ---- URI text
 
 module _ (c : Code) (v : Environment) where
-  -- a move prints URI text alone
+  -- a move prints only URI text
   uri_move : (s : Frame) (i : Instruction) (m : Move) → IsFileCode c → has_right_operands c i ≡ true → IsUriText s.output → Does c v s i m
       → IsUriText (move_output m)
   uri_move s _ _ k ok h fail = nothing
@@ -83,7 +83,7 @@ module _ (c : Code) (v : Environment) where
   uri_step (Ended e) new k h st = absurd st
   uri_step (Running s) new k h st = subst IsUriText (sym (lead_output c s.place st.2 new st.4)) (uri_move s st.0 st.2 k st.1.right h st.3)
 
-  -- of any code whose link texts are URI text
+  -- for any code whose link texts are URI text
   pub uri_after : IsFileCode c → (k : ℕ) (s : State) → After c v k s → IsUriText (output_of s)
   unfolding After
   uri_after g zero s h = subst (λ x. IsUriText (output_of x)) (sym h) nothing
@@ -91,12 +91,12 @@ module _ (c : Code) (v : Environment) where
 
   -- ---- bytes
 
-  -- the most that an instruction of a body prints, but for a PUT or CUT of the element
+  -- the maximum number of bytes that an instruction in a body prints, except for a PUT or CUT of the element
   abbrev pub weight_of : Option Body → Option Instruction → ℕ
   weight_of o i = ((if prints_element c o i then 0 else fixed_bytes c i) + separated o (separator_bytes c i))
       + (if prints_element c o i then 0 else written_bytes i) * byte_count v
 
-  -- and what such a PUT or CUT prints for each byte of the member at hand
+  -- and what such a PUT or CUT prints for each byte of the current member
   abbrev pub tight_of : Option Body → Option Instruction → ℕ
   tight_of o i = if prints_element c o i then written_bytes i else 0
 

@@ -1,4 +1,4 @@
--- Of a register that no instruction of a code may name, nothing is ever known.
+-- Nothing is ever known about a register that no instruction of a code may name.
 use Rattle.std.proofs.Common.{◌≡◌, ℕ, ◌<◌, ◌≤◌, ◌∷◌, List, length, Option, Some, None, refl, sym, ap, ◌∙◌, subst, arith, ⊎_elim, true}
 use Rattle.std.specs.Prelude.{if◌then◌else◌, option_and_then}
 use Rattle.std.specs.List.{list_all, AllByRecursion}
@@ -20,7 +20,7 @@ use Rattle.machine_model.proofs.Moves.{some_one}
 use Rattle.machine_model.proofs.Bodies.{is_in}
 use Rattle.machine_model.proofs.GoodPlaces.{good_at}
 
--- nothing is known of a register from n on
+-- nothing is known about the registers from n on
 pub record IsAnyFrom (n : ℕ) (ks : Kinds) : Type 0 where
   pub at : (r : ℕ) → n ≤ r → ks r ≡ Any
 
@@ -81,7 +81,7 @@ module _ (c : Code) where
         let same : g.0 ≡ Each b.element begins.each.0 b.end = some_one (sym g.1.read ∙ begins.each.1) in
         first_register c (Each b.element begins.each.0 b.end) b.element _ refl (subst (λ i. has_right_operands c i ≡ true) same g.1.reads.right)
 
-    -- edges carry nothing of such a register
+    -- nothing is known about such a register after an edge
     pub edges_at_any : (p : ℕ) (ks : Kinds) → IsAnyFrom (register_count c) ks → AllByRecursion (EdgeAny (register_count c)) (edges_at c p ks)
     edges_at_any p ks h = ⊎_elim within past (cases_lt p (length c.instrs))
       where

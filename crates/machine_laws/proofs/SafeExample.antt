@@ -1,4 +1,4 @@
--- The laws at one code: it is safe, and what that says of it in numbers; and a code that is not safe.
+-- The laws for one code: it is safe, and what that says about it in numbers; and a code that is not safe.
 use Rattle.std.proofs.Common.{◌≡◌, ℕ, zero, suc, ◌+◌, ◌*◌, ◌≤◌, [], ◌∷◌, length, Some, None, true, refl, arith}
 use Rattle.std.specs.Prelude.{slice_get}
 use Rattle.text_model.specs.Texts.{is_unreserved, is_reserved}

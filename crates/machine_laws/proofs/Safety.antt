@@ -1,4 +1,4 @@
--- Every state that such a code reaches conforms to a table of kinds.
+-- Every state that a typable code of good form reaches conforms to a table of kinds.
 
 use Rattle.std.proofs.Common.{ℕ, zero, suc, ◌<◌, [], length, refl, sym, subst}
 use Rattle.std.specs.List.{AllByRecursion}
@@ -48,6 +48,6 @@ module _ (c : Code) (form : HasGoodForm c) (starts : 0 < length c.instrs) (t : T
   not_stuck (Ended e) k h = h
   not_stuck (Running s) k h = let m = stepping s k in h m.0 m.1
 
--- a typable code of good form is never stuck
+-- a typable code of good form never gets stuck
 pub never_stuck : (c : Code) → HasGoodForm c → 0 < length c.instrs → IsTypable c → (v : Environment) (k : ℕ) (s : State) → After c v k s → IsStuck c v s → ⊥
 never_stuck c form starts y v k s h = not_stuck c form starts y.0 y.1 y.2 v s (reached c form starts y.0 y.1 y.2 v k s h)

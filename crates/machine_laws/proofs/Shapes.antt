@@ -1,4 +1,4 @@
--- How a step changes place, loop and registers: five ways for the rules of the machine.
+-- How a step changes place, loop and registers: five shapes cover all rules of the machine.
 use Rattle.std.proofs.Common.{◌≡◌, ℕ, ◌+◌, ◌<◌, [], ◌∷◌, Some, None, false, refl}
 use Rattle.std.specs.Prelude.{◌==◌}
 use Rattle.std.proofs.lemmas.Bool.{eq-eqb}
@@ -17,7 +17,7 @@ use Rattle.machine_model.specs.Budget.{writes}
 abbrev pub KeepsOthers : Instruction → Frame → Frame → Type 0
 KeepsOthers i s f = (r : ℕ) → writes r (Some i) ≡ false → f.registers r ≡ s.registers r
 
--- how a move of an instruction changes them
+-- how a move of an instruction changes the state
 pub data Shape (s : Frame) (i : Instruction) : Move → Type 0 where
   ends : (e : End) → Shape s i (Ends e)
   onward : (f : Frame) → f.loop ≡ s.loop → KeepsOthers i s f → Shape s i (Goes f)

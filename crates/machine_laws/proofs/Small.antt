@@ -1,4 +1,4 @@
--- What registers and loops hold is no larger than the environment and the comparison texts.
+-- The values in registers and loops are no larger than the environment and the comparison texts.
 use Rattle.std.proofs.Common.{◌≡◌, ℕ, zero, suc, ◌+◌, ◌≤◌, List, [], ◌∷◌, length, Option, Some, None, Bool, true, false, refl, sym, subst, arith}
 use Rattle.std.specs.Prelude.{slice_get, nat_lt, ◌==◌, if◌then◌else◌, ◌&&◌, bytes_eq, sum_by}
 use Rattle.std.proofs.lemmas.Bool.{and_parts}
@@ -43,7 +43,7 @@ MoveSmall m e n (Ends end) = Unit {0}
 MoveSmall m e n (Goes s) = FrameSmall m e n s
 MoveSmall m e n (Returns s) = FrameSmall m e n s
 
--- ---- what the environment gives
+-- ---- values from the environment
 
 abbrev MeaningSmall : ℕ → ℕ → Option Meaning → Type 0
 MeaningSmall m e o = (length (members_in o) ≤ m) × (sum_by length (members_in o) ≤ e) × IsSmall m e e (text_or_undefined (text_in o))
@@ -69,7 +69,7 @@ meaning_small (x ∷ v) name =
     by_test rest true = one_meaning x.meaning _ _ (omega arith) (omega arith)
     by_test rest false = meaning_more (look_up v name) (member_count v) (byte_count v) _ _ (omega arith) (omega arith) rest
 
--- ---- what the table of literals gives
+-- ---- values from the table of literals
 
 literal_small : (ls : List Literal) (b : ℕ) → is_compared (slice_get ls b) ≡ true → length (text_of_literal (slice_get ls b)) ≤ longest_compared ls
 unfolding longest_compared
@@ -84,9 +84,9 @@ const_compared c a b h =
     let y = and_parts (nat_lt b (length c.literals) && is_compared (slice_get c.literals b)) true x.1 in
     (and_parts (nat_lt b (length c.literals)) (is_compared (slice_get c.literals b)) y.0).1
 
--- ---- steps keep it
+-- ---- steps keep values small
 
--- the most bytes that a text in a register has
+-- the maximum number of bytes of a text in a register
 abbrev pub text_limit : Code → Environment → ℕ
 text_limit c v = byte_count v + longest_compared c.literals
 
@@ -143,7 +143,7 @@ module _ (c : Code) (v : Environment) where
   small_step (Ended e) new h st = absurd st
   small_step (Running s) new h st = small_lead s.place st.2 new (small_move s st.0 st.2 h st.1.right st.3) st.4
 
-  -- of any code
+  -- for any code
   pub small_after : (k : ℕ) (s : State) → After c v k s → Small s
   unfolding After
   small_after zero s h = subst (StateSmall (member_count v) (byte_count v) (text_limit c v)) (sym h) (record { registers = λ r. tt; left = tt })

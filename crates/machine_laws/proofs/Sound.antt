@@ -1,4 +1,4 @@
--- A typable code of good form is never stuck.
+-- A typable code of good form never gets stuck.
 
 use Rattle.std.proofs.Common.{◌≡◌, ℕ, ◌+◌, ◌-◌, ◌<◌, ◌≤◌, List, [], ◌∷◌, length, Option, Some, None, Bool, true, false, refl, sym, ap, ◌∙◌, subst, arith}
 use Rattle.std.proofs.Common.{add-one, ⊎_elim}
@@ -80,7 +80,7 @@ module _ (c : Code) (t : Table) where
         along v s op (edge to ks) s.registers s.loop s.output d h f (ltb-true s.place to lt) (ltb-true to (length c.instrs) within)
         (k.body ∙ same_bodies c s.place to (body_at c s.place) (body_at c to) refl refl cross')
 
-    -- an operation at a place with kinds does what it needs to, on each of its edges
+    -- an instruction whose needs are met makes a step along one of its edges
     pub goes : (op : Instruction) → IsGood c s.place op → AllByRecursion (IsMet k.kinds) (needs op)
         → AllByRecursion (Holds t) (edges s.place k.kinds (body_at c s.place) op) → GoesOn v s op
     goes Halt g n h = (Ends (Link s.output), Ended (Link s.output), halt, refl, tt)

@@ -29,7 +29,7 @@ module _ (c : Code) (w t : ℕ → ℕ) (M E : ℕ) where
   abbrev pub StepWithin : Frame → ℕ → ℕ → Type 0
   StepWithin s g g' = Within c w t M E s.loop (at_hand c s) s.place g g'
 
-  -- a step may spend what its place spends at most, whatever the member
+  -- a step may spend the weight of its place, whatever the member
   pub within_weight : (l : Option Loop) (member p g g' : ℕ) → g' ≤ g + w p → Within c w t M E l member p g g'
   within_weight None member p g g' le = le
   within_weight (Some l) member p g g' le = omega arith

@@ -132,7 +132,7 @@ module _ (c : Code) where
   pub form_kept : HasGoodForm c → HasGoodForm (upgraded c)
   form_kept form = record { at = λ p. fault_more p (form.at p) }
 
-  -- ---- of good form: the same is read at each place
+  -- ---- for code of good form: the same instruction is read at each place
 
   module _ (form : HasGoodForm c) where
     reading_same : (p : ℕ) → reading_at (upgraded c) p ≡ reading_at c p

@@ -1,4 +1,4 @@
--- What a code does, it does as code of version 2 too.
+-- A code does the same after it is upgraded to version 2.
 
 use Rattle.std.proofs.Common.{◌≡◌, ℕ, zero, suc, ◌+◌, ◌-◌, ◌<◌, List, [], ◌∷◌, ◌++◌, Option, Some, None, Bool, true, false, refl, sym, ◌∙◌, arith, ◌⊎◌, inl}
 use Rattle.std.proofs.Common.{inr, ⊎_elim}
@@ -20,7 +20,7 @@ use Rattle.machine_model.specs.Next.{move_of}
 use Rattle.machine_model.specs.Budget.{inside}
 use Rattle.machine_model.proofs.Moves.{move_of-does, does-move_of}
 
--- ---- what a version reads, version 2 reads too; and where it reads nothing, version 2 reads nothing or a COUNT
+-- ---- version 2 reads what another version reads; where that reads nothing, version 2 reads nothing or a COUNT
 
 one_more : {X : Type 0} (xs : List (Option X)) (y : Option X) (n : ℕ)
     → (unwrap_or (slice_get (xs ++ None ∷ []) n) None ≡ unwrap_or (slice_get (xs ++ y ∷ []) n) None)
@@ -45,7 +45,7 @@ readings v f = by_version (v == 2)
 pub reading_more : (v : ℕ) (f : Instr) (i : Instruction) → reading v f ≡ Some i → reading 2 f ≡ Some i
 reading_more v f i h = ⊎_elim (λ same. sym same ∙ h) (λ other. absurd (cc (other.0, h))) (readings v f)
 
--- nothing was read at a place, and now a COUNT is
+-- nothing is read at a place, but version 2 reads a COUNT
 abbrev NowCounts : Option Instruction → Option Instruction → Type 0
 NowCounts before now = (before ≡ None) × ((a b : ℕ) × (now ≡ Some (Count a b)))
 
@@ -110,7 +110,7 @@ module _ (c : Code) where
       let does = does-move_of (upgraded c) v s h.0 h.2 (sym (moves_same v s h.0) ∙ move_of-does c v s h.0 h.2 h.3) in
       (h.0, reads_more s.place h.0 h.1, h.2, does, leads_same s.place h.2 new h.4)
 
-  -- the states that are reached are reached after as many steps
+  -- the same states are reached after the same number of steps
   pub after_more : (v : Environment) (k : ℕ) (s : State) → After c v k s → After (upgraded c) v k s
   unfolding After
   after_more v zero s h = h

@@ -1,4 +1,4 @@
-//! The laws of the byte-code machine, each the contract of a function that does nothing.
+//! The laws of the byte-code machine. Each is the contract of a function with an empty body, which is a theorem.
 #![tactic(auto)]
 
 mod runs;

@@ -7,8 +7,8 @@ ghost use Rattle.machine_model.specs.States.{Frame, State, Running};
 ghost use Rattle.machine_model.specs.Runs.{After, EndsAfter, ComesTo, HasOutcome, Outcome};
 ghost use Rattle.machine_model.specs.Next.{course, course_of, outcome_of};
 
-/// Each run ends with a link, with no link or at a place without a step, and no run takes more steps than
-/// the instructions of the code times one more than the members of the environment.
+/// Each run ends with a link, without a link, or at a place where no step is possible. A run takes at most `I * (1 +
+/// M)` steps, where I is the number of instructions of the code, and M that of members of the environment.
 pub fn every_run_ends()
     ensures comes_to { (c : Code) (v : Environment) →
         ComesTo c v (course_of c v).steps (course_of c v).outcome }
@@ -16,7 +16,7 @@ pub fn every_run_ends()
         After c v k s → k ≤ length c.instrs * (member_count v + 1) }
 {}
 
-/// A run ends with what the function that runs it computes, after as many steps, and with nothing else.
+/// A run has exactly the outcome and the number of steps that the function `course` computes.
 pub fn course_is_decided()
     ensures course { (c : Code) (v : Environment) (k : ℕ) (o : Outcome) →
         ComesTo c v k o ↔ (course_of c v ≡ course k o) }
@@ -24,12 +24,12 @@ pub fn course_is_decided()
         HasOutcome c v o ↔ (outcome_of c v ≡ o) }
 {}
 
-/// A run ends after one number of steps.
+/// A run ends after exactly one number of steps.
 pub fn run_ends_once()
     ensures { (c : Code) (v : Environment) (k m : ℕ) → EndsAfter c v k → EndsAfter c v m → k ≡ m }
 {}
 
-/// A state that runs is reached before the end.
+/// A running state comes before the end of the run.
 pub fn running_comes_before_the_end()
     ensures { (c : Code) (v : Environment) (k m : ℕ) (s : Frame) →
         After c v k (Running s) → EndsAfter c v m → k < m }

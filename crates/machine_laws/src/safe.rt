@@ -1,4 +1,4 @@
-//! What the verifier and the runs of accepted code rest on.
+//! The laws on which the verifier and the runs of accepted code rely.
 
 ghost use Rattle.std.specs.Prelude.{ℕ, length, ◌<◌};
 ghost use Rattle.environment_model.specs.Environment.{Environment};
@@ -11,15 +11,15 @@ ghost use Rattle.machine_model.specs.Typable.{Table, IsClosed, MeetsNeeds, IsTyp
 ghost use Rattle.machine_model.specs.Fitting.{Conforms};
 ghost use Rattle.machine_model.specs.Safe.{IsFileCode, IsSafe};
 
-/// A code of good form that is typable is safe: on every environment it is never stuck, ends within its
-/// steps, and prints URI text within its bytes. That it is a file's code says that it has an instruction
-/// and that its link texts are URI text.
+/// The code of a file that has good form and is typable is safe: on every environment it never gets stuck, ends within
+/// the steps of its budget, and prints URI text within the bytes of its budget. Code of a file has at least one
+/// instruction, and its link texts are URI text.
 pub fn typable_code_is_safe()
     ensures { (c : Code) → IsFileCode c → HasGoodForm c → IsTypable c → IsSafe c }
 {}
 
-/// Each running state that such a code reaches is described by every table that fits it: its place has
-/// kinds, its registers fit them, and a loop runs exactly in its body. A step is possible from it.
+/// Every table of kinds for such a code describes each running state that the code reaches: the place has kinds, the
+/// registers hold values of these kinds, and a loop runs exactly in its body. A step is possible from the state.
 pub fn reached_states_conform()
     ensures conforms { (c : Code) (t : Table) (v : Environment) (k : ℕ) (s : Frame) →
         HasGoodForm c → 0 < length c.instrs → IsClosed c t → MeetsNeeds c t → After c v k (Running s) → Conforms c t s }

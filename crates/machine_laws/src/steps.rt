@@ -14,13 +14,13 @@ pub fn no_state_has_two_next_states()
         Step c v s new → Step c v s other → new ≡ other }
 {}
 
-/// A step is possible exactly if the function that computes the next state gives one, and to that one.
+/// A step is possible exactly if the function that computes the next state returns one, and it leads to that state.
 pub fn step_is_decided()
     ensures { (c : Code) (v : Environment) (s new : State) →
         Step c v s new ↔ (next_state c v s ≡ Some new) }
 {}
 
-/// The state after k steps is what the next state gives, k times from the start.
+/// The state after k steps is the result of computing the next state k times, from the start.
 pub fn states_after_steps_are_decided()
     ensures { (c : Code) (v : Environment) (k : ℕ) (s : State) → After c v k s ↔ (state_after c v k ≡ Some s) }
 {}

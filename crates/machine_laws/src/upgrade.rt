@@ -1,4 +1,4 @@
-//! What stays as it is where a code becomes code of version 2.
+//! What stays the same when a code is upgraded to version 2.
 
 ghost use Rattle.std.specs.Prelude.{◌≡◌, ◌↔◌, ℕ, ◌⊎◌};
 ghost use Rattle.text_model.specs.Texts.{Text};
@@ -10,9 +10,9 @@ ghost use Rattle.machine_model.specs.Form.{HasGoodForm};
 ghost use Rattle.machine_model.specs.Typable.{IsTypable};
 ghost use Rattle.machine_model.specs.Budget.{sums_of};
 
-/// A code that ends with a link or with no link ends the same way as code of version 2, after as many steps, and by
-/// the same states. Good form is kept; and of code of good form whether it is typable, and its budget. Code of
-/// version 2 stays what it is.
+/// A code that ends with a link or without one ends the same way after it is upgraded to version 2, after the same
+/// number of steps and through the same states. If the code has good form, so does the upgraded code, with the same
+/// budget, and it is typable exactly if the code is. Code of version 2 is unchanged.
 pub fn upgrade_keeps_what_code_does()
     ensures states { (c : Code) (v : Environment) (k : ℕ) (s : State) → After c v k s → After (upgraded c) v k s }
     ensures outcome { (c : Code) (v : Environment) (k : ℕ) (o : Outcome) →

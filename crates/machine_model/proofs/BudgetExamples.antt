@@ -1,12 +1,14 @@
 -- The budgets of small codes.
 use Rattle.std.proofs.Common.{◌≡◌, ℕ, List, [], ◌∷◌, Some, None, Bool, true, false, refl, arith}
-use Rattle.std.specs.Prelude.{map, length, ◌+◌, ◌++◌}
+use Rattle.std.specs.Prelude.{codes, map, length, ◌+◌, ◌++◌}
+use Rattle.text_model.specs.Texts.{Text}
 use Rattle.code_model.specs.Code.{Code, row, reading, upgraded}
 use Rattle.code_model.specs.declared.code.Instruction.{Instruction}
 use Rattle.code_model.specs.declared.code.Instruction.TheVariants as instruction
 use Rattle.machine_model.specs.Form.{body_at}
 use Rattle.machine_model.specs.Budget.{longest_compared, writes, prints, is_kept, total, Sums, sums_of, steps_bound, bytes_bound}
-use Rattle.machine_model.proofs.Listings.{list_code, issn_code, x_code, element_written, sample, with_fields, with_instruction}
+use Rattle.machine_model.proofs.Listings.{code, text_name, link_text, list_code, issn_code, authors_code, x_code, element_written, sample}
+use Rattle.machine_model.proofs.Listings.{with_fields, with_instruction}
 
 abbrev sums : ℕ → ℕ → ℕ → ℕ → ℕ → ℕ → Sums
 sums s0 s1 o0 o1 o2 o3 = record { s0 = s0; s1 = s1; o0 = o0; o1 = o1; o2 = o2; o3 = o3 }
@@ -23,6 +25,8 @@ abbrev cases : List Case
 cases =
     case list_code (sums 3 3 0 1 3 0)
     ∷ case issn_code (sums 10 0 17 0 3 0)
+    ∷ case authors_code (sums 15 3 14 1 3 0)
+    ∷ case (upgraded list_code) (sums 3 3 0 1 3 0)
     ∷ case x_code (sums 4 0 0 0 3 0)
     ∷ case (sample (instruction.Emit 0 ∷ instruction.Halt ∷ [])) (sums 2 0 1 0 0 0)
     -- an entry of the other kind counts by its length, and a missing one by 0
@@ -104,17 +108,17 @@ written_registers = refl
 printed_registers : map (λ x. map (λ r. prints r (Some x.instruction)) (1 ∷ 2 ∷ [])) registers ≡ map (λ x. x.prints) registers
 printed_registers = refl
 
--- a number that names no operation does neither
+-- a number that is no operation does neither
 no_operation : writes 1 None ∷ prints 1 None ∷ [] ≡ neither
 no_operation = refl
 
 -- ---- PUT of the element: the body writes it, before or after the PUT, or it stays as it is
 
--- over `list`, with that many places in the body; r1 is the element
+-- a loop over `list`, with these instructions in the body; r1 is the element
 abbrev loop : List Instruction → Code
 loop body = sample (instruction.List 0 0 ∷ instruction.Each 1 0 (length body + 2) ∷ (body ++ (instruction.Halt ∷ [])))
 
--- with one PUT in a body of that many places
+-- the sums for one PUT in a body of that many places
 abbrev of_the_element : ℕ → Sums
 of_the_element n = sums 3 n 0 0 3 0
 
@@ -144,7 +148,7 @@ element_cases =
     -- the element of another body
     ∷ case (sample (instruction.List 0 0 ∷ instruction.Each 1 0 3 ∷ instruction.Next ∷ instruction.Each 2 0 6 ∷ instruction.Put 1
     0 ∷ instruction.Next ∷ instruction.Halt ∷ [])) (sums 4 3 0 30 0 3)
-    -- COUNT writes its register in version 2; in version 1 its number names nothing
+    -- COUNT writes its register in version 2; in version 1 its number is no operation
     ∷ case (upgraded (loop (instruction.Put 1 0 ∷ instruction.Count 1 0 ∷ instruction.Next ∷ []))) (of_another 3)
     ∷ case (upgraded (loop (instruction.Put 1 0 ∷ instruction.Count 2 1 ∷ instruction.Next ∷ []))) (of_the_element 3)
     ∷ case (loop (instruction.Put 1 0 ∷ instruction.Count 1 0 ∷ instruction.Next ∷ [])) (of_the_element 3)
@@ -181,7 +185,7 @@ issn_bytes : bytes_bound (sums_of issn_code) 0 9 ≡ 44
 unfolding total longest_compared is_kept body_at reading
 issn_bytes = refl
 
--- outside bodies the members count for nothing
+-- outside bodies the members do not matter
 x_steps : steps_bound (sums_of x_code) 5 ≡ 4
 unfolding total body_at reading
 x_steps = refl
@@ -190,13 +194,28 @@ x_bytes : bytes_bound (sums_of x_code) 5 7 ≡ 21
 unfolding total longest_compared is_kept body_at reading
 x_bytes = refl
 
--- each sum in its place: by nothing, by M, by E, and by both
+-- a link text, and then the text of `x`
+abbrev x_after : Text → Code
+x_after t =
+    code (text_name (codes "x") ∷ []) (link_text t ∷ [])
+    (instruction.Emit 0 ∷ instruction.Text 2 0 ∷ instruction.Undef 2 4 ∷ instruction.Put 2 0 ∷ instruction.Halt ∷ [])
+
+-- 349,525 bytes, after a link text of one byte or of two: the limit of a run is 1,048,576
+at_the_limit : bytes_bound (sums_of (x_after (codes ","))) 0 349525 ≡ 1048576
+unfolding total longest_compared is_kept body_at reading
+at_the_limit = refl
+
+over_the_limit : bytes_bound (sums_of (x_after (codes ",,"))) 0 349525 ≡ 1048577
+unfolding total longest_compared is_kept body_at reading
+over_the_limit = refl
+
+-- each sum in its place: alone, times M, times E, and times both
 all_terms : bytes_bound (sums 9 9 1000 100 10 1) 3 7 ≡ 1391
 all_terms = refl
 
 -- ---- what must not hold
 
--- a body counts once a turn, and not once
+-- a body counts once for each turn, and not just once
 not_once : (sums_of list_code).s0 ≡ 6 → ⊥
 unfolding total body_at reading
 not_once e = let once : 3 ≡ 6 = e in absurd (omega (arith, once))

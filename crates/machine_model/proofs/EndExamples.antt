@@ -57,7 +57,7 @@ loops =
     ∷ case (with_instruction 0 (instruction.Jump 4) list_code) colours 1 (outcome.Stuck 4)
     ∷ given (instruction.List 0 0 ∷ instruction.Each 1 0 3 ∷ instruction.Next ∷ instruction.Each 2 0 6 ∷ instruction.Sep
     0 ∷ instruction.Next ∷ instruction.Halt ∷ []) 13 (linked (codes "//"))
-    -- a jump that is not taken is not judged
+    -- the target of a jump that is not taken does not matter
     ∷ given (instruction.Const 0 1 ∷ instruction.Empty 0 0 ∷ instruction.Halt ∷ []) 3 (linked [])
     ∷ given (instruction.Const 0 1 ∷ instruction.Empty 0 99 ∷ instruction.Halt ∷ []) 3 (linked [])
     -- HALT may be in a body, and NEXT at the last place of the code

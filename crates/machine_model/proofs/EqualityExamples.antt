@@ -1,4 +1,4 @@
--- Which texts DIFFER holds to be equal, and which numbers LESS compares: runs over pairs of texts.
+-- Which texts are equal for DIFFER, and which numbers LESS compares: runs over pairs of texts.
 use Rattle.std.proofs.Common.{◌≡◌, List, [], ◌∷◌, refl}
 use Rattle.std.specs.Prelude.{codes, map}
 use Rattle.text_model.specs.Texts.{Text, is_unreserved}
@@ -19,7 +19,7 @@ record Pair : Type 0 where
 abbrev pair : Text → Text → Pair
 pair t u = record { first = t; second = u }
 
--- the empty link where the two texts differ, and none where they are equal
+-- the empty link if the two texts differ, and no link if they are equal
 abbrev comparing : Pair → Code
 comparing x =
     code [] (compared_text x.first ∷ compared_text x.second ∷ [])
@@ -59,7 +59,7 @@ equal_texts = refl
 
 -- ---- numbers
 
--- `b` where the first number is below the second, `n` where it is not, and `-` where a text has no number
+-- `b` if the first number is below the second, `n` if it is not, and `-` if a text has no number
 abbrev ordering : Pair → Code
 ordering x =
     code [] (compared_text x.first ∷ compared_text x.second ∷ compared_text (codes "b") ∷ compared_text (codes "n") ∷ compared_text (codes "-") ∷ [])
@@ -91,13 +91,13 @@ not_below : outcomes (pair (codes "10") (codes "9") ∷ pair (codes "007") (code
 unfolding course_from reading has_right_operands is_unreserved written_u leading_number value_from
 not_below = refl
 
--- a sign or a space before the digits is no part of a number
+-- a sign or a space before the digits is not part of a number
 no_number : outcomes (pair (codes "+5") (codes "7") ∷ pair (codes "-5") (codes "7") ∷ pair (codes " 5") (codes "7") ∷ pair (codes "7") (codes "+9") ∷ [])
     ≡ Link (codes "-") ∷ Link (codes "-") ∷ Link (codes "-") ∷ Link (codes "-") ∷ []
 unfolding course_from reading has_right_operands is_unreserved written_u leading_number value_from
 no_number = refl
 
--- ---- a loop that loads a text over its element
+-- ---- a loop that loads a text into the register of its element
 
 -- each turn prints the text, whatever the member
 over_three_members : course_of element_written colours ≡ course 12 (Link (codes "abcabcabc"))

@@ -1,4 +1,4 @@
--- What it says of a value that it has a kind, and of registers that they fit kinds.
+-- What follows if a value has a kind, and if registers fit kinds.
 use Rattle.std.proofs.Common.{◌≡◌, ℕ, List, Option, Some, None, Bool, true, false, refl, sym, subst, ◌⊎◌, inl, inr}
 use Rattle.std.specs.Prelude.{◌==◌, if◌then◌else◌}
 use Rattle.std.proofs.lemmas.Bool.{eqb-true}

@@ -126,7 +126,7 @@ second_version_holds : computed second_version ≡ expected second_version
 unfolding first_below fault_at body_at reading
 second_version_holds = refl
 
--- what version 1 refuses for its registers, version 2 does not
+-- instructions that version 1 rejects for their registers, and version 2 accepts
 past_registers_kept : map (λ i. fault_at (second (i ∷ instruction.Halt ∷ [])) 0) past_registers ≡
     None
     ∷ None
@@ -194,7 +194,7 @@ bodies : map (body_at list_code) (0 ∷ 1 ∷ 2 ∷ 3 ∷ 4 ∷ 5 ∷ 6 ∷ []) 
 unfolding body_at reading
 bodies = refl
 
--- they look at the operations alone: EACH and NEXT may have other faults
+-- bodies depend only on the operations: EACH and NEXT may have other faults
 unread_each : fault_at (with_fields 1 (row 16 1 0 7 5) list_code) 2 ≡ None
 unfolding fault_at body_at reading
 unread_each = refl
@@ -203,7 +203,7 @@ unread_next : fault_at (with_fields 4 (row 18 7 0 0 0) list_code) 2 ≡ None
 unfolding fault_at body_at reading
 unread_next = refl
 
--- an EACH in a body begins none, though a NEXT is before its end: that NEXT ends no body
+-- an EACH in a body does not begin another, even if a NEXT is before its end: that NEXT ends no body
 abbrev nested : Code
 nested = sample (instruction.List 0 0 ∷ instruction.Each 1 0 6 ∷ instruction.Each 2 0 5 ∷ instruction.Put 1
     0 ∷ instruction.Next ∷ instruction.Next ∷ instruction.Halt ∷ [])

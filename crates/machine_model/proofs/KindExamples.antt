@@ -1,4 +1,4 @@
--- Kinds of small codes: what is carried where, and the first mismatch.
+-- Kinds of small codes: edges and their kinds, and the first mismatch.
 
 use Rattle.std.proofs.Common.{◌≡◌, ℕ, List, [], ◌∷◌, Option, Some, None, true, false, refl}
 use Rattle.std.specs.Prelude.{map, slice_index_or}
@@ -40,7 +40,7 @@ record Row : Type 0 where
   needs : List Need
   edges : List (ℕ × List Kind)
 
--- r0 is a text, r1 a list, r2 a number, and nothing is known of the others
+-- r0 is a text, r1 a list, r2 a number, and nothing is known about the others
 abbrev known : Kinds
 known r = slice_index_or (Text ∷ ListKind ∷ Number ∷ []) r Any
 

@@ -43,7 +43,7 @@ list_code =
     ∷ instruction.Halt
     ∷ [])
 
--- what a rule with the template `http://e.org/{rft.issn}` is compiled to
+-- the code of a rule with the template `http://e.org/{rft.issn}`
 abbrev pub issn_code : Code
 issn_code =
     code (text_name (codes "rft.issn") ∷ []) (link_text (codes "http://e.org/") ∷ compared_text [] ∷ link_text (codes ",") ∷ compared_text (codes "1") ∷ [])
@@ -59,11 +59,36 @@ issn_code =
     ∷ instruction.Fail
     ∷ [])
 
--- the text `x`, where it is there
+-- what a rule with `when rft.au counts 2 to *` and the template `http://e.org/{rft.au}` is compiled to
+abbrev pub authors_code : Code
+authors_code =
+    upgraded (code (list_name (codes "rft.au") ∷ [])
+    (compared_text (codes "2") ∷ link_text (codes "http://e.org/") ∷ compared_text [] ∷ link_text (codes ",") ∷ compared_text (codes "1") ∷ [])
+    (instruction.List 0 0
+    ∷ instruction.Count 1 0
+    ∷ instruction.Const 2 0
+    ∷ instruction.Number 3 2 5
+    ∷ instruction.Less 1 3 17
+    ∷ instruction.Emit 1
+    ∷ instruction.Const 4 2
+    ∷ instruction.List 0 0
+    ∷ instruction.NoList 0 16
+    ∷ instruction.Empty 4 11
+    ∷ instruction.Emit 3
+    ∷ instruction.Const 4 4
+    ∷ instruction.Each 5 0 16
+    ∷ instruction.Sep 3
+    ∷ instruction.Put 5 0
+    ∷ instruction.Next
+    ∷ instruction.Halt
+    ∷ instruction.Fail
+    ∷ []))
+
+-- prints the text `x` if it is defined
 abbrev pub x_code : Code
 x_code = code (text_name (codes "x") ∷ []) [] (instruction.Text 2 0 ∷ instruction.Undef 2 3 ∷ instruction.Put 2 0 ∷ instruction.Halt ∷ [])
 
--- the comparison text `abc`, loaded over each member and printed
+-- a loop that loads the comparison text `abc` into the element's register, and prints it
 abbrev pub element_written : Code
 element_written =
     code (list_name (codes "list") ∷ []) (compared_text (codes "abc") ∷ [])
@@ -75,8 +100,8 @@ element_written =
     ∷ instruction.Halt
     ∷ [])
 
--- names 0 `list`, a list, and 1 `x`, a text; literals 0 the link text `/`, and to compare with 1 `12`,
--- 2 `7`, 3 the empty text, 4 ten digits, 5 nine digits and a letter, 6 `é%41b`
+-- names: 0 `list`, a list, and 1 `x`, a text. Literals: 0 the link text `/`, and the comparison texts 1 `12`, 2 `7`, 3 the empty text, 4 ten digits, 5 nine
+-- digits and a letter, 6 `é%41b`
 abbrev pub sample : List Instruction → Code
 sample instructions =
     code (list_name (codes "list") ∷ text_name (codes "x") ∷ [])

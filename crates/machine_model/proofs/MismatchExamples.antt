@@ -40,11 +40,11 @@ straight_cases =
     ∷ record { code = list_code; mismatch = None }
     ∷ record { code = issn_code; mismatch = None }
     ∷ refused 1 2 (instruction.Text 2 1 ∷ instruction.Put 2 0 ∷ instruction.Halt ∷ [])
-    -- of two needs the first: a before b
+    -- the first of two needs: a before b
     ∷ refused 0 3 (instruction.Differ 3 2 1 ∷ instruction.Halt ∷ [])
     ∷ refused 1 2 (instruction.Const 3 1 ∷ instruction.Differ 3 2 2 ∷ instruction.Halt ∷ [])
     ∷ refused 0 3 (instruction.Less 3 2 1 ∷ instruction.Halt ∷ [])
-    -- of two places the first
+    -- the first of two places
     ∷ refused 0 5 (instruction.Put 5 0 ∷ instruction.Put 4 0 ∷ instruction.Halt ∷ [])
     -- a place that no edge reaches is not examined
     ∷ accepted (instruction.Halt ∷ instruction.Put 0 0 ∷ instruction.Halt ∷ [])
@@ -57,7 +57,7 @@ straight_cases =
     -- only the next edge of NUMBER carries a number
     ∷ refused 2 1 (instruction.Const 0 1 ∷ instruction.Number 1 0 2 ∷ instruction.Less 1 1 3 ∷ instruction.Halt ∷ [])
     ∷ accepted (instruction.Const 0 1 ∷ instruction.Number 1 0 3 ∷ instruction.Less 1 1 3 ∷ instruction.Halt ∷ [])
-    -- and where both lead to one place, neither's kinds are lost
+    -- and if both lead to the same place, the kinds of both count
     ∷ refused 3 1 (instruction.Const 0 1 ∷ instruction.Const 1 1 ∷ instruction.Number 1 0 3 ∷ instruction.Put 1 0 ∷ instruction.Halt ∷ [])
     ∷ refused 3 1 (instruction.Const 0 1 ∷ instruction.Const 1 1 ∷ instruction.Number 1 0 3 ∷ instruction.Less 1 1 4 ∷ instruction.Halt ∷ [])
     -- nothing is known at the start
@@ -75,7 +75,7 @@ straight_cases_hold_of_second = refl
 
 abbrev loop_cases : List Case
 loop_cases =
-    -- a loop that raises a kind: refused where the kind is used, accepted where it is not
+    -- a loop that raises a kind: rejected if the kind is needed, and accepted if not
     refused 3 2 (instruction.List 0 0 ∷ instruction.Const 2 1 ∷ instruction.Each 1 0 6 ∷ instruction.Put 2 0 ∷ instruction.List 2
     0 ∷ instruction.Next ∷ instruction.Halt ∷ [])
     ∷ accepted (instruction.List 0 0 ∷ instruction.Const 2 1 ∷ instruction.Each 1 0 5 ∷ instruction.List 2 0 ∷ instruction.Next ∷ instruction.Halt ∷ [])
@@ -98,12 +98,12 @@ loop_cases =
     ∷ accepted (instruction.List 0 0 ∷ instruction.Each 0 0 4 ∷ instruction.Put 0 0 ∷ instruction.Next ∷ instruction.Halt ∷ [])
     -- the element is a text in each turn, whatever the body makes of it
     ∷ accepted (instruction.List 0 0 ∷ instruction.Each 1 0 5 ∷ instruction.Put 1 0 ∷ instruction.List 1 0 ∷ instruction.Next ∷ instruction.Halt ∷ [])
-    -- a kind may sink in a loop
+    -- a kind may become lower in a loop
     ∷ accepted (instruction.List 0 0 ∷ instruction.Each 1 0 4 ∷ instruction.Const 2 1 ∷ instruction.Next ∷ instruction.Halt ∷ [])
     -- a NEXT that no edge reaches raises nothing
     ∷ accepted (instruction.List 0 0 ∷ instruction.Const 2 1 ∷ instruction.Each 1 0 7 ∷ instruction.Put 2 0 ∷ instruction.List 2
     0 ∷ instruction.Halt ∷ instruction.Next ∷ instruction.Halt ∷ [])
-    -- nothing is known of the element after the loop, whether a turn came or not
+    -- nothing is known about the element after the loop, whether it had turns or not
     ∷ refused 3 1 (instruction.List 0 0 ∷ instruction.Each 1 0 3 ∷ instruction.Next ∷ instruction.Put 1 0 ∷ instruction.Halt ∷ [])
     ∷ refused 4 1 (instruction.List 0 0 ∷ instruction.Each 1 0 4 ∷ instruction.Halt ∷ instruction.Next ∷ instruction.Put 1 0 ∷ instruction.Halt ∷ [])
     ∷ []
@@ -125,7 +125,7 @@ refused_second p r is = record { code = second is; mismatch = Some (record { pla
 
 abbrev second_cases : List Case
 second_cases =
-    -- nothing is known of r16 in a list code of version 2 that loads its list there
+    -- the list code of version 2 that loads its list into r16; nothing is known about r0
     record { code = upgraded (with_instruction 0 (instruction.List 16 0) list_code); mismatch = Some (record { place = 1; what = 0 }) }
     -- COUNT takes a list, and gives a number
     ∷ accepted_second (instruction.List 0 0 ∷ instruction.Count 63 0 ∷ instruction.Less 63 63 3 ∷ instruction.Halt ∷ [])

@@ -1,4 +1,4 @@
--- The order of the checks of form: of two that fail at a place, the earlier is its fault.
+-- The order of the checks of form: if two fail at a place, the earlier one is its fault.
 use Rattle.std.proofs.Common.{◌≡◌, ℕ, List, [], ◌∷◌, Option, Some, refl}
 use Rattle.std.specs.Prelude.{map}
 use Rattle.code_model.specs.Code.{row, reading}
@@ -106,7 +106,7 @@ loops_first_hold : map first loops_first ≡ map wanted loops_first
 unfolding first_below fault_at body_at reading
 loops_first_hold = refl
 
--- a comparison text where a SEP in no body wants a link text
+-- a SEP outside of bodies, with a comparison text instead of a link text
 wrong_separator : first_form_fault (sample (instruction.Sep 1 ∷ instruction.Halt ∷ [])) ≡ Some (record { place = 0; what = fault.WrongTableKind })
 unfolding first_below fault_at body_at reading
 wrong_separator = refl

@@ -87,7 +87,7 @@ EdgesBelow [] [] = Unit {0}
 EdgesBelow (e ∷ es) (f ∷ fs) = (e.to ≡ f.to) × IsBelow e.kinds f.kinds × EdgesBelow es fs
 EdgesBelow _ _ = ⊥
 
--- smaller kinds are carried to the same places, and are smaller there
+-- with smaller kinds the edges lead to the same places, and their kinds are smaller
 pub edges_below : (p : ℕ) (ks ms : Kinds) (o : Option Body) (i : Instruction) → IsBelow ks ms → EdgesBelow (edges p ks o i) (edges p ms o i)
 edges_below p ks ms o Halt b = tt
 edges_below p ks ms o Fail b = tt

@@ -15,7 +15,7 @@ use Rattle.machine_model.specs.States.{Link, NoLink}
 use Rattle.machine_model.specs.Runs.{Outcome}
 use Rattle.machine_model.specs.Runs as outcome
 use Rattle.machine_model.specs.Next.{Course, course, course_from, course_of}
-use Rattle.machine_model.proofs.Listings.{code, list_name, link_text, compared_text, list_code, issn_code, x_code, sample, second, with_fields}
+use Rattle.machine_model.proofs.Listings.{code, list_name, link_text, compared_text, list_code, issn_code, authors_code, x_code, sample, second, with_fields}
 use Rattle.machine_model.proofs.Listings.{with_instruction, colours, a_text, a_list}
 
 -- a code, an environment, and what the run ends with
@@ -55,10 +55,13 @@ whole_codes =
     ∷ case x_code [] 3 (linked [])
     ∷ case issn_code (a_text (codes "rft.issn") (codes "1234-5678")) 8 (linked (codes "http://e.org/1234-5678"))
     ∷ case issn_code [] 5 (linked (codes "http://e.org/"))
+    ∷ case authors_code (a_list (codes "rft.au") (codes "A" ∷ codes "B" ∷ [])) 19 (linked (codes "http://e.org/A,B"))
+    ∷ case authors_code (a_list (codes "rft.au") (codes "A" ∷ [])) 6 outcome.NoLink
+    ∷ case (upgraded list_code) colours 12 (linked (codes "red,green,blue"))
     ∷ []
 
 whole_codes_hold : computed whole_codes ≡ expected whole_codes
-unfolding course_from reading has_right_operands look_up is_unreserved written_u leading_number
+unfolding course_from reading has_right_operands look_up is_unreserved written_u leading_number value_from
 whole_codes_hold = refl
 
 -- ---- what each instruction does
@@ -76,7 +79,7 @@ effects =
     ∷ case (sample (instruction.Text 1 1 ∷ instruction.Undef 1 3 ∷ instruction.Put 1 0 ∷ instruction.Halt ∷ [])) (a_text (codes "x") (codes "a b")) 4
     (linked (codes "a%20b"))
     ∷ given (instruction.Const 15 1 ∷ instruction.Put 15 0 ∷ instruction.Halt ∷ []) 3 (linked (codes "12"))
-    -- NUMBER: at most nine digits; the register stays where there is no number
+    -- NUMBER: at most nine digits; the register is unchanged if there is no number
     ∷ given (instruction.Const 0 4 ∷ instruction.Number 1 0 3 ∷ instruction.Emit 0 ∷ instruction.Halt ∷ []) 3 (linked [])
     ∷ given (instruction.Const 0 5 ∷ instruction.Number 1 0 3 ∷ instruction.Emit 0 ∷ instruction.Halt ∷ []) 4 (linked (codes "/"))
     ∷ given (instruction.Const 0 3 ∷ instruction.Number 0 0 3 ∷ instruction.Fail ∷ instruction.Put 0 0 ∷ instruction.Halt ∷ []) 4 (linked [])
@@ -87,23 +90,23 @@ effects =
     ∷ given (instruction.List 0 0 ∷ instruction.NoList 0 3 ∷ instruction.Emit 0 ∷ instruction.Halt ∷ []) 4 (linked (codes "/"))
     ∷ given (instruction.Const 0 1 ∷ instruction.Const 1 1 ∷ instruction.Differ 0 1 4 ∷ instruction.Emit 0 ∷ instruction.Halt ∷ []) 5 (linked (codes "/"))
     ∷ given (instruction.Const 0 1 ∷ instruction.Const 1 2 ∷ instruction.Differ 0 1 4 ∷ instruction.Emit 0 ∷ instruction.Halt ∷ []) 4 (linked [])
-    -- LESS compares numbers: 7 is below 12, not 12 below 7, nor 7 below 7
+    -- LESS compares numbers: 7 is below 12, but 12 is not below 7, nor 7 below 7
     ∷ given (instruction.Const 0 2 ∷ instruction.Number 0 0 6 ∷ instruction.Const 1 1 ∷ instruction.Number 1 1 6 ∷ instruction.Less 0 1 6 ∷ instruction.Emit
     0 ∷ instruction.Halt ∷ []) 6 (linked [])
     ∷ given (instruction.Const 0 2 ∷ instruction.Number 0 0 6 ∷ instruction.Const 1 1 ∷ instruction.Number 1 1 6 ∷ instruction.Less 1 0 6 ∷ instruction.Emit
     0 ∷ instruction.Halt ∷ []) 7 (linked (codes "/"))
     ∷ given (instruction.Const 0 2 ∷ instruction.Number 0 0 3 ∷ instruction.Less 0 0 4 ∷ instruction.Emit 0 ∷ instruction.Halt ∷ []) 5 (linked (codes "/"))
-    -- PUT and CUT, written U and UR; `é` is one item, and under UR so is `%41`
+    -- PUT and CUT by U and by UR; `é` is one item, and by UR so is `%41`
     ∷ given (instruction.Const 0 6 ∷ instruction.Put 0 0 ∷ instruction.Halt ∷ []) 3 (linked (codes "%C3%A9%2541b"))
     ∷ given (instruction.Const 0 6 ∷ instruction.Put 0 1 ∷ instruction.Halt ∷ []) 3 (linked (codes "%C3%A9%41b"))
     ∷ given (instruction.Const 0 6 ∷ instruction.Cut 0 2 0 ∷ instruction.Halt ∷ []) 3 (linked (codes "%C3%A9%25"))
     ∷ given (instruction.Const 0 6 ∷ instruction.Cut 0 2 1 ∷ instruction.Halt ∷ []) 3 (linked (codes "%C3%A9%41"))
-    -- the members of a loop live in the loop: its list may be lost
+    -- the members of a loop are kept by the loop: the register of its list may be overwritten
     ∷ given (instruction.List 0 0 ∷ instruction.Each 0 0 4 ∷ instruction.Put 0 0 ∷ instruction.Next ∷ instruction.Put 0 0 ∷ instruction.Halt ∷ []) 10
     (linked (codes "redgreenblueblue"))
     ∷ given (instruction.List 0 0 ∷ instruction.Each 1 0 4 ∷ instruction.Const 0 1 ∷ instruction.Next ∷ instruction.Put 1 0 ∷ instruction.Put 0
     0 ∷ instruction.Halt ∷ []) 11 (linked (codes "blue12"))
-    -- EACH without members leaves the element as it was
+    -- EACH without members leaves the element's register unchanged
     ∷ case (sample (instruction.Const 1 2 ∷ instruction.List 0 0 ∷ instruction.Each 1 0 4 ∷ instruction.Next ∷ instruction.Put 1 0 ∷ instruction.Halt ∷ [])) []
     5 (linked (codes "7"))
     ∷ []
@@ -118,7 +121,7 @@ effects_hold = refl
 abbrev counted : List Instruction → Code
 counted is = upgraded (code (list_name (codes "list") ∷ []) (link_text (codes "/") ∷ compared_text (codes "3") ∷ []) is)
 
--- prints `/` where `list` has exactly three members
+-- prints `/` if `list` has exactly three members
 abbrev exactly_three : List Instruction
 exactly_three =
     instruction.List 0 0
@@ -131,7 +134,7 @@ exactly_three =
     ∷ instruction.Halt
     ∷ []
 
--- ends without a link where `list` has a member, or more
+-- ends without a link if `list` has at least one member
 abbrev none_there : List Instruction
 none_there =
     instruction.List 0 0
@@ -144,7 +147,7 @@ none_there =
     ∷ instruction.Fail
     ∷ []
 
--- r63 is a register of version 2 alone, and COUNT an operation of it
+-- only version 2 has the register r63 and the operation COUNT
 abbrev counts_twice : List Instruction
 counts_twice =
     instruction.List 0 0
@@ -160,7 +163,7 @@ second_version =
     case (counted exactly_three) colours 8 (linked (codes "/"))
     ∷ case (counted exactly_three) (a_list (codes "list") (codes "a" ∷ codes "b" ∷ [])) 6 (linked [])
     ∷ case (counted exactly_three) (a_list (codes "list") (codes "a" ∷ codes "b" ∷ codes "c" ∷ codes "d" ∷ [])) 7 (linked [])
-    -- an undefined list, and a text of the name, have no member
+    -- an undefined list has no members, and neither has a text with the name
     ∷ case (counted none_there) [] 6 (linked [])
     ∷ case (counted none_there) (a_text (codes "list") (codes "a")) 6 (linked [])
     ∷ case (counted counts_twice) colours 5 (linked [])

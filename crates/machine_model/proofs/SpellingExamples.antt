@@ -1,4 +1,4 @@
--- How each instruction is spelled, and what is read of fields: the table of instructions as numbers.
+-- The fields of each instruction, and the instructions that fields encode: the table of instructions as numbers.
 use Rattle.std.proofs.Common.{◌≡◌, List, [], ◌∷◌, Option, Some, None, refl}
 use Rattle.std.specs.Prelude.{map}
 use Rattle.code_model.specs.Code.{row, spelling, reading}
@@ -6,7 +6,7 @@ use Rattle.code_model.specs.declared.code.Instr.{Instr}
 use Rattle.code_model.specs.declared.code.Instruction.{Instruction}
 use Rattle.code_model.specs.declared.code.Instruction.TheVariants as instruction
 
--- an instruction, what spells it, and the same operation with other numbers in the fields that it does not use
+-- an instruction, its fields, and the same operation with other numbers in the fields that it does not use
 record Row : Type 0 where
   instruction : Instruction
   spelled : Instr
@@ -38,7 +38,7 @@ table =
     ∷ spelled instruction.Next (row 18 0 0 0 0) (row 18 9 9 9 9)
     ∷ []
 
--- the operation of version 2 alone
+-- the operation that only version 2 has
 abbrev counting : Row
 counting = spelled (instruction.Count 1 2) (row 19 1 2 0 0) (row 19 1 2 9 9)
 
@@ -56,12 +56,12 @@ table_read_of_second : map (λ x. reading 2 x.spelled) (counting ∷ table) ≡ 
 unfolding reading
 table_read_of_second = refl
 
--- reading looks at the fields that the operation uses, and at no other
+-- reading depends only on the fields that the operation uses
 unused_read : map (λ x. reading 2 x.unused) (counting ∷ table) ≡ read (counting ∷ table)
 unfolding reading
 unused_read = refl
 
--- no other number names an operation
+-- no other number is an operation
 unknown_read : map (λ op. reading 1 (row op 0 0 0 0)) (0 ∷ 19 ∷ 255 ∷ []) ≡ None ∷ None ∷ None ∷ []
 unfolding reading
 unknown_read = refl

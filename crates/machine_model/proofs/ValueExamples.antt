@@ -1,4 +1,4 @@
--- What texts and names are worth to the machine, and which value each instruction takes.
+-- The values of texts and names in the machine, and which value each instruction accepts.
 use Rattle.std.proofs.Common.{◌≡◌, List, [], ◌∷◌, Some, None, Bool, true, false, refl}
 use Rattle.std.specs.Prelude.{codes, map, is_some}
 use Rattle.text_model.specs.Texts.{is_unreserved}
@@ -41,7 +41,7 @@ variables =
     ∷ record { name = codes "x"; meaning = Several (codes "later" ∷ []) }
     ∷ []
 
--- the first entry of a name counts; one of the other kind is no text, or has no members
+-- the first entry of a name counts; a list has no text, and a text has no members
 texts : map (text_of variables) (codes "x" ∷ codes "list" ∷ codes "X" ∷ []) ≡ Some (codes "a") ∷ None ∷ None ∷ []
 unfolding look_up
 texts = refl
@@ -57,7 +57,7 @@ counts = refl
 bytes : map byte_count (colours ∷ variables ∷ [] ∷ []) ≡ 12 ∷ 17 ∷ 0 ∷ []
 bytes = refl
 
--- ---- which values an instruction takes
+-- ---- which values an instruction accepts
 
 -- the least kind of each value
 kinds : map kind_of (Nothing ∷ Undefined ∷ TextValue (codes "12") ∷ TextValue [] ∷ ListValue (codes "red" ∷ []) ∷ ListValue [] ∷ NumberValue 7 ∷ [])

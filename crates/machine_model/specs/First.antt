@@ -1,7 +1,7 @@
--- The first of some places at which something is the matter.
+-- The first place at which something is found.
 use Rattle.std.specs.Prelude.{ℕ, zero, suc, Option, Some, None}
 
--- a place, and what is the matter there
+-- a place, and what is found there
 pub record Located (X : Type 0) : Type 0 where
   pub place : ℕ
   pub what : X
@@ -14,7 +14,7 @@ abbrev pub or_else : {X : Type 0} → Option X → Option X → Option X
 or_else None other = other
 or_else (Some x) other = Some x
 
--- the first of the places below n at which f answers
+-- the first of the places below n at which f finds something
 unfoldable pub first_below : {X : Type 0} → (ℕ → Option X) → ℕ → Option (Located X)
 first_below f zero = None
 first_below f (suc n) = or_else (first_below f n) (located n (f n))

@@ -19,7 +19,7 @@ unmet_in ns (Some ks) = first_unmet ks ns
 unfoldable pub mismatch_at : Code → Table → ℕ → Option ℕ
 mismatch_at c t p = unmet_in (needs_at c p) (t p)
 
--- the first place in rising order whose need the table does not meet, and the register
+-- the first place with a need that the table does not meet, and the register
 abbrev pub first_mismatch : Code → Table → Option (Located ℕ)
 first_mismatch c t = first_below (mismatch_at c t) (length c.instrs)
 

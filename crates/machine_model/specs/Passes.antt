@@ -1,5 +1,5 @@
--- A helper that computes: kinds joined along all edges, again and again. What it comes to is at or below every
--- closed table, so where it is closed it is the least one.
+-- A way to compute tables of kinds: kinds are joined along all edges, in pass after pass. The result is at or below every closed table, so if it is closed, it
+-- is the least one.
 use Rattle.std.specs.Prelude.{ℕ, zero, suc, ◌-◌, List, [], ◌∷◌, Option, Some, None, option_map, option_and_then, Bool, true, false, ◌&&◌, length, slice_get}
 use Rattle.std.specs.Prelude.{slice_index_or}
 use Rattle.std.specs.List.{list_all}
@@ -17,7 +17,7 @@ use Rattle.machine_model.specs.Mismatch.{first_mismatch}
 abbrev pub Row : Type 0
 Row = List Kind
 
--- of the registers past a row nothing is known
+-- nothing is known about registers past the end of a row
 abbrev pub kinds_in : Row → Kinds
 kinds_in row r = slice_index_or row r Any
 
@@ -50,7 +50,7 @@ abbrev pub arrived : ℕ → Kinds → Option Row → Row
 arrived n ks None = listed n ks
 arrived n ks (Some row) = joined row ks
 
--- kinds carried to a place are joined with what was carried there before
+-- the kinds of an edge to a place are joined with the row of that place
 unfoldable pub carried : ℕ → ℕ → Kinds → Rows → Rows
 carried n to ks [] = []
 carried n zero ks (o ∷ rows) = Some (arrived n ks o) ∷ rows
@@ -67,7 +67,7 @@ edges_from c p (Some row) = edges_at c p (kinds_in row)
 abbrev pub followed : Code → ℕ → Rows → Rows
 followed c p rows = carried_all (register_count c) (edges_from c p (row_at rows p)) rows
 
--- along the edges of the places below n, in rising order
+-- the rows after the edges of the places below n, in rising order
 unfoldable pub pass : Code → ℕ → Rows → Rows
 pass c zero rows = rows
 pass c (suc p) rows = followed c p (pass c p rows)
@@ -76,11 +76,11 @@ unfoldable pub none_reached : ℕ → Rows
 none_reached zero = []
 none_reached (suc n) = None ∷ none_reached n
 
--- place 0 alone, with nothing known of any register
+-- only place 0 has a row, in which nothing is known about any register
 abbrev pub first_rows : Code → Rows
 first_rows c = Some (listed (register_count c) any_kinds) ∷ none_reached (length c.instrs - 1)
 
--- after n passes along all edges
+-- the rows after n passes along all edges
 unfoldable pub passes : Code → ℕ → Rows
 passes c zero = first_rows c
 passes c (suc n) = pass c (length c.instrs) (passes c n)
@@ -91,16 +91,16 @@ abbrev pub is_covered : Kinds → Option Row → Bool
 is_covered ks None = false
 is_covered ks (Some row) = is_within ks row
 
--- an edge leads to a row at or above what it carries
+-- an edge leads to a row at or above its kinds
 abbrev pub is_reached : Rows → Edge → Bool
 is_reached rows e = is_covered e.kinds (row_at rows e.to)
 
--- nothing is known at place 0, and each edge from a place below n leads to a row at or above what it carries
+-- nothing is known at place 0, and each edge from a place below n leads to a row at or above its kinds
 unfoldable pub is_closed : Code → ℕ → Rows → Bool
 is_closed c zero rows = is_reached rows (edge 0 any_kinds)
 is_closed c (suc p) rows = is_closed c p rows && list_all (is_reached rows) (edges_from c p (row_at rows p))
 
--- whether n passes find the least table, and the first mismatch in what they find
+-- whether n passes find the least table, and the first mismatch in the table that they find
 pub record Found : Type 0 where
   pub least : Bool
   pub mismatch : Option (Located ℕ)

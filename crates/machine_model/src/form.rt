@@ -4,12 +4,15 @@
 /// register that holds the member of the turn.
 #[derive(Clone, Copy, Debug, PartialEq, Eq)]
 pub struct Body {
+    /// The first place.
     pub start: usize,
+    /// The place after the last one.
     pub end: usize,
+    /// The register of the element.
     pub element: u8,
 }
 
-/// Why the instruction at a place is not of good form, in the order in which it is decided.
+/// Why the instruction at a place is not of good form, in the order in which it is checked.
 #[derive(Clone, Copy, PartialEq, Eq)]
 pub enum FormFault {
     /// No operation of the code's version has this number.
@@ -22,7 +25,7 @@ pub enum FormFault {
     BadIndex,
     /// The entry of the table is of the other kind.
     WrongTableKind,
-    /// A jump leads to its own place or back.
+    /// A jump leads to its own place or to one before it.
     JumpNotForward,
     /// A jump leads past the last place.
     JumpOut,
@@ -30,7 +33,7 @@ pub enum FormFault {
     CrossesLoop,
     /// A loop begins in the body of another.
     NestedLoop,
-    /// There is no NEXT before the place where the loop is to end.
+    /// There is no NEXT directly before the place where the loop ends.
     BadLoop,
     /// A NEXT is not the last place of a body.
     StrayNext,

@@ -1,7 +1,7 @@
-//! What is known of a register's value.
+//! What is known about a register's value.
 
-/// What is known of a register's value before a step. `Text` is below `OptText`; `OptText`, `List` and
-/// `Number` are below `Any`.
+/// What is known about a register's value before a step. `Text` is below `OptText`; `OptText`, `List` and `Number` are
+/// below `Any`.
 #[derive(Clone, Copy, PartialEq, Eq)]
 pub enum Kind {
     /// Any value, or nothing yet.

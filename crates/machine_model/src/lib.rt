@@ -1,5 +1,5 @@
-//! The definitions of the byte-code machine: its states and steps, the form and the kinds of code, its
-//! budget, and what makes code safe. Definitions alone; nothing here runs.
+//! The definitions of the byte-code machine: its states and steps, the form and the kinds of code, its budget, and what
+//! makes code safe. Only definitions; nothing here runs.
 #![tactic(auto)]
 
 mod form;

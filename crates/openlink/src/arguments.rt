@@ -10,8 +10,8 @@ use std::alloc::{AllocError, Global};
 use std::env::{self, Env};
 use std::io::ErrorKind;
 
-/// The arguments after the program's name. Those that are no text, or that the system does not give, count as wrong
-/// arguments.
+/// The arguments after the program's name. Arguments that are not UTF-8, or that the system cannot provide, count as
+/// wrong arguments.
 pub fn program_arguments<R: Env + AllocGlobal>(rt: &R) -> Result<Vec<String>, Fault<'static>>
     ensures { IfErr result (λ fault. (fault ≡ Fault.Usage) ⊎ (fault ≡ out_of_memory)) }
 {

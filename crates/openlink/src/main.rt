@@ -11,7 +11,7 @@ use registry_file::SystemKeys;
 use std::io::Write;
 use std::process::ExitCode;
 
-/// Carries out the arguments after the program's name.
+/// Runs the command that the arguments after the program's name denote.
 fn carry_out<E: Write>(rt: &HostRuntime, errors: &mut E) -> Result<u8, Fault<'static>> {
     let arguments = program_arguments(rt)?;
     let texts = argument_texts(rt.alloc(), &arguments)?;

@@ -1,4 +1,4 @@
--- How texts are printed: what shows itself, what is escaped, and where a long text is cut.
+-- How texts are printed: which bytes are printed as they are, which are escaped, and where a long text is cut.
 use Rattle.std.proofs.Common.{◌≡◌, ◌++◌, [], ◌∷◌, refl, codes}
 use Rattle.std.specs.List.{repeat}
 use Rattle.std.specs.Fmt.{digits}

@@ -23,22 +23,22 @@ is_plain b = nat_le 0x20 b && (nat_le b 0x7e && (not (b == quotation_mark) && no
 abbrev pub escape : ℕ → Text
 escape b = codes "\\x" ++ (digits 16 false (b / 16) ++ digits 16 false (b % 16))
 
--- a byte between quotation marks
+-- how a byte is printed between quotation marks
 abbrev pub byte_text : ℕ → Text
 byte_text b = if is_plain b then (b ∷ []) else escape b
 
--- a byte outside quotation marks
+-- how a byte is printed without quotation marks
 abbrev pub visible_byte : ℕ → Text
 visible_byte b = if is_visible b then (b ∷ []) else escape b
 
--- between quotation marks
+-- a text between quotation marks
 abbrev pub quoted : Text → Text
 quoted text = quotation_mark ∷ flat_map byte_text text ++ quotation_mark ∷ []
 
--- between quotation marks, and cut where it is long
+-- a text between quotation marks, cut if it is long
 abbrev pub shortened : Text → Text
 shortened text = if nat_le (length text) MAX_SHOWN then quoted text else quoted (take MAX_SHOWN text) ++ codes "..."
 
--- without quotation marks
+-- a text without quotation marks
 abbrev pub visible : Text → Text
 visible text = flat_map visible_byte text

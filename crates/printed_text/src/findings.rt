@@ -1,6 +1,6 @@
-//! What a review of files finds.
+//! What a command finds in the files that it examines.
 
-/// What a review of files finds, as it is printed.
+/// What a command finds in the files that it examines, as it is printed.
 #[derive(Drop)]
 pub struct Findings {
     /// Lines, each with a line feed after it.

@@ -1,4 +1,4 @@
-//! Text of unknown bytes as it is printed, and what a review of files finds.
+//! Unknown bytes as printable text, and what a command finds in the files that it examines.
 //!
 //! ```rust
 //! let mut line = String::new(alloc);

@@ -7,7 +7,7 @@ ghost use Rattle.printed_text.specs.Printed.{quoted, shortened, visible};
 
 use std::alloc::AllocError;
 
-/// The most bytes of a text that [`push_shortened`] shows.
+/// The maximum number of bytes of a text that [`push_shortened`] shows.
 pub const MAX_SHOWN: usize = 60;
 
 /// Appends the bytes in quotation marks. Bytes outside printable ASCII, quotation marks and backslashes are
@@ -41,7 +41,7 @@ pub fn push_visible(out: &mut String, bytes: &[u8]) -> Result<(), AllocError>
     Ok(())
 }
 
-/// Appends the bytes as they are between the quotation marks of [`push_quoted`].
+/// Appends what [`push_quoted`] writes between the quotation marks.
 fn push_bytes(out: &mut String, bytes: &[u8]) -> Result<(), AllocError>
     ensures { OnOk result (string_bytes out.new ≡ string_bytes out.old ++ flat_map byte_text bytes.now) }
 {

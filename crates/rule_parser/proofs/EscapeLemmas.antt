@@ -11,7 +11,7 @@ use Rattle.text_model.specs.Texts.{Text}
 use Rattle.rule_parser.specs.Statements.{escaped, is_special}
 use Rattle.rule_parser.proofs.TokenLemmas.{same_parts}
 
--- the text that is left, after a backslash that was read and waits for its character
+-- the text that is left, with the backslash before it if one was read and its character was not
 abbrev pub waiting : Bool → Text → Text
 waiting true rest = 92 ∷ rest
 waiting false rest = rest
@@ -33,7 +33,7 @@ encode_is_not_empty c = let h : 1 ≤ length (encode_utf8 c ++ []) = length-le-e
 abbrev pub ArePlain : Text → Type 0
 ArePlain bs = AllByRecursion (λ b. is_special b ≡ false) bs
 
--- a character past ASCII has no byte of ASCII
+-- a character beyond ASCII has no byte of ASCII
 pub plain_bytes : (c : ℕ) → is_special c ≡ false → ArePlain (encode_utf8 c)
 plain_bytes c h =
     recursion_from_All (λ b. is_special b ≡ false) (encode_utf8 c) (All-from_get_or (λ b. is_special b ≡ false) (encode_utf8 c) 0 each)
@@ -86,11 +86,11 @@ rest_behind_bytes d b t s more next e =
       ]
     ]
 
--- a text that is empty and not
+-- a text cannot be both empty and not empty
 not_empty : (x : ℕ) (t : Text) → [] ≡ x ∷ t → ⊥
 not_empty x t e = cc
 
--- what is escaped and begins with another escaped text continues with an escaped text
+-- an escaped text that begins with another escaped text continues with an escaped text
 pub escaped_rest : (t s more : Text) → escaped t ≡ escaped s ++ more → (u : Text) × (escaped u ≡ more)
 escaped_rest t [] more e = (t, e)
 escaped_rest [] (b ∷ s) more e =
@@ -119,7 +119,7 @@ bytes_same d b t u next e =
     both_same : (d ≡ b) × (escaped t ≡ escaped u) → d ∷ t ≡ b ∷ u
     both_same p = ap (λ x. x ∷ t) p.0 ∙ ap (λ l. b ∷ l) (next p.1)
 
--- a text is known by its escaped form
+-- a text is determined by its escaped form
 pub escaped_same : (t u : Text) → escaped t ≡ escaped u → t ≡ u
 escaped_same [] [] e = refl
 escaped_same [] (b ∷ u) e =
@@ -177,7 +177,7 @@ escaped_more whole t rest next c false s w r =
     let both : escaped (t ++ encode_utf8 c) ≡ escaped t ++ encode_utf8 c = escaped-append t (encode_utf8 c) ∙ ap (λ u. escaped t ++ u) plain in
     w ∙ rw (r, both, append_assoc (escaped t) (encode_utf8 c) next) refl
 
--- the next character begins no escaped text
+-- no escaped text begins with the next character
 pub not_escaped : (whole t rest next : Text) (c : ℕ) (waits : Bool) → (is_special c ≡ waits → ⊥) → (c ≡ 92 → ⊥) → whole ≡ escaped t ++ waiting waits rest
     → rest ≡ encode_utf8 c ++ next → (u : Text) → whole ≡ escaped u → ⊥
 not_escaped whole t rest next c true s n w r u e =
@@ -192,7 +192,7 @@ not_escaped whole t rest next c false s n w r u e =
     let tail = escaped_rest u t rest (sym e ∙ w) in
     not_quote tail.0 next (tail.1 ∙ r ∙ ap (λ v. v ++ next) alone ∙ ap (λ v. v ∷ next) quote)
 
--- a backslash that waits for its character at the end
+-- a backslash at the end, without its character
 pub not_escaped_at_end : (whole t rest : Text) (waits : Bool) → waits ≡ true → length rest ≡ 0 → whole ≡ escaped t ++ waiting waits rest → (u : Text)
     → whole ≡ escaped u → ⊥
 not_escaped_at_end whole t (b ∷ rest) waits x l w u e = absurd (omega (arith, l))
@@ -202,7 +202,7 @@ not_escaped_at_end whole t [] true x l w u e =
     let behind = after_backslash tail.0 [] tail.1 in
     not_empty behind.0 behind.1 behind.2
 
--- ---- a test of two answers
+-- ---- a test whether two Booleans are equal
 
 pub same_answers : (x y : Bool) → beq x y ≡ true → x ≡ y
 same_answers true true e = refl

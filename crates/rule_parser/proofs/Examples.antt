@@ -1,4 +1,4 @@
--- Guards at their bounds, and what fits the kinds of names, computed by the definitions.
+-- Guards at their bounds, and guards and parts that fit the kinds of names, computed from the definitions.
 use Rattle.std.proofs.Common.{◌≡◌, ℕ, List, [], ◌∷◌, Bool, true, false, map, refl, codes}
 use Rattle.text_model.specs.Texts.{Text}
 use Rattle.text_model.specs.Number.{leading_number, value_from}
@@ -93,7 +93,7 @@ from_digits :
 unfolding variables look_up leading_number value_from
 from_digits = refl
 
--- a text without a number, and bounds by name
+-- a text without a number, and bounds that are names
 from_names :
     answers (
     guard.Between (codes "word") bound.Open bound.Open ∷ guard.Between (codes "empty") bound.Open bound.Open ∷ guard.Between (codes "ten") bound.Open bound.Open
@@ -105,7 +105,7 @@ from_names :
 unfolding variables look_up leading_number value_from
 from_names = refl
 
--- a sign or a space before the digits is no number, and a bound by such a text is open
+-- a text with a sign or a space before the digits is not a number, and a bound with such a text is open
 signs :
     answers (
     guard.Between (codes "plus") bound.Open bound.Open ∷ guard.Between (codes "minus") bound.Open bound.Open
@@ -173,7 +173,7 @@ bounds_fit = refl
 abbrev spec_of : Text → ℕ → Bool → Spec
 spec_of name cut explode = record { name = name; cut = cut; explode = explode }
 
--- a prefix fits texts alone, in any part and at any place; an explode fits both
+-- a prefix fits only texts, in any part and at any place; an explode fits both
 prefixes_fit :
     map (parts_fit declared) (
     (Literal (codes "by") ∷ Expression operator.Simple (spec_of (codes "by") 0 true ∷ spec_of (codes "x") 3 false ∷ []) ∷ [])

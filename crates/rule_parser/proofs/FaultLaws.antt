@@ -1,4 +1,4 @@
--- Lines that spell rules have no fault, and other lines have one first fault.
+-- The lines of rules have no fault, and other lines have one first fault.
 
 use Rattle.std.proofs.Common.{◌≡◌, ℕ, List, [], ◌∷◌, true, false, None, ◌⊎◌, inl, inr, is_some, is_none, ◌&&◌, ◌==◌, length, refl, ap, subst, sym, ◌∙◌}
 use Rattle.std.proofs.lemmas.Bool.{both_ways}
@@ -113,7 +113,7 @@ bad_is_no_next tree none b (Link text) k c (inr p) f = no_link_follows p.1
     no_link_follows (inl q) = none text f.parts q.0 q.1 f.template q.2
     no_link_follows (inr q) = both_ways (parts_fit b.whole.lists q.0) q.2 (ap (parts_fit b.whole.lists) (tree text q.0 f.parts q.1 f.template) ∙ f.kinds)
 
--- a faulty line spells no statement that follows
+-- a faulty line is not that of a statement that can follow
 pub faulty_is_no_next : OneTree → NoFault → (b : RulesSoFar) (line : Text) (k : RuleErrorKind) (s : Statement) (c : RulesSoFar) → IsLineFault b line k
     → IsStatement s
     → line ≡ line_of s → Follows b s c → ⊥

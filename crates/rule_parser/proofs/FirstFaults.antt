@@ -18,7 +18,7 @@ use Rattle.rule_parser.proofs.LineLaws.{statement_same, HasNext, compare}
 use Rattle.rule_parser.proofs.FaultLaws.{IsBadText, NoFault, OneFault, bad_text, bad_text_same, begin_is_not_faulty, complete, complete_is_sound}
 use Rattle.rule_parser.proofs.FaultLaws.{faulty_is_no_next, so_far_are_statements}
 
--- of two lists of statements that were begun, the longer one continues with the shorter
+-- of two beginnings of rules, the longer one continues the shorter one
 extends_not : OneTree → NoFault → (b c : RulesSoFar) (line : Text) (k : RuleErrorKind) (rest : List Text) → AreSoundSoFar b → AreSoundSoFar c
     → IsLineFault b line k
     → HasNext (statements_so_far b) (statements_so_far c) (line ∷ rest) → ⊥
@@ -32,7 +32,7 @@ nothing_next ss ts n = no_lines (line_of n.next) n.rest n.spelled
     no_lines : (x : Text) (xs : List Text) → [] ≡ x ∷ xs → ⊥
     no_lines x xs e = cc
 
--- a rule that has begun takes no other
+-- while a rule has no link, no other rule can begin
 open_not_extended : OneTree → (whole : RuleSet) (guards : List Guard) (c : RulesSoFar) (rest : List Text)
     → AreSoundSoFar (record { whole = whole; guards = Some guards })
     → AreSoundSoFar c → EndsRule rest → HasNext (statements_so_far (record { whole = whole; guards = Some guards })) (statements_so_far c) rest → ⊥
@@ -53,7 +53,7 @@ spelled_by ls rules e = e ∙ sym (ap (map line_of) (append-nil (statements rule
 abbrev no_lines : List Text
 no_lines = []
 
--- lines that spell two sets of rules
+-- lines of two sets of rules: the sets are the same
 pub rules_same : OneTree → (ls : List Text) (rules others : RuleSet) → IsSound rules → IsSound others → significant ls ≡ map line_of (statements rules)
     → significant ls ≡ map line_of (statements others) → rules ≡ others
 rules_same tree ls rules others s t e f =
@@ -80,7 +80,7 @@ not_complete whole guards rules e = not_none (ap (λ (b : RulesSoFar). b.guards)
     not_none : Some guards ≡ None → ⊥
     not_none x = cc
 
--- lines that spell rules have no first fault
+-- the lines of rules have no first fault
 rules_have_no_fault : OneTree → NoFault → (ls : List Text) (rules : RuleSet) (k : RuleErrorKind) (at : ℕ) → IsSound rules
     → significant ls ≡ map line_of (statements rules) → IsNumberedFault ls k at → ⊥
 rules_have_no_fault tree none ls rules k at s e (line_fault l b line rest k' t f fault) =
@@ -111,7 +111,7 @@ rules_have_no_fault tree none ls rules k at s e (open_fault l whole guards rest 
     by_comparison (inr (inl n)) = open_not_extended tree whole guards (complete rules) rest t (complete_is_sound rules s) r n
     by_comparison (inr (inr n)) = nothing_next _ _ n
 
--- a line at fault where a rule lacks its link
+-- a faulty line, and a rule without its link, cannot both be the first fault
 line_and_open : OneTree → NoFault → (ls : List Text) (b : RulesSoFar) (line : Text) (rest : List Text) (k : RuleErrorKind) (whole : RuleSet)
     (guards : List Guard)
     (behind : List Text) → AreSoundSoFar b → significant ls ≡ map line_of (statements_so_far b) ++ line ∷ rest → IsLineFault b line k
@@ -129,7 +129,7 @@ line_and_open tree none ls b line rest k whole guards behind s e fault t f r =
     by_comparison (inr (inl n)) = extends_not tree none b (open_rule whole guards) line k rest s t fault n
     by_comparison (inr (inr n)) = open_not_extended tree whole guards b behind t s r n
 
--- a line at fault, and another fault of the same lines
+-- a faulty line, and another first fault of the same lines, are the same
 line_fault_same : OneTree → NoFault → OneFault → (ls : List Text) (b : RulesSoFar) (line : Text) (rest : List Text) (k : RuleErrorKind) (other : RuleErrorKind)
     (place : ℕ)
     → AreSoundSoFar b → significant ls ≡ map line_of (statements_so_far b) ++ line ∷ rest → IsLineFault b line k → IsNumberedFault ls other place
@@ -152,7 +152,7 @@ line_fault_same tree none one ls b line rest k other place s e fault (line_fault
 line_fault_same tree none one ls b line rest k other place s e fault (open_fault l whole guards rest' t f r) =
     absurd (line_and_open tree none l b line rest k whole guards rest' s e fault t f r)
 
--- a rule without a link, and another fault of the same lines
+-- a rule without a link, and another first fault of the same lines, are the same
 open_fault_same : OneTree → NoFault → OneFault → (ls : List Text) (whole : RuleSet) (guards : List Guard) (rest : List Text) (other : RuleErrorKind) (place : ℕ)
     → AreSoundSoFar (open_rule whole guards) → significant ls ≡ map line_of (statements_so_far (open_rule whole guards)) ++ rest → EndsRule rest
     → IsNumberedFault ls other place → (kind.NoLink ≡ other) × (line_number ls (length (statements whole)) ≡ place)

@@ -1,4 +1,4 @@
--- Tokens spell a guard or they spell none.
+-- Tokens are those of a guard, or they are not.
 
 use Rattle.std.proofs.Common.{◌≡◌, ◌≢◌, ℕ, [], ◌∷◌, ◌++◌, true, false, Option, Some, None, ◌⊎◌, inl, inr, length, refl, ap, subst, sym, ◌∙◌, codes, arith}
 use Rattle.std.specs.Char.{is_ascii_digit}
@@ -61,7 +61,7 @@ end_choice c (b ∷ text) = by_case text (cases_eq b c) (end_choice c text)
         refuted [] e = cc
         refuted (x ∷ front) e = n front (cc)
 
--- the first space parts a text, or it has none
+-- a text is split at its first space, or it has none
 pub space_choice : (text : Text) → IsToken text ⊎ ((token : Text) × (rest : Text) × (text ≡ token ++ 32 ∷ rest) × IsToken token)
 space_choice [] = inl tt
 space_choice (b ∷ text) = by_case (cases_eq b 32) (space_choice text)

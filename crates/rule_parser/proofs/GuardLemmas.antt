@@ -1,4 +1,4 @@
--- Which tokens spell which guard.
+-- Which tokens are those of which guard.
 use Rattle.std.proofs.Common.{◌≡◌, ◌≢◌, ◌≤◌, [], ◌∷◌, ◌++◌, true, false, Option, Some, None, Result, Ok, Err, IfOk, length, refl, sym, codes, rules}
 use Rattle.std.specs.List.{list_all}
 use Rattle.std.specs.Char.{is_ascii_digit}
@@ -75,7 +75,7 @@ bounds_read t l rest u low high s r a b = ((a.0, b.0), rw (s, r, a.1, b.1) refl)
 
 -- ---- guards of two tokens
 
--- what two tokens say of a guard that they spell
+-- the guard of two tokens
 abbrev pub IsDefined : Text → Text → Guard → Type 0
 IsDefined verb name (guard.Has n) = IsName name × (verb ≡ codes "has") × (n ≡ name)
 IsDefined verb name (guard.Lacks n) = IsName name × (verb ≡ codes "lacks") × (n ≡ name)
@@ -125,7 +125,7 @@ no_guard_of_verb verb name v w no_has no_lacks no_given g h e = refuted g (defin
 
 -- ---- guards of more tokens
 
--- what a name, a verb and the text after them say of a guard that they spell
+-- the guard of a name, a verb and the text after them
 abbrev pub IsCompared : Text → Text → Text → Guard → Type 0
 IsCompared name verb value (guard.Has n) = ⊥
 IsCompared name verb value (guard.Lacks n) = ⊥
@@ -162,7 +162,7 @@ compared_tokens name verb value w v (guard.Counts n low high) h e =
     let second = token_split verb value (codes "counts") (bounds_text low high) v (search rules) first.1 in
     (rw first.0 h.0, second.0, h.1, second.1, sym first.0)
 
--- a guard that a name, a verb and the text after them spell, refuted by what each verb would ask
+-- a name, a verb and the text after them are not those of a guard if they do not fit any of the verbs
 pub no_compared_guard : (name verb value : Text) → IsToken name → IsToken verb
     → (IsName name → verb ≡ codes "is" → (t : Text) → value ≡ quoted t → ⊥)
     → (IsName name → verb ≡ codes "holds" → (t : Text) → value ≡ quoted t → ⊥)

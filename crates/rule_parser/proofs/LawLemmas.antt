@@ -1,4 +1,4 @@
--- The laws of the grammar of rules: statements that begin rules can continue in one way.
+-- The laws of the grammar of rules: the beginning of rules can continue in only one way.
 use Rattle.std.proofs.Common.{◌≡◌, List, [], ◌∷◌, ◌++◌, true, Option, Some, None, map, refl, ap, subst, sym, ◌∙◌}
 use Rattle.std.specs.List.{flat_map, AllByRecursion}
 use Rattle.std.proofs.lemmas.List.{append-nil, append_assoc}
@@ -21,7 +21,7 @@ OneTree = (text : Text) (parts others : List Part) → IsTemplate text parts →
 
 -- ---- how statements continue
 
--- a link ends the rule that was begun
+-- a link ends the rule that has begun
 pub record EndsOpenRule (b : RulesSoFar) (text : Text) (c : RulesSoFar) : Type 0 where
   pub guards : List Guard
   pub parts : List Part
@@ -30,7 +30,7 @@ pub record EndsOpenRule (b : RulesSoFar) (text : Text) (c : RulesSoFar) : Type 0
   pub kinds : parts_fit b.whole.lists parts ≡ true
   pub whole : c ≡ stage b.whole.lists (b.whole.rules ++ record { guards = guards; template = record { text = text; parts = parts } } ∷ []) None
 
--- the statement continues with what was begun
+-- the statement continues the rules so far
 abbrev pub Follows : RulesSoFar → Statement → RulesSoFar → Type 0
 Follows b (Declare name) c = (b.guards ≡ None) × (b.whole.rules ≡ []) × IsName name × (c ≡ stage (b.whole.lists ++ name ∷ []) [] None)
 Follows b Begin c = (b.guards ≡ None) × (c ≡ stage b.whole.lists b.whole.rules (Some []))
@@ -138,12 +138,12 @@ so_far_runs b s =
     (rules_run b.whole.lists [] b.whole.rules (recursion_from_All (IsSoundRule b.whole.lists) b.whole.rules s.whole.rules)))
     (open_runs b.whole.lists b.whole.rules b.guards s.guards)
 
--- what was begun is known by its statements
+-- the rules so far are determined by their statements
 pub so_far_same : OneTree → (b c : RulesSoFar) → AreSoundSoFar b → AreSoundSoFar c → statements_so_far b ≡ statements_so_far c → b ≡ c
 so_far_same one b c s t e =
     runs_same one no_rules (statements_so_far c) b c (subst (λ ss. Runs no_rules ss b) e (so_far_runs b s)) (so_far_runs c t)
 
--- a statement after those of what was begun continues with it
+-- a statement after those of the rules so far continues them
 pub goes_on : OneTree → (b c : RulesSoFar) (s : Statement) (more : List Statement) → AreSoundSoFar b → AreSoundSoFar c
     → statements_so_far c ≡ statements_so_far b ++ s ∷ more → (d : RulesSoFar) × Follows b s d
 goes_on one b c s more p q e =

@@ -1,4 +1,4 @@
--- Bytes spell rules or have a first fault: each line continues with those before it, or it is the first that cannot.
+-- Bytes are the text of rules or have a first fault: each line continues those before it, or it is the first that cannot.
 use Rattle.std.proofs.Common.{◌≡◌, ℕ, ◌<◌, ◌≤◌, List, [], ◌∷◌, ◌++◌, ◌+◌, ◌-◌, take, get_or, if◌then◌else◌, Bool, true, false, ◌==◌, Option, Some, None, ◌⊎◌}
 use Rattle.std.proofs.Common.{inl, inr, is_some, map, length, refl, ap, subst, sym, ◌∙◌, codes, arith}
 use Rattle.std.specs.List.{AllByRecursion, join_with_byte, slice_index, slice_split}
@@ -39,7 +39,7 @@ TreeOrFault = (text : Text) → IsUtf8 text → ((parts : List Part) × IsTempla
 
 -- ---- texts of UTF-8
 
--- a byte of ASCII parts a text of UTF-8 in two
+-- a byte of ASCII splits a text of UTF-8 into two texts of UTF-8
 ascii_parts : (front rest : Text) (b : ℕ) → b < 128 → IsUtf8 (front ++ b ∷ rest) → IsUtf8 front × IsUtf8 rest
 ascii_parts front rest b small u =
     let is : get_or (front ++ b ∷ rest) (length front) 0 ≡ b = get_or-append_seam front b rest 0 in
@@ -121,7 +121,7 @@ statement_choice line =
 
 -- ---- one more line
 
--- it continues with what was begun, or is faulty, or begins a rule in another
+-- the line continues the rules so far, or is faulty, or begins a rule in another one
 abbrev Goes : RulesSoFar → Text → Type 0
 Goes b line = ((new : RulesSoFar) × GoesOn b new line) ⊎ ((k : RuleErrorKind) × IsLineFault b line k) ⊎ ((line ≡ line_of Begin) × (is_some b.guards ≡ true))
 

@@ -1,4 +1,4 @@
--- Lines that are skipped, lines of rules, and texts with their rules or their first fault, by the definitions alone.
+-- Lines that are skipped, lines of rules, and texts with their rules or their first fault, computed from the definitions.
 use Rattle.std.proofs.Common.{◌++◌, ◌≡◌, ℕ, ◌≤◌, [], ◌∷◌, true, false, Some, None, inl, inr, length, map, refl, codes, arith}
 use Rattle.std.specs.Prelude.{nat_le, nat_lt}
 use Rattle.std.specs.List.{list_all}
@@ -67,7 +67,7 @@ text_of text t = leb-true (length text) 65536 t
 no_rules_are_sound : IsSound (record { lists = []; rules = [] })
 no_rules_are_sound = record { names = All-nil IsName; rules = All-nil (IsSoundRule []) }
 
--- no bytes spell no rules
+-- the empty text has no rules, which is no fault
 nothing : IsRuleText [] (record { lists = []; rules = [] })
 nothing = record { short = text_of [] refl; utf8 = IsUtf8-nil; spelled = refl; sound = no_rules_are_sound }
 
@@ -78,7 +78,7 @@ refused text k number t u f = inr (inr (text_of text t, IsUtf8-from_ascii text (
 rule_begun : AreSoundSoFar (record { whole = record { lists = []; rules = [] }; guards = Some [] })
 rule_begun = record { whole = no_rules_are_sound; guards = All-nil (IsSoundGuard []) }
 
--- a rule has no link where the next one begins, and comments count
+-- a rule has no link when the next one begins; comments count in the numbers of lines
 no_link : IsRefused (codes "#\nrule\n\nrule") kind.NoLink 2
 no_link =
     refused _ _ _ refl refl (inr (record {
@@ -146,7 +146,7 @@ guard_alone =
       faulty = out_of_order _ (When (guard.Has (codes "x"))) (name_from (codes "x") refl refl) refl;
     }))
 
--- a semicolon begins no comment
+-- a semicolon does not begin a comment
 semicolon_is_no_statement : (s : Statement) → IsStatement s → codes ";" ≡ line_of s → ⊥
 semicolon_is_no_statement (Declare name) h e = cc
 semicolon_is_no_statement Begin h e = cc

@@ -1,4 +1,4 @@
--- A line spells one statement, and lines spell one list of statements.
+-- A line has at most one statement, and lines have at most one list of statements.
 use Rattle.std.proofs.Common.{◌≡◌, ℕ, List, [], ◌∷◌, ◌++◌, true, false, ◌⊎◌, inl, inr, map, refl, ap, subst, sym, ◌∙◌, codes, if◌then◌else◌, ◌==◌, rules}
 use Rattle.std.specs.List.{list_all, AllByRecursion}
 use Rattle.std.specs.Str.{bytes_eq}
@@ -60,7 +60,7 @@ defined_is verb name (guard.Counts n low high) p = absurd p
 defined_same : (verb name : Text) (g h : Guard) → IsDefined verb name g → IsDefined verb name h → g ≡ h
 defined_same verb name g h p q = defined_is verb name g p ∙ sym (defined_is verb name h q)
 
--- which of the seven guards it is
+-- the number of the kind of a guard
 abbrev kind_of : Guard → ℕ
 kind_of (guard.Has n) = 0
 kind_of (guard.Lacks n) = 1
@@ -70,7 +70,7 @@ kind_of (guard.Holds n t) = 4
 kind_of (guard.Between n low high) = 5
 kind_of (guard.Counts n low high) = 6
 
--- and by its verb
+-- the same number, from its verb
 abbrev kind_by : Text → ℕ
 kind_by verb =
     if bytes_eq verb (codes "is") then 3 else (if bytes_eq verb (codes "holds") then 4 else (if bytes_eq verb (codes "from") then 5 else 6))
@@ -146,7 +146,7 @@ statement_same (Link t) (Link u) a b e = ap Link (append_cancel_left (codes "lin
 abbrev pub AreStatements : List Statement → Type 0
 AreStatements ss = AllByRecursion IsStatement ss
 
--- one more statement after others, spelled by the next line
+-- one more statement after others, on the next line
 pub record HasNext (ss longer : List Statement) (lines : List Text) : Type 0 where
   pub next : Statement
   pub more : List Statement
@@ -159,7 +159,7 @@ cons_next : (x : Statement) (ss ts : List Statement) (lines : List Text) → Has
 cons_next x ss ts lines h =
     record { next = h.next; more = h.more; rest = h.rest; goes_on = ap (λ l. x ∷ l) h.goes_on; is_statement = h.is_statement; spelled = h.spelled }
 
--- Of two lists of statements at the beginning of the same lines one begins the other.
+-- Of two lists of statements at the beginning of the same lines, one is the beginning of the other.
 pub compare : (ss ts : List Statement) (rest behind : List Text) → AreStatements ss → AreStatements ts → map line_of ss ++ rest ≡ map line_of ts ++ behind
     → ((ss ≡ ts) × (rest ≡ behind)) ⊎ (HasNext ss ts rest ⊎ HasNext ts ss behind)
 compare [] [] rest behind a b e = inl (refl, e)

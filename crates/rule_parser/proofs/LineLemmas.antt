@@ -17,7 +17,7 @@ use Rattle.std.specs.Prelude.{IsUtf8}
 use Rattle.std.specs.Str.Lines.{lines}
 use Rattle.rule_parser.specs.declared.rules.TheConstants.{MAX_BYTES}
 use Rattle.rule_parser.specs.Grammar.{is_significant, significant, IsRuleText}
-use Rattle.rule_parser.specs.Faults.{RulesSoFar, AreSoundSoFar, statements_so_far, statements_of_guards, IsFirstFault, EndsRule, IsRefused}
+use Rattle.rule_parser.specs.Faults.{AreSoundSoFar, statements_so_far, statements_of_guards, IsFirstFault, EndsRule, IsRefused}
 use Rattle.rule_parser.specs.Private.Progress.{so_far_of, no_rules, GoesOn, IsNumbered, KeepsLine, IsStepFault}
 use Rattle.rule_parser.proofs.LineNumbers.{significant-append, one_significant, line_number, split_at, significant_around, number_is, line_fault, open_rule}
 use Rattle.rule_parser.proofs.LineNumbers.{first_fault}
@@ -31,19 +31,8 @@ pub record AreRead (ls : List Text) (i : ℕ) (reader : Reader) : Type 0 where
   pub sound : AreSoundSoFar (so_far_of reader)
   pub numbered : IsNumbered (line_number ls) reader
 
-no_rule_line : (line : Option ℕ) (guards : List Guard) (P : ℕ → Type 0) → guards_from line guards ≡ None → IfSome line P
-no_rule_line None guards P e = tt
-no_rule_line (Some l) guards P e = absurd (cc)
-
 pub no_rules_are_sound : AreSoundSoFar no_rules
 no_rules_are_sound = record { whole = record { names = All-nil IsName; rules = All-nil (IsSoundRule []) }; guards = tt }
-
-pub none_read : (ls : List Text) (reader : Reader) → so_far_of reader ≡ no_rules → AreRead ls 0 reader
-none_read ls reader e = record {
-  spelled = ap (λ (b : RulesSoFar). map line_of (statements_so_far b)) (sym e);
-  sound = subst AreSoundSoFar (sym e) no_rules_are_sound;
-  numbered = no_rule_line reader.rule_line reader.guards.items _ (ap (λ (b : RulesSoFar). b.guards) e);
-}
 
 pub line_read : (ls : List Text) (i : ℕ) (reader new : Reader) (line : Text) → AreRead ls i reader → i < length ls → get_or ls i line ≡ line
     → is_significant line ≡ true → GoesOn (so_far_of reader) (so_far_of new) line → KeepsLine reader new (i + 1) → AreRead ls (i + 1) new
@@ -68,7 +57,7 @@ line_skipped ls i reader line r h e x = record {
 
 -- ---- faults
 
--- the rule whose link is yet to come has none
+-- the rule whose link has not been read has none
 no_link_found : (ls : List Text) (whole : RuleSet) (guards : List Guard) (rule_line : Option ℕ) (at : ℕ) (k : RuleErrorKind) (rest : List Text)
     → rule_line ≡ Some at → k ≡ kind.NoLink → AreSoundSoFar (record { whole = whole; guards = guards_from rule_line guards })
     → significant ls ≡ map line_of (statements whole ++ statements_of_guards (guards_from rule_line guards)) ++ rest → EndsRule rest
@@ -100,17 +89,9 @@ end_refused ls i reader e r h k a =
     no_link_found ls (so_far_of reader).whole reader.guards.items reader.rule_line e.line e.kind [] a k r.sound
     (ap significant (sym (take_all i ls h)) ∙ r.spelled ∙ sym (append-nil (map line_of (statements_so_far (so_far_of reader))))) tt r.numbered
 
-pub all_read : (ls : List Text) (i : ℕ) (reader : Reader) (rules : RuleSet) → AreRead ls i reader → length ls ≤ i
-    → so_far_of reader ≡ record { whole = rules; guards = None } → IsSound rules × (significant ls ≡ map line_of (statements rules))
-all_read ls i reader rules r h e = (
-  subst (λ (b : RulesSoFar). IsSound b.whole) e r.sound.whole,
-  ap significant (sym (take_all i ls h)) ∙ r.spelled ∙ ap (λ (b : RulesSoFar). map line_of (statements_so_far b)) e
-      ∙ ap (map line_of) (append-nil (statements rules)),
-)
-
 -- ---- results
 
--- an element of lines that are lent
+-- an element of borrowed lines
 pub line_at : (ls : List (Bor Text)) (i : ℕ) (d : Bor Text) → i < length ls
     → (i < length (map (λ (x : Bor Text). x.now) ls)) × (get_or (map (λ (x : Bor Text). x.now) ls) i (get_or ls i d).now ≡ (get_or ls i d).now)
 line_at [] i d h = absurd (omega arith)

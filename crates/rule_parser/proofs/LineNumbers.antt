@@ -21,7 +21,7 @@ significant-append xs ys = filter-append is_significant xs ys
 pub one_significant : (x : Text) (b : Bool) → is_significant x ≡ b → significant (x ∷ []) ≡ (if b then (x ∷ []) else [])
 one_significant x b e = ap (λ (y : Bool). if y then (x ∷ []) else []) e
 
--- the numbers of the significant lines, where the first line has this number
+-- the numbers of the significant lines, if the first line has this number
 abbrev pub significant_numbers : ℕ → List Text → List ℕ
 significant_numbers n [] = []
 significant_numbers n (line ∷ ls) = if is_significant line then (n ∷ significant_numbers (n + 1) ls) else significant_numbers (n + 1) ls
@@ -56,7 +56,7 @@ significant_around ls front rest line e h =
     ap significant e ∙ significant-append front (line ∷ rest)
     ∙ ap (λ l. significant front ++ l) (ap (λ (y : Bool). if y then (line ∷ significant rest) else significant rest) h)
 
--- the number of a line after others that spell these statements
+-- the number of a line after those of these statements
 number_behind : (ls front behind : List Text) (line : Text) (ss : List Statement) → ls ≡ front ++ line ∷ behind → is_significant line ≡ true
     → significant front ≡ map line_of ss → line_number ls (length ss) ≡ length front + 1
 number_behind ls front behind line ss e h s =

@@ -1,4 +1,4 @@
--- The first rule that holds, its link as the rules see their variables, and the names of lists, computed by the definitions.
+-- The first rule that holds, its link as the rules see their variables, and the names of lists, computed from the definitions.
 use Rattle.std.proofs.Common.{◌≡◌, List, [], ◌∷◌, false, Option, Some, None, map, refl, codes}
 use Rattle.text_model.specs.Texts.{Text, is_unreserved}
 use Rattle.text_model.specs.Writing.{written_u}
@@ -47,7 +47,7 @@ failing =
 abbrev links : List (List Rule) → List (Option Text)
 links sets = map (λ rules. meaning (rules_of rules) variables) sets
 
--- the first rule of which all guards hold
+-- the first rule whose guards all hold
 first_that_holds :
     links (
     (holding (codes "a") ∷ []) ∷ (holding (codes "a") ∷ holding (codes "b") ∷ [])

@@ -1,4 +1,4 @@
--- The names that guards mention, and how guards are spelled, computed by the definitions.
+-- The names that guards mention, and how guards are written, computed from the definitions.
 use Rattle.std.proofs.Common.{◌≡◌, List, [], ◌∷◌, map, refl, codes}
 use Rattle.rule_parser.specs.declared.rule.Bound.TheVariants as bound
 use Rattle.rule_parser.specs.declared.rule.Guard.{Guard}
@@ -6,7 +6,7 @@ use Rattle.rule_parser.specs.declared.rule.Guard.TheVariants as guard
 use Rattle.rule_parser.specs.Mentions.{mentioned}
 use Rattle.rule_parser.specs.Statements.{guard_text}
 
--- one of each kind; names of bounds count, and digits and texts are no names
+-- one guard of each kind; bounds that are names count, and digits and texts are not names
 abbrev guards : List Guard
 guards =
     guard.Has (codes "x") ∷ guard.Lacks (codes "x") ∷ guard.Given (codes "x")
@@ -22,7 +22,7 @@ names_in_order :
     ∷ (codes "x" ∷ codes "low" ∷ codes "high" ∷ []) ∷ (codes "rft.au" ∷ []) ∷ (codes "rft.au" ∷ codes "n" ∷ []) ∷ []
 names_in_order = refl
 
--- a name that comes again is mentioned where it came first
+-- a repeated name is mentioned at its first place
 abbrev again : List Guard
 again =
     guard.Between (codes "x") (bound.Name (codes "x")) (bound.Name (codes "y"))

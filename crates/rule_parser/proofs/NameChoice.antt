@@ -1,4 +1,4 @@
--- A text is a name or it is none: its bytes are gone through once, by what may come next.
+-- A text is a name or not: its bytes are read once, keeping track of what may come next.
 use Rattle.std.proofs.Common.{◌≡◌, ◌≢◌, ℕ, [], ◌∷◌, ◌++◌, Bool, true, false, ◌&&◌, ◌==◌, ◌⊎◌, inl, inr, length, fold, if◌then◌else◌, refl, ap, subst, sym, ◌∙◌}
 use Rattle.std.proofs.Common.{arith}
 use Rattle.std.specs.Prelude.{nat_le}
@@ -9,7 +9,7 @@ use Rattle.text_model.specs.Texts.{Text, is_hexadecimal}
 use Rattle.uri_grammar.specs.Names.{IsVarchar, IsVarname, IsName, is_name_character, character_varchar, triplet_varchar, first_varchar, next_varchar}
 use Rattle.uri_grammar.specs.Names.{dotted_varchar}
 
--- what may come after the bytes so far: more or nothing, where they are a name; a varchar; two digits of a triplet, or one; nothing
+-- what may come after the bytes so far: more or nothing, if they are a name; a varchar; two digits of a triplet, or one; nothing valid
 pub data Stage : Type 0 where
   Named : Stage
   Wanting : Stage
@@ -30,7 +30,7 @@ step Lost b = Lost
 abbrev pub after : Stage → Text → Stage
 after stage text = fold step stage text
 
--- ---- what was gone through is the beginning of a name
+-- ---- bytes that were accepted are the beginning of a name
 
 abbrev Stands : Stage → Text → Type 0
 Stands Named front = IsVarname front
@@ -87,7 +87,7 @@ name_from text e l = (by_stage (after Wanting text) (text_stands text [] Wanting
     by_stage Named h f = h
     by_stage stage h f = absurd (let never : false ≡ true = f in cc)
 
--- ---- a name is gone through
+-- ---- a name is accepted
 
 varchar_is_gone_through : (v : Text) → IsVarchar v → after Wanting v ≡ Named
 varchar_is_gone_through v (character_varchar c h) = ap (λ x. if x then Named else (if c == 37 then TwoDigits else Lost)) h
@@ -97,7 +97,7 @@ varchar_is_gone_through v (triplet_varchar c high low h) =
     ap (λ b. after (begun_by b) (high ∷ low ∷ [])) (eqb-true c 37 first.0) ∙ ap (λ x. step (if x then OneDigit else Lost) low) digits.0
     ∙ ap (λ x. if x then Named else Lost) digits.1
 
--- a varchar begins with no dot
+-- a varchar does not begin with a dot
 varchar_goes_on : (v : Text) → IsVarchar v → after Named v ≡ after Wanting v
 varchar_goes_on v (character_varchar c h) = ap (λ x. if x then Wanting else begun_by c) no_dot
   where

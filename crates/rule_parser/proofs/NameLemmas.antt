@@ -49,7 +49,7 @@ any_lent : (x : Text) (items : List (Bor Text)) → is_among x (map (λ (y : Bor
 any_lent x [] = refl
 any_lent x (y ∷ items) = ap (λ b. bytes_eq y.now x || b) (any_lent x items)
 
--- one more text, where those before it are lent, each once
+-- one more text after borrowed ones, each once
 pub once_more : (items : List (Bor Text)) (names : List Text) (x : Text) (b : Bool) → map (λ (y : Bor Text). y.now) items ≡ each_once names
     → list_any (λ (y : Bor Text). bytes_eq y.now x) items ≡ b
     → (if b then map (λ (y : Bor Text). y.now) items else map (λ (y : Bor Text). y.now) items ++ x ∷ []) ≡ each_once (names ++ x ∷ [])

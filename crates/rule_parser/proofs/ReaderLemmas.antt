@@ -1,4 +1,4 @@
--- How each statement continues with what the lines before it said, and what cannot continue.
+-- How each statement continues the rules of the lines before it, and which lines cannot.
 use Rattle.std.proofs.Common.{◌≡◌, ◌≢◌, ℕ, List, [], ◌∷◌, ◌++◌, true, false, Option, Some, None, ◌⊎◌, inl, inr, is_some, length, arith, refl, ap, subst, sym}
 use Rattle.std.proofs.Common.{codes}
 use Rattle.std.specs.Option.{option_map}
@@ -84,7 +84,7 @@ links lists rules (Some l) rule e t k s = record {
   };
 }
 
--- ---- lines that no statement spells
+-- ---- lines that are not those of any statement
 
 pub no_list : (name : Text) → (IsName name → ⊥) → (s : Statement) → IsStatement s → codes "list " ++ name ≡ line_of s → ⊥
 no_list name h (Declare n) k e = h (subst IsName (sym (after_token e)) k)

@@ -7,7 +7,7 @@ use Rattle.rule_parser.specs.Characters.{quote, backslash}
 use Rattle.rule_parser.specs.Statements.{escaped}
 use Rattle.rule_parser.proofs.EscapeLemmas.{escaped-append, escaped_plain_text, plain_bytes}
 
--- any other character is written as it is
+-- any other character is written unchanged
 pub plain_character : (c : ℕ) → c ≢ quote → c ≢ backslash → escaped (encode_utf8 c) ≡ encode_utf8 c
 plain_character c h k = escaped_plain_text (encode_utf8 c) (plain_bytes c (rw (ne_eqb c quote h, ne_eqb c backslash k) refl))
 

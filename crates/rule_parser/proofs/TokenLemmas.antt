@@ -29,7 +29,7 @@ other_heads x y s t n e = eqb-false x y n (same_parts x y s t e).0
 
 -- ---- spaces
 
--- the first space cuts a text in one way
+-- a text is split at its first space in only one way
 pub token_split : (xs ys us vs : List ℕ) → IsToken xs → IsToken us → xs ++ 32 ∷ ys ≡ us ++ 32 ∷ vs → (xs ≡ us) × (ys ≡ vs)
 token_split [] ys [] vs a b e = (refl, cc)
 token_split [] ys (u ∷ us) vs a b e = absurd (b.0 (cc))
@@ -49,7 +49,7 @@ no_space (x ∷ t) (u ∷ us) vs a e = let tails : t ≡ us ++ 32 ∷ vs = cc in
 
 -- ---- the bytes of names
 
--- a byte of a class that another is not of
+-- a byte of a class differs from a byte that is not in the class
 class_lacks : (test : ℕ → Bool) (x : ℕ) → test x ≡ false → (b : ℕ) → test b ≡ true → b ≢ x
 class_lacks test x outside b inside e = let same : test b ≡ test x = ap test e in cc
 
@@ -60,7 +60,7 @@ lacks-append : (x : ℕ) (xs ys : List ℕ) → LacksByte x xs → LacksByte x y
 lacks-append x [] ys a b = b
 lacks-append x (y ∷ xs) ys a b = (a.0, lacks-append x xs ys a.1 b)
 
--- a byte that no name has
+-- a byte that cannot be in a name
 abbrev IsNoNameByte : ℕ → Type 0
 IsNoNameByte x = (is_name_character x ≡ false) × ((x == 37) ≡ false) × (is_hexadecimal x ≡ false) × ((x == 46) ≡ false)
 

@@ -5,7 +5,7 @@ use Rattle.std.specs.Prelude.{ℕ}
 abbrev pub space : ℕ
 space = 0x20
 
--- `"`, round a text
+-- `"`, around a text
 abbrev pub quote : ℕ
 quote = 0x22
 

@@ -1,4 +1,4 @@
--- The first fault of bytes that spell no rules: lines that begin a set of rules, and then a line that cannot go on with it.
+-- The first fault of bytes that are not a rule text: lines that begin a set of rules, and then a line that cannot continue it.
 use Rattle.std.specs.Prelude.{◌≡◌, ℕ, ◌+◌, ◌<◌, ◌≤◌, List, [], ◌∷◌, ◌++◌, Bool, true, false, Option, Some, None, is_some, is_none, ◌&&◌, ◌==◌, map, length, All}
 use Rattle.std.specs.Prelude.{IsUtf8, ◌⊎◌}
 use Rattle.std.specs.Str.Lines.{lines}
@@ -14,12 +14,12 @@ use Rattle.rule_parser.specs.Statements.{Statement, Declare, Begin, When, Link, 
 use Rattle.rule_parser.specs.declared.rules.TheConstants.{MAX_BYTES}
 use Rattle.rule_parser.specs.Grammar.{is_significant, significant}
 
--- Rules that are whole, and the guards of one more rule whose link is yet to come, if one has begun.
+-- Complete rules and, if one more rule has begun, its guards; its link has not been read yet.
 pub record RulesSoFar : Type 0 where
   pub whole : RuleSet
   pub guards : Option (List Guard)
 
--- the statements of a rule whose link is yet to come
+-- the statements of a rule whose link has not been read yet
 abbrev pub statements_of_guards : Option (List Guard) → List Statement
 statements_of_guards None = []
 statements_of_guards (Some guards) = Begin ∷ map When guards
@@ -41,7 +41,7 @@ pub record AreSoundSoFar (begun : RulesSoFar) : Type 0 where
 abbrev pub takes_lists : RulesSoFar → Bool
 takes_lists begun = is_none begun.guards && length begun.whole.rules == 0
 
--- guards and a link come in a rule; a rule that comes too early lacks the link of the one before
+-- guards and a link belong in a rule; a rule line that comes too early means that the rule before it has no link
 abbrev pub is_in_order : RulesSoFar → Statement → Bool
 is_in_order begun (Declare name) = takes_lists begun
 is_in_order begun Begin = true
@@ -74,12 +74,12 @@ pub record StopsAtLine (ls : List Text) (k : RuleErrorKind) (number : ℕ) : Typ
   pub is_no_comment : is_significant line ≡ true
   pub faulty : IsLineFault begun line k
 
--- the next rule begins, or nothing more comes
+-- the next rule begins, or no more lines follow
 abbrev pub EndsRule : List Text → Type 0
 EndsRule [] = Unit {0}
 EndsRule (line ∷ ls) = line ≡ line_of Begin
 
--- a rule that ends without a link, which has the number of its own line
+-- a rule that ends without a link; the number is that of the line of the rule
 pub record LacksLink (ls : List Text) (k : RuleErrorKind) (number : ℕ) : Type 0 where
   pub before : List Text
   pub behind : List Text
@@ -97,7 +97,7 @@ pub record LacksLink (ls : List Text) (k : RuleErrorKind) (number : ℕ) : Type 
 abbrev pub IsFirstFault : List Text → RuleErrorKind → ℕ → Type 0
 IsFirstFault ls k number = StopsAtLine ls k number ⊎ LacksLink ls k number
 
--- the bytes spell no rules: what is wrong with them, and the number of the line, from 1; 0 where it is no line's fault
+-- the bytes are not a rule text: what is wrong with them, and the number of the line, from 1; 0 if the fault belongs to no line
 abbrev pub IsRefused : Text → RuleErrorKind → ℕ → Type 0
 IsRefused bytes k number =
     ((MAX_BYTES < length bytes) × (k ≡ kind.TooLong) × (number ≡ 0))

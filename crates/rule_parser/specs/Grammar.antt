@@ -1,4 +1,4 @@
--- Which bytes spell which rules.
+-- Which bytes are the text of which rules.
 use Rattle.std.specs.Prelude.{◌≡◌, ◌≤◌, List, [], ◌∷◌, Bool, false, not, ◌==◌, filter, map, length, IsUtf8}
 use Rattle.std.specs.Str.Lines.{lines}
 use Rattle.text_model.specs.Texts.{Text}
@@ -15,8 +15,7 @@ is_significant (b ∷ line) = not (b == number_sign)
 abbrev pub significant : List Text → List Text
 significant ls = filter is_significant ls
 
--- The lines of a text, its comments left out, spell the rules. A line ends with LF, and a CR before that is dropped; the last LF
--- may be missing.
+-- The lines of the text, without its comments, are those of the rules. A line ends with LF, and a CR before it is dropped; the last LF may be missing.
 pub record IsRuleText (bytes : Text) (rules : RuleSet) : Type 0 where
   pub short : length bytes ≤ MAX_BYTES
   pub utf8 : IsUtf8 bytes

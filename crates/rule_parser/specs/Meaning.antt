@@ -34,7 +34,7 @@ abbrev pub is_text : Text → Option Text → Bool
 is_text wanted None = false
 is_text wanted (Some text) = bytes_eq text wanted
 
--- the number that a bound denotes, or none where the bound is open
+-- the number that a bound denotes, or none if the bound is open
 abbrev pub bound_number : LookUp → Bound → Option ℕ
 bound_number look bound.Open = None
 bound_number look (bound.Digits digits) = leading_number digits
@@ -48,7 +48,7 @@ abbrev pub is_at_most : Option ℕ → ℕ → Bool
 is_at_most None n = true
 is_at_most (Some high) n = nat_le n high
 
--- on a bound or between the two
+-- the number is between the bounds, or equal to one
 abbrev pub is_within : Option ℕ → Option ℕ → ℕ → Bool
 is_within low high n = is_at_least low n && is_at_most high n
 
@@ -76,6 +76,6 @@ guards_hold look rule = list_all (guard_holds look) rule.guards
 abbrev pub seen : RuleSet → Environment → LookUp
 seen rules env = view (list_names rules.lists) (look_up env)
 
--- the expansion of the first rule whose guards all hold; none without such a rule
+-- the expansion of the template of the first rule whose guards all hold; none if there is no such rule
 abbrev pub meaning : RuleSet → Environment → Option Text
 meaning rules env = option_map (λ (rule : Rule). expansion (seen rules env) rule.template.parts) (find (guards_hold (seen rules env)) rules.rules)

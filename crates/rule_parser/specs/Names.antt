@@ -1,4 +1,4 @@
--- The names of lists, as `lists` answers them.
+-- The names of lists, as `lists` returns them.
 use Rattle.std.specs.Prelude.{List, [], ◌∷◌, not, filter}
 use Rattle.std.specs.Str.{bytes_eq}
 use Rattle.text_model.specs.Texts.{Text}

@@ -1,4 +1,4 @@
--- A set of rules, and what holds of each set that a rule text spells.
+-- A set of rules, and what holds for each set that is read from a rule text.
 use Rattle.std.specs.Prelude.{◌≡◌, ◌≤◌, List, Bool, true, false, not, ◌&&◌, ◌==◌, length, All, if◌then◌else◌}
 use Rattle.std.specs.List.{list_all}
 use Rattle.std.specs.Char.{is_ascii_digit}
@@ -23,7 +23,7 @@ pub record RuleSet : Type 0 where
 
 -- ---- tokens
 
--- digits alone are no name of a bound
+-- a bound that consists of digits is not a name
 abbrev pub IsBound : Bound → Type 0
 IsBound bound.Open = Unit {0}
 IsBound (bound.Digits digits) = (list_all is_ascii_digit digits ≡ true) × (1 ≤ length digits) × (length digits ≤ MAX_DIGITS)
@@ -41,7 +41,7 @@ IsGuard (guard.Holds name text) = IsName name
 IsGuard (guard.Between name low high) = IsName name × AreBounds low high
 IsGuard (guard.Counts name low high) = IsName name × AreBounds low high
 
--- ---- kinds: each name is used as what it is declared
+-- ---- kinds: each name is used as it is declared
 
 abbrev pub bound_fits : List Text → Bound → Bool
 bound_fits lists bound.Open = true
@@ -60,7 +60,7 @@ guard_fits lists (guard.Holds name text) = is_list lists name
 guard_fits lists (guard.Between name low high) = not (is_list lists name) && bounds_fit lists low high
 guard_fits lists (guard.Counts name low high) = is_list lists name && bounds_fit lists low high
 
--- a prefix applies to texts alone
+-- only a text can have a prefix
 abbrev pub spec_fits : List Text → Spec → Bool
 spec_fits lists spec = if is_list lists spec.name then spec.cut == 0 else true
 

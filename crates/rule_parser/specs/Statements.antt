@@ -1,4 +1,4 @@
--- What a line says, and how it is spelled.
+-- The statement of a line, and how it is written.
 use Rattle.std.specs.Prelude.{ℕ, List, [], ◌∷◌, ◌++◌, map, Bool, ◌||◌, ◌==◌, codes, if◌then◌else◌}
 use Rattle.std.specs.List.{flat_map}
 use Rattle.text_model.specs.Texts.{Text}
@@ -23,13 +23,13 @@ IsStatement Begin = Unit {0}
 IsStatement (When g) = IsGuard g
 IsStatement (Link text) = Unit {0}
 
--- ---- spelling
+-- ---- how statements are written
 
 -- a quote or a backslash
 abbrev pub is_special : ℕ → Bool
 is_special b = b == quote || b == backslash
 
--- a backslash before each of these
+-- the text with a backslash before each of these
 abbrev pub escaped : Text → Text
 escaped [] = []
 escaped (b ∷ text) = if is_special b then (backslash ∷ b ∷ escaped text) else (b ∷ escaped text)

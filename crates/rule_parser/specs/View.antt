@@ -1,4 +1,4 @@
--- What the view of an environment by rules shows.
+-- An environment as rules see it.
 use Rattle.environment_model.specs.Environment.{LookUp}
 use Rattle.rule_parser.specs.Meaning.{seen}
 use Rattle.rule_parser.specs.declared.view.RulesView.{RulesView}

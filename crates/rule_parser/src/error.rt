@@ -1,4 +1,4 @@
-//! Why bytes are no rule text.
+//! Why bytes are not a rule text.
 
 ghost use Rattle.std.specs.Prelude.{◌≡◌, ◌≢◌};
 
@@ -7,20 +7,20 @@ use std::fmt;
 use thiserror::Error;
 use uri_grammar::TemplateErrorKind;
 
-/// Why bytes are no rule text, in the order in which it is decided.
+/// Why bytes are not a rule text, in the order in which it is checked.
 #[derive(Clone, Copy, Debug, PartialEq, Eq, Error)]
 pub enum RuleErrorKind {
     /// More than [`crate::MAX_BYTES`] bytes.
     TooLong,
     /// Bytes that are not UTF-8.
     NotUtf8,
-    /// A line of no form, or out of its order.
+    /// A line that has none of the forms, or is out of order.
     BadLine,
     /// A rule without a link, found at the next `rule` line or at the end.
     NoLink,
-    /// A link that is no template.
+    /// A link that is not a template.
     Template(TemplateErrorKind),
-    /// A list where a text is wanted, or a text before `holds` or `counts`.
+    /// A list where a text is needed, or a text before `holds` or `counts`.
     KindMismatch,
     /// An allocation failed.
     NoMemory,
@@ -35,11 +35,13 @@ impl fmt::Display for RuleErrorKind {
     }
 }
 
-/// The first fault of a rule text, and the number of its line, from 1; 0 where the fault is no line's.
+/// The first fault of a rule text, and the number of its line, from 1; 0 if the fault belongs to no line.
 #[derive(Clone, Copy, Debug, PartialEq, Eq, Error)]
 #[error("line {line}: {kind}")]
 pub struct RuleError {
+    /// What is wrong.
     pub kind: RuleErrorKind,
+    /// The number of the line, from 1; 0 if the fault belongs to no line.
     pub line: usize,
 }
 

@@ -1,10 +1,9 @@
 //! What rules mean in an environment.
 
 ghost use Rattle.std.specs.Prelude.{◌≡◌, IfOk, IfSome, string_bytes};
-ghost use Rattle.std.specs.List.{list_all};
 ghost use Rattle.std.specs.Option.{option_map};
 ghost use Rattle.text_model.specs.UriText.{IsUriText};
-ghost use Rattle.rule_parser.specs.Meaning.{guard_holds as is_held, meaning as meaning_of};
+ghost use Rattle.rule_parser.specs.Meaning.{meaning as meaning_of};
 
 use crate::guards::all_hold;
 use crate::rules::Rules;
@@ -13,9 +12,9 @@ use std::alloc::{AllocError, Global};
 use target_vars::Env;
 use uri_template::expand_in;
 
-/// The link of the first rule whose guards all hold: the expansion of its template (RFC 6570, section 3). `None`
-/// without such a rule. Each name is seen as the rules declare it: a list where they want a text, and a text where they
-/// want a list, is undefined.
+/// The link of the first rule whose guards all hold: the expansion of its template (RFC 6570, section 3). `None` if
+/// there is no such rule. The environment is seen as the rules declare it: a list under a name that they use as a text
+/// is undefined, and so is a text under a name that they declare a list.
 ///
 /// `AllocError` if an allocation failed.
 pub fn meaning(alloc: Global, rules: &Rules, env: &Env) -> Result<Option<String>, AllocError>

@@ -13,10 +13,10 @@ use crate::rule::{Bound, Guard};
 use std::alloc::{AllocError, Global};
 use uri_grammar::{Text, is_name};
 
-/// The most digits that a bound has.
+/// The maximum number of digits of a bound.
 pub const MAX_DIGITS: usize = 9;
 
-/// The guard that the tokens after `when ` spell, if they spell one.
+/// The guard that is written after `when `, if it is one.
 pub(crate) fn guard(alloc: Global, tokens: &str) -> Result<Option<Guard>, AllocError>
     ensures { IfOk result (λ read. ReadsGuard tokens.now read) }
 {
@@ -115,7 +115,7 @@ fn quoted(alloc: Global, value: &str) -> Result<Option<Text>, AllocError>
     }
 }
 
-/// The text without the backslashes before quotes and backslashes, which stand nowhere else.
+/// The text without the backslashes before quotes and backslashes; `None` if a backslash is anywhere else.
 fn unescaped(alloc: Global, escaped: &str) -> Result<Option<Text>, AllocError>
     ensures { IfOk result (λ read. ReadsEscaped escaped.now read) }
 {

@@ -1,4 +1,4 @@
-//! Whether guards hold of variables.
+//! Whether guards hold.
 
 ghost use Rattle.std.specs.Prelude.{◌≡◌, ◌<◌, [], length, slice_index_or};
 ghost use Rattle.std.specs.Str.{bytes_eq};
@@ -23,7 +23,7 @@ pub(crate) fn all_hold<V: Variables>(variables: &V, guards: &[Guard]) -> bool
     guards.iter().all(|guard| holds(variables, guard))
 }
 
-/// Whether the guard holds of the variables. As rules see an environment, they are those of
+/// Whether the guard holds for the variables. For an environment as the rules see it, use
 /// [`Rules::view`](crate::Rules::view).
 pub fn holds<V: Variables>(variables: &V, guard: &Guard) -> bool
     ensures { result ≡ is_held (V.look variables.now) guard.now }
@@ -44,7 +44,7 @@ pub fn holds<V: Variables>(variables: &V, guard: &Guard) -> bool
     }
 }
 
-// A list without members is not defined.
+// A list without members is undefined.
 fn is_defined<V: Variables>(variables: &V, name: &str) -> bool
     ensures { result ≡ stands_for_something (V.look variables.now name.now) }
 {
@@ -96,7 +96,7 @@ fn number<V: Variables>(variables: &V, name: &str) -> Option<u32>
     leading_number(variables.text(name)?.as_bytes())
 }
 
-// The number of a bound; `None` where it is open.
+// The number of a bound; `None` if it is open.
 fn bound_number<V: Variables>(variables: &V, bound: &Bound) -> Option<u32>
     ensures { result ≡ number_of_bound (V.look variables.now) bound.now }
 {

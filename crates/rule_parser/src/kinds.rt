@@ -1,4 +1,4 @@
-//! Whether each name is used as what it is declared: a text or a list.
+//! Whether each name is used as it is declared: as a text or as a list.
 
 ghost use Rattle.std.specs.Prelude.{◌≡◌};
 ghost use Rattle.std.specs.List.{list_all};
@@ -25,7 +25,7 @@ fn bounds_fit(lists: &[Text], low: &Bound, high: &Bound) -> bool
     bound_fits(lists, low) && bound_fits(lists, high)
 }
 
-/// Whether the guard wants a list where a name denotes one, and a text where not.
+/// Whether the guard uses names of lists as lists, and other names as texts.
 pub(crate) fn guard_fits(lists: &[Text], guard: &Guard) -> bool
     ensures { result ≡ guard_is_fit lists.now guard.now }
 {
@@ -63,7 +63,7 @@ fn part_fits(lists: &[Text], part: &Part) -> bool
     }
 }
 
-/// Whether prefixes apply to texts alone.
+/// Whether only texts have prefixes.
 pub(crate) fn parts_fit(lists: &[Text], parts: &[Part]) -> bool
     ensures { result ≡ parts_are_fit lists.now parts.now }
 {

@@ -1,4 +1,4 @@
-//! What holds of every rule text.
+//! What holds for every rule text.
 
 ghost use Rattle.std.specs.Prelude.{◌≡◌, ◌⊎◌, ℕ};
 ghost use Rattle.text_model.specs.Texts.{Text};
@@ -11,7 +11,7 @@ use uri_grammar::laws::{
     one_first_fault as one_template_fault, one_tree, tree_or_fault, tree_without_fault,
 };
 
-/// A rule text spells one set of rules.
+/// A rule text has at most one set of rules.
 pub fn one_rule_set()
     ensures { (bytes : Text) (rules others : RuleSet) → IsRuleText bytes rules → IsRuleText bytes others
         → rules ≡ others }
@@ -19,7 +19,7 @@ pub fn one_rule_set()
     one_tree();
 }
 
-/// A rule text has no fault.
+/// Bytes that have rules have no fault.
 pub fn rules_without_fault()
     ensures { (bytes : Text) (rules : RuleSet) (kind : RuleErrorKind) (line : ℕ) → IsRuleText bytes rules
         → IsRefused bytes kind line → ⊥ }

@@ -28,5 +28,7 @@ pub use guards::holds;
 pub use rule::{Bound, Guard, Guards, Rule};
 pub use rules::{MAX_BYTES, Rules};
 pub use spelling::push_guard;
+pub use target_vars::{Env, Members};
 pub use uri_grammar::{Template, TemplateErrorKind, Text};
+pub use uri_template::Variables;
 pub use view::RulesView;

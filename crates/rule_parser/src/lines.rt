@@ -1,6 +1,6 @@
 //! The lines of a rule text.
 
-ghost use Rattle.std.specs.Prelude.{◌≡◌, ◌<◌, ◌⊎◌, map, length, IfOk, IfErr};
+ghost use Rattle.std.specs.Prelude.{◌≡◌, ◌<◌, ◌⊎◌, map, IfOk, IfErr};
 ghost use Rattle.rule_parser.specs.Rules.{IsSound};
 ghost use Rattle.rule_parser.specs.Statements.{line_of, statements};
 ghost use Rattle.rule_parser.specs.Grammar.{is_significant as says_something, significant};
@@ -12,7 +12,7 @@ use crate::reader::Reader;
 use crate::rules::Rules;
 use std::alloc::Global;
 
-/// The rules that the lines spell, with empty lines and comments left out.
+/// The rules of the lines; empty lines and comments are skipped.
 pub(crate) fn read_lines(alloc: Global, lines: &[&str]) -> Result<Rules, RuleError>
     ensures sound { IfOk result IsSound }
     ensures spelled { IfOk result (λ rules. significant (map (λ line. line.now) lines.now)

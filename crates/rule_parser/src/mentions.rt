@@ -40,7 +40,7 @@ fn bounded<'a>(
 }
 
 impl Guard {
-    /// The names that the guard mentions, its own and those that are its bounds, in the order of its line, each once.
+    /// The names that the guard mentions, its own and those of its bounds, in the order of its line, each once.
     ///
     /// `AllocError` if an allocation failed.
     pub fn names(&self, alloc: Global) -> Result<Vec<&str>, AllocError>

@@ -1,4 +1,4 @@
-//! Names of rules: which are lists.
+//! Which names of rules are lists.
 
 ghost use Rattle.std.specs.Prelude.{◌≡◌, IfOk};
 ghost use Rattle.environment_model.specs.Environment.{is_among as is_one_of};
@@ -15,7 +15,7 @@ pub(crate) fn is_among(names: &[Text], name: &str) -> bool
     names.iter().any(|other| other.as_str() == name)
 }
 
-/// Whether the name denotes a list, where these are declared.
+/// Whether the name denotes a list, if these are declared.
 pub(crate) fn is_list(declared: &[Text], name: &str) -> bool
     ensures { result ≡ stands_for_list declared.now name.now }
 {

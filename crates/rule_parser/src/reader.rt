@@ -1,4 +1,4 @@
-//! How a rule text is read, line by line.
+//! Reading a rule text, line by line.
 
 ghost use Rattle.std.specs.Prelude.{◌≡◌, ◌++◌, true, codes, is_some, Err, IfOk, IfErr, OnOk};
 ghost use Rattle.uri_grammar.specs.Names.{IsName};
@@ -17,12 +17,12 @@ use std::alloc::Global;
 use std::mem;
 use uri_grammar::{Template, Text, is_name};
 
-/// What the lines so far have said.
+/// What the lines so far have given.
 #[derive(Drop)]
 pub(crate) struct Reader {
     pub(crate) lists: Vec<Text>,
     pub(crate) rules: Vec<Rule>,
-    /// The line of the rule whose link is yet to come.
+    /// The line of the rule whose link has not been read yet.
     pub(crate) rule_line: Option<usize>,
     /// The guards of that rule.
     pub(crate) guards: Vec<Guard>,
@@ -40,7 +40,7 @@ impl Reader {
         }
     }
 
-    /// Takes one more line that says something.
+    /// Reads one more line, which is neither empty nor a comment.
     pub(crate) fn read(&mut self, alloc: Global, number: usize, line: &str) -> Result<(), RuleError>
         requires { AreSoundSoFar (so_far_of self.old) }
         ensures ok { OnOk result (GoesOn (so_far_of self.old) (so_far_of self.new) line.now) }
@@ -151,7 +151,7 @@ impl Reader {
         Ok(())
     }
 
-    /// The rules, where no link is yet to come.
+    /// The rules, unless the link of the last one is missing.
     pub(crate) fn finish(self) -> Result<Rules, RuleError>
         requires { AreSoundSoFar (so_far_of self) }
         ensures ok { IfOk result (λ rules. so_far_of self ≡ record { whole = rules; guards = None }) }

@@ -10,30 +10,30 @@ use uri_grammar::{Template, Text};
 pub enum Bound {
     /// `*`
     Open,
-    /// 1 to [`MAX_DIGITS`](crate::MAX_DIGITS) decimal digits, as they are written.
+    /// 1 to [`MAX_DIGITS`](crate::MAX_DIGITS) decimal digits, as they are written in the rule.
     Digits(Text),
     /// The name of a text, whose leading number is the bound.
     Name(Text),
 }
 
-/// What has to hold for a rule's link, by the line `when ..` that says it.
+/// A condition for a rule's link; each variant shows its line without `when `.
 #[derive(Drop)]
 pub enum Guard {
-    /// `has NAME`: the name is defined. A list without members is not.
+    /// `has NAME`: the name is defined. A list without members is undefined.
     Has(Text),
-    /// `lacks NAME`: the name is not defined.
+    /// `lacks NAME`: the name is undefined.
     Lacks(Text),
     /// `given NAME`: the name's text is defined and not empty.
     Given(Text),
-    /// `NAME is "TEXT"`: the name's text is this one.
+    /// `NAME is "TEXT"`: the name's text equals TEXT.
     Same(Text, Text),
-    /// `LIST holds "TEXT"`: a member of the list is this text.
+    /// `LIST holds "TEXT"`: a member of the list equals TEXT.
     Holds(Text, Text),
-    /// `NAME from LO to HI`: the leading number of the name's text exists and lies between the bounds, which it may
-    /// reach. A bound without a number is open.
+    /// `NAME from LO to HI`: the name's text begins with a number, which is between the bounds or equal to one. A bound
+    /// without a number is open.
     Between(Text, Bound, Bound),
-    /// `LIST counts LO to HI`: the number of the list's members lies between the bounds, which it may reach. A list
-    /// that is not defined has none, and a bound without a number is open.
+    /// `LIST counts LO to HI`: the number of the list's members is between the bounds or equal to one. An undefined
+    /// list has no members, and a bound without a number is open.
     Counts(Text, Bound, Bound),
 }
 
@@ -53,14 +53,14 @@ impl Model for Guards {
 }
 
 impl Guards {
-    /// The guards in the order of the list; takes no memory.
+    /// The guards in the order of the list.
     pub fn new(list: Vec<Guard>) -> Guards
         ensures { result ≡ list.items }
     {
         Guards { list }
     }
 
-    /// The guards in their order, lent; takes no memory.
+    /// The guards in their order.
     pub fn as_slice(&self) -> &[Guard]
         ensures { result.now ≡ self.now }
     {
@@ -68,10 +68,11 @@ impl Guards {
     }
 }
 
-/// A link, and what has to hold for it.
+/// A link, and the conditions for it.
 #[derive(Drop)]
 pub struct Rule {
-    /// All of them have to hold.
+    /// All of them have to hold for the link to be used.
     pub guards: Guards,
+    /// The template of the link.
     pub template: Template,
 }

@@ -17,7 +17,7 @@ use std::marker::Model;
 use target_vars::{AUTHORS, IDENTIFIERS};
 use uri_grammar::Text;
 
-/// The most bytes that a rule text has.
+/// The maximum size of a rule text, in bytes.
 pub const MAX_BYTES: usize = 65_536;
 
 /// The rules of a target.
@@ -49,9 +49,9 @@ impl Rules {
     /// may be missing. Empty lines, and lines that begin with `#`, are skipped. First come lines `list NAME`, then
     /// rules: a line `rule`, any number of lines `when ..`, and one line `link TEMPLATE`.
     ///
-    /// Any other bytes are refused whole, by their first fault. A rule without a link is found where the next one
-    /// begins, or at the end. `NoMemory` if an allocation failed, and never in place of `TooLong` and `NotUtf8`. The
-    /// clause `limits` says what the limits of every rule text are.
+    /// Any other bytes are rejected by their first fault. A rule without a link is found where the next one begins, or
+    /// at the end. `NoMemory` if an allocation failed, but never instead of `TooLong` and `NotUtf8`. The clause
+    /// `limits` says what the limits of every rule text are.
     pub fn parse(alloc: Global, bytes: &[u8]) -> Result<Rules, RuleError>
         ensures limits { (MAX_BYTES ≡ 65536) × (MAX_DIGITS ≡ 9) }
         ensures ok { IfOk result (λ rules. IsRuleText bytes.now rules) }
@@ -72,8 +72,8 @@ impl Rules {
         read_lines(alloc, &lines)
     }
 
-    /// The names that denote lists, each once: `rft.au` and `rft_id`, the keys of ANSI/NISO Z39.88 that can come
-    /// more than once, and then the declared names in the order of their lines.
+    /// The names that denote lists, each once: `rft.au` and `rft_id`, the keys of ANSI/NISO Z39.88 that can occur more
+    /// than once, and then the declared names in the order of their lines.
     ///
     /// `AllocError` if an allocation failed.
     pub fn lists(&self, alloc: Global) -> Result<Vec<&str>, AllocError>

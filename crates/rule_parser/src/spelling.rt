@@ -1,4 +1,4 @@
-//! How guards are spelled.
+//! Guards as text.
 
 ghost use Rattle.std.specs.Prelude.{◌≡◌, ◌++◌, OnOk, encode_utf8, string_bytes};
 ghost use Rattle.rule_parser.specs.Statements.{bound_text, bounds_text, escaped, guard_text, quoted};

@@ -4,10 +4,10 @@ use crate::rules::Rules;
 use target_vars::{Env, Members};
 use uri_template::Variables;
 
-/// The variables of an environment, each as the rules declare it: a text whose name they declare a list, and a list
-/// whose name they do not, is undefined.
+/// The variables of an environment as the rules declare them: a text is undefined if the rules declare its name a list,
+/// and a list is undefined if they do not.
 ///
-/// Contracts see it by `seen_by`.
+/// In contracts it is `seen_by`.
 #[derive(Clone, Copy)]
 pub struct RulesView<'a> {
     pub(crate) rules: &'a Rules,
@@ -19,7 +19,7 @@ impl Rules {
     ghost use Rattle.rule_parser.specs.Meaning.{seen};
     ghost use Rattle.rule_parser.specs.View.{seen_by};
 
-    /// An environment as the rules see it; takes no memory.
+    /// An environment as the rules see it. It allocates nothing.
     pub fn view<'a>(&'a self, env: &'a Env) -> RulesView<'a>
         ensures { seen_by result ≡ seen self.now env.now.entries }
     {

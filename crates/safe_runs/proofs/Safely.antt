@@ -1,4 +1,4 @@
--- What is known of accepted code says how its run ends, and why it is not begun.
+-- How a run of accepted code ends, and why it is not started, from what is known about the code.
 use Rattle.std.proofs.Common.{◌≡◌, ℕ, ◌<◌, ◌≤◌, Err, length, refl, ap, subst, inl, inr, arith}
 use Rattle.std.proofs.lemmas.Bool.{cases_lt}
 use Rattle.std.specs.Prelude.{◌↔◌, Result}
@@ -64,11 +64,11 @@ wrong T d = Err d
 error_is : (T : Type 0) (d f : PrepareError) → wrong T d ≡ wrong T f → d ≡ f
 error_is T d f same = cc
 
--- an error is over budget whatever was requested
+-- the error over budget is the same for results of any type
 pub same_over : (T U : Type 0) (d : PrepareError) (n : ℕ) (P : Type 0) → (wrong T d ≡ wrong T (OverBudget n)) ↔ P → (wrong U d ≡ wrong U (OverBudget n)) ↔ P
 same_over T U d n P h = ((λ same. h.0 (ap (wrong T) (error_is U d (OverBudget n) same))), (λ p. ap (wrong U) (error_is T d (OverBudget n) (h.1 p))))
 
--- an error that is not over budget comes only within the limit, since every bound over the limit is answered as such
+-- an error other than over budget is returned only within the limit, since for a bound over the limit the error is over budget
 pub within_limit : (T : Type 0) (d : PrepareError) (most : ℕ)
     → ((n : ℕ) → (wrong T d ≡ wrong T (OverBudget n)) ↔ ((n ≡ most) × (MAX_LINK_BYTES < n))) → d ≡ NoMemory → most ≤ MAX_LINK_BYTES
 within_limit T d most over same = elim (cases_lt MAX_LINK_BYTES most) [
@@ -78,11 +78,11 @@ within_limit T d most over same = elim (cases_lt MAX_LINK_BYTES most) [
       absurd (cc (is_over, same))
 ]
 
--- out of memory is one error, of a result of any type
+-- out of memory is the same error for results of any type
 pub no_memory_is : (U : Type 0) (d : PrepareError) → wrong U d ≡ wrong U NoMemory → d ≡ NoMemory
 no_memory_is U d same = error_is U d NoMemory same
 
--- what is known of an error of the run
+-- what is known about an error of the run
 pub record IsExact (c : Code) (e : EnvValue) (error : PrepareError) : Type 0 where
   pub over : (n : ℕ) → error ≡ OverBudget n → (n ≡ most_bytes c e) × (MAX_LINK_BYTES < n)
   pub no_memory : error ≡ NoMemory → most_bytes c e ≤ MAX_LINK_BYTES

@@ -11,7 +11,7 @@ use Rattle.safe_runs.specs.Ending.{IsAcceptedFile}
 use Rattle.safe_runs.specs.declared.error.RunError.{RunError}
 use Rattle.safe_runs.specs.declared.error.RunError.TheVariants.{Load, Prepare}
 
--- the bytes are the file of accepted code that might print more than a link may have
+-- the bytes are the file of accepted code that might print more than the limit of a link
 pub record IsOverBudget (bytes : Text) (e : EnvValue) (n : ℕ) : Type 0 where
   -- the verifier accepts the code of the bytes
   pub code : Code
@@ -21,7 +21,7 @@ pub record IsOverBudget (bytes : Text) (e : EnvValue) (n : ℕ) : Type 0 where
   -- the number is over the limit
   pub passes : MAX_LINK_BYTES < n
 
--- the bytes are the file of accepted code that might print at most what a link may have
+-- the bytes are the file of accepted code that cannot print more than the limit of a link
 pub record IsWithinBudget (bytes : Text) (e : EnvValue) : Type 0 where
   -- the verifier accepts the code of the bytes
   pub code : Code
@@ -29,7 +29,7 @@ pub record IsWithinBudget (bytes : Text) (e : EnvValue) : Type 0 where
   -- its bound on output bytes is within the limit
   pub within : most_bytes code e ≤ MAX_LINK_BYTES
 
--- what each error says of the bytes
+-- what each error says about the bytes
 abbrev pub IsCause : Text → EnvValue → RunError → Type 0
 -- this is the fault for which the verifier rejects them, or they are a code file and memory ran out while it was loaded
 IsCause bytes e (Load error) = IsLoadFault bytes error

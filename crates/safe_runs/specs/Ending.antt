@@ -25,17 +25,17 @@ pub record IsAcceptedFile (bytes : Text) (c : Code) : Type 0 where
   pub is_file : IsCodeFile bytes c
   -- the code has good form, is typable, and is safe on every environment
   pub accepted : IsAccepted c
-  -- the verifier rejects the bytes for no fault
+  -- the verifier finds no fault in the bytes
   pub no_fault : HasNoFault bytes
 
 -- the run of a code on an environment, with its outcome
 pub record EndsSafely (c : Code) (e : EnvValue) (o : Outcome) : Type 0 where
-  -- the outcome is the machine's own, after this number of steps
+  -- the machine ends with this outcome, after this number of steps
   pub steps : ℕ
   pub comes : ComesTo c e.entries steps o
   -- the steps are within the budget of the code
   pub in_time : steps ≤ most_steps c e
-  -- at every moment the output has at most the bytes of the budget, also in a run that gives no link
+  -- at every moment the output has at most the bytes of the budget, even in a run that gives no link
   pub printed : (k : ℕ) (s : State) → After c e.entries k s → length (output_of s) ≤ most_bytes c e
   -- a link has at most the bytes of the budget
   pub bounded : (link : Text) → o ≡ Link link → length link ≤ most_bytes c e

@@ -15,8 +15,8 @@ use target_vars::Env;
 use verified_runs::{MAX_LINK_BYTES, Outcome, PrepareError, prepare};
 use verifier::{Verified, load};
 
-/// Runs accepted code on an environment. Nobody has to trust the writer of the code, nor what the environment has:
-/// the run ends as the machine does, within the steps and bytes of its budget, with a link that is URI text or
+/// Runs accepted code on an environment. Neither the writer of the code nor the content of the environment has to be
+/// trusted: the run ends as the machine does, within the steps and bytes of its budget, with a link that is URI text or
 /// without one.
 ///
 /// Both errors come before the first step. `OverBudget` has the bound on output bytes, and is returned exactly if
@@ -42,8 +42,8 @@ pub fn run_verified(alloc: Global, code: &Verified, env: &Env) -> Result<Outcome
 /// verifier rejects is never run: an outcome is returned only for bytes in which it finds no fault.
 ///
 /// `Load` has the fault for which the verifier rejects the bytes, or says that memory ran out while a code file was
-/// loaded. `Prepare` is returned for accepted code alone: `OverBudget` if its bound on output bytes is over
-/// [`MAX_LINK_BYTES`], 1,048,576 bytes, and `NoMemory`, for code within that limit alone, if memory runs out.
+/// loaded. `Prepare` is returned only for accepted code: `OverBudget` if its bound on output bytes is over
+/// [`MAX_LINK_BYTES`], 1,048,576 bytes, and `NoMemory`, only for code within that limit, if memory runs out.
 pub fn run_file(alloc: Global, bytes: &[u8], env: &Env) -> Result<Outcome, RunError>
     ensures ends { IfOk result (λ outcome. FileEndsSafely bytes.now env.now (outcome_of outcome)) }
     ensures refused { IfErr result (IsCause bytes.now env.now) }

@@ -7,10 +7,10 @@ use verifier::LoadError;
 /// Why the code of a file is not run.
 #[derive(Clone, Copy, Debug, PartialEq, Eq, Error)]
 pub enum RunError {
-    /// The file is not accepted.
+    /// The verifier rejects the file.
     #[error("{0}")]
     Load(LoadError),
-    /// The run is not begun.
+    /// The run is not started.
     #[error("{0}")]
     Prepare(PrepareError),
 }

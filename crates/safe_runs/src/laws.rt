@@ -1,4 +1,4 @@
-//! What holds of every accepted code. These functions have empty bodies; each contract is a theorem.
+//! What holds for all accepted code. These functions have empty bodies; each contract is a theorem.
 
 ghost use Rattle.text_model.specs.Texts.{Text};
 ghost use Rattle.code_model.specs.Code.{Code};

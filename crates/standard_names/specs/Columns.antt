@@ -2,7 +2,7 @@
 use Rattle.std.specs.Prelude.{List, [], ◌∷◌, codes}
 use Rattle.text_model.specs.Texts.{Text}
 
--- for serials and monographs, in their order
+-- the columns for serials and monographs, in their order
 abbrev pub column_names : List Text
 column_names =
     codes "publication_title" ∷ codes "print_identifier" ∷ codes "online_identifier" ∷ codes "date_first_issue_online" ∷

@@ -2,7 +2,7 @@
 use Rattle.std.specs.Prelude.{List, [], ◌∷◌, ◌++◌, codes}
 use Rattle.text_model.specs.Texts.{Text}
 
--- of the context object, of its entities and of the transport (ANSI/NISO Z39.88-2004)
+-- the keys of the context object, of its entities and of the transport (ANSI/NISO Z39.88-2004)
 abbrev pub context_keys : List Text
 context_keys =
     codes "ctx_ver" ∷ codes "ctx_enc" ∷ codes "ctx_id" ∷ codes "ctx_tim" ∷ codes "url_ver" ∷ codes "url_ctx_fmt" ∷ codes "url_tim" ∷
@@ -10,8 +10,7 @@ context_keys =
     codes "req_id" ∷ codes "req_val_fmt" ∷ codes "req_dat" ∷ codes "rfr_id" ∷ codes "rfr_val_fmt" ∷ codes "rfr_dat" ∷ codes "svc_id" ∷
     codes "svc_val_fmt" ∷ codes "svc_dat" ∷ codes "res_id" ∷ codes "res_val_fmt" ∷ codes "res_dat" ∷ []
 
--- of the metadata formats for journals, books and dissertations; `rft.eisbn` is in no format,
--- but sources send it
+-- the keys of the metadata formats for journals, books and dissertations; `rft.eisbn` is in no format, but sources send it
 abbrev pub metadata_keys : List Text
 metadata_keys =
     codes "rft.genre" ∷ codes "rft.atitle" ∷ codes "rft.jtitle" ∷ codes "rft.stitle" ∷ codes "rft.title" ∷ codes "rft.btitle" ∷ codes "rft.date" ∷

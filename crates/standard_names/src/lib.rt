@@ -1,4 +1,4 @@
-//! The names that the standards give: columns of holdings tables, and keys of requests.
+//! The names that the standards define: columns of holdings tables, and keys of requests.
 //!
 //! ```rust
 //! assert!(rt; column_names().contains(&"title_id") && request_keys().contains(&"rft.issn"));

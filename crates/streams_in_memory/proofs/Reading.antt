@@ -1,8 +1,8 @@
--- Bytes that are copied to a room, and those that are left.
+-- Bytes that are copied to a buffer, and those that are left.
 use Rattle.std.proofs.Common.{◌≡◌, ℕ, ◌+◌, List, ◌++◌, take, drop, sym, ap, ◌∙◌}
 use Rattle.std.proofs.lemmas.List.{drop-drop, take-append-drop}
 
--- what was left is what the room begins with now, and then what is left now
+-- what was left before is the beginning of the buffer now, followed by what is left now
 pub rest-read : (bytes room : List ℕ) (read n : ℕ) → take n room ≡ take n (drop read bytes)
     → drop read bytes ≡ take n room ++ drop (read + n) bytes
 rest-read bytes room read n copied =

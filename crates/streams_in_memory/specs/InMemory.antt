@@ -1,16 +1,16 @@
--- What the streams over memory have.
+-- The state of streams over memory.
 use Rattle.std.specs.Prelude.{ℕ, ◌-◌, ◌==◌, List, Option, Some, None, if◌then◌else◌}
 use Rattle.http_streams.specs.Streams.{Heard, Said}
 use Rattle.http_streams.specs.declared.tally.Tally.{Tally}
 
--- what is told of an input with these bytes left to read and these calls counted, and of an output with these bytes written
+-- what is known about an input with these bytes left to read and these calls counted, and about an output with these bytes written
 abbrev pub input_with : List ℕ → Tally → Option ℕ → Heard
 input_with left tally wait = record { left = Some left; taken = tally.moved; failures = tally.failures; wait = wait }
 
 abbrev pub output_with : List ℕ → Tally → Option ℕ → Said
 output_with written tally wait = record { written = Some written; sent = tally.moved; failures = tally.failures; wait = wait }
 
--- the count of a stream on which nothing was called
+-- the counts of a stream that has had no calls
 abbrev pub no_calls : Tally
 no_calls = record { moved = 0; failures = 0 }
 
@@ -21,8 +21,8 @@ pub record TapeValue : Type 0 where
   pub reads : Tally
   pub writes : Tally
 
--- an input that gives at most a piece a read; the number of calls before the one that fails, if it is still to come; and the
--- nanoseconds that a call may take, if it is told
+-- an input that returns at most a piece in each read; the number of calls before the one that fails, if it has not been made yet; and the nanoseconds that a
+-- call may take, if they are known
 pub record PieceInValue : Type 0 where
   pub left : List ℕ
   pub piece : ℕ
@@ -30,7 +30,7 @@ pub record PieceInValue : Type 0 where
   pub tally : Tally
   pub wait : Option ℕ
 
--- an output that takes at most a piece a write, likewise
+-- an output that accepts at most a piece in each write, with the same further fields
 pub record PieceOutValue : Type 0 where
   pub written : List ℕ
   pub piece : ℕ
@@ -38,7 +38,7 @@ pub record PieceOutValue : Type 0 where
   pub tally : Tally
   pub wait : Option ℕ
 
--- ---- what is told of them
+-- ---- what is known about them
 
 -- a tape is both an input and an output
 abbrev pub tape_as_input : TapeValue → Heard
@@ -55,7 +55,7 @@ pieces_as_output stream = output_with stream.written stream.tally stream.wait
 
 -- ---- calls that fail
 
--- the number of calls before the one that fails, after one call more
+-- the number of calls before the one that fails, after one more call
 abbrev pub after_call : Option ℕ → Option ℕ
 after_call None = None
 after_call (Some calls) = if calls == 0 then None else Some (calls - 1)

@@ -1,4 +1,4 @@
-//! Streams and a listener over memory, for tests. They tell their bytes and their connections, and fail when a
+//! Streams and a listener over memory, for tests. Contracts see their bytes and their connections, and they fail when a
 //! test says so.
 #![tactic(auto)]
 

@@ -13,8 +13,8 @@ use std::io::{self, ErrorKind};
 use std::marker::Model;
 use std::time::Duration;
 
-/// Peers that come one after the other, by the bytes that each sends, and what went out to those that were served.
-/// When no peer is left, no more connections are accepted. A time-out of 0 is not taken, as by a socket.
+/// Peers that connect one after the other: the bytes that each sends, and the replies to those that were served. When
+/// no peer is left, no more connections are accepted. As with a socket, a time-out of 0 cannot be set.
 #[derive(Drop)]
 pub struct Peers {
     alloc: Global,
@@ -46,7 +46,7 @@ impl Peers {
         }
     }
 
-    /// One peer more, which sends these bytes. The error is a failed allocation.
+    /// Adds a peer that sends these bytes. The error is a failed allocation.
     pub fn add(&mut self, bytes: &[u8]) -> Result<(), AllocError>
         ensures { OnOk result (self.new ≡ record self.old { to_come = self.old.to_come ++ bytes.now ∷ [] }) }
     {
@@ -55,7 +55,7 @@ impl Peers {
         Ok(())
     }
 
-    /// What went out to a peer, by its number from 0 among those that were served.
+    /// The reply to the peer with this number, counted from 0, among those that were served.
     pub fn reply(&self, number: usize) -> Option<&[u8]>
         ensures { option_copied result ≡ slice_get self.now.replies number }
     {

@@ -1,5 +1,5 @@
-//! Streams over memory for tests against hostile peers: they give and take little at a time, and fail when
-//! the test says so.
+//! Streams over memory for tests with hostile peers: they read and write a few bytes at a time, and fail when the test
+//! says so.
 
 ghost use Rattle.std.specs.Prelude.{◌≡◌, ◌<◌, ◌≤◌, ◌↔◌, [], None, Some, IfOk, IsErr, OnErr, length, min, take};
 ghost use Rattle.std.specs.Duration.{as_nanos};
@@ -12,7 +12,7 @@ use std::alloc::{AllocError, Global};
 use std::marker::Model;
 use std::time::Duration;
 
-/// Bytes to read, at most a piece of them a read.
+/// An input with bytes to read, at most a piece of them in each read.
 #[derive(Drop)]
 pub struct PieceIn {
     input: Vec<u8>,
@@ -43,7 +43,7 @@ impl Model for PieceIn {
 }
 
 impl PieceIn {
-    /// An input with these bytes to read, at most `piece` of them a read. Read number `fail_at`, from 0,
+    /// An input with these bytes to read, at most `piece` of them in each read. Read number `fail_at`, counted from 0,
     /// fails. The error is a failed allocation.
     pub fn new(
         alloc: Global,
@@ -71,7 +71,7 @@ impl PieceIn {
         })
     }
 
-    // An input of a connection, which gives these bytes at once.
+    // An input of a connection, which returns these bytes in one read.
     pub(crate) fn of(input: Vec<u8>, wait: Duration) -> PieceIn
         ensures { result ≡ record {
           left = input.items;
@@ -95,7 +95,7 @@ impl PieceIn {
 impl Input for PieceIn {
     ghost heard = { pieces_as_input };
 
-    // As much as there is, the room and the piece allow.
+    // As many bytes as are left, fit into the room and are allowed by the piece.
     fn read(&mut self, room: &mut [u8]) -> Result<usize, Failed>
         requires { 0 < length room.old }
         ensures within { IfOk result (λ n. n ≤ length room.new) }
@@ -121,7 +121,7 @@ impl Input for PieceIn {
     }
 }
 
-/// Room for what is written, which takes at most a piece a write.
+/// An output that keeps what is written, and accepts at most a piece in each write.
 #[derive(Drop)]
 pub struct PieceOut {
     output: Vec<u8>,
@@ -154,8 +154,8 @@ impl Model for PieceOut {
 const FIRST_ROOM: usize = 256;
 
 impl PieceOut {
-    /// An output that takes at most `piece` bytes a write. Write number `fail_at`, from 0, fails, and so does
-    /// one whose allocation fails. The error is a failed allocation for the first bytes.
+    /// An output that accepts at most `piece` bytes in each write. Write number `fail_at`, counted from 0, fails, and
+    /// so does one whose allocation fails. The error is a failed allocation for the first bytes.
     pub fn new(alloc: Global, piece: usize, fail_at: Option<usize>) -> Result<PieceOut, AllocError>
         requires { 0 < piece }
         ensures { IfOk result
@@ -176,7 +176,7 @@ impl PieceOut {
         })
     }
 
-    // An output of a connection, which takes all bytes at once.
+    // An output of a connection, which accepts all bytes in one write.
     pub(crate) fn of(alloc: Global, wait: Duration) -> PieceOut
         ensures { result ≡ record {
           written = [];
@@ -202,7 +202,7 @@ impl PieceOut {
         self.output.as_slice()
     }
 
-    // The same, as the caller's own.
+    // What was written, as an owned value.
     pub(crate) fn into_written(self) -> Vec<u8>
         ensures { result.items ≡ self.written }
     {

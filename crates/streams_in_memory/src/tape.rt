@@ -9,8 +9,8 @@ use http_streams::{Failed, Input, Output, Tally};
 use std::alloc::{AllocError, Global};
 use std::marker::Model;
 
-/// Bytes to read, and room for what is written. It gives and takes all that is requested, and a write fails
-/// if an allocation does.
+/// Bytes to read, and the bytes that were written. It reads and writes all that is requested, and a write fails only if
+/// an allocation fails.
 #[derive(Drop)]
 pub struct Tape {
     input: Vec<u8>,
@@ -65,7 +65,7 @@ impl Input for Tape {
 
     ghost heard = { tape_as_input };
 
-    // As much as there is, and the room allows.
+    // As many bytes as are left and fit into the room.
     fn read(&mut self, room: &mut [u8]) -> Result<usize, Failed>
         requires { 0 < length room.old }
         ensures within { IfOk result (λ n. n ≤ length room.new) }

@@ -1,4 +1,4 @@
--- A name that comes with a text, and a member that comes last in the list of its name.
+-- A name that is added with a text, and a member that is appended to the list of its name.
 use Rattle.std.proofs.Common.{◌≡◌, ℕ, ◌+◌, ◌<◌, ◌≤◌, List, [], ◌∷◌, ◌++◌, Bool, true, false, map, length, insert, slice_get, Some, is_some, IsTrue, All, IsUtf8}
 use Rattle.std.proofs.Common.{refl, sym, ap, ◌∙◌, subst, arith, length-append, zero-add, ⊎_elim}
 use Rattle.std.specs.Prelude.{◌==◌}
@@ -21,14 +21,15 @@ use Rattle.target_vars.specs.declared.env.TheConstants.{MAX_BYTES, MAX_MEMBERS}
 use Rattle.target_vars.proofs.Once.{once-push, once-with_member}
 use Rattle.target_vars.proofs.Growth.{same_pieces, pieces_stay, places_stay, last_part, last_is_part}
 use Rattle.target_vars.proofs.Spans.{none_of}
-use Rattle.target_vars.proofs.Entries.{entry, itself, entries_from-push, entries_stay, with_member-at}
+use Rattle.environment_model.proofs.NameTests.{itself}
+use Rattle.target_vars.proofs.Entries.{entry, entries_from-push, entries_stay, with_member-at}
 use Rattle.target_vars.proofs.Laid.{is_there-laid, look_up-lacking, no_text-at}
 
--- a limit that a test found not to be passed
+-- a limit that is not exceeded, as a test found
 pub within : (r : Bool) (limit n : ℕ) → (limit < n → IsTrue r) → r ≡ false → n ≤ limit
 within r limit n passes refused = let not_above : limit < n → ⊥ = λ above. (let yes : r ≡ true = passes above in cc) in omega arith
 
--- the lists stay where a text goes to the end of the buffer
+-- the lists stay the same when a text is appended to the buffer
 members_stay : (b t : Text) (spans : List Span) (j : ℕ) → All (IsPiece b) spans → members_in (b ++ t) spans j ≡ members_in b spans j
 members_stay b t spans j pieces = same_pieces b t (spans_of spans j) (All-filter (λ s. s.list == j) (IsPiece b) spans pieces)
 

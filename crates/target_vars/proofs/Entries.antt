@@ -7,6 +7,7 @@ use Rattle.std.proofs.lemmas.Slice.Eq.{bytes_eq-Decides}
 use Rattle.text_model.specs.Texts.{Text}
 use Rattle.environment_model.specs.Environment.{Environment, Entry, Single, look_up, is_there, is_among, more, with_member}
 use Rattle.environment_model.proofs.Environments.{look_up-empty, look_up-same, look_up-other, with_member-same, with_member-other}
+use Rattle.environment_model.proofs.NameTests.{itself}
 use Rattle.target_vars.specs.EnvValue.{EachNameOnce}
 use Rattle.target_vars.specs.Layout.{meaning_in, entries_from, IsPlace}
 use Rattle.target_vars.specs.declared.place.Place.{Place}
@@ -57,7 +58,7 @@ same_meaning : (b t : Text) (ms : List Text) (p : Place) → IsPlace b p → mea
 same_meaning b t ms (One part) is = ap Single (same_part b t part is)
 same_meaning b t ms Many is = refl
 
--- the same entries, where a text goes to the end of the buffer and the lists from a number on stay
+-- the same entries, after a text is appended to the buffer and the lists from a number on stay the same
 pub entries_stay : (b t : Text) (m m' : Lists) (i : ℕ) (ns : List Text) (ps : List Place) → All (IsPlace b) ps → ((j : ℕ) → i ≤ j → m' j ≡ m j)
     → entries_from (b ++ t) m' i ns ps ≡ entries_from b m i ns ps
 entries_stay b t m m' i [] ps are same = entries_from-empty (b ++ t) m' i ps ∙ sym (entries_from-empty b m i ps)
@@ -69,7 +70,7 @@ entries_stay b t m m' i (n ∷ ns) (p ∷ ps) are same =
     ∙ ap (λ es. entry b (m i) n p ∷ es) (entries_stay b t m m' (suc i) ns ps (All-tail (IsPlace b) p ps are) (λ j from. same j (omega arith)))
     ∙ sym (entries_from-cons b m i n ns p ps)
 
--- the same entries, where the lists from a number on stay
+-- the same entries, if the lists from a number on stay the same
 pub entries_same : (b : Text) (m m' : Lists) (i : ℕ) (ns : List Text) (ps : List Place) → ((j : ℕ) → i ≤ j → m' j ≡ m j)
     → entries_from b m' i ns ps ≡ entries_from b m i ns ps
 entries_same b m m' i [] ps same = entries_from-empty b m' i ps ∙ sym (entries_from-empty b m i ps)
@@ -94,16 +95,13 @@ is_there-entries b m i (n ∷ ns) (p ∷ ps) name long =
     by_cases true same behind = ap is_some (look_up-same (entry b (m i) n p) (entries_from b m (suc i) ns ps) name same) ∙ rw same refl
     by_cases false other behind = ap is_some (look_up-other (entry b (m i) n p) (entries_from b m (suc i) ns ps) name other) ∙ behind ∙ rw other refl
 
--- a name that is among those after is not among those before
+-- a name of a later entry is not that of the first
 not_in_front : (e : Entry) (env : Environment) (name : Text) → EachNameOnce (e ∷ env) → is_there env name ≡ true → bytes_eq e.name name ≡ false
 not_in_front e env name once there = by_cases (bytes_eq e.name name) refl
   where
     by_cases : (r : Bool) → bytes_eq e.name name ≡ r → r ≡ false
     by_cases true same = let none : is_there env name ≡ false = ap (is_there env) (sym ((bytes_eq-Decides e.name name).0 same)) ∙ once.0 in absurd (cc)
     by_cases false other = refl
-
-pub itself : (name : Text) → bytes_eq name name ≡ true
-itself name = (bytes_eq-Decides name name).1 refl
 
 pub look_up-at : (b : Text) (m : Lists) (i : ℕ) (ns : List Text) (ps : List Place) (name : Text) (k : ℕ) (p : Place) → EachNameOnce (entries_from b m i ns ps)
     → slice_get ns k ≡ Some name → slice_get ps k ≡ Some p

@@ -1,4 +1,4 @@
--- What the fields of an `Env` say of what callers see of it.
+-- What the fields of an `Env` say about its value in contracts.
 use Rattle.std.proofs.Common.{◌≡◌, ℕ, ◌+◌, ◌<◌, ◌≤◌, List, ◌∷◌, ◌++◌, take, drop, insert, IsTrue, Bool, true, false, length, slice_get, get_or, Some, is_some}
 use Rattle.std.proofs.Common.{Result, Ok, Err, string_bytes, refl, sym, ap, ◌∙◌, subst, arith}
 use Rattle.std.specs.Prelude.{MatchResult}
@@ -45,11 +45,11 @@ known r v name k laid is named =
 
 -- ---- what it denotes
 
--- whether what was found is a text's place
+-- whether the place that was found is that of a text
 abbrev pub Says : List Place → Result ℕ ℕ → Bool → Type 0
 Says places found text = MatchResult found (λ k. (p : Place) → slice_get places k ≡ Some p → text ≡ is_one p) (λ _. text ≡ false)
 
--- what was found of a name
+-- the result of the search for a name
 abbrev pub IsFound : Inside → Text → Result ℕ ℕ → Type 0
 IsFound r name found = MatchResult found (λ k. slice_get r.names.listed k ≡ Some name) (IsGap r.names name)
 
@@ -70,7 +70,7 @@ decided r v name (Err gap) text laid is named says =
     ∙ ap (λ o. is_some (text_in o)) (look_up-lacking (string_bytes r.buffer) r.spans.items r.names.listed r.places.items name laid named.lacks)
     ∙ sym says
 
--- the list of the name that was found, where it denotes no text
+-- the list of the name that was found, if it does not denote a text
 pub found_list : (r : Inside) (name : Text) (found : Result ℕ ℕ) (text : Bool) → IsHeld r → IsFound r name found
     → Says r.places.items found text → text ≡ false
     → MatchResult found (λ k. (slice_get r.names.listed k ≡ Some name) × (slice_get r.places.items k ≡ Some Many)) (IsGap r.names name)
@@ -82,12 +82,6 @@ found_list r name (Ok k) text laid named says none =
     by_place (One part) one = absurd (cc)
     by_place Many one = refl
 found_list r name (Err gap) text laid named says none = named
-
--- the number that was found is that of a place
-pub in_places : (r : Inside) (name : Text) (found : Result ℕ ℕ) → IsHeld r → IsFound r name found
-    → MatchResult found (λ k. k < length r.places.items) (λ _. Unit {0})
-in_places r name (Ok k) laid named = slice_get_within r.places.items k (found_place r name k laid named).0 (found_place r name k laid named).1
-in_places r name (Err gap) laid named = tt
 
 -- ---- the limits
 

@@ -1,4 +1,4 @@
--- What is in the buffer keeps its place when a text goes to the end of the buffer.
+-- Everything in the buffer keeps its place when a text is appended to it.
 use Rattle.std.proofs.Common.{◌≡◌, ℕ, ◌+◌, List, [], ◌∷◌, ◌++◌, map, length, take, drop, All, IsUtf8, IsCharBoundary, refl, sym, ap, ◌∙◌, subst, arith}
 use Rattle.std.proofs.Common.{length-append, length-drop, take_all, drop_at}
 use Rattle.std.proofs.lemmas.List.{take-append-le, drop-append-le}

@@ -1,5 +1,5 @@
--- What a name denotes, by its number.
-use Rattle.std.proofs.Common.{◌≡◌, ℕ, ◌+◌, ◌-◌, ◌<◌, List, [], ◌∷◌, false, map, length, take, drop, slice_get, get_or, Bor, option_copied, Option, Some, None}
+-- What a name denotes, given its number.
+use Rattle.std.proofs.Common.{◌≡◌, ℕ, ◌+◌, ◌-◌, ◌<◌, List, [], ◌∷◌, false, map, length, take, drop, slice_get, get_or, Option, Some, None}
 use Rattle.std.proofs.Common.{is_some, All, refl, sym, ap, ◌∙◌, subst, arith, zero-add, inr}
 use Rattle.std.specs.Prelude.{slice_range}
 use Rattle.std.proofs.lemmas.List.{length-map, take-map, drop-map}
@@ -17,7 +17,7 @@ use Rattle.target_vars.specs.declared.place.Place.{Place}
 use Rattle.target_vars.specs.declared.place.Place.TheVariants.{One, Many}
 use Rattle.target_vars.proofs.Entries.{entries_from-empty, is_there-entries, look_up-at}
 
--- what callers see of what is laid
+-- the value in contracts of the buffer, the spans, the names and the places
 abbrev pub seen : Text → List Span → List Text → List Place → EnvValue
 seen b spans names places = record { entries = laid_entries b spans names places; buffer = b; seam = 0; spans = laid_spans spans }
 
@@ -135,7 +135,7 @@ members_at b spans names places name k first count laid named placed run =
           ∙ sym (laid_run b spans first count);
     }
 
--- the members that are lent
+-- the members that are borrowed
 pub members_lent : (b : Text) (spans : List Span) (env : EnvValue) (name : Text) (first count : ℕ) → env.buffer ≡ b → env.spans ≡ laid_spans spans
     → AreMembersAt env name first count → map (piece b) (slice_range spans first (first + count)) ≡ members_of env.entries name
 members_lent b spans env name first count buffer laid are =
@@ -170,7 +170,3 @@ laid_in_order b spans names places laid = record {
   spans = let long = length-map spans (λ (s : Span). at s.part) in let few = laid.few_members in omega arith;
   inside = all_within b spans names places laid.pieces;
 }
-
-pub is_some-copied : {A : Type 0} (o : Option (Bor A)) → is_some (option_copied o) ≡ is_some o
-is_some-copied None = refl
-is_some-copied (Some x) = refl

@@ -44,7 +44,7 @@ arrives (next ∷ path) old new name from last number n steps step end passes =
 
 -- ---- one more name
 
--- the bytes of a name stay where they are
+-- the bytes of a name keep their place
 same_name : (bytes more : Text) (p : NamePlace) → IsNamePlace bytes p → slice_range (bytes ++ more) p.start p.end ≡ slice_range bytes p.start p.end
 same_name bytes more p is =
     let start = is.start_le_end in
@@ -67,7 +67,7 @@ names_in-push bytes name places p placed start end =
     ∙ ap (λ ns. ns ++ slice_range (bytes ++ name) p.start p.end ∷ []) (same_names bytes name places placed)
     ∙ ap (λ n. names_in bytes places ++ n ∷ []) last
 
--- a branch that leads forwards does so among more forks
+-- a branch that leads forward still does when there are more forks
 more_forks : (n m at : ℕ) (branch : Branch) → n ≤ m → IsForward n at branch → IsForward m at branch
 more_forks n m at (Further next) le is = (is.0, omega (arith, is.1))
 more_forks n m at (Ends number) le is = omega (arith, is)
@@ -107,7 +107,7 @@ forward-push listed old new name gap fork each forward separates forked = λ tex
         subst (λ a. IsForward (length new) a branch) (sym here)
         (at_last text branch ends.0 (let within = ends.1 in omega arith) ends.2 (subst (λ a. branch_at new text a ≡ Some branch) here is))
 
--- the search for a name that was there ends with its number still
+-- the search for an existing name still ends with its number
 still_found : (listed : List Text) (old new : List Fork) (name text : Text) (gap : ℕ) (fork : Fork) (m number last : ℕ)
     → branch_at old name gap ≡ Some (Ends m) → branch_of fork (get_or listed m []) ≡ Ends m
     → IsForked old name gap fork new → slice_get listed number ≡ Some text → Leads old text last number → (last' : ℕ) × Leads new text last' number

@@ -87,7 +87,7 @@ found bytes places forks name number are below same =
     let one_each = are.one_each in
     slice_get-get_or (names_in bytes places) number [] (omega arith) ∙ ap Some ((bytes_eq-Decides (get_or (names_in bytes places) number []) name).0 same)
 
--- the search for a name ends with another one: that is the gap of the name
+-- the search for a name ends with another one: its last fork is the gap of the name
 pub gap_of : (bytes : Text) (places : List NamePlace) (forks : List Fork) (name : Text) (last number : ℕ) → AreNames bytes places forks → number < length forks
     → Leads forks name last number
     → bytes_eq (get_or (names_in bytes places) number []) name ≡ false → IsGap (record { listed = names_in bytes places; forks = forks }) name last
@@ -137,7 +137,7 @@ forked_first forks name gap fork past = record {
   others = λ text at below. inl (ap (option_map (λ (f : Fork). branch_of f text)) (get-append forks (fork ∷ []) at below));
 }
 
--- where a search goes from a fork with another branch for a name
+-- where a search continues from a fork with another branch for a name
 turned-own : (fork : Fork) (name : Text) (branch : Branch) → branch_of (turned fork name branch) name ≡ branch
 turned-own fork name branch = by_cases (is_high fork name) refl
   where

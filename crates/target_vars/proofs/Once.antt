@@ -1,18 +1,11 @@
 -- Each name occurs once.
 use Rattle.std.proofs.Common.{◌≡◌, [], ◌∷◌, ◌++◌, Bool, true, false, is_some, bytes_eq, refl, sym, ap, ◌∙◌, subst}
-use Rattle.std.proofs.lemmas.Slice.Eq.{bytes_eq-Decides}
 use Rattle.text_model.specs.Texts.{Text}
 use Rattle.environment_model.specs.Environment.{Environment, Entry, Several, is_there, with_member}
 use Rattle.environment_model.proofs.Environments.{look_up-empty, look_up-other, other_in_front, absent_behind, is_there-append, with_member-new}
 use Rattle.environment_model.proofs.Environments.{with_member-same, with_member-other, is_there-with_member}
+use Rattle.environment_model.proofs.NameTests.{differs_back}
 use Rattle.target_vars.specs.EnvValue.{EachNameOnce}
-
-differs_back : (a b : Text) → bytes_eq a b ≡ false → bytes_eq b a ≡ false
-differs_back a b differs = by_cases (bytes_eq b a) refl
-  where
-    by_cases : (r : Bool) → bytes_eq b a ≡ r → r ≡ false
-    by_cases true is = let yes : bytes_eq a b ≡ true = (bytes_eq-Decides a b).1 (sym ((bytes_eq-Decides b a).0 is)) in cc
-    by_cases false is = refl
 
 pub once-push : (env : Environment) (e : Entry) → EachNameOnce env → is_there env e.name ≡ false → EachNameOnce (env ++ e ∷ [])
 once-push [] e once absent = (ap is_some (look_up-empty e.name), tt)

@@ -12,7 +12,7 @@ use Rattle.std.proofs.lemmas.List.Sorted.{IsNonDecreasingBy-insert}
 use Rattle.target_vars.specs.Layout.{spans_of, IsRun, IsPutLast}
 use Rattle.target_vars.specs.declared.place.Span.{Span}
 
--- ---- what a test keeps
+-- ---- filters
 
 keeps_none : {X : Type 0} (p : X → Bool) (xs : List X) → All (λ x. p x ≡ false) xs → filter p xs ≡ []
 keeps_none p [] none = refl
@@ -110,6 +110,6 @@ put_last_is xs s place within order parted =
           ∙ whole m;
     }
 
--- a list whose number is past those of all spans has none
+-- a list whose number is greater than those of all spans has no spans
 pub none_of : (xs : List Span) (n : ℕ) → All (λ s. s.list < n) xs → spans_of xs n ≡ []
 none_of xs n below = keeps_none (λ s. s.list == n) xs (All-weaker (λ s. s.list < n) (λ s. (s.list == n) ≡ false) (λ s. lower s n) xs below)

@@ -1,4 +1,4 @@
--- How the entries of an `Env` lie in its buffer and its spans.
+-- How the entries of an `Env` are laid out in its buffer and its spans.
 use Rattle.std.specs.Prelude.{◌≡◌, ℕ, suc, ◌+◌, ◌<◌, ◌≤◌, ◌==◌, List, [], ◌∷◌, ◌++◌, map, take, drop, length, insert, Bool, true, false, Some, ◌⊎◌, slice_get}
 use Rattle.std.specs.Prelude.{All}
 use Rattle.std.specs.List.{filter}
@@ -38,11 +38,11 @@ pub record IsPieces (buffer : Text) (spans : List Span) : Type 0 where
   pub few_bytes : length buffer ≤ MAX_BYTES
   pub few : length spans ≤ MAX_MEMBERS
 
--- the spans that carry a name's number
+-- the spans with a name's number
 abbrev pub spans_of : List Span → ℕ → List Span
 spans_of spans number = filter (λ s. s.list == number) spans
 
--- the spans of a list lie side by side, count of them from first on
+-- the spans of a list are next to each other, `count` of them from `first` on
 pub record IsRun (spans : List Span) (number first count : ℕ) : Type 0 where
   pub within : first + count ≤ length spans
   pub is : take count (drop first spans) ≡ spans_of spans number
@@ -62,12 +62,12 @@ pub record IsPutLast (spans : List Span) (span : Span) (new : List Span) : Type 
 abbrev pub members_in : Text → List Span → ℕ → List Text
 members_in buffer spans number = map (piece buffer) (spans_of spans number)
 
--- what a name denotes, where the members of its list are given
+-- what a name denotes, given the members of its list
 abbrev pub meaning_in : Text → List Text → Place → Meaning
 meaning_in buffer members (One part) = Single (part_text buffer part)
 meaning_in buffer members Many = Several members
 
--- the entries of the names from a number on, where the members of each number are given
+-- the entries of the names from a number on, given the members for each number
 unfoldable pub entries_from : Text → (ℕ → List Text) → ℕ → List Text → List Place → Environment
 entries_from buffer members number [] places = []
 entries_from buffer members number (name ∷ names) [] = []
@@ -81,7 +81,7 @@ laid_entries buffer spans names places = entries_from buffer (members_in buffer 
 abbrev pub laid_spans : List Span → List (ℕ × ℕ)
 laid_spans spans = map (λ s. at s.part) spans
 
--- the name denotes a text, which lies at this part
+-- the name denotes a text, which is at this part
 pub record IsTextPart (env : EnvValue) (name : Text) (part : Part) : Type 0 where
   pub is_part : IsPart env.buffer part
   pub within : IsWithin env (at part)
@@ -96,8 +96,7 @@ abbrev pub IsPlace : Text → Place → Type 0
 IsPlace buffer (One part) = IsPart buffer part
 IsPlace buffer Many = Unit {0}
 
--- the buffer has the bytes of the entries and nothing else, and the spans those of all lists, by the numbers of
--- their names
+-- the buffer has exactly the bytes of the entries, and the spans are those of all lists, with the numbers of their names
 pub record IsLaid (buffer : Text) (spans : List Span) (names : List Text) (places : List Place) : Type 0 where
   pub pieces : All (IsPiece buffer) spans
   pub placed : All (IsPlace buffer) places
@@ -110,7 +109,7 @@ pub record IsLaid (buffer : Text) (spans : List Span) (names : List Text) (place
   pub few_bytes : length buffer ≤ MAX_BYTES
   pub few_members : length spans ≤ MAX_MEMBERS
 
--- the name has a list of this number, which is new where the name was not there
+-- the name has a list with this number, which is new if the name was undefined
 pub record HasList (names : List Text) (places : List Place) (name : Text) (names' : List Text) (places' : List Place) (number : ℕ) : Type 0 where
   pub named : slice_get names' number ≡ Some name
   pub is_list : slice_get places' number ≡ Some Many

@@ -24,8 +24,8 @@ pub const MAX_BYTES: usize = 1_048_576;
 /// The maximum total number of members in all lists of an [`Env`].
 pub const MAX_MEMBERS: usize = 65_535;
 
-/// The variables of a row and a request, in the order in which their names came. Each name denotes
-/// a text or a list of texts, and the first that came for a name stays.
+/// Variables, in the order in which their names were added. Each name denotes a text or a list of texts; once a name is
+/// defined, it stays a text or a list.
 #[derive(Drop)]
 pub struct Env {
     buffer: String,
@@ -67,11 +67,11 @@ impl Env {
         }
     }
 
-    /// Adds the name with its text at the end and answers `true`; a name that is defined, as a text or as
-    /// a list, stays as it is, and the answer is `false`.
+    /// Adds the name with its text at the end and returns `true`. A name that is already defined, as a text or as a
+    /// list, stays as it is, and the result is `false`.
     ///
-    /// `TooLarge` where all texts and members would have more than [`MAX_BYTES`] bytes; `NoMemory`
-    /// if an allocation failed. After an error nothing has changed.
+    /// `TooLarge` if all texts and members would have more than [`MAX_BYTES`] bytes; `NoMemory` if an allocation
+    /// failed. After an error nothing has changed.
     pub fn put_text(&mut self, name: &str, text: &str) -> Result<bool, VarsError>
         ensures answer { IfOk result (λ is_new. is_new ≡ not (is_there self.old.entries name.now)) }
         ensures ok { OnOk result (self.new.entries ≡ with_text self.old.entries name.now text.now) }
@@ -104,13 +104,11 @@ impl Env {
         Ok(true)
     }
 
-    /// Adds the text as the last member of the name's list and answers `true`; a name that is not defined
-    /// comes at the end, with the list of this one member. A name that denotes a text stays as it is,
-    /// and the answer is `false`.
+    /// Adds the text as the last member of the name's list and returns `true`; an undefined name is added at the end,
+    /// with a list of this one member. A name that denotes a text stays as it is, and the result is `false`.
     ///
-    /// `TooLarge` where all texts and members would have more than [`MAX_BYTES`] bytes, or all lists more
-    /// than [`MAX_MEMBERS`] members; `NoMemory` if an allocation failed. After an error nothing has
-    /// changed.
+    /// `TooLarge` if all texts and members would have more than [`MAX_BYTES`] bytes, or all lists more than
+    /// [`MAX_MEMBERS`] members; `NoMemory` if an allocation failed. After an error nothing has changed.
     pub fn add_member(&mut self, name: &str, text: &str) -> Result<bool, VarsError>
         ensures answer { IfOk result (λ is_added. is_added ≡ not (stands_for_text self.old.entries name.now)) }
         ensures ok { OnOk result (self.new.entries ≡ with_member self.old.entries name.now text.now) }
@@ -156,7 +154,7 @@ impl Env {
         self.members() >= MAX_MEMBERS
     }
 
-    /// The part of the buffer where the name's text lies.
+    /// The part of the buffer that has the name's text.
     fn part_of(&self, name: &str) -> Option<Part>
         ensures { MatchOption result (text_of self.now.entries name.now ≡ None) (IsTextPart self.now name.now) }
     {
@@ -169,7 +167,7 @@ impl Env {
         }
     }
 
-    /// Where the spans of the name's list begin, and how many they are.
+    /// Where the spans of the name's list begin, and how many there are.
     fn run(&self, name: &str) -> (usize, usize)
         ensures value { AreMembersAt self.now name.now result.0 result.1 }
         ensures small { result.0 + result.1 ≤ MAX_MEMBERS }
@@ -193,7 +191,7 @@ impl Env {
         Some(part.of(&self.buffer))
     }
 
-    /// Where the text of the name lies in the buffer: its offset and its length, in bytes. `None` for a list.
+    /// Where the text of the name is in the buffer: its offset and its length, in bytes. `None` for a list.
     pub fn text_at(&self, name: &str) -> Option<(u32, u32)>
         ensures { MatchOption result (text_of self.now.entries name.now ≡ None)
             (λ at. IsTextAt self.now name.now (at.0, at.1)) }
@@ -218,7 +216,7 @@ impl Env {
         Members::new(&self.buffer, &self.spans[first..first + count])
     }
 
-    /// Which spans are those of the name's list: the first, and how many. `(0, 0)` without a list.
+    /// Which spans are those of the name's list: the first, and how many. `(0, 0)` if the name denotes no list.
     pub fn members_at(&self, name: &str) -> (u32, u32)
         ensures value { AreMembersAt self.now name.now result.0 result.1 }
         ensures none { members_of self.now.entries name.now ≡ [] → result ≡ (0, 0) }
@@ -230,8 +228,8 @@ impl Env {
         (first as u32, count as u32)
     }
 
-    /// Where a span of a list lies in the buffer: its offset and its length, in bytes. The spans of all lists
-    /// are counted from 0, and there are [`members`](Env::members) of them.
+    /// Where the member at a span is in the buffer: its offset and its length, in bytes. The spans of all lists are
+    /// counted from 0, and there are [`members`](Env::members) of them.
     pub fn span(&self, i: usize) -> (u32, u32)
         requires { i < member_count self.now.entries }
         ensures value { slice_get self.now.spans i ≡ Some (result.0, result.1) }
@@ -250,7 +248,7 @@ impl Env {
         self.list(name).get(i)
     }
 
-    /// The bytes of all texts and members, in the order in which they came; names are not among them.
+    /// The bytes of all texts and members, in the order in which they were added, without the names.
     pub fn buffer(&self) -> &[u8]
         ensures value { result.now ≡ self.now.buffer }
         ensures len { length result.now ≡ byte_count self.now.entries }

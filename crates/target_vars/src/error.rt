@@ -3,7 +3,7 @@
 use std::alloc::{AllocError, AllocFailed};
 use thiserror::Error;
 
-/// Why a text or a member was not added, in the order in which it is decided.
+/// Why a text or a member was not added, in the order in which it is checked.
 #[derive(Clone, Copy, Debug, PartialEq, Eq, Error)]
 pub enum VarsError {
     /// All texts and members would have more than [`MAX_BYTES`](crate::MAX_BYTES) bytes together, or

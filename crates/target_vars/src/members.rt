@@ -7,10 +7,10 @@ ghost use Rattle.target_vars.specs.declared.env.TheConstants.{MAX_BYTES, MAX_MEM
 
 use crate::place::Span;
 
-/// The members of a list of an [`Env`](crate::Env), in the order in which they came. As a slice does,
-/// it lends them: it is copied and shortened without touching a text, and takes no look-up for each.
+/// The members of a list of an [`Env`](crate::Env), in the order in which they were added. Like a slice it borrows
+/// them: it can be copied and shortened without touching a text, and no member needs a look-up by name.
 ///
-/// Contracts see the texts by `members_left`.
+/// In contracts the texts are `members_left`.
 #[derive(Clone, Copy)]
 pub struct Members<'a> {
     buffer: &'a str,
@@ -48,7 +48,7 @@ impl<'a> Members<'a> {
         self.spans.len()
     }
 
-    /// There is no member.
+    /// Whether there is no member.
     pub fn is_empty(&self) -> bool
         ensures { IsTrue result ↔ (members_left self.now ≡ []) }
     {
@@ -64,7 +64,7 @@ impl<'a> Members<'a> {
         Some(span.part.of(self.buffer))
     }
 
-    /// The first member and those after it; `None` where there is no member.
+    /// The first member and those after it; `None` if there is no member.
     pub fn split_first(&self) -> Option<(&'a str, Members<'a>)>
         ensures value { MatchOption result (members_left self.now ≡ [])
             (λ split. members_left self.now ≡ split.0.now ∷ members_left split.1) }

@@ -8,7 +8,7 @@ use crate::members::Members;
 
 /// The members of a list, one after another.
 ///
-/// Contracts see those that are left by `iter_members`.
+/// In contracts the members that are left are `iter_members`.
 #[derive(Clone, Drop)]
 pub struct MembersIter<'a> {
     left: Members<'a>,

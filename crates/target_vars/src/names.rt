@@ -10,19 +10,20 @@ use crate::room::{FIRST_BYTES, FIRST_NAMES, reserve_items};
 use std::alloc::{AllocError, Global};
 use std::marker::Model;
 
-/// Where a name lies among the bytes of all names.
+/// Where a name is among the bytes of all names.
 #[derive(Clone, Copy)]
 pub(crate) struct NamePlace {
     start: usize,
     end: usize,
 }
 
-/// Names, each once, numbered from 0 in the order in which they came. Their bytes are one after another in one
+/// Names, each once, numbered from 0 in the order in which they were added. Their bytes are one after another in one
 /// buffer.
 ///
-/// The search for a name follows forks. Each fork looks at one bit of the name, and the last one leaves a single
-/// candidate. A search never looks at a bit twice, so it takes at most nine steps for each byte of the longest
-/// name; usually it takes a few more than the logarithm of the number of names, in whatever order they came.
+/// The search for a name follows forks, as in a crit-bit tree. Each fork tests one bit of the name, and the last one
+/// leaves a single candidate. A search never tests a bit twice, so it takes at most nine steps for each byte of the
+/// longest name; usually it takes a few more than the logarithm of the number of names, in whatever order they were
+/// added.
 #[derive(Drop)]
 pub(crate) struct Names {
     bytes: Vec<u8>,
@@ -60,7 +61,7 @@ impl Names {
         self.places.len()
     }
 
-    /// The bytes of the name of this number; none past the last one.
+    /// The bytes of the name with this number; no bytes past the last one.
     fn get(&self, number: usize) -> &[u8]
         ensures { result.now ≡ slice_index_or self.now.listed number [] }
     {
@@ -87,7 +88,7 @@ impl Names {
         }
     }
 
-    /// The fork that a new name gets.
+    /// The fork for a new name.
     fn fork_of(&self, name: &[u8], gap: usize) -> Fork
         requires { IsGap self.now name.now gap }
         ensures { Separates self.now name.now gap result }

@@ -20,14 +20,14 @@ pub(crate) struct Part {
     pub(crate) len: u32,
 }
 
-/// Where a member lies, and the number of the name whose list it is of.
+/// Where a member is, and the number of the name of its list.
 #[derive(Clone, Copy)]
 pub(crate) struct Span {
     pub(crate) list: usize,
     pub(crate) part: Part,
 }
 
-/// What a name denotes: a text, or a list, whose spans carry the name's number.
+/// What a name denotes: a text, or a list, whose spans have the name's number.
 #[derive(Clone, Copy)]
 pub(crate) enum Place {
     One(Part),
@@ -35,7 +35,7 @@ pub(crate) enum Place {
 }
 
 impl Part {
-    /// Where a text will lie that goes to the end of the buffer.
+    /// Where a text will be that is appended to the buffer.
     pub(crate) fn at_end(buffer: &str, text: &str) -> Part
         requires { length buffer.now + length text.now ≤ MAX_BYTES }
         ensures start { result.start ≡ length buffer.now }
@@ -75,7 +75,7 @@ pub(crate) fn enter(
     Ok(())
 }
 
-/// The name that was found denotes a text.
+/// Whether the name that was found denotes a text.
 pub(crate) fn is_text(places: &[Place], found: Result<usize, usize>) -> bool
     requires { IfOk found (λ number. number < length places.now) }
     ensures { MatchResult found (λ number. (place : PlaceValue) → slice_get places.now number ≡ Some place
@@ -87,7 +87,7 @@ pub(crate) fn is_text(places: &[Place], found: Result<usize, usize>) -> bool
     }
 }
 
-/// The number of the name's list, which is a new one where the name was not found.
+/// The number of the name's list, which is a new one if the name was not found.
 pub(crate) fn list_of(
     names: &mut Names,
     places: &mut Vec<Place>,
@@ -110,7 +110,7 @@ pub(crate) fn list_of(
     }
 }
 
-/// Where the spans of the list begin, and how many they are.
+/// Where the spans of the list begin, and how many there are.
 pub(crate) fn run_of(spans: &[Span], list: usize) -> (usize, usize)
     requires { IsNonDecreasingBy (λ s. s.list) spans.now }
     ensures { IsRun spans.now list result.0 result.1 }
@@ -120,7 +120,7 @@ pub(crate) fn run_of(spans: &[Span], list: usize) -> (usize, usize)
     (first, count)
 }
 
-/// Puts the span last in its list.
+/// Inserts the span as the last one of its list.
 pub(crate) fn put_last(spans: &mut Vec<Span>, span: Span)
     requires in_order { IsNonDecreasingBy (λ s. s.list) spans.old.items }
     requires room { vec_len spans.old < vec_capacity spans.old }

@@ -1,18 +1,18 @@
-//! Room for what comes. A first growth has room for what a row and a request have as a rule, so that an ordinary
-//! environment takes few allocations.
+//! Reserving memory. The first allocation has room for what a row and a request usually have, so that an ordinary
+//! environment needs few allocations.
 
 ghost use Rattle.std.specs.Prelude.{◌≡◌, ◌+◌, ◌≤◌, OnOk, vec_len, vec_capacity, string_bytes, string_len};
 ghost use Rattle.std.specs.Prelude.{string_capacity};
 
 use std::alloc::AllocError;
 
-/// Names, and what there is one of for each.
+/// The first capacity of vectors that have an item for each name.
 pub(crate) const FIRST_NAMES: usize = 32;
 
-/// Bytes of names, and of texts and members.
+/// The first capacity of buffers of names, and of texts and members, in bytes.
 pub(crate) const FIRST_BYTES: usize = 512;
 
-/// Makes room for `additional` more items; the first time, for as many as a first growth has too.
+/// Makes room for `additional` more items; the first time, for at least the first capacity.
 pub(crate) fn reserve_items<T>(
     items: &mut Vec<T>,
     additional: usize,
@@ -27,7 +27,7 @@ pub(crate) fn reserve_items<T>(
     items.reserve(additional)
 }
 
-/// Makes room in the buffer for that many more bytes; the first time, for as many as a first growth has too.
+/// Makes room in the buffer for that many more bytes; the first time, for at least the first capacity.
 pub(crate) fn reserve(buffer: &mut String, additional: usize) -> Result<(), AllocError>
     ensures bytes { string_bytes buffer.new ≡ string_bytes buffer.old }
     ensures len { string_len buffer.new ≡ string_len buffer.old }

@@ -10,16 +10,16 @@ use crate::env::{Env, MAX_BYTES, MAX_MEMBERS};
 /// An environment as a run sees it. No call allocates.
 ///
 /// The texts and members are pieces of one buffer, which an implementer may keep in two parts that meet at the seam; no
-/// piece crosses it. A look-up has the number of the name beside the name itself, so that an implementer may have
-/// looked all names up before.
+/// piece crosses it. A look-up gets a number along with the name, so that an implementer may look all names up in
+/// advance.
 pub trait Scope {
-    /// The entries, and where their texts and members lie.
+    /// The entries, and where their texts and members are.
     ghost environment: { Self → EnvValue };
 
     /// Whether the name may be looked up by the number.
     ghost is_number: { Self → ℕ → Text → Type 0 };
 
-    /// Where the text of the name lies: its offset and its length, in bytes. `None` for a list.
+    /// Where the text of the name is: its offset and its length, in bytes. `None` for a list.
     fn text_at(&self, number: usize, name: &str) -> Option<(u32, u32)>
         requires { is_number self.now number name.now }
         ensures { MatchOption result (text_of (environment self.now).entries name.now ≡ None)
@@ -30,7 +30,7 @@ pub trait Scope {
         requires { is_number self.now number name.now }
         ensures { AreMembersAt (environment self.now) name.now result.0 result.1 };
 
-    /// Where a member lies: its offset and its length, in bytes.
+    /// Where a member is: its offset and its length, in bytes.
     fn span(&self, i: usize) -> (u32, u32)
         requires { i < length (environment self.now).spans }
         ensures value { slice_get (environment self.now).spans i ≡ Some (result.0, result.1) }
@@ -42,12 +42,12 @@ pub trait Scope {
         requires within { IsWithin (environment self.now) (start, end - start) }
         ensures { result.now ≡ piece_at (environment self.now).buffer (start, end - start) };
 
-    /// The bytes of the buffer.
+    /// The length of the buffer, in bytes.
     fn size(&self) -> usize
         ensures value { result ≡ length (environment self.now).buffer }
         ensures in_order { IsInOrder (environment self.now) };
 
-    /// E, the bytes of all texts and members together; names do not count.
+    /// E, the number of bytes of all texts and members together; names do not count.
     fn bytes(&self) -> usize
         ensures value { result ≡ byte_count (environment self.now).entries }
         ensures small { result ≤ MAX_BYTES };

@@ -50,7 +50,7 @@ encode_utf8-character c = by_tests (nat_lt c 128) (nat_lt c 2048) (nat_lt c 6553
     by_tests false false true e = character (224 + c / 4096) _ (leading (224 + c / 4096) (omega arith)) (following_two (c / 64) c)
     by_tests false false false e = character (240 + c / 262144) _ (leading (240 + c / 262144) (omega arith)) (following_three (c / 4096) (c / 64) c)
 
--- no byte at the beginning continues with a character before it
+-- the text does not begin with a byte that continues a character before it
 begins_anew : Text → Type 0
 begins_anew t = prefix_len is_continuation t ≡ 0
 

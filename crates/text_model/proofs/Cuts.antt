@@ -1,4 +1,4 @@
--- The items of a text: where the first one ends, and what the first n of them join to.
+-- The items of a text: where the first one ends, and the text of the first n of them.
 use Rattle.std.proofs.Common.{◌≡◌, ℕ, zero, suc, ◌+◌, ◌≤◌, List, [], ◌∷◌, ◌++◌, length, take, drop, Bool, cond, sym, true, false, refl, ap, ◌∙◌, subst, arith}
 use Rattle.std.proofs.Common.{add-one, append_assoc, length-append}
 use Rattle.std.specs.Prelude.{if◌then◌else◌}
@@ -54,7 +54,7 @@ length-joined-take (t ∷ texts) (suc n) =
 pub length-cut : (w : Writing) (t : Text) (n : ℕ) → length (cut w t n) ≤ length t
 length-cut w t n = subst (λ x. length (cut w t n) ≤ length x) (joined-items w t) (length-joined-take (items w t) n)
 
--- and a cut that is longer than the items keeps all
+-- and a cut with at least as many items as the text has is the whole text
 pub cut-long : (w : Writing) (t : Text) (n : ℕ) → length (items w t) ≤ n → cut w t n ≡ t
 cut-long w t n h = ap joined (take_all n (items w t) h) ∙ joined-items w t
 
@@ -97,7 +97,7 @@ code_points-next b (c ∷ t) = ap (with_byte b) (code_points-next c t) ∙ by_te
     by_test next true = let e : 1 + k ≡ suc k = omega arith in rw e refl
     by_test next false = ap (λ x. (b ∷ []) ∷ x) (sym next)
 
--- three code points that are no triplet: the first is an item
+-- three code points that are not a triplet: the first is an item
 pub with_triplets-first : (p : Text) (points : List Text) → begins_with_triplet_points p points ≡ false → with_triplets (p ∷ points) ≡ p ∷ with_triplets points
 unfolding with_triplets
 with_triplets-first p [] e = refl

@@ -1,5 +1,5 @@
--- The definitions computed: what RFC 3986 (sections 2.1 to 2.3), RFC 6570 (sections 1.5, 2.4.1 and 3.2.1)
--- and the grammar of numbers say of these texts is written out here, and the checker compares.
+-- The definitions computed: what RFC 3986 (sections 2.1 to 2.3), RFC 6570 (sections 1.5, 2.4.1 and 3.2.1) and the grammar of numbers say about these texts is
+-- written out here, and the checker compares.
 use Rattle.std.proofs.Common.{◌≡◌, ℕ, List, [], ◌∷◌, ◌++◌, Some, None, refl, codes}
 use Rattle.std.specs.Prelude.{map, is_some}
 use Rattle.std.specs.List.{filter, range_with_len}
@@ -51,7 +51,7 @@ by_ur : map (written UR) (codes "" ∷ codes "Hello World!" ∷ codes "/foo/bar"
 unfolding is_unreserved is_reserved written_ur
 by_ur = refl
 
--- a whole triplet stays as it is, also with lower-case digits
+-- a whole triplet stays as it is, even with lower-case digits
 triplets_stay : map (written UR) (codes "%41%4" ∷ codes "%c3%A9" ∷ codes "%%41" ∷ codes "%4%41" ∷ [])
     ≡ codes "%41%254" ∷ codes "%c3%A9" ∷ codes "%25%41" ∷ codes "%254%41" ∷ []
 unfolding is_unreserved is_reserved written_ur
@@ -102,12 +102,12 @@ no_numbers : map leading_number (codes "" ∷ codes "a1" ∷ codes "+5" ∷ code
 unfolding value_from leading_number
 no_numbers = refl
 
--- no byte but a digit begins a number, whatever follows it
+-- only a digit begins a number, whatever follows it
 first_bytes : filter (λ b. is_some (leading_number (b ∷ codes "5"))) all_bytes ≡ codes "0123456789"
 unfolding value_from leading_number
 first_bytes = refl
 
--- a number ends before the first byte that is no digit: a letter, a sign, a point, a space
+-- a number ends before the first byte that is not a digit: a letter, a sign, a point, a space
 last_digits : map leading_number (codes "1e3" ∷ codes "0x10" ∷ codes "12-15" ∷ codes "3.9" ∷ codes "4 5" ∷ codes "1,000" ∷ [])
     ≡ Some 1 ∷ Some 0 ∷ Some 12 ∷ Some 3 ∷ Some 4 ∷ Some 1 ∷ []
 unfolding value_from leading_number

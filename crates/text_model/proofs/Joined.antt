@@ -1,4 +1,4 @@
--- A list of pieces, one for each element of a list, that grows by a piece at a time.
+-- A list of pieces, one for each element of a list, which grows by one piece at a time.
 use Rattle.std.proofs.Common.{◌≡◌, ℕ, ◌+◌, ◌<◌, List, [], ◌∷◌, ◌++◌, length, take, get_or, sym, ap, ◌∙◌}
 use Rattle.std.specs.List.{flat_map}
 use Rattle.std.proofs.lemmas.List.{flat_map_more, take_more}

@@ -1,4 +1,4 @@
--- A text is URI text exactly where writing it by UR changes nothing.
+-- A text is URI text exactly if encoding it by UR changes nothing.
 use Rattle.std.proofs.Common.{◌≡◌, ◌≢◌, ℕ, [], ◌∷◌, ◌++◌, true, false, refl, sym, ap, ◌∙◌, subst, append_assoc, append-nil, arith}
 use Rattle.std.specs.Prelude.{◌↔◌}
 use Rattle.std.proofs.lemmas.Bool.{both_ways, ne_eqb}
@@ -18,7 +18,7 @@ no_triplet b [] h = refl
 no_triplet b (c ∷ []) h = refl
 no_triplet b (c ∷ d ∷ t) h = rw (ne_eqb b 37 h) refl
 
--- ---- what is URI text is copied
+-- ---- URI text is copied
 
 copied_character : (b : ℕ) (t : Text) → is_unreserved_or_reserved b ≡ true → written_ur (b ∷ t) ≡ b ∷ written_ur t
 copied_character b t h =

@@ -8,7 +8,7 @@ use Rattle.text_model.specs.Texts.{Text, is_unreserved, is_reserved, is_hexadeci
 use Rattle.text_model.specs.Writing.{is_unreserved_or_reserved}
 use Rattle.text_model.specs.UriText.{IsUriText, nothing, and_character, and_triplet}
 
-character_below : (b : ℕ) → is_unreserved_or_reserved b ≡ true → b < 128
+pub character_below : (b : ℕ) → is_unreserved_or_reserved b ≡ true → b < 128
 unfolding is_unreserved is_reserved
 character_below b e = grind (arith, nat_tests)
 

@@ -1,9 +1,7 @@
--- What is written, piece by piece, and how long it is.
-use Rattle.std.proofs.Common.{◌≡◌, ℕ, ◌+◌, ◌*◌, ◌<◌, ◌≤◌, [], ◌∷◌, ◌++◌, length, get_or, take, drop, Bool, true, false, refl, sym, ap, ◌∙◌, arith, append_assoc}
+-- The encoded text, piece by piece, and its length.
+use Rattle.std.proofs.Common.{◌≡◌, ℕ, ◌+◌, ◌*◌, ◌<◌, ◌≤◌, [], ◌∷◌, ◌++◌, length, get_or, take, drop, Bool, true, false, refl, sym, arith}
 use Rattle.std.proofs.Common.{append-nil, length-append}
 use Rattle.std.specs.Prelude.{if◌then◌else◌}
-use Rattle.std.proofs.Math.ListN.{drop_of_length-le}
-use Rattle.std.proofs.lemmas.List.{drop_more}
 use Rattle.std.proofs.lemmas.Bool.{cond-true, cond-false}
 use Rattle.text_model.specs.Texts.{Text, is_unreserved, is_triplet, begins_with_triplet}
 use Rattle.text_model.specs.Writing.{written_byte, is_unreserved_or_reserved, written_u, written_ur, written}
@@ -11,23 +9,6 @@ use Rattle.text_model.specs.declared.writing.Writing.{Writing}
 use Rattle.text_model.specs.declared.writing.Writing.TheVariants.{U, UR}
 
 -- ---- piece by piece
-
-pub written_u-append : (a b : Text) → written_u (a ++ b) ≡ written_u a ++ written_u b
-unfolding written_u
-written_u-append [] b = refl
-written_u-append (x ∷ a) b =
-    ap (λ t. written_byte (is_unreserved x) x ++ t) (written_u-append a b) ∙ sym (append_assoc (written_byte (is_unreserved x) x) (written_u a) (written_u b))
-
--- past the end there is nothing to write
-pub written_u-ended : (t : Text) (i : ℕ) → length t ≤ i → written_u (drop i t) ≡ []
-unfolding written_u
-written_u-ended t i past = ap written_u (drop_of_length-le t past)
-
--- from a place on, the byte there is written first
-pub written_u-drop : (t : Text) (i : ℕ) → i < length t → written_u (drop i t) ≡ written_byte (is_unreserved (get_or t i 0)) (get_or t i 0)
-    ++ written_u (drop (i + 1) t)
-unfolding written_u
-written_u-drop t i inside = ap written_u (drop_more t i 0 inside)
 
 pub written_ur-nothing : (t : Text) → length t ≡ 0 → written_ur t ≡ []
 unfolding written_ur
@@ -42,7 +23,7 @@ written_ur-triplet (b ∷ []) e = cc
 written_ur-triplet (b ∷ c ∷ []) e = cc
 written_ur-triplet (b ∷ c ∷ d ∷ t) e = cond-true (is_triplet b c d) _ _ e
 
--- and where none is, the first byte is written separately
+-- and if there is none, the first byte is encoded separately
 pub written_ur-byte : (t : Text) → begins_with_triplet t ≡ false → 0 < length t → written_ur t ≡ written_byte (is_unreserved_or_reserved (get_or t 0 0))
     (get_or t 0 0) ++ written_ur (drop 1 t)
 unfolding written_ur

@@ -1,4 +1,4 @@
--- The items of a text, of which a prefix takes the first (RFC 6570, section 2.4.1).
+-- The items of a text; a prefix consists of the first ones (RFC 6570, section 2.4.1).
 use Rattle.std.specs.Prelude.{ℕ, List, [], ◌∷◌, ◌++◌, Bool, false, ◌&&◌, nat_le, nat_lt, take, if◌then◌else◌}
 use Rattle.std.specs.List.{flat_map}
 use Rattle.text_model.specs.Texts.{Text, is_triplet}
@@ -33,7 +33,7 @@ with_triplets (p ∷ q ∷ []) = p ∷ q ∷ []
 with_triplets (p ∷ q ∷ r ∷ points) =
     if are_triplet p q r then ((p ++ q ++ r) ∷ with_triplets points) else (p ∷ with_triplets (q ∷ r ∷ points))
 
--- the items of a text: its code points, and under UR each whole triplet as one
+-- the items of a text: its code points, but under UR each whole triplet is one item
 abbrev pub items : Writing → Text → List Text
 items U t = code_points t
 items UR t = with_triplets (code_points t)

@@ -31,7 +31,7 @@ is_hexadecimal b = is_digit b 16
 abbrev pub is_triplet : ℕ → ℕ → ℕ → Bool
 is_triplet b high low = b == percent && (is_hexadecimal high && is_hexadecimal low)
 
--- a whole triplet is at the beginning
+-- the text begins with a whole triplet
 abbrev pub begins_with_triplet : Text → Bool
 begins_with_triplet [] = false
 begins_with_triplet (b ∷ []) = false

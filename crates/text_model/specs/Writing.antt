@@ -1,4 +1,4 @@
--- How a text is written into a link (RFC 6570, sections 1.5 and 3.2.1).
+-- How a text is percent-encoded in a link (RFC 6570, sections 1.5 and 3.2.1).
 use Rattle.std.specs.Prelude.{ℕ, ◌+◌, ◌-◌, ◌/◌, ◌%◌, [], ◌∷◌, ◌++◌, Bool, ◌||◌, nat_lt, if◌then◌else◌}
 use Rattle.text_model.specs.Texts.{Text, percent, is_unreserved, is_reserved, is_triplet}
 use Rattle.text_model.specs.declared.writing.Writing.{Writing}
@@ -12,7 +12,7 @@ hexadecimal_digit n = if nat_lt (n % 16) 10 then 0x30 + n % 16 else 0x41 - 10 + 
 abbrev pub triplet_of : ℕ → Text
 triplet_of b = percent ∷ hexadecimal_digit (b / 16) ∷ hexadecimal_digit b ∷ []
 
--- a byte that is copied where it may stay, and made a triplet where not
+-- a byte: copied if it may stay, and otherwise as its triplet
 abbrev pub written_byte : Bool → ℕ → Text
 written_byte stays b = if stays then (b ∷ []) else triplet_of b
 

@@ -1,4 +1,4 @@
-//! What follows from the definitions, each law as the contract of a function that does nothing.
+//! What follows from the definitions. These functions have empty bodies; each contract is a theorem.
 
 ghost use Rattle.std.specs.Prelude.{◌≡◌, ◌↔◌, ℕ, ◌*◌, ◌≤◌, ◌++◌, List, length, map, take, encode_utf8, encode_utf8_all};
 ghost use Rattle.text_model.specs.Texts.{Text};
@@ -8,17 +8,17 @@ ghost use Rattle.text_model.specs.Cut.{code_points, items, joined, cut};
 ghost use Rattle.text_model.specs.declared.writing.Writing.{Writing};
 ghost use Rattle.text_model.specs.declared.writing.Writing.TheVariants.{U, UR};
 
-/// Whatever is written is URI text.
+/// Encoded text is URI text.
 pub fn writing_gives_uri_text()
     ensures { (w : Writing) (t : Text) → IsUriText (written w t) }
 {}
 
-/// A text is URI text exactly where writing it by UR changes nothing.
+/// A text is URI text exactly if encoding it by UR changes nothing.
 pub fn uri_text_is_what_ur_keeps()
     ensures { (t : Text) → IsUriText t ↔ (written UR t ≡ t) }
 {}
 
-/// A byte is written as three bytes at most.
+/// A byte is encoded as three bytes at most.
 pub fn writing_at_most_triples()
     ensures { (w : Writing) (t : Text) → length (written w t) ≤ 3 * length t }
 {}
@@ -43,7 +43,7 @@ pub fn cut_takes_characters()
     ensures { (cs : List ℕ) (n : ℕ) → cut U (encode_utf8_all cs) n ≡ encode_utf8_all (take n cs) }
 {}
 
-/// A prefix as long as the items or longer keeps all.
+/// A prefix of at least as many items as the text has is the whole text.
 pub fn long_cut_keeps_all()
     ensures { (w : Writing) (t : Text) (n : ℕ) → length (items w t) ≤ n → cut w t n ≡ t }
 {}

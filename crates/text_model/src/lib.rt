@@ -1,5 +1,5 @@
-//! Texts: the classes of their bytes, how they are written into a link, their items and their leading
-//! number. Definitions and their laws; nothing here runs.
+//! Texts: the classes of their bytes, how they are percent-encoded in a link, their items and their leading number.
+//! Definitions and their laws; nothing here runs.
 #![tactic(auto)]
 
 pub mod laws;

@@ -1,6 +1,6 @@
--- Which characters are literals, and which stand in names: tables of RFC 6570 (sections 1.5, 2.1, 2.2, 2.3 and
--- 2.4), written out here and compared by the checker with what the definitions say of every ASCII character and
--- of both ends of each range past ASCII. The apostrophe is a literal, as the erratum of section 2.1 has it.
+-- Which characters are literals, and which may be in names: tables of RFC 6570 (sections 1.5, 2.1, 2.2, 2.3 and 2.4), written out here and compared by the
+-- checker with what the definitions say about every ASCII character and both ends of each range beyond ASCII. The apostrophe is a literal, as the erratum of
+-- section 2.1 says.
 use Rattle.std.proofs.Common.{◌≡◌, ℕ, List, [], ◌∷◌, ◌++◌, Bool, true, false, not, ◌&&◌, ◌==◌, refl, codes}
 use Rattle.std.specs.List.{filter, range_with_len, list_all, list_any}
 use Rattle.uri_grammar.specs.Literals.{is_literal_character}
@@ -12,7 +12,7 @@ use Rattle.uri_grammar.specs.Faults.{begins_with_modifier}
 abbrev ascii : List ℕ
 ascii = range_with_len 0 128
 
--- ---- ranges past ASCII (section 1.5: ucschar and iprivate)
+-- ---- ranges beyond ASCII (section 1.5: ucschar and iprivate)
 
 -- the first and the last of each range
 abbrev ends_of_ranges : List ℕ
@@ -23,7 +23,7 @@ ends_of_ranges =
     ∷ 0xB0000 ∷ 0xBFFFD ∷ 0xC0000 ∷ 0xCFFFD ∷ 0xD0000 ∷ 0xDFFFD ∷ 0xE1000 ∷ 0xEFFFD ∷ 0xF0000 ∷ 0xFFFFD
     ∷ 0x100000 ∷ 0x10FFFD ∷ []
 
--- the characters right before and right after the ranges
+-- the characters directly before and directly after the ranges
 abbrev beside_ranges : List ℕ
 beside_ranges =
     0x80 ∷ 0x9F ∷ 0xFDD0 ∷ 0xFDEF ∷ 0xFFF0 ∷ 0xFFFF
@@ -34,7 +34,7 @@ beside_ranges =
 
 -- ---- literals (section 2.1)
 
--- the character alone is a literal
+-- the character by itself is a literal
 abbrev is_literal : ℕ → Bool
 is_literal c = literal_item_len (c ∷ []) == 1
 
@@ -42,7 +42,7 @@ is_literal c = literal_item_len (c ∷ []) == 1
 abbrev is_no_literal : ℕ → Bool
 is_no_literal c = literal_item_len (c ∷ []) == 0 && literal_item_len (c ∷ codes "aa") == 0
 
--- all of ASCII but controls, space, DEL and "%<>\^`{|}
+-- all of ASCII except controls, space, DEL and "%<>\^`{|}
 ascii_literals : filter is_literal ascii ≡ codes "!#$&'()*+,-./0123456789:;=?@ABCDEFGHIJKLMNOPQRSTUVWXYZ[]_abcdefghijklmnopqrstuvwxyz~"
 unfolding is_literal_character
 ascii_literals = refl
@@ -59,7 +59,7 @@ no_literals_beside : list_all is_no_literal beside_ranges ≡ true
 unfolding is_literal_character
 no_literals_beside = refl
 
--- `%` is a literal with two hexadecimal digits after it, and only so
+-- `%` is a literal only with two hexadecimal digits after it
 first_digits : filter (λ c. literal_item_len (37 ∷ c ∷ codes "0") == 3) ascii ≡ codes "0123456789ABCDEFabcdef"
 unfolding is_literal_character
 first_digits = refl
@@ -78,7 +78,7 @@ lone_percents = refl
 ascii_names : filter (λ c. varchar_len (c ∷ codes "aa") == 1) ascii ≡ codes "0123456789ABCDEFGHIJKLMNOPQRSTUVWXYZ_abcdefghijklmnopqrstuvwxyz"
 ascii_names = refl
 
--- a triplet does too, if its digits are whole, and nothing else does
+-- so does a complete triplet, and nothing else
 other_begins : filter (λ c. not (varchar_len (c ∷ codes "aa") == 0) && not (is_name_character c)) ascii ≡ codes "%"
 other_begins = refl
 
@@ -88,7 +88,7 @@ first_digits_in_names = refl
 second_digits_in_names : filter (λ c. varchar_len (37 ∷ 48 ∷ c ∷ []) == 3) ascii ≡ codes "0123456789ABCDEFabcdef"
 second_digits_in_names = refl
 
--- a name continues with what begins one, and with a dot where that follows
+-- a name continues with what can begin a name, also after a dot
 names_go_on : filter (λ c. not (next_len (c ∷ codes "aa") == 0)) ascii ≡ codes "%.0123456789ABCDEFGHIJKLMNOPQRSTUVWXYZ_abcdefghijklmnopqrstuvwxyz"
 names_go_on = refl
 
@@ -96,11 +96,11 @@ names_go_on_behind_a_dot : filter (λ c. not (next_len (46 ∷ c ∷ codes "aa")
     ≡ codes "%0123456789ABCDEFGHIJKLMNOPQRSTUVWXYZ_abcdefghijklmnopqrstuvwxyz"
 names_go_on_behind_a_dot = refl
 
--- no name has a character past ASCII
+-- no name has a character beyond ASCII
 no_names_past_ascii : list_any (λ c. not (varchar_len (c ∷ codes "aa") == 0 && next_len (c ∷ codes "aa") == 0)) (ends_of_ranges ++ beside_ranges) ≡ false
 no_names_past_ascii = refl
 
--- ---- what else begins something
+-- ---- other first characters
 
 -- op-level2 and op-level3 (section 2.2)
 operators : filter (λ c. begins_with_operator (c ∷ codes "a")) ascii ≡ codes "#&+./;?"

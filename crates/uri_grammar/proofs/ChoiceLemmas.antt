@@ -25,7 +25,7 @@ pub none_or_some : (n : ℕ) → (n ≡ 0) ⊎ (0 < n)
 none_or_some zero = inl refl
 none_or_some (suc n) = inr (omega arith)
 
--- a text lacks a character, or is cut at the first place of it
+-- a text does not have a character, or is split at its first place
 pub lacks_or_cut : (c : ℕ) (cs : List ℕ) → Lacks c cs ⊎ ((front : List ℕ) × (rest : List ℕ) × (cs ≡ front ++ c ∷ rest) × Lacks c front)
 lacks_or_cut c [] = inl (All-nil (λ x. x ≢ c))
 lacks_or_cut c (x ∷ xs) = by_test (cases_Bool (x == c)) (lacks_or_cut c xs)
@@ -43,7 +43,7 @@ lacks_or_cut c (x ∷ xs) = by_test (cases_Bool (x == c)) (lacks_or_cut c xs)
 
 -- ---- runs
 
--- what grows item by item grows until no item follows
+-- a property that is kept by each further item holds for the longest run of items
 longest : (item : List ℕ → ℕ) (P : List ℕ → Type 0) → item [] ≡ 0 → ((front rest : List ℕ) → P front → 0 < item rest → P (front ++ take (item rest) rest))
     → (n : ℕ) (front rest : List ℕ) → length rest < n → P front → (all : List ℕ) × (after : List ℕ) × (front ++ rest ≡ all ++ after) × P all × (item after ≡ 0)
 longest item P ends grows zero front rest l h = absurd (omega arith)
@@ -129,7 +129,7 @@ spec_or_fault cs =
 abbrev SpecsOrFault : List ℕ → Type 0
 SpecsOrFault list = ((ss : List Spec) × SpellsSpecs (list ++ comma ∷ []) ss) ⊎ ((k : TemplateErrorKind) × (d : ℕ) × IsListFault list k d)
 
--- the first piece of a list is no spec
+-- the first piece of a list is not a spec
 first_fault : (list piece after : List ℕ) (k : TemplateErrorKind) (d : ℕ) → list ++ comma ∷ [] ≡ piece ++ comma ∷ after → Lacks comma piece
     → IsSpecFault piece k d → IsListFault list k d
 first_fault list piece after k d e lacks f = record {
@@ -152,7 +152,7 @@ last_or_fault list lacks =
     (λ f. inr (f.0, f.1, first_fault list list [] f.0 f.1 refl lacks f.2))
     (spec_or_fault list)
 
--- a comma after a list, seen from its first piece
+-- a comma after a list, as the rest after its first piece
 comma_behind : (list piece rest : List ℕ) → list ≡ piece ++ comma ∷ rest → list ++ comma ∷ [] ≡ piece ++ comma ∷ (rest ++ comma ∷ [])
 comma_behind list piece rest e = ap (λ (t : List ℕ). t ++ comma ∷ []) e ∙ append_assoc piece (comma ∷ rest) (comma ∷ [])
 

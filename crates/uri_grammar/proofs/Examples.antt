@@ -1,4 +1,4 @@
--- Texts with their trees, and texts with their first faults, on the definitions alone.
+-- Texts with their trees, and texts with their first faults, computed from the definitions.
 
 use Rattle.std.proofs.Common.{◌≡◌, ◌≢◌, ℕ, ◌<◌, Bool, true, false, inr, List, [], ◌∷◌, ◌++◌, length, refl, ap, ◌∙◌, sym, subst, arith, append_assoc}
 use Rattle.std.proofs.Common.{append-nil, ◌==◌, not, codes, encode_utf8_all}
@@ -108,7 +108,7 @@ longest_prefix =
     (no_operator (codes "a:9999") refl refl) (lacks comma (codes "a:9999") refl)
     (spelled_spec (codes "a") (codes ":9999") 9999 false (word 97 [] refl refl) refl (prefix_modifier (codes "9999") refl)))
 
--- literals are one part, in their written form
+-- consecutive literals are one part, as they are written in a link
 literals : IsTemplate (codes "it's/") (Literal (codes "it's/") ∷ [])
 unfolding is_unreserved is_reserved written_ur is_literal_character
 literals =

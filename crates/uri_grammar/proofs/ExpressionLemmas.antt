@@ -1,6 +1,6 @@
--- Operators and bodies: what the reader needs of them, and that a body is one expression at most.
-use Rattle.std.proofs.Common.{◌≡◌, ℕ, ◌+◌, ◌≤◌, Bool, true, false, ⊎_elim, inl, inr, List, [], ◌∷◌, ◌++◌, length, drop, refl, ap, ◌∙◌, sym, subst, arith}
-use Rattle.std.proofs.Common.{length-append, ◌==◌, nat_eq}
+-- Operators and bodies: what the reader needs to know of them, and that a body is at most one expression.
+use Rattle.std.proofs.Common.{◌≡◌, ℕ, ◌+◌, Bool, true, false, ⊎_elim, inl, inr, List, [], ◌∷◌, ◌++◌, length, drop, refl, ap, ◌∙◌, sym, subst, arith}
+use Rattle.std.proofs.Common.{◌==◌, nat_eq}
 use Rattle.std.specs.List.{list_any}
 use Rattle.std.proofs.lemmas.Bool.{cases_Bool, cond-true, cond-false, eqb-true, or_from, or_parts, false≢true}
 use Rattle.std.proofs.lemmas.List.{append_cancel_left}
@@ -81,14 +81,6 @@ pub operator_of-HasOperator : (body : List ℕ) → begins_with_reserved body �
     → HasOperator body (operator_of body) (drop (length (operator_text (operator_of body))) body)
 unfolding OperatorOf
 operator_of-HasOperator body h = has_operator body h
-
-pub length-operator : (body : List ℕ) → begins_with_reserved body ≡ false → length (operator_text (operator_of body)) ≤ length body
-length-operator body h =
-    omega (
-      arith,
-      ap length (operator_of-HasOperator body h).whole,
-      length-append (operator_text (operator_of body)) (drop (length (operator_text (operator_of body))) body),
-    )
 
 -- ---- one operator
 

@@ -1,4 +1,4 @@
--- Faults.
+-- Examples of faults.
 
 use Rattle.std.proofs.Common.{◌≡◌, ℕ, ◌+◌, ◌<◌, true, false, inr, None, List, [], ◌∷◌, ◌++◌, length, refl, ap, arith, append-nil, ◌==◌, not, codes}
 use Rattle.std.proofs.Common.{encode_utf8, encode_utf8_all}
@@ -34,7 +34,7 @@ listed : (list : List ℕ) (k : TemplateErrorKind) (d : ℕ) → 0 < length list
     → IsFirstFault (open_brace ∷ list ++ close_brace ∷ []) k (1 + d)
 listed list k d some lack f = faulty (open_brace ∷ list ++ close_brace ∷ []) k (1 + d) (bad_expression list [] k d some lack f)
 
--- the one spec of a list is faulty
+-- the only spec of a list is faulty
 only_spec : (list : List ℕ) (k : TemplateErrorKind) (d : ℕ) → Lacks comma list → IsSpecFault list k d → IsListFault list k d
 only_spec list k d lack f = record {
   front = [];
@@ -52,7 +52,7 @@ only_spec list k d lack f = record {
 letter_a : (after : List ℕ) → next_len after ≡ 0 → BeginsWithVarname (97 ∷ after) (97 ∷ []) after
 letter_a after e = ended_varname (97 ∷ after) (97 ∷ []) after refl (word 97 [] refl refl) e
 
--- the name `a` with a modifier that is none
+-- the name `a` with an invalid modifier
 modified_a : (after : List ℕ) → next_len after ≡ 0 → begins_with_modifier after ≡ true → None ≡ modifier_of after → IsSpecFault (97 ∷ after) kind.BadModifier 1
 modified_a after e b none =
     bad_modifier (97 ∷ after) (97 ∷ []) after (record { begins = letter_a after e; short = leb-true 1 255 refl; follows = inr b }) (modifier_of-none after none)
@@ -72,7 +72,7 @@ bad_character =
     (simple_list (codes "a b") kind.BadName 0 (omega arith) refl refl refl refl
     (bad_name (codes "a b") (bad_follower (codes "a b") (codes "a") (codes " b") (letter_a (codes " b") refl) (omega arith) refl)))
 
--- a hyphen is in no name
+-- a hyphen cannot be in a name
 hyphen : IsRefused (codes "{a-b}") kind.BadName 1
 hyphen =
     refused (codes "{a-b}") kind.BadName 1 refl refl

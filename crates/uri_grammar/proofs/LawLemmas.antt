@@ -17,7 +17,7 @@ use Rattle.uri_grammar.proofs.ExpressionLemmas.{operator_same}
 
 -- ---- specs and commas
 
--- no spec and comma begin here
+-- the text does not begin with a spec and a comma
 record NoSpec (cs : List ℕ) : Type 0 where
   pub never : (rest : List ℕ) (spec : Spec) → BeginsWithSpec cs spec rest → ⊥
 
@@ -35,7 +35,7 @@ fault_no_spec cs piece after k d e l f = record {
       (subst (λ (t : List ℕ). IsSpecFault t k d) (split_same comma piece h.piece after rest l h.lacks (sym e ∙ h.whole)).0 f);
 }
 
--- specs, and then what no spec begins: in one way
+-- specs, and then a text that no spec begins, in only one way
 specs_same : (ss ts : List Spec) (front other rest behind : List ℕ) → SpellsSpecs front ss → SpellsSpecs other ts → NoSpec rest → NoSpec behind
     → front ++ rest ≡ other ++ behind → (ss ≡ ts) × (front ≡ other) × (rest ≡ behind)
 specs_same [] [] front other rest behind h k n m e =

@@ -25,7 +25,7 @@ AreLiterals-run cs (literal_character c rest l more) =
 AreLiterals-run cs (literal_triplet c d e rest t more) =
     next_item (c ∷ d ∷ e ∷ []) rest (omega arith) (λ x. literal_item_len-triplet c d e x t) (AreLiterals-run rest more)
 
--- no literal is at the beginning exactly where none has a length
+-- there is no literal at the beginning exactly if its length is 0
 pub no_literal-length : (cs : List ℕ) → begins_with_literal cs ≡ false → literal_item_len cs ≡ 0
 no_literal-length [] h = refl
 no_literal-length (c ∷ cs) h =

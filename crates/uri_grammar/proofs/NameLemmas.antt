@@ -86,14 +86,14 @@ length-varname name (first_varchar v h) = length-varchar v h
 length-varname name (next_varchar n v h k) = omega (arith, length-append n v, length-varname n h)
 length-varname name (dotted_varchar n v h k) = omega (arith, length-append n (46 ∷ v), length-varname n h)
 
--- a text begins with one longest name at most
+-- a text begins with at most one longest name
 pub longest_same : (cs name after other behind : List ℕ) → BeginsWithVarname cs name after → BeginsWithVarname cs other behind
     → (name ≡ other) × (after ≡ behind)
 longest_same cs name after other behind h k =
     let size : length name ≡ length other = omega (arith, h.longest other behind k.whole k.is_varname, k.longest name after h.whole h.is_varname) in
     append_same name other after behind size (sym h.whole ∙ k.whole)
 
--- a name that nothing continues with is the longest
+-- a name that cannot continue is the longest
 pub ended_varname : (cs name after : List ℕ) → cs ≡ name ++ after → IsVarname name → next_len after ≡ 0 → BeginsWithVarname cs name after
 ended_varname cs name after e h ends = record {
   whole = e;
@@ -183,7 +183,7 @@ IsUriText-varname name (dotted_varchar n v h k) =
 
 -- ---- texts that are names
 
--- the longest name at the beginning of a name is all of it
+-- the longest name at the beginning of a name is the whole name
 pub whole_varname : (cs : List ℕ) (len : ℕ) → len ≤ length cs → BeginsWithVarname cs (take len cs) (drop len cs) → (len ≡ length cs → IsVarname cs)
     × (IsVarname cs → len ≡ length cs)
 whole_varname cs len within begins = (

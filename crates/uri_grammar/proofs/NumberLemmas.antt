@@ -1,4 +1,4 @@
--- The numbers of prefixes, digit by digit, and from where to where they go.
+-- The numbers of prefixes, digit by digit, and their range.
 use Rattle.std.proofs.Common.{◌≡◌, ℕ, ◌+◌, ◌-◌, ◌*◌, ◌<◌, ◌≤◌, Bool, true, false, Some, None, List, [], ◌∷◌, length, get_or, drop, refl, ap, ◌∙◌, sym, arith}
 use Rattle.std.proofs.Common.{◌&&◌, not, ◌==◌}
 use Rattle.std.specs.Prelude.{nat_le}
@@ -12,7 +12,7 @@ use Rattle.uri_grammar.specs.declared.variables.TheConstants.{MAX_PREFIX}
 use Rattle.uri_grammar.specs.Specs.{is_max_length}
 use Rattle.uri_grammar.specs.Private.Reading.{begins_above_zero, number_of}
 
--- more digits make no smaller number
+-- more digits do not make a number smaller
 value_from-least : (ds : List ℕ) (n : ℕ) → n ≤ value_from n ds
 unfolding value_from
 value_from-least [] n = omega arith
@@ -29,15 +29,15 @@ max_length_range (d ∷ ds) t =
     let low : 48 ≤ d = leb-true 48 d (and_parts (nat_le 48 d) (nat_le d 57) digit.0).0 in
     (omega (arith, low, eqb-false d 48 (not-true (d == 48) tests.0), value_from-least ds (10 * 0 + (d - 48))), leb-true _ _ bounds.1)
 
--- ---- what the reader's loop keeps
+-- ---- the invariant of the reader's loop
 
--- the digits after that many decide, and this is the value of those
+-- the first digits have this value, and the result depends only on the digits after them
 pub record HasRead (ds : List ℕ) (count value : ℕ) : Type 0 where
   pub digits : list_all is_ascii_digit ds ≡ list_all is_ascii_digit (drop count ds)
   pub value_is : value_from 0 ds ≡ value_from value (drop count ds)
   pub small : value ≤ MAX_PREFIX
 
--- the digits from a place on, where one is there
+-- the digits from a place on, if there is one
 from_place : (ds : List ℕ) (i d : ℕ) → i < length ds → d ≡ get_or ds i d → drop i ds ≡ d ∷ drop (i + 1) ds
 from_place ds i d inside is = drop_more ds i d inside ∙ ap (λ (x : ℕ). x ∷ drop (i + 1) ds) (sym is)
 
@@ -56,7 +56,7 @@ pub next_read : (ds : List ℕ) (i n d : ℕ) → HasRead ds i n → i < length 
 next_read ds i n d h inside is digit l =
     record { digits = digits_of_next ds i n d true h inside is digit; value_is = value_of_next ds i n d h inside is; small = l }
 
--- ---- what the reader answers
+-- ---- the result of the reader
 
 -- the three tests of a max-length
 tests : List ℕ → Bool → Bool → Bool
@@ -73,10 +73,6 @@ none_by ds digits small d s e =
     cond-false (is_max_length ds) _ _
     (max_length-tests ds ∙ (ap (λ (t : Bool). tests ds t (nat_le (value_from 0 ds) MAX_PREFIX)) d ∙ (ap (tests ds digits) s ∙ e)))
 
-pub not_begun : (ds : List ℕ) → begins_above_zero ds ≡ false → number_of ds ≡ None
-unfolding tests
-not_begun ds h = none_by ds _ _ refl refl (ap (λ (t : Bool). t && (list_all is_ascii_digit ds && nat_le (value_from 0 ds) MAX_PREFIX)) h)
-
 never : (x y z : Bool) → (y && z) ≡ false → (x && (y && z)) ≡ false
 never true y z e = e
 never false y z e = refl
@@ -84,11 +80,6 @@ never false y z e = refl
 second_false : (y : Bool) → (y && false) ≡ false
 second_false true = refl
 second_false false = refl
-
-pub no_digit : (ds : List ℕ) (i n d : ℕ) → HasRead ds i n → i < length ds → d ≡ get_or ds i d → is_ascii_digit d ≡ false → number_of ds ≡ None
-unfolding tests
-no_digit ds i n d h inside is other =
-    none_by ds false _ (digits_of_next ds i n d false h inside is other) refl (never (begins_above_zero ds) false (nat_le (value_from 0 ds) MAX_PREFIX) refl)
 
 pub too_large : (ds : List ℕ) (i n d : ℕ) → HasRead ds i n → i < length ds → d ≡ get_or ds i d → MAX_PREFIX < 10 * n + (d - 48) → number_of ds ≡ None
 unfolding tests

@@ -115,7 +115,7 @@ no_literal_here cs w rest h z =
 no_literal_at_brace : (cs : List ℕ) (o : Op) (specs : List Spec) (rest : List ℕ) → BeginsWithExpression cs o specs rest → literal_item_len cs ≡ 0
 no_literal_at_brace cs o specs rest h = ap literal_item_len h.whole ∙ literal_item_len-brace (h.body ++ close_brace ∷ rest)
 
--- parts, and then what no part begins: in one way
+-- parts, and then a text that no part begins, in only one way
 spelled_same : (ps qs : List Part) (front other rest behind : List ℕ) → Spells front ps → Spells other qs → NoPart rest → NoPart behind
     → front ++ rest ≡ other ++ behind → (ps ≡ qs) × (front ≡ other) × (rest ≡ behind)
 spelled_same [] [] front other rest behind s t k m e =

@@ -1,4 +1,4 @@
--- What the grammar promises of every tree.
+-- What holds for every tree of the grammar.
 use Rattle.std.proofs.Common.{ℕ, ◌<◌, List, [], ◌∷◌, ◌++◌, length, ap, sym, subst, arith, length-append, All, encode_utf8_all}
 use Rattle.std.proofs.lemmas.List.Elements.{All-nil, All-cons}
 use Rattle.text_model.specs.Texts.{Text}

@@ -1,4 +1,4 @@
--- Texts that are cut from the left in one way: at the first place of a character, and after a run of items.
+-- Texts that are split in only one way: at the first place of a character, and after a run of items.
 use Rattle.std.proofs.Common.{◌≡◌, ◌≢◌, ℕ, ◌<◌, ◌≤◌, List, [], ◌∷◌, ◌++◌, length, refl, ap, ◌∙◌, sym, subst, arith, append_assoc, append-nil, length-append}
 use Rattle.std.proofs.lemmas.List.Elements.{All-head, All-tail}
 use Rattle.uri_grammar.specs.Specs.{Lacks}
@@ -15,7 +15,7 @@ append_same (a ∷ f) (b ∷ g) x y l e =
     let rest = append_same f g x y size tail in
     (let same : f ≡ g = rest.0 in cc, rest.1)
 
--- the first place of a character cuts a text in one way
+-- a text is split at the first place of a character in only one way
 pub split_same : (c : ℕ) (xs ys a b : List ℕ) → Lacks c xs → Lacks c ys → xs ++ c ∷ a ≡ ys ++ c ∷ b → (xs ≡ ys) × (a ≡ b)
 split_same c [] [] a b h k e = (refl, cc)
 split_same c [] (y ∷ ys) a b h k e = absurd (All-head (λ x. x ≢ c) y ys k (let same : y ≡ c = cc in same))
@@ -26,14 +26,14 @@ split_same c (x ∷ xs) (y ∷ ys) a b h k e =
     let rest = split_same c xs ys a b (All-tail (λ z. z ≢ c) x xs h) (All-tail (λ z. z ≢ c) y ys k) tail in
     (let same : xs ≡ ys = rest.0 in cc, rest.1)
 
--- no text without the character is cut at it
+-- a text without the character is not split at it
 pub lacks_split : (c : ℕ) (xs ys b : List ℕ) → Lacks c xs → xs ≡ ys ++ c ∷ b → ⊥
 lacks_split c [] [] b h e = cc
 lacks_split c [] (y ∷ ys) b h e = cc
 lacks_split c (x ∷ xs) [] b h e = All-head (λ z. z ≢ c) x xs h (let same : x ≡ c = cc in same)
 lacks_split c (x ∷ xs) (y ∷ ys) b h e = lacks_split c xs ys b (All-tail (λ z. z ≢ c) x xs h) (let tail : xs ≡ ys ++ c ∷ b = cc in tail)
 
--- items, where a function tells how long the item at the beginning of a text is, and 0 where there is none
+-- items, given a function for the length of the item at the beginning of a text, 0 if there is none
 pub data Run (item : List ℕ → ℕ) : List ℕ → Type 0 where
   no_item : Run item []
   next_item : (front rest : List ℕ) → 0 < length front → ((x : List ℕ) → item (front ++ x) ≡ length front) → Run item rest → Run item (front ++ rest)
@@ -44,7 +44,7 @@ item-Run item xs x (next_item front rest pos is more) l =
     let whole : item ((front ++ rest) ++ x) ≡ length front = ap item (append_assoc front rest x) ∙ is (rest ++ x) in
     omega (arith, whole, pos)
 
--- a run of items that no item follows is as long as it can be, and so is the only one
+-- a run of items that no item follows is the longest, and so the only one
 pub run_same : (item : List ℕ → ℕ) (xs ys a b : List ℕ) → Run item xs → Run item ys → xs ++ a ≡ ys ++ b → item a ≡ 0 → item b ≡ 0 → (xs ≡ ys) × (a ≡ b)
 run_same item xs ys a b no_item no_item e p q = (refl, e)
 run_same item xs ys a b no_item (next_item g s k j rest) e p q =

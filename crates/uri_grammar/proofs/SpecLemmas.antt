@@ -1,4 +1,4 @@
--- Modifiers and specs: what the reader needs of them, and that a text is one spec at most.
+-- Modifiers and specs: what the reader needs to know of them, and that a text is at most one spec.
 use Rattle.std.proofs.Common.{◌≡◌, ℕ, ◌+◌, ◌<◌, ◌≤◌, Bool, true, false, ◌⊎◌, ⊎_elim, inl, inr, List, [], ◌∷◌, ◌++◌, length, get_or, drop, take, refl, ap, ◌∙◌}
 use Rattle.std.proofs.Common.{sym, subst, arith, append_assoc, take-append-drop, length-append, ◌==◌, ◌&&◌, nat_eq, Some, None}
 use Rattle.std.proofs.Math.Seq.{take-add, take-append-add}
@@ -62,7 +62,7 @@ modifier_ends a m x (prefix_modifier digits p) = (colon digits, inr refl)
     colon (c ∷ []) = refl
     colon (c ∷ d ∷ cs) = refl
 
--- a cut has four digits at most, and what explodes is not cut
+-- a prefix is at most the maximum, and an exploded variable has no prefix
 pub modifier_range : (a : List ℕ) (m : ℕ) (x : Bool) → IsModifier a m x → (m ≤ MAX_PREFIX) × (x ≡ true → m ≡ 0)
 modifier_range a m x no_modifier = (omega arith, λ _. refl)
 modifier_range a m x explode_modifier = (omega arith, λ _. refl)
@@ -150,7 +150,7 @@ spec_same cs s t h k =
     let rest = modifier_same h.after k.after s.cut t.cut s.explode t.explode same.1 h.modified k.modified in
     spec_by_fields s t same.0 rest.0 rest.1
 
--- a text with a fault is no spec
+-- a text with a fault is not a spec
 pub spec_no_fault : (cs : List ℕ) (spec : Spec) (k : TemplateErrorKind) (d : ℕ) → IsSpec cs spec → IsSpecFault cs k d → ⊥
 spec_no_fault cs spec k d h (bad_name xs never) = never spec.name h.after (spec_named cs spec h)
 spec_no_fault cs spec k d h (bad_modifier xs other behind is never) =
@@ -166,7 +166,7 @@ spec_one_fault cs k l d e (bad_modifier xs name after is other) (bad_modifier ys
 
 -- ---- lists of specs
 
--- what follows the rest leaves the first spec as it is
+-- further text after the rest does not change the first spec
 abbrev pub spec_before : (front rest more : List ℕ) (s : Spec) → BeginsWithSpec front s rest → BeginsWithSpec (front ++ more) s (rest ++ more)
 spec_before front rest more s h = record {
   piece = h.piece;
@@ -189,7 +189,7 @@ pub spec_moves : (cs : List ℕ) (k : TemplateErrorKind) (d at n : ℕ) → IsSp
 spec_moves cs k d at n (bad_name xs h) = refl
 spec_moves cs k d at n (bad_modifier xs name after h i) = refl
 
--- a comma after a text cuts it as one within it does
+-- a piece before a comma within a text, or before one after the text
 pub piece_cut : (rest : List ℕ) (end : ℕ) → end < length rest → get_or rest end 0 ≡ comma → (x : List ℕ) × (rest ++ comma ∷ [] ≡ take end rest ++ comma ∷ x)
 piece_cut rest end l h =
     let back : drop end rest ≡ comma ∷ drop (end + 1) rest = drop_more rest end 0 l ∙ ap (λ (x : ℕ). x ∷ drop (end + 1) rest) h in
@@ -214,7 +214,7 @@ specs_step list rest piece done len ss s w r p within lacks cut is h =
     subst (λ (t : List ℕ). SpellsSpecs t (ss ++ s ∷ [])) (sym all)
     (SpellsSpecs-more ss (take done (list ++ comma ∷ [])) (take len rest) s h lacks (subst (λ (t : List ℕ). IsSpec t s) p is))
 
--- a piece that is no spec
+-- a piece that is not a spec
 pub specs_fault : (list rest piece : List ℕ) (done len : ℕ) (ss : List Spec) (e : TemplateError) → done ≤ length list → rest ≡ drop done list
     → piece ≡ take len rest → Lacks comma (take len rest) → ((x : List ℕ) × (rest ++ comma ∷ [] ≡ take len rest ++ comma ∷ x))
     → SpellsSpecs (take done (list ++ comma ∷ [])) ss → IsFault e (IsSpecFault piece) → IsFault (moved e done) (IsListFault list)

@@ -1,4 +1,4 @@
--- Parts one after another: what the reader needs of expressions, parts and their faults.
+-- Parts one after another: what the reader needs to know of expressions, parts and their faults.
 use Rattle.std.proofs.Common.{◌≡◌, ℕ, ◌+◌, ◌<◌, ◌≤◌, ⊎_elim, inl, inr, suc, List, [], ◌∷◌, ◌++◌, length, get_or, drop, take, refl, ap, ◌∙◌, sym, subst, arith}
 use Rattle.std.proofs.Common.{append_assoc, append-nil, take-append-drop, true, false, ◌==◌, encode_utf8_all}
 use Rattle.std.proofs.Math.Seq.{take-add, take-append-add}
@@ -27,7 +27,7 @@ use Rattle.uri_grammar.proofs.ExpressionLemmas.{body_moves}
 
 -- ---- parts
 
--- what follows the rest leaves the first part as it is
+-- further text after the rest does not change the first part
 abbrev pub literals_before : (front : List ℕ) (text : Text) (rest more : List ℕ) → BeginsWithLiterals front text rest
     → BeginsWithLiterals (front ++ more) text (rest ++ more)
 literals_before front text rest more h = record {

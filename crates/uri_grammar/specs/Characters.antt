@@ -9,7 +9,7 @@ open_brace = 0x7B
 abbrev pub close_brace : ℕ
 close_brace = 0x7D
 
--- `,`, between two specs
+-- `,`, between two variables
 abbrev pub comma : ℕ
 comma = 0x2C
 
@@ -25,6 +25,6 @@ asterisk = 0x2A
 abbrev pub dot : ℕ
 dot = 0x2E
 
--- `_`, the one character of names that is no letter and no digit
+-- `_`, the only character of names that is neither a letter nor a digit
 abbrev pub underscore : ℕ
 underscore = 0x5F

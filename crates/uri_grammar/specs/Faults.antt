@@ -1,5 +1,5 @@
--- The first fault of a text that is no template: what can be read, and then what nothing can begin with.
--- All characters of an expression before its fault are ASCII, so places within it count bytes.
+-- The first fault of a text that is not a template: parts that can be read, and then a text that no part begins with. All characters of an expression before
+-- its fault are ASCII, so places within it count bytes.
 use Rattle.std.specs.Prelude.{◌≡◌, ◌≢◌, ℕ, ◌+◌, ◌<◌, Bool, true, false, ◌||◌, ◌==◌, List, [], ◌∷◌, ◌++◌, length, encode_utf8_all, ◌⊎◌, ◌≤◌}
 use Rattle.uri_grammar.specs.declared.error.TemplateErrorKind.{TemplateErrorKind}
 use Rattle.uri_grammar.specs.declared.error.TemplateErrorKind.TheVariants as kind
@@ -21,19 +21,19 @@ abbrev pub begins_with_modifier : List ℕ → Bool
 begins_with_modifier [] = false
 begins_with_modifier (c ∷ cs) = c == colon || c == asterisk
 
--- the longest varname at the beginning is a name, and after it is nothing or the begin of a modifier
+-- the longest varname at the beginning is a name, and is followed by nothing or by the beginning of a modifier
 pub record IsNamed (cs name after : List ℕ) : Type 0 where
   pub begins : BeginsWithVarname cs name after
   pub short : length name ≤ MAX_NAME_BYTES
   pub follows : (after ≡ []) ⊎ (begins_with_modifier after ≡ true)
 
--- what is wrong with a text that is no spec, and where in it
+-- what is wrong with a text that is not a spec, and where in it
 pub data IsSpecFault : List ℕ → TemplateErrorKind → ℕ → Type 0 where
   bad_name : (cs : List ℕ) → ((name after : List ℕ) → IsNamed cs name after → ⊥) → IsSpecFault cs kind.BadName 0
   bad_modifier : (cs name after : List ℕ) → IsNamed cs name after → ((n : ℕ) (explode : Bool) → IsModifier after n explode → ⊥)
       → IsSpecFault cs kind.BadModifier (length name)
 
--- specs, and then a text up to a comma that is no spec: what is wrong with it, and where in the list
+-- specs, and then a text up to a comma that is not a spec: what is wrong with it, and where in the list
 pub record IsListFault (list : List ℕ) (k : TemplateErrorKind) (at : ℕ) : Type 0 where
   pub front : List ℕ
   pub specs : List Spec
@@ -56,7 +56,7 @@ pub data IsBodyFault : List ℕ → TemplateErrorKind → ℕ → Type 0 where
 
 -- ---- templates
 
--- a text that no part can begin with: what is wrong, and how far from the front
+-- a text that no part begins with: what is wrong, and how far from the beginning
 pub data IsPartFault : List ℕ → TemplateErrorKind → ℕ → Type 0 where
   bad_literal : (c : ℕ) (rest : List ℕ) → begins_with_literal (c ∷ rest) ≡ false → c ≢ open_brace → IsPartFault (c ∷ rest) kind.BadLiteral 0
   unclosed : (rest : List ℕ) → Lacks close_brace rest → IsPartFault (open_brace ∷ rest) kind.Unclosed 0
@@ -64,7 +64,7 @@ pub data IsPartFault : List ℕ → TemplateErrorKind → ℕ → Type 0 where
   bad_expression : (body rest : List ℕ) (k : TemplateErrorKind) (d : ℕ) → 0 < length body → Lacks close_brace body → IsBodyFault body k d
       → IsPartFault (open_brace ∷ body ++ close_brace ∷ rest) k (1 + d)
 
--- parts, and then a text that no part can begin with: what is wrong with it, and at which byte of the whole
+-- parts, and then a text that no part begins with: what is wrong with it, and at which byte of the whole text
 pub record IsFirstFault (cs : List ℕ) (k : TemplateErrorKind) (at : ℕ) : Type 0 where
   pub front : List ℕ
   pub parts : List Part

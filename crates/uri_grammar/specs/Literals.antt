@@ -5,7 +5,7 @@ use Rattle.text_model.specs.Texts.{is_triplet, begins_with_triplet}
 abbrev pub is_between : ℕ → ℕ → ℕ → Bool
 is_between low high c = nat_le low c && nat_le c high
 
--- ucschar (RFC 6570, section 1.5): past ASCII, without the last two of a plane
+-- ucschar (RFC 6570, section 1.5): characters beyond ASCII, without the last two of each plane
 abbrev pub is_ucschar : ℕ → Bool
 is_ucschar c =
     is_between 0xA0 0xD7FF c || is_between 0xF900 0xFDCF c || is_between 0xFDF0 0xFFEF c
@@ -15,7 +15,7 @@ is_ucschar c =
 abbrev pub is_iprivate : ℕ → Bool
 is_iprivate c = is_between 0xE000 0xF8FF c || is_between 0xF_0000 0xF_FFFD c || is_between 0x10_0000 0x10_FFFD c
 
--- a character that denotes itself: all of ASCII but controls, space and "%<>\^`{|}, and with the apostrophe
+-- a character that denotes itself: all of ASCII except controls, space and "%<>\^`{|}; the apostrophe is included
 unfoldable pub is_literal_character : ℕ → Bool
 is_literal_character c =
     c == 0x21 || is_between 0x23 0x24 c || is_between 0x26 0x3B c || c == 0x3D || is_between 0x3F 0x5B c || c == 0x5D || c == 0x5F

@@ -1,4 +1,4 @@
--- What every tree of the grammar keeps to.
+-- What holds for every tree of the grammar.
 use Rattle.std.specs.Prelude.{◌≡◌, ◌<◌, ◌≤◌, true, length, All}
 use Rattle.text_model.specs.UriText.{IsUriText}
 use Rattle.uri_grammar.specs.declared.parts.Part.{Part}

@@ -27,7 +27,7 @@ pub record IsSpec (cs : List ℕ) (spec : Spec) : Type 0 where
   pub is_name : IsName spec.name
   pub modified : IsModifier after spec.cut spec.explode
 
--- the character does not stand in the text
+-- the character is not in the text
 abbrev pub Lacks : ℕ → List ℕ → Type 0
 Lacks c cs = All (λ x. x ≢ c) cs
 

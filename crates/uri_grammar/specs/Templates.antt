@@ -1,4 +1,4 @@
--- Templates (RFC 6570, section 2): which characters spell which parts.
+-- Templates (RFC 6570, section 2): which characters are the text of which parts.
 use Rattle.std.specs.Prelude.{◌≡◌, ℕ, ◌<◌, List, [], ◌∷◌, ◌++◌, length, encode_utf8_all}
 use Rattle.text_model.specs.Texts.{Text}
 use Rattle.text_model.specs.Writing.{written_ur}
@@ -11,13 +11,13 @@ use Rattle.uri_grammar.specs.Literals.{AreLiterals}
 use Rattle.uri_grammar.specs.Specs.{Lacks}
 use Rattle.uri_grammar.specs.Expressions.{IsBody}
 
--- the next part is no literal
+-- the next part is not a literal
 abbrev pub BeginsNoLiteral : List Part → Type 0
 BeginsNoLiteral [] = Unit {0}
 BeginsNoLiteral (Literal text ∷ parts) = ⊥
 BeginsNoLiteral (Expression op specs ∷ parts) = Unit {0}
 
--- literals at the beginning, in the form that a link gets, and the rest after them
+-- literals at the beginning, as they are written in a link, and the rest after them
 pub record BeginsWithLiterals (cs : List ℕ) (text : Text) (rest : List ℕ) : Type 0 where
   pub raw : List ℕ
   pub whole : cs ≡ raw ++ rest
@@ -32,7 +32,7 @@ pub record BeginsWithExpression (cs : List ℕ) (op : Op) (specs : List Spec) (r
   pub lacks : Lacks close_brace body
   pub is_body : IsBody body op specs
 
--- URI-Template = *( literals / expression ). No literal part is beside another, so each goes as far as it can.
+-- URI-Template = *( literals / expression ). No literal is next to another, so each is as long as possible.
 abbrev pub Spells : List ℕ → List Part → Type 0
 Spells cs [] = cs ≡ []
 Spells cs (Literal text ∷ parts) = (rest : List ℕ) × BeginsWithLiterals cs text rest × BeginsNoLiteral parts × Spells rest parts

@@ -1,4 +1,4 @@
--- Texts, as bytes, that are templates, and texts that are refused.
+-- Which texts, as bytes, are templates, and why others are rejected.
 use Rattle.std.specs.Prelude.{◌≡◌, ℕ, ◌<◌, ◌≤◌, List, length, encode_utf8_all, ◌⊎◌}
 use Rattle.text_model.specs.Texts.{Text}
 use Rattle.uri_grammar.specs.declared.error.TemplateErrorKind.{TemplateErrorKind}
@@ -8,7 +8,7 @@ use Rattle.uri_grammar.specs.declared.template.TheConstants.{MAX_BYTES}
 use Rattle.uri_grammar.specs.Templates.{Spells}
 use Rattle.uri_grammar.specs.Faults.{IsFirstFault}
 
--- the text spells the parts
+-- the text is that of the parts
 abbrev pub IsTemplate : Text → List Part → Type 0
 IsTemplate text parts = (length text ≤ MAX_BYTES) × (cs : List ℕ) × (text ≡ encode_utf8_all cs) × Spells cs parts
 

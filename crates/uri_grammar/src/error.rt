@@ -6,7 +6,7 @@ ghost use Rattle.uri_grammar.specs.Private.Moved.{moved};
 use std::alloc::{AllocError, AllocFailed};
 use thiserror::Error;
 
-/// What is wrong with a template, in the order in which it is decided at one place.
+/// What is wrong with a template; at one place, the first of these that applies is the fault.
 #[derive(Clone, Copy, Debug, PartialEq, Eq)]
 pub enum TemplateErrorKind {
     /// It has more than 8,192 bytes.
@@ -15,12 +15,11 @@ pub enum TemplateErrorKind {
     Unclosed,
     /// There is nothing between two braces.
     EmptyExpression,
-    /// An expression begins with one of the operators that are kept for later (RFC 6570, section 2.2).
+    /// An expression begins with one of the operators that are reserved for later (RFC 6570, section 2.2).
     ReservedOperator,
-    /// A variable's name is empty, too long, or followed by what can neither end nor modify it.
+    /// A variable's name is empty or too long, or what follows it is neither a modifier nor the end of the variable.
     BadName,
-    /// What is after a `:` is no number from 1 to 9,999 without a leading zero, or something follows
-    /// a `*`.
+    /// What follows a `:` is not a number from 1 to 9,999 without a leading zero, or something follows a `*`.
     BadModifier,
     /// A character outside expressions is not a literal.
     BadLiteral,
@@ -28,13 +27,15 @@ pub enum TemplateErrorKind {
     NoMemory,
 }
 
-/// The first fault of a template, and the byte at which it is: the `{` of an expression that is unclosed
-/// or empty, the reserved operator, the first byte of a variable whose name is bad, the `:` or `*` of a bad
-/// modifier, the character that is no literal. `TooLong` is at 8,192, and `NoMemory` at 0.
+/// The first fault of a template, and the byte at which it is: the `{` of an expression that is unclosed or empty, the
+/// reserved operator, the first byte of a variable whose name is bad, the `:` or `*` of a bad modifier, or the
+/// character that is not a literal. `TooLong` is at 8,192, and `NoMemory` at 0.
 #[derive(Clone, Copy, Debug, PartialEq, Eq, Error)]
 #[error("{kind:?} at {at}")]
 pub struct TemplateError {
+    /// What is wrong.
     pub kind: TemplateErrorKind,
+    /// The byte at which it is, counted from 0.
     pub at: usize,
 }
 
@@ -45,7 +46,7 @@ impl TemplateError {
         TemplateError { kind, at }
     }
 
-    // The same fault in a text with this number of bytes before.
+    // The same fault, when this number of bytes comes before the text.
     pub(crate) fn after(self, front: usize) -> TemplateError
         requires { self.at + front < 2 ^ 64 }
         ensures { result ≡ moved self front }

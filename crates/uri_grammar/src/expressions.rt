@@ -15,7 +15,7 @@ use crate::template::MAX_BYTES;
 use crate::variables::spec;
 use std::alloc::Global;
 
-// How many characters stand before the first comma, or the end.
+// How many characters come before the first comma, or before the end.
 fn piece_len(rest: &[char]) -> usize
     ensures within { result ≤ length rest.now }
     ensures lacks { Lacks comma (take result rest.now) }
@@ -27,14 +27,14 @@ fn piece_len(rest: &[char]) -> usize
     }
 }
 
-// How many commas stand in the characters.
+// How many commas there are.
 fn comma_count(list: &[char]) -> usize
     ensures { result ≤ length list.now }
 {
     list.iter().filter(|c| **c == ',').count()
 }
 
-// Specs with commas between them.
+// A list of variables with commas between them.
 fn variable_list(alloc: Global, list: &[char]) -> Result<Vec<Spec>, TemplateError>
     requires { length list.now ≤ MAX_BYTES }
     ensures ok { IfOk result (λ specs. SpellsSpecs (list.now ++ comma ∷ []) specs.items) }

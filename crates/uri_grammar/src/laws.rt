@@ -1,4 +1,4 @@
-//! What holds of every text: it has one tree or one first fault, and never both.
+//! What holds for every text: it has one tree or one first fault, and never both.
 
 ghost use Rattle.std.specs.Prelude.{◌≡◌, ◌⊎◌, ℕ, List, All};
 ghost use Rattle.std.specs.Str.{IsUtf8};
@@ -32,8 +32,8 @@ pub fn tree_or_fault()
         ⊎ ((kind : TemplateErrorKind) × (at : ℕ) × IsRefused text kind at) }
 {}
 
-/// A tree keeps to what the code above counts on: URI text in its literals and names, a variable in each
-/// expression, cuts of at most 9,999.
+/// Every tree has what the crates above rely on: URI text in its literals and names, a variable in each expression, and
+/// cuts of at most 9,999.
 pub fn trees_are_sound()
     ensures { (text : Text) (parts : List Part) → IsTemplate text parts → All IsSoundPart parts }
 {}

@@ -27,7 +27,7 @@ fn is_literal_character(c: char) -> bool
     }
 }
 
-// How many characters the literal at the beginning has that is one character or one triplet; 0 where there is none.
+// How many characters the literal at the beginning has, which is one character or one triplet; 0 if there is none.
 fn literal_item_len(text: &[char]) -> usize
     ensures value { result ≡ literal_item_len text.now }
     ensures within { result ≤ length text.now }
@@ -56,7 +56,7 @@ pub(crate) fn literals_len(text: &[char]) -> usize
     len
 }
 
-// A text in its written form.
+// A text as it is written in a link.
 fn written(alloc: Global, text: &str) -> Result<Text, AllocError>
     requires { length text.now ≤ MAX_BYTES }
     ensures { IfOk result (λ written. written ≡ written_ur text.now) }

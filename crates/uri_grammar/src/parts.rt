@@ -31,8 +31,8 @@ pub enum Op {
 pub struct Spec {
     /// At most 255 bytes, all of them ASCII. Triplets in it are not decoded.
     pub name: Text,
-    /// How many items of the value are taken at most, 1 to 9,999; 0 where there is no prefix. An item is
-    /// a code point, or, where the operator copies triplets, a whole triplet.
+    /// The maximum number of items of the value that are used, 1 to 9,999; 0 if there is no prefix. An item is a code
+    /// point or, if the operator copies triplets, a whole triplet.
     pub cut: u16,
     /// Whether the variable has the modifier `*`.
     pub explode: bool,
@@ -61,7 +61,7 @@ impl Specs {
         Specs { list }
     }
 
-    /// The variables in their order, lent.
+    /// The variables in their order.
     pub fn as_slice(&self) -> &[Spec]
         ensures { result.now ≡ self.now }
     {
@@ -72,8 +72,8 @@ impl Specs {
 /// A part of a template.
 #[derive(Drop)]
 pub enum Part {
-    /// A run of literals in its written form: reserved and unreserved characters and triplets are
-    /// copied, any other character is written as the triplets of its UTF-8 (RFC 6570, section 3.1).
+    /// A run of literals as it is written in a link: reserved and unreserved characters and triplets are copied, and
+    /// any other character is written as the triplets of its UTF-8 (RFC 6570, section 3.1).
     Literal(Text),
     /// What is written between braces.
     Expression { op: Op, specs: Specs },

@@ -1,4 +1,4 @@
-//! A template, and how it is read.
+//! A template, and reading it.
 
 ghost use Rattle.std.specs.Prelude.{◌≡◌, ◌<◌, ◌≤◌, ◌⊎◌, All, IfOk, IfErr, length, encode_utf8_all};
 ghost use Rattle.uri_grammar.specs.Templates.{Spells};
@@ -19,7 +19,7 @@ use std::alloc::Global;
 use std::marker::Model;
 use uri_text::Text;
 
-/// The most bytes that a template has.
+/// The maximum size of a template, in bytes.
 pub const MAX_BYTES: usize = 8192;
 
 /// A template: its text and its tree (RFC 6570, section 2).
@@ -28,7 +28,8 @@ pub const MAX_BYTES: usize = 8192;
 /// - The apostrophe is a literal (`literals` in the crate `rules_tests`).
 /// - The operators that the RFC reserves are errors (`faults` in `rules_tests`).
 /// - A template has at most 8,192 bytes, and a name at most 255 (`long_texts_are_refused` in `rules_tests`).
-/// - There are no associative arrays: a variable is a text or a list.
+/// - There are no associative arrays: a variable is a text or a list (`test_examples_of_the_standard` in
+///   `checks/commands.d/rfc6570.py` has the RFC's other examples).
 /// - A list with a prefix is undefined (`test_lists` in `checks/commands.d/templates.py`).
 #[derive(Drop)]
 pub struct Template {
@@ -47,9 +48,9 @@ impl Model for Template {
 }
 
 impl Template {
-    /// Reads a template of at most 8,192 bytes. Any other text is refused whole, by the kind and the
-    /// place of its first fault. A text that is too long is never reported as out of memory.
-    /// The clause `limits` says what the limits of every template are.
+    /// Reads a template of at most 8,192 bytes. Any other text is rejected, with the kind and the place of its first
+    /// fault. A text that is too long is never reported as out of memory. The clause `limits` says what the limits of
+    /// every template are.
     pub fn parse(alloc: Global, text: &str) -> Result<Template, TemplateError>
         ensures limits { (MAX_BYTES ≡ 8192) × (MAX_NAME_BYTES ≡ 255) × (MAX_PREFIX ≡ 9999) }
         ensures text { IfOk result (λ template. template.text ≡ text.now) }
@@ -77,7 +78,7 @@ impl Template {
         self.text.as_str()
     }
 
-    /// The tree: literals, none empty and none beside another, and expressions.
+    /// The tree: literals and expressions. No literal is empty or next to another.
     pub fn parts(&self) -> &[Part]
         ensures parts { result.now ≡ self.now.parts }
         ensures spelled { IsTemplate self.now.text self.now.parts }
@@ -87,7 +88,7 @@ impl Template {
     }
 }
 
-// The parts that the characters spell, read from the left.
+// The parts of the template with these characters, read from left to right.
 fn read(alloc: Global, chars: &[char]) -> Result<Vec<Part>, TemplateError>
     requires { length (encode_utf8_all chars.now) ≤ MAX_BYTES }
     ensures ok { IfOk result (λ parts. Spells chars.now parts.items) }

@@ -1,9 +1,9 @@
 //! Variables and their modifiers (RFC 6570, sections 2.3 and 2.4).
 
-ghost use Rattle.std.specs.Prelude.{◌≡◌, true, ◌+◌, ◌-◌, ◌<◌, ◌≤◌, ℕ, Bool, List, IfOk, IfErr, IfSome, IfNone, length};
+ghost use Rattle.std.specs.Prelude.{◌≡◌, true, ◌+◌, ◌-◌, ◌<◌, ◌≤◌, ℕ, List, IfOk, IfErr, IfSome, IfNone, length};
 ghost use Rattle.std.specs.Prelude.{take, drop};
 ghost use Rattle.std.specs.Char.{is_ascii_digit};
-ghost use Rattle.uri_grammar.specs.Specs.{IsModifier, IsSpec};
+ghost use Rattle.uri_grammar.specs.Specs.{IsSpec};
 ghost use Rattle.uri_grammar.specs.Faults.{begins_with_modifier, IsNamed, IsSpecFault};
 ghost use Rattle.uri_grammar.specs.Private.Reading.{begins_above_zero, number_of, modifier_of, IsFault};
 
@@ -15,7 +15,7 @@ use crate::template::MAX_BYTES;
 use std::alloc::Global;
 use uri_text::Text;
 
-/// The most items that a prefix takes of a value.
+/// The maximum length of a prefix, in items.
 pub const MAX_PREFIX: u16 = 9_999;
 
 fn begins_above_zero(digits: &[char]) -> bool
@@ -52,7 +52,7 @@ fn number(digits: &[char]) -> Option<u16>
     Some(number as u16)
 }
 
-// The cut and whether it explodes.
+// The length of the prefix (0 for none), and whether the variable is exploded.
 fn modifier(after: &[char]) -> Option<(u16, bool)>
     ensures { result ≡ modifier_of after.now }
 {
@@ -70,7 +70,7 @@ fn begins_with_modifier(after: &[char]) -> bool
     matches!(after, [':' | '*', ..])
 }
 
-// How long the name at the beginning is, where a spec can continue or end after it.
+// How long the name at the beginning is, if the variable can continue or end after it.
 fn named_len(text: &[char]) -> Option<usize>
     requires { length text.now ≤ MAX_BYTES }
     ensures some { IfSome result

@@ -68,7 +68,7 @@ empty_text : by_operators (whole (codes "nil") ∷ []) ≡ [] ∷ [] ∷ codes "
 unfolding variables look_up written_u written_ur
 empty_text = refl
 
--- explode changes nothing of a text
+-- explode changes nothing for a text
 exploded_text : by_operators (exploded (codes "t") ∷ exploded (codes "nil") ∷ []) ≡ by_operators (whole (codes "t") ∷ whole (codes "nil") ∷ [])
 unfolding variables look_up is_unreserved is_reserved written_u written_ur
 exploded_text = refl
@@ -98,7 +98,7 @@ exploded_empty_member :
 unfolding variables look_up written_u written_ur
 exploded_empty_member = refl
 
--- what is undefined: a name without a meaning, also one that differs in case, a list without members, a prefix of a list
+-- undefined variables: a name without a meaning, even one that differs only in case, a list without members, a prefix of a list
 undefined :
     by_operators (
     whole (codes "T") ∷ exploded (codes "missing") ∷ cut_to 2 (codes "missing") ∷ whole (codes "none") ∷ exploded (codes "none")
@@ -155,7 +155,7 @@ longest_prefix_cuts : length (prefix U 9999 (letters 10000)) ≡ 9999
 unfolding code_points
 longest_prefix_cuts = refl
 
--- ---- the name `%41` is not `A`: it is looked up and written as it is (section 2.3)
+-- ---- the name `%41` is not `A`: it is looked up and written without decoding (section 2.3)
 
 triplet_text : Environment
 triplet_text = record { name = codes "A"; meaning = Single (codes "other") } ∷ record { name = codes "%41"; meaning = Single (codes "x") } ∷ []

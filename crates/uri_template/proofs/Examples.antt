@@ -1,4 +1,4 @@
--- The examples of RFC 6570 (sections 1.2, 2.4 and 3.2), without those of associative arrays, computed by the definition.
+-- The examples of RFC 6570 (sections 1.2, 2.4 and 3.2), without those of associative arrays, computed from the definition.
 use Rattle.std.proofs.Common.{◌≡◌, ℕ, List, [], ◌∷◌, true, false, map, refl, codes}
 use Rattle.text_model.specs.Texts.{Text, is_unreserved, is_reserved}
 use Rattle.text_model.specs.Writing.{written_u, written_ur}

@@ -1,4 +1,4 @@
--- What is expanded is URI text.
+-- An expansion is URI text.
 use Rattle.std.proofs.Common.{ℕ, zero, suc, List, [], ◌∷◌, ◌++◌, map, Option, Some, None, Bool, true, false, refl, codes}
 use Rattle.std.specs.Prelude.{if◌then◌else◌, All}
 use Rattle.std.specs.List.{flat_map, cons_option}
@@ -18,7 +18,7 @@ use Rattle.uri_template.specs.Expansion.{Style, style_of, item, equated, prefix,
 
 -- ---- the operators' table
 
--- what a style itself writes is URI text
+-- the fixed texts of a style are URI text
 record HasUriTexts (style : Style) : Type 0 where
   first : IsUriText style.first
   sep : IsUriText style.sep

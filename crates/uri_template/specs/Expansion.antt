@@ -1,4 +1,4 @@
--- The expansion of a template (RFC 6570, section 3), a function of its tree and a look-up.
+-- The expansion of a template (RFC 6570, section 3), as a function of its tree and a look-up.
 use Rattle.std.specs.Prelude.{ℕ, zero, suc, List, [], ◌∷◌, ◌++◌, Option, Some, None, Bool, true, false, if◌then◌else◌, codes, map}
 use Rattle.std.specs.List.{flat_map, filter_map}
 use Rattle.text_model.specs.Texts.{Text}
@@ -15,8 +15,8 @@ use Rattle.uri_grammar.specs.declared.parts.Part.TheVariants.{Literal, Expressio
 
 -- ---- the operators' table (RFC 6570, appendix A)
 
--- what comes before the first piece and before each later one, whether a value is written after its name,
--- what comes after the name where the value is empty, and how values are written
+-- what comes before the first piece and before each later one, whether a value is written after its name, what comes after the name if the value is empty, and
+-- how values are percent-encoded
 pub record Style : Type 0 where
   pub first : Text
   pub sep : Text
@@ -41,12 +41,12 @@ abbrev pub joined_by : Text → List Text → Text
 joined_by sep [] = []
 joined_by sep (t ∷ texts) = t ++ flat_map (λ next. sep ++ next) texts
 
--- the equals sign and a written value, or what replaces an empty value
+-- the equals sign and an encoded value, or what replaces both if the value is empty
 abbrev pub equated : Style → Text → Text
 equated style [] = style.ifemp
 equated style (b ∷ t) = codes "=" ++ written style.writing (b ∷ t)
 
--- a written value, with its name where values are named
+-- an encoded value, with its name if the operator writes names
 abbrev pub item : Style → Text → Text → Text
 item style name t = if style.named then (name ++ equated style t) else written style.writing t
 
@@ -55,18 +55,18 @@ abbrev pub list_piece : Style → Text → Bool → List Text → Text
 list_piece style name false members = (if style.named then (name ++ codes "=") else []) ++ joined_by (codes ",") (map (written style.writing) members)
 list_piece style name true members = joined_by style.sep (map (item style name) members)
 
--- the first n items of a value; 0 is no prefix
+-- the first n items of a value; 0 means no prefix
 abbrev pub prefix : Writing → ℕ → Text → Text
 prefix writing zero t = t
 prefix writing (suc n) t = cut writing t (suc n)
 
--- a list without members is undefined, and so is a list where a prefix is requested
+-- a list without members is undefined, and so is a list if the variable has a prefix
 abbrev pub several_piece : Style → Spec → ℕ → List Text → Option Text
 several_piece style spec n [] = None
 several_piece style spec zero (t ∷ members) = Some (list_piece style spec.name spec.explode (t ∷ members))
 several_piece style spec (suc n) (t ∷ members) = None
 
--- the piece of a variable, from what its name denotes; none where it is undefined
+-- the piece of a variable, from what its name denotes; none if it is undefined
 abbrev pub piece : Style → Spec → Option Meaning → Option Text
 piece style spec None = None
 piece style spec (Some (Single t)) = Some (item style spec.name (prefix style.writing spec.cut t))
@@ -78,7 +78,7 @@ piece style spec (Some (Several members)) = several_piece style spec spec.cut me
 abbrev pub pieces : LookUp → Style → List Spec → List Text
 pieces look style specs = filter_map (λ spec. piece style spec (look spec.name)) specs
 
--- pieces after `first`, and nothing where there are none
+-- the pieces after `first`, or nothing if there are no pieces
 abbrev pub led : Style → List Text → Text
 led style [] = []
 led style (p ∷ ps) = style.first ++ joined_by style.sep (p ∷ ps)

@@ -1,5 +1,4 @@
-//! What follows from the definition of an expansion, each law as the contract of a function that does
-//! nothing.
+//! What follows from the definition of an expansion. These functions have empty bodies; each contract is a theorem.
 
 ghost use Rattle.std.specs.Prelude.{◌≡◌, List, [], ◌++◌, None, All};
 ghost use Rattle.environment_model.specs.Environment.{LookUp};
@@ -16,7 +15,7 @@ pub fn expansion_is_uri_text()
     ensures { (look : LookUp) (parts : List Part) → All IsSoundPart parts → IsUriText (expansion look parts) }
 {}
 
-/// Parts expand one after another, and none depends on its neighbours.
+/// The expansion of joined parts is the joined expansions: no part depends on its neighbours.
 pub fn expansions_join()
     ensures { (look : LookUp) (parts behind : List Part)
         → expansion look (parts ++ behind) ≡ expansion look parts ++ expansion look behind }

@@ -1,5 +1,5 @@
-//! URI Templates (RFC 6570): the expansion of a template, over the grammar of `uri_grammar` and the
-//! writing of `uri_text`, whose public calls are here too.
+//! URI Templates (RFC 6570): the expansion of a template. The public calls of `uri_grammar`, which reads templates, and
+//! of `uri_text`, which encodes values, are exported here too.
 //!
 //! The differences from the RFC are listed at [`Template`].
 //!
@@ -21,5 +21,7 @@ mod variables;
 pub use crate::expansion::{expand, expand_in};
 pub use crate::style::Style;
 pub use crate::variables::Variables;
+pub use target_vars::{Env, Members};
+pub use text_model::Writing;
 pub use uri_grammar::{Op, Part, Spec, Specs, Template, TemplateError, TemplateErrorKind, Text};
 pub use uri_text::{cut, encode, encode_u, encode_ur};

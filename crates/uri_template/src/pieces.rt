@@ -23,7 +23,7 @@ fn push_written(out: &mut String, text: &[u8], writing: Writing) -> Result<(), A
     Ok(())
 }
 
-// A value, with its name where values are named.
+// A value, with its name if the operator writes names.
 fn push_item(out: &mut String, style: &Style, name: &str, value: &[u8]) -> Result<(), AllocError>
     requires { length value.now ≤ MAX_BYTES }
     ensures { OnOk result (string_bytes out.new ≡ string_bytes out.old ++ item style.now name.now value.now) }
@@ -75,7 +75,7 @@ pub(crate) fn push_text(
     )
 }
 
-// A member: an item of its own where the list is exploded.
+// A member, as an item of its own if the list is exploded.
 fn push_member(out: &mut String, style: &Style, spec: &Spec, member: &str) -> Result<(), AllocError>
     requires { length member.now ≤ MAX_BYTES }
     ensures { OnOk result
@@ -96,7 +96,7 @@ fn member_sep(style: &Style, explode: bool) -> &'static str
     if explode { style.sep } else { "," }
 }
 
-// Member `i`, after the separator unless it is the first.
+// Member `i`, with the separator before it unless it is the first.
 fn push_nth(
     out: &mut String,
     style: &Style,

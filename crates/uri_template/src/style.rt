@@ -16,7 +16,7 @@ pub struct Style {
     pub sep: &'static str,
     /// Whether a value is written after its variable's name.
     pub named: bool,
-    /// What follows the name where the value is empty.
+    /// What follows the name if the value is empty.
     pub ifemp: &'static str,
     /// What the standard's table calls `allow`.
     pub writing: Writing,

@@ -1,4 +1,4 @@
-//! What an expansion asks of its variables.
+//! The variables of an expansion.
 
 ghost use Rattle.std.specs.Prelude.{◌≡◌, ◌≤◌, length, IfSome};
 ghost use Rattle.std.specs.Option.{option_copied};
@@ -11,13 +11,12 @@ use target_vars::{Env, MAX_BYTES, Members};
 pub trait Variables {
     ghost look: { Self → LookUp };
 
-    /// The text of the name, of at most [`MAX_BYTES`] bytes; `None` where the name denotes a list
-    /// or nothing.
+    /// The text of the name, of at most [`MAX_BYTES`] bytes; `None` if the name denotes a list or nothing.
     fn text(&self, name: &str) -> Option<&str>
         ensures value { option_copied result ≡ text_in (look self.now name.now) }
         ensures small { IfSome result (λ text. length text.now ≤ MAX_BYTES) };
 
-    /// The members of the list of the name; none where the name denotes a text or nothing.
+    /// The members of the list of the name; none if the name denotes a text or nothing.
     fn list(&self, name: &str) -> Members<'_>
         ensures { members_left result ≡ members_in (look self.now name.now) };
 }

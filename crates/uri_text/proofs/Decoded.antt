@@ -1,4 +1,4 @@
--- Percent-decoding what was written.
+-- Percent-decoding an encoded text.
 use Rattle.std.proofs.Common.{◌≡◌, ◌≢◌, ℕ, ◌+◌, ◌*◌, ◌<◌, [], ◌∷◌, ◌++◌, Bool, true, false, ◌&&◌, ◌==◌, refl, sym, ap, ◌∙◌, arith, append-nil}
 use Rattle.std.specs.Prelude.{All, if◌then◌else◌}
 use Rattle.std.specs.Char.{digit_value}
@@ -22,7 +22,7 @@ first_byte b t h = All-head (λ x. x < 256) b t h
 later_bytes : (b : ℕ) (t : Text) → AreBytes (b ∷ t) → AreBytes t
 later_bytes b t h = All-tail (λ x. x < 256) b t h
 
--- the byte that was written comes first, unless `%` was copied
+-- an encoded byte is decoded to the byte, unless it is a `%` that was copied
 decoded_byte : (stays : Bool) (b : ℕ) (rest : Text) → b < 256 → (stays ≡ true → b ≢ 37) → percent_decode (written_byte stays b ++ rest)
     ≡ b ∷ percent_decode rest
 decoded_byte true b rest small other = percent_decode_not_percent b rest (other refl)
@@ -46,7 +46,7 @@ alone_ur : (b : ℕ) → b < 256 → percent_decode (written_byte (is_unreserved
 unfolding percent_decode
 alone_ur b small = ap percent_decode (sym (append-nil (written_byte (is_unreserved_or_reserved b) b))) ∙ decoded_ur_byte b [] small
 
--- what is no triplet decodes byte by byte
+-- bytes that are not a triplet are decoded byte by byte
 kept_first : (b high low : ℕ) (t : Text) → is_triplet b high low ≡ false → percent_decode (b ∷ high ∷ low ∷ t) ≡ b ∷ percent_decode (high ∷ low ∷ t)
 unfolding percent_decode
 kept_first b high low t e = cond-false (is_escape b high low) _ _ (grouped (b == 37) (is_hexadecimal high) (is_hexadecimal low) ∙ e)

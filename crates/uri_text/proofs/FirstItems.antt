@@ -21,11 +21,11 @@ run_alone : (t : Text) → continues t ≡ false → prefix_len is_continuation 
 run_alone [] e = refl
 run_alone (c ∷ t) e = ap (λ x. cond x (1 + prefix_len is_continuation t) 0) e
 
--- a byte that nothing continues is a code point
+-- a byte that is not continued is a code point
 code_points-alone : (b : ℕ) (t : Text) → continues t ≡ false → code_points (b ∷ t) ≡ (b ∷ []) ∷ code_points t
 code_points-alone b t e = code_points-next b t ∙ ap (λ k. (b ∷ take k t) ∷ code_points (drop k t)) (run_alone t e)
 
--- a byte that something continues is not
+-- a byte that is continued is not
 code_points-longer : (b : ℕ) (t : Text) → continues t ≡ true → (c : ℕ) × (front : Text) × (points : List Text)
     × (code_points (b ∷ t) ≡ (b ∷ c ∷ front) ∷ points)
 code_points-longer b [] e = absurd (cc)
@@ -43,7 +43,7 @@ long_second : (b c d : ℕ) (front : Text) (points : List Text) → begins_with_
 long_second b c d front [] = refl
 long_second b c d front (r ∷ points) = refl
 
--- whether the third code point is a byte alone
+-- whether the third code point is a single byte
 by_third : (b c d : ℕ) (t : Text) (x : Bool) → continues t ≡ x → (is_triplet b c d && not (continues t)) ≡ false
     → begins_with_triplet_points (b ∷ []) ((c ∷ []) ∷ code_points (d ∷ t)) ≡ false
 by_third b c d t true e h =
@@ -130,7 +130,7 @@ item_length-within true t = by_test (begins_with_triplet_item t) refl
     by_test true h = triplet_item-within t h
     by_test false h = code_point_length-within t
 
--- one more item is taken
+-- one more item belongs to the cut
 pub next_item : (triplets : Bool) (t : Text) (taken left : ℕ) → taken < length t → 0 < left
     → take taken t ++ cut (writing_of triplets) (drop taken t) left
     ≡ take (taken + item_length triplets (drop taken t)) t ++ cut (writing_of triplets) (drop (taken + item_length triplets (drop taken t)) t) (left - 1)
@@ -147,7 +147,7 @@ next_item triplets t taken left inside some =
     ∙ (ap (λ x. x ++ cut w (drop k (drop taken t)) (left - 1)) (sym (take-add taken k t))
     ∙ ap (λ x. take (taken + k) t ++ cut w x (left - 1)) (drop-drop k taken t))))
 
--- all is taken where nothing is left to take, or no text
+-- the cut is complete if no more items are needed, or no text is left
 pub all_taken : (triplets : Bool) (t : Text) (taken left : ℕ) → (left ≡ 0) ⊎ (length t ≤ taken)
     → take taken t ++ cut (writing_of triplets) (drop taken t) left ≡ take taken t
 all_taken triplets t taken left (inl none) = ap (λ n. take taken t ++ cut (writing_of triplets) (drop taken t) n) none ∙ append-nil (take taken t)

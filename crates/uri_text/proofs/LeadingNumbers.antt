@@ -50,7 +50,7 @@ next_read t count value h inside digit low room =
       small = next_small value count b h.small low;
     }
 
--- no digit is left to look at
+-- no more digits follow
 number_ends : (t : Text) (count value : ℕ) → HasRead t count value → leading_digits (drop count t) ≡ [] → leading_number t ≡ then_some (nat_lt 0 count) value
 unfolding leading_number value_from
 number_ends t count value h none =

@@ -1,4 +1,4 @@
--- The triplets that `percent_encoding` makes.
+-- The triplets that the crate `percent_encoding` makes.
 use Rattle.std.proofs.Common.{◌≡◌, ℕ, refl}
 use Rattle.percent_encoding.specs.Percent.{percent_encode_byte}
 use Rattle.text_model.specs.Writing.{triplet_of}

@@ -1,7 +1,7 @@
--- A loop that writes a text piece by piece: the bytes so far, and the room for the rest.
+-- A loop that writes a text piece by piece: the bytes so far, and the capacity for the rest.
 use Rattle.std.proofs.Common.{◌≡◌, ℕ, ◌+◌, ◌≤◌, List, ◌++◌, length, sym, ap, ◌∙◌, arith, append_assoc, length-append}
 
--- a piece that is written leaves the rest to write
+-- after a piece is written, the rest is still to write
 pub bytes_left : (before piece whole rest all after : List ℕ) → after ≡ before ++ piece → whole ≡ piece ++ rest → before ++ whole ≡ all → after ++ rest ≡ all
 bytes_left before piece whole rest all after e f g = rw e (append_assoc before piece rest ∙ (ap (λ x. before ++ x) (sym f) ∙ g))
 
@@ -9,11 +9,11 @@ pub len_left : (used used_after all : ℕ) (piece whole rest : List ℕ) → use
     → used_after + length rest ≡ all
 len_left used used_after all piece whole rest e f g = omega (arith, ap length f, length-append piece rest)
 
--- and the room that it needs
+-- and the capacity for it is left
 pub room_left : (used used_after : ℕ) (piece whole rest : List ℕ) (room room_after : ℕ) → used_after ≡ used + length piece → whole ≡ piece ++ rest
     → used + length whole ≤ room → room ≤ room_after → used_after + length rest ≤ room_after
 room_left used used_after piece whole rest room room_after e f g h = omega (arith, ap length f, length-append piece rest)
 
--- there is room for the piece
+-- there is capacity for the piece
 pub room_for : (used room : ℕ) (piece whole rest : List ℕ) → whole ≡ piece ++ rest → used + length whole ≤ room → used + length piece ≤ room
 room_for used room piece whole rest f g = omega (arith, ap length f, length-append piece rest)

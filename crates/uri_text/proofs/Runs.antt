@@ -9,9 +9,10 @@ use Rattle.std.proofs.lemmas.List.Elements.{All-from_get_or}
 use Rattle.std.proofs.lemmas.List.Folds.{length-prefix_len}
 use Rattle.std.proofs.lemmas.List.Sums.{prefix_len_passes}
 use Rattle.std.proofs.lemmas.Str.Ascii.{IsAscii-from_all}
-use Rattle.text_model.specs.Texts.{Text, begins_with_triplet, is_unreserved, is_reserved}
+use Rattle.text_model.specs.Texts.{Text, begins_with_triplet, is_unreserved}
 use Rattle.text_model.specs.Writing.{written_byte, written_u, written_ur, is_unreserved_or_reserved}
 use Rattle.text_model.proofs.Unchanged.{not_percent}
+use Rattle.text_model.proofs.UriAscii.{character_below}
 use Rattle.text_model.proofs.Written.{written_ur-byte}
 
 pub written_u-nothing : (t : Text) → length t ≡ 0 → written_u t ≡ []
@@ -32,19 +33,15 @@ unreserved_below : (b : ℕ) → is_unreserved b ≡ true → b < 128
 unfolding is_unreserved
 unreserved_below b e = grind (arith, nat_tests)
 
-unreserved_or_reserved_below : (b : ℕ) → is_unreserved_or_reserved b ≡ true → b < 128
-unfolding is_unreserved is_reserved
-unreserved_or_reserved_below b e = grind (arith, nat_tests)
-
 pub unreserved_ascii : (t : Text) → IsAscii (take (prefix_len is_unreserved t) t)
 unreserved_ascii t = run_ascii is_unreserved t unreserved_below
 
 pub unreserved_or_reserved_ascii : (t : Text) → IsAscii (take (prefix_len is_unreserved_or_reserved t) t)
-unreserved_or_reserved_ascii t = run_ascii is_unreserved_or_reserved t unreserved_or_reserved_below
+unreserved_or_reserved_ascii t = run_ascii is_unreserved_or_reserved t character_below
 
--- ---- a run is written as it is
+-- ---- a run is written unchanged
 
--- a front of one more byte
+-- a beginning with one more byte
 longer : (write : Text → Text) (b k : ℕ) (t : Text) → b ∷ write t ≡ b ∷ (take k t ++ write (drop k t))
     → b ∷ write t ≡ take (1 + k) (b ∷ t) ++ write (drop (1 + k) (b ∷ t))
 longer write b k t is = let more : suc k ≡ 1 + k = omega arith in subst (λ n. b ∷ write t ≡ take n (b ∷ t) ++ write (drop n (b ∷ t))) more is

@@ -1,4 +1,4 @@
--- Beginnings of a text, in either case.
+-- The beginning of a text, compared in either case.
 use Rattle.std.specs.Prelude.{Bool, length, take}
 use Rattle.std.specs.Str.{str_eq_ignore_ascii_case}
 use Rattle.text_model.specs.Texts.{Text}

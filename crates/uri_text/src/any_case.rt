@@ -1,9 +1,10 @@
-//! Beginnings of a text, in either case.
+//! The beginning of a text, compared in either case.
 
 ghost use Rattle.std.specs.Prelude.{◌≡◌, ◌≤◌, IsTrue, length};
 ghost use Rattle.uri_text.specs.AnyCase.{begins_in_any_case};
 
-/// Whether the text begins with these letters, each in either case, as a URI with a scheme (RFC 3986, section 3.1).
+/// Whether the text begins with these letters, each in either case, as a URI may begin with a scheme (RFC 3986, section
+/// 3.1).
 #[tactic(auto, using(crate::proofs::AnyCase::front_decides, crate::proofs::AnyCase::short_differs))]
 pub fn begins_in_any_case(text: &[u8], beginning: &[u8]) -> bool
     ensures begins { result ≡ begins_in_any_case text.now beginning.now }

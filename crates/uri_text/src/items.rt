@@ -1,4 +1,4 @@
-//! The items of a text, of which a prefix takes the first.
+//! The items of a text; a prefix consists of the first ones.
 
 ghost use Rattle.std.specs.Prelude.{◌≡◌, ◌<◌, ◌≤◌, length};
 ghost use Rattle.std.specs.List.{prefix_len};
@@ -50,7 +50,7 @@ fn begins_with_triplet_item(text: &[u8]) -> bool
     }
 }
 
-// How many bytes the item at the beginning takes.
+// How many bytes the item at the beginning has.
 #[tactic(auto, using(crate::proofs::FirstItems::lengths))]
 fn item_len(text: &[u8], triplets: bool) -> usize
     ensures value { result ≡ item_length triplets text.now }
@@ -63,11 +63,10 @@ fn item_len(text: &[u8], triplets: bool) -> usize
     }
 }
 
-/// The first `n` items of the text, or all of it where it has fewer (RFC 6570, section 2.4.1).
+/// The first `n` items of the text, or the whole text if it has fewer (RFC 6570, section 2.4.1).
 ///
-/// An item is a code point; with `triplets` a whole triplet is one item too, as a prefix counts
-/// where triplets are copied. The text is UTF-8. Of other bytes, each is taken together with the
-/// continuation bytes after it.
+/// An item is a code point; with `triplets`, a whole triplet is one item too, as for operators that copy triplets. The
+/// text should be UTF-8. In other bytes, an item is a byte together with the continuation bytes after it.
 pub fn cut(text: &[u8], n: usize, triplets: bool) -> &[u8]
     ensures items { result.now ≡ cut (writing_of triplets) text.now n }
     ensures within { length result.now ≤ length text.now }

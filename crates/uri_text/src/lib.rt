@@ -1,5 +1,5 @@
-//! How a text is written into a link (RFC 6570): whole or cut to its first items, and each byte as
-//! it is or as a triplet.
+//! Percent-encoding of texts in links (RFC 6570): of the whole text or its first items, each byte unchanged or as a
+//! triplet.
 #![tactic(auto)]
 
 mod any_case;

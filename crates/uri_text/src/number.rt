@@ -3,10 +3,10 @@
 ghost use Rattle.std.specs.Prelude.{◌≡◌, ◌<◌, ◌^◌, IfSome};
 ghost use Rattle.text_model.specs.Number.{leading_number};
 
-/// The value of the decimal digits with which the text begins, where these are 1 to 9; `None` where
-/// there is none, or where ten or more follow one another. Leading zeros count as digits.
+/// The value of the decimal digits with which the text begins, if there are 1 to 9; `None` if there are none, or ten or
+/// more. Leading zeros count as digits.
 ///
-/// At most ten bytes of the text are looked at.
+/// At most ten bytes of the text are read.
 pub fn leading_number(text: &[u8]) -> Option<u32>
     ensures value { result ≡ leading_number text.now }
     ensures below { IfSome result (λ number. number < 10 ^ 9) }

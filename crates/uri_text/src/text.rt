@@ -27,7 +27,7 @@ impl Text {
         Text { string }
     }
 
-    /// The text, lent.
+    /// The text as a string slice.
     pub fn as_str(&self) -> &str
         ensures { result.now ≡ self.now }
     {

@@ -1,4 +1,4 @@
-//! The two ways in which a text is written.
+//! The two percent-encodings of a text, U and UR.
 
 ghost use Rattle.std.specs.Prelude.{◌≡◌, true, ◌+◌, ◌*◌, ◌<◌, ◌≤◌, ◌++◌, length, string_bytes, string_len};
 ghost use Rattle.std.specs.Prelude.{string_capacity};
@@ -115,7 +115,7 @@ fn push_triplet(out: &mut String, triplet: &[u8])
     }
 }
 
-// Appends the characters at the front that stay, and the byte after them as it is written by U. Returns what is left.
+// Appends the characters at the beginning that stay, and the byte after them as U encodes it. Returns what is left.
 fn push_front_u<'t>(out: &mut String, text: &'t [u8]) -> &'t [u8]
     requires some { 0 < length text.now }
     requires room { string_len out.old + length (written_u text.now) ≤ string_capacity out.old }
@@ -135,8 +135,8 @@ fn push_front_u<'t>(out: &mut String, text: &'t [u8]) -> &'t [u8]
     rest
 }
 
-// Appends the characters at the front that stay, and the triplet or the byte after them as it is written by UR. Returns
-// what is left.
+// Appends the characters at the beginning that stay, and the triplet or byte after them as UR encodes it. Returns what
+// is left.
 fn push_front_ur<'t>(out: &mut String, text: &'t [u8]) -> &'t [u8]
     requires some { 0 < length text.now }
     requires room { string_len out.old + length (written_ur text.now) ≤ string_capacity out.old }
@@ -161,11 +161,11 @@ fn push_front_ur<'t>(out: &mut String, text: &'t [u8]) -> &'t [u8]
     rest
 }
 
-/// Appends the text written by U: unreserved characters stay, and every other byte becomes a
-/// triplet with upper-case digits (RFC 6570, section 3.2.1, where `allow` is U).
+/// Appends the text encoded by U: unreserved characters stay, and every other byte becomes a triplet with upper-case
+/// digits (RFC 6570, section 3.2.1, where `allow` is U).
 ///
-/// Takes no memory: `out` has spare room for what is appended, which is at most three bytes for
-/// each byte of the text.
+/// It allocates nothing: `out` must have spare capacity for what is appended, which is at most three bytes for each
+/// byte of the text.
 pub fn encode_u(out: &mut String, text: &[u8])
     requires room { string_len out.old + length (written_u text.now) ≤ string_capacity out.old }
     ensures bytes { string_bytes out.new ≡ string_bytes out.old ++ written_u text.now }
@@ -180,12 +180,11 @@ pub fn encode_u(out: &mut String, text: &[u8])
     }
 }
 
-/// Appends the text written by UR: unreserved and reserved characters and whole triplets stay, and
-/// every other byte becomes a triplet with upper-case digits (RFC 6570, section 3.2.1, where
-/// `allow` is U+R).
+/// Appends the text encoded by UR: unreserved and reserved characters and whole triplets stay, and every other byte
+/// becomes a triplet with upper-case digits (RFC 6570, section 3.2.1, where `allow` is U+R).
 ///
-/// Takes no memory: `out` has spare room for what is appended, which is at most three bytes for
-/// each byte of the text.
+/// It allocates nothing: `out` must have spare capacity for what is appended, which is at most three bytes for each
+/// byte of the text.
 pub fn encode_ur(out: &mut String, text: &[u8])
     requires room { string_len out.old + length (written_ur text.now) ≤ string_capacity out.old }
     ensures bytes { string_bytes out.new ≡ string_bytes out.old ++ written_ur text.now }
@@ -200,7 +199,7 @@ pub fn encode_ur(out: &mut String, text: &[u8])
     }
 }
 
-/// Appends the text written by U or by UR, as [`encode_u`] and [`encode_ur`] do.
+/// Appends the text encoded by U or by UR, as [`encode_u`] and [`encode_ur`] do.
 pub fn encode(out: &mut String, text: &[u8], writing: Writing)
     requires room { string_len out.old + length (written writing text.now) ≤ string_capacity out.old }
     ensures bytes { string_bytes out.new ≡ string_bytes out.old ++ written writing text.now }

@@ -1,4 +1,4 @@
--- Where the walk continues: at the next place, or at the head of the body that NEXT returns to.
+-- Where the walk continues: at the next place, or at the first place of the body that NEXT returns to.
 use Rattle.std.proofs.Common.{◌≡◌, ℕ, ◌+◌, ◌<◌, ◌≤◌, List, [], ◌∷◌, ◌++◌, length, Option, Some, None, true, refl, sym, ◌∙◌, subst, arith, ◌⊎◌, inl, inr}
 use Rattle.std.specs.Prelude.{nat_lt}
 use Rattle.std.specs.List.{AllByRecursion}
@@ -28,7 +28,7 @@ at_right : (next : ℕ) (es fs : List Edge) (to : ℕ) → ContinuesAt next fs t
 at_right next [] fs to h = h
 at_right next (e ∷ es) fs to h = inr (at_right next es fs to h)
 
--- no earlier edge's end, or one of these
+-- at the place of one of these edges, or of none
 at_later : (from next : ℕ) (fs : List Edge) (to : ℕ) → next ≤ from → ContinuesAt next fs to → (to ≡ next) ⊎ ContinuesAt from fs to
 at_later from next [] to le h = inl h
 at_later from next (f ∷ fs) to le (inl h) = inr (inl (h.0, omega (arith, h.1, le)))
@@ -48,7 +48,7 @@ continues_after_both from next es fs to le first second = by_case (at_later from
 
 -- ---- the edges of a place of good form
 
--- the edge continues, or is the return to the head of the body
+-- the edge leads to a later place, or is the return to the first place of the body
 abbrev LeadsOnOrBack : Code → ℕ → Edge → Type 0
 LeadsOnOrBack c p e = (p < e.to) ⊎ IsReturn c p e.to
 

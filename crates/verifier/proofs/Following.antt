@@ -18,7 +18,7 @@ use Rattle.machine_model.proofs.Moves.{some_one}
 use Rattle.machine_model.proofs.Orders.{below_trans, EdgesBelow, edges_below}
 use Rattle.verifier.specs.Private.Walks.{Follows, IsSameBefore, IsClosedBefore, IsBelowClosed}
 
--- ---- one after another
+-- ---- edges one after another
 
 all_kept : (t u : Table) (es : List Edge) → ((e : Edge) → Holds t e → Holds u e) → AllByRecursion (Holds t) es → AllByRecursion (Holds u) es
 all_kept t u [] k h = tt
@@ -55,7 +55,7 @@ module _ (c : Code) where
   holds_below u (e ∷ es) (f ∷ fs) b h = ((h.0.0, ap u b.0 ∙ h.0.1, below_trans e.kinds f.kinds h.0.0 b.1 h.0.2), holds_below u es fs b.2 h.1)
   holds_below u _ _ b h = absurd b
 
-  -- the edges from smaller kinds hold in a closed table
+  -- the edges with smaller kinds hold in a closed table
   edges_hold : (u : Table) → IsClosed c u → (p : ℕ) (ks ms : Kinds) → u p ≡ Some ms → IsBelow ks ms → AllByRecursion (Holds u) (edges_at c p ks)
   edges_hold u closed p ks ms known b = by_reading (reading_at c p) (closed.along p ms known)
     where
@@ -116,7 +116,7 @@ module _ (c : Code) where
 
 -- ---- the measure
 
--- a place further, or back with fewer rises left
+-- one place further, or back with fewer possible rises left
 pub less_left : (n from to old new : ℕ) → from < n → to ≤ from + 1 → new ≤ old → (to < from + 1 → new < old)
     → new * (n + 1) + (n - to) < old * (n + 1) + (n - from)
 less_left n from to old new lt on less back = ⊎_elim rose further (cases_lt to (from + 1))

@@ -1,4 +1,4 @@
--- A kind that is joined with another rises, or is as it was.
+-- A kind that is joined with another rises, or is unchanged.
 use Rattle.std.proofs.Common.{◌≡◌, ℕ, zero, suc, ◌+◌, ◌*◌, ◌<◌, ◌≤◌, List, [], ◌∷◌, length, get_or, set, Option, None, true, false, refl, arith}
 use Rattle.machine_model.specs.declared.kind.Kind.{Kind}
 use Rattle.machine_model.specs.declared.kind.Kind.TheVariants.{Any, OptText, Text as TextKind, List as ListKind, Number as NumberKind}
@@ -6,7 +6,7 @@ use Rattle.machine_model.specs.Kinds.{kind_le, kind_join}
 use Rattle.verifier.specs.declared.row.Row.{Row}
 use Rattle.verifier.specs.Private.Walks.{rises, row_rises, place_rises, table_rises}
 
--- what is at or below changes nothing
+-- joining with a kind at or below changes nothing
 pub join_below : (k m : Kind) → kind_le m k ≡ true → kind_join k m ≡ k
 join_below Any Any e = refl
 join_below Any OptText e = refl
@@ -59,14 +59,14 @@ unfolding row_rises
 row_rises_few [] = omega arith
 row_rises_few (k ∷ ks) = omega (arith, rises_few k, row_rises_few ks)
 
--- one kind of a row is another
+-- one kind of a row is replaced
 pub row_rises_set : (ks : List Kind) (r : ℕ) (k : Kind) → r < length ks → row_rises (set ks r k) + rises (get_or ks r Any) ≡ row_rises ks + rises k
 unfolding row_rises
 row_rises_set [] r k lt = absurd (omega arith)
 row_rises_set (m ∷ ks) zero k lt = omega arith
 row_rises_set (m ∷ ks) (suc r) k lt = omega (arith, row_rises_set ks r k (omega arith))
 
--- one place of a table has another row
+-- the row of one place of a table is replaced
 pub table_rises_set : (rows : List (Option Row)) (p : ℕ) (o : Option Row) → p < length rows → table_rises (set rows p o) + place_rises (get_or rows p None)
     ≡ table_rises rows + place_rises o
 unfolding table_rises

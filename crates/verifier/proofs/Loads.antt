@@ -1,4 +1,4 @@
--- From refusals of reading and of a code to refusals of loading.
+-- From errors of reading, and from faults of a code, to errors of loading.
 use Rattle.std.proofs.Common.{◌≡◌, ℕ, Option, Some, None, Bool, true, false, refl, sym, ap, ◌∙◌, subst, inl, inr}
 use Rattle.std.specs.Prelude.{slice_get, if◌then◌else◌, not}
 use Rattle.std.proofs.lemmas.Option.{get_or_from_slice_get, slice_get_within}
@@ -7,8 +7,8 @@ use Rattle.text_model.specs.Texts.{Text}
 use Rattle.text_model.specs.UriText.{IsUriText}
 use Rattle.code_model.specs.Code.{Code, Literal}
 use Rattle.code_file.specs.Grammar.{IsTextOf, IsLiteral, IsCode, IsCodeFile}
-use Rattle.code_file.specs.Fault.{fault, after, cut_short, IsKindFault, no_kind, bad_kind, IsNameFault, IsLiteralFault, IsTableFault, header_fault}
-use Rattle.code_file.specs.Fault.{IsFieldFault, bad_magic, no_counts, bad_counts, in_names, in_literals, in_instrs, trailing, IsFirstFault, too_long, in_field}
+use Rattle.code_file.specs.Fault.{fault, IsKindFault, no_kind, bad_kind, IsNameFault, IsLiteralFault, IsTableFault}
+use Rattle.code_file.specs.Fault.{IsFieldFault, bad_counts, in_names, in_literals, IsFirstFault, too_long, in_field}
 use Rattle.code_file.specs.Fault as read
 use Rattle.code_file.specs.declared.error.CodeError.{CodeError}
 use Rattle.code_file.specs.declared.error.CodeErrorKind.{CodeErrorKind}
@@ -80,7 +80,7 @@ pub read_refused : (bytes : Text) (e : CodeError) → read.IsRefusal bytes e →
 read_refused bytes e (inl h) = read_first bytes e h
 read_refused bytes e (inr h) = subst (λ x. IsLoadFault bytes (read_error x)) (sym h.0) (faults.no_memory h.1.0 h.1.1)
 
--- ---- of a code
+-- ---- faults of a code
 
 pub code_refused : (bytes : Text) (c : Code) (e : LoadError) → IsCodeFile bytes c → IsRefusal c e → IsLoadFault bytes e
 code_refused bytes c e file (IsRefusal.bad_form f h) = IsLoadFault.bad_form c f file h
@@ -91,7 +91,7 @@ not_of_form : (f : FormFault) (place : ℕ) (m : Located ℕ) → form_error (re
 not_of_form form.UnknownOp place m e = absurd (cc)
 not_of_form _ place m e = absurd (cc)
 
--- what is refused by kinds is not typable
+-- code that is rejected for its kinds is not typable
 pub exact : ((bytes : Text) (c d : Code) → IsCodeFile bytes c → IsCodeFile bytes d → c ≡ d)
     → ((c : Code) (m : Located ℕ) → IsFirstMismatch c m → IsTypable c → ⊥) → (bytes : Text) (e : LoadError) → IsLoadFault bytes e → (m : Located ℕ) (c : Code)
     → e ≡ mismatch_error m → IsCodeFile bytes c → IsTypable c → ⊥

@@ -1,4 +1,4 @@
--- A table in which an edge's end is written, or needs no writing; and the table at the start.
+-- A table after an edge is followed, whether its row changes or not; and the table at the start.
 use Rattle.std.proofs.Common.{◌≡◌, ◌≢◌, ℕ, zero, suc, ◌<◌, ◌≤◌, List, [], ◌∷◌, length, get_or, set, replicate, Option, Some, None, Bool, true, false, refl, sym}
 use Rattle.std.proofs.Common.{ap, ◌∙◌, subst, arith, length-set, ⊎_elim}
 use Rattle.std.proofs.lemmas.Bool.{cases_lt}
@@ -49,7 +49,7 @@ module _ (rows : List (Option Row)) (to : ℕ) (row : Row) where
       → row_rises row.kinds < place_rises (get_or rows to None)
   more_rises known is less = subst (λ o. row_rises row.kinds < place_rises o) (sym is) less
 
--- the place has kinds at or above what the edge carries already
+-- the place already has kinds at or above those of the edge
 pub kept_follows : (rows : List (Option Row)) (to : ℕ) (known other : Row) → get_or rows to None ≡ Some known
     → ((r : ℕ) → get_or known.kinds r Any ≡ kind_join (get_or known.kinds r Any) (get_or other.kinds r Any))
     → Follows (edge to (kinds_of other) ∷ []) (table_of rows) (table_of rows)

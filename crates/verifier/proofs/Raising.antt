@@ -8,7 +8,7 @@ use Rattle.verifier.specs.Private.Walks.{rises, row_rises, Rises}
 use Rattle.verifier.proofs.KindRises.{join_below, join_rises, row_rises_set}
 
 module _ (olds others : List Kind) where
-  -- the first r kinds are joined, and the others are as they were
+  -- the first r kinds are joined, and the others are unchanged
   pub record Raised (ks : List Kind) (r : ℕ) (rose : Bool) : Type 0 where
     pub joined : (q : ℕ) → q < r → get_or ks q Any ≡ kind_join (get_or olds q Any) (get_or others q Any)
     pub rest : (q : ℕ) → r ≤ q → get_or ks q Any ≡ get_or olds q Any

@@ -1,4 +1,4 @@
--- Rows of kinds, and tables of rows, where one place is written.
+-- Rows of kinds, and tables of rows, in which one place is changed.
 use Rattle.std.proofs.Common.{◌≡◌, ℕ, ◌<◌, List, [], ◌∷◌, length, set, Option, Some, None, Bool, true, false, refl, sym, ap, ◌∙◌, subst, get_or-set_other}
 use Rattle.std.proofs.Common.{get_or-set_same}
 use Rattle.std.specs.Prelude.{◌==◌}
@@ -14,8 +14,7 @@ use Rattle.verifier.specs.Private.Walks.{Follows, IsSameAt}
 
 -- ---- a table in which one place has other kinds
 
--- the kinds of a place are at or above what an edge carries to it and what it had before, and at or below all
--- kinds that are above both
+-- the kinds of a place are at or above those of an edge to it and those that it had before, and at or below all kinds that are above both
 pub record Arrives (old : Option Kinds) (ks new : Kinds) : Type 0 where
   pub above : IsBelow ks new
   pub kept : (ms : Kinds) → old ≡ Some ms → IsBelow ms new

@@ -1,4 +1,4 @@
--- Why bytes that are to be loaded are refused.
+-- Why bytes cannot be loaded.
 use Rattle.std.specs.Prelude.{◌≡◌, ℕ, Some}
 use Rattle.text_model.specs.Texts.{Text}
 use Rattle.code_model.specs.Code.{Code}
@@ -38,20 +38,20 @@ form_error f = of_form f.what f.place
 abbrev pub mismatch_error : Located ℕ → LoadError
 mismatch_error m = load.KindMismatch m.place m.what
 
--- The order of refusals: the file, then form, then kinds.
+-- The first fault, in this order: of the file, of form, of kinds.
 pub data IsLoadFault (bytes : Text) : LoadError → Type 0 where
   no_code : (e : CodeError) → IsFirstFault bytes e → IsLoadFault bytes (load.Code e.kind e.at)
   bad_form : (c : Code) (f : Located FormFault) → IsCodeFile bytes c → first_form_fault c ≡ Some f → IsLoadFault bytes (form_error f)
   mismatch : (c : Code) (m : Located ℕ) → IsCodeFile bytes c → HasGoodForm c → IsFirstMismatch c m → IsLoadFault bytes (mismatch_error m)
   no_memory : (c : Code) → IsCodeFile bytes c → IsLoadFault bytes load.NoMemory
 
--- the same of a code that was read
+-- the same for code that was read
 pub data IsRefusal (c : Code) : LoadError → Type 0 where
   bad_form : (f : Located FormFault) → first_form_fault c ≡ Some f → IsRefusal c (form_error f)
   mismatch : (m : Located ℕ) → HasGoodForm c → IsFirstMismatch c m → IsRefusal c (mismatch_error m)
   no_memory : IsRefusal c load.NoMemory
 
--- what an error of reading is as one of loading
+-- an error of reading as an error of loading
 abbrev pub read_error : CodeError → LoadError
 read_error e = of_kind e.kind e.at
   where

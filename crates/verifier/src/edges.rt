@@ -1,4 +1,4 @@
-//! Where instructions lead, and the kinds that they carry there.
+//! The places that can follow an instruction, and the kinds of the registers there.
 
 ghost use Rattle.std.specs.Prelude.{◌≡◌, ◌<◌, [], ◌∷◌};
 ghost use Rattle.machine_model.specs.Kinds as model;
@@ -8,7 +8,7 @@ use crate::row::Row;
 use code_model::Instruction;
 use machine_model::{Body, Kind};
 
-/// A place, and the kinds that are carried to it.
+/// A place that can come next, and the kinds of the registers there.
 #[derive(Clone, Copy)]
 pub(crate) struct Edge {
     pub(crate) to: usize,
@@ -21,8 +21,8 @@ fn carried(to: usize, row: Row) -> Option<Edge>
     Some(Edge { to, row })
 }
 
-/// The edges of an instruction at a place with these kinds, in this body. NEXT returns to the body's
-/// first place with the element as a text.
+/// The edges of an instruction at a place with these kinds, in this body. NEXT returns to the body's first place, where
+/// the element is a text.
 pub(crate) fn edges(
     place: usize,
     row: Row,

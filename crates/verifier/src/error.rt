@@ -1,7 +1,6 @@
-//! Why code is not accepted.
+//! Why code is rejected.
 
 ghost use Rattle.std.specs.Prelude.{◌≡◌};
-ghost use Rattle.machine_model.specs.First.{Located};
 ghost use Rattle.verifier.specs.Faults.{form_error, read_error};
 
 use code_file::{CodeError, CodeErrorKind};
@@ -9,11 +8,11 @@ use machine_model::FormFault;
 use std::alloc::{AllocError, AllocFailed};
 use thiserror::Error;
 
-/// Why code is not accepted, in the order in which it is decided: first the file, then the form of each
-/// instruction in rising place, then the kinds of registers. The number is the place of an instruction.
+/// Why code is rejected, in the order in which it is checked: first the file, then the form of each instruction in the
+/// order of their places, then the kinds of registers. The number is the place of an instruction.
 #[derive(Clone, Copy, Debug, PartialEq, Eq, Error)]
 pub enum LoadError {
-    /// The bytes are no code file: the kind of the first fault, and the byte at which it is.
+    /// The bytes are not a code file: the kind of the first fault, and the byte at which it is.
     #[error("{0} at {1}")]
     Code(CodeErrorKind, usize),
     /// No operation of the code's version has this number.
@@ -31,7 +30,7 @@ pub enum LoadError {
     /// The entry of the table is of the other kind.
     #[error("WrongTableKind at {0}")]
     WrongTableKind(usize),
-    /// A jump leads to its own place or back.
+    /// A jump leads to its own place or to one before it.
     #[error("JumpNotForward at {0}")]
     JumpNotForward(usize),
     /// A jump leads past the last place.
@@ -43,7 +42,7 @@ pub enum LoadError {
     /// A loop begins in the body of another.
     #[error("NestedLoop at {0}")]
     NestedLoop(usize),
-    /// There is no NEXT before the place where the loop is to end.
+    /// There is no NEXT directly before the place where the loop ends.
     #[error("BadLoop at {0}")]
     BadLoop(usize),
     /// A NEXT is not the last place of a body.
@@ -55,8 +54,8 @@ pub enum LoadError {
     /// The last instruction does not end the run.
     #[error("FallsOff at {0}")]
     FallsOff(usize),
-    /// The register is not known to hold what the instruction at the place needs: no table of kinds fits
-    /// the code.
+    /// The register (the second number) may hold something other than what the instruction at the place needs: no table
+    /// of kinds fits the code.
     #[error("KindMismatch at {0}, r{1}")]
     KindMismatch(usize, u16),
     /// Memory ran out.

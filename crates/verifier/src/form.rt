@@ -1,12 +1,11 @@
 //! The checks of form, one place at a time.
 
-ghost use Rattle.std.specs.Prelude.{◌≡◌, ◌<◌, ◌||◌, ◌&&◌, ◌-◌, not, nat_lt, length, true};
+ghost use Rattle.std.specs.Prelude.{◌≡◌, ◌<◌, ◌||◌, ◌&&◌, ◌-◌, length, true};
 ghost use Rattle.std.specs.List.{list_all};
-ghost use Rattle.code_model.specs.Operands.{operands, is_in_range, LinkText, Compared, TextName, ListName};
-ghost use Rattle.machine_model.specs.First.{Located};
+ghost use Rattle.code_model.specs.Operands.{operands, is_in_range};
 ghost use Rattle.machine_model.specs.Operands as operand;
 ghost use Rattle.machine_model.specs.Form as form;
-ghost use Rattle.machine_model.specs.Form.{is_next, is_sep, goes_to, is_same_body, is_in_body, ends_body, body_at};
+ghost use Rattle.machine_model.specs.Form.{is_same_body, ends_body};
 ghost use Rattle.machine_model.specs.Form.{first_failing, fault_at, first_form_fault};
 ghost use Rattle.verifier.specs.Private.Checks.{operand_checks, jump_checks, each_checks, order_checks, located_of};
 
@@ -15,7 +14,7 @@ use code_file::{Code, spelling};
 use code_model::{Instr, Instruction};
 use machine_model::{Body, FormFault};
 
-/// Whether modes and counts are what they may be.
+/// Whether the mode is 0 or 1, and the count of a cut 1 to 9,999.
 fn is_in_range(instruction: Instruction) -> bool
     ensures { result ≡ list_all is_in_range (operands instruction) }
 {
@@ -74,7 +73,7 @@ fn are_in_tables(code: &Code, instruction: Instruction) -> bool
     }
 }
 
-/// Whether the entries are of the kinds that the instruction wants.
+/// Whether the entries are of the kinds that the instruction needs.
 fn have_table_kinds(code: &Code, instruction: Instruction) -> bool
     requires { list_all (operand.is_in_table code.now) (operands instruction) ≡ true }
     ensures { result ≡ list_all (operand.has_table_kind code.now) (operands instruction) }
@@ -88,7 +87,7 @@ fn have_table_kinds(code: &Code, instruction: Instruction) -> bool
     }
 }
 
-/// The place that an instruction may jump to.
+/// The place that an instruction can jump to, if it is a jump.
 fn target(instruction: Instruction) -> Option<usize>
     ensures { result ≡ form.target instruction }
 {
@@ -118,7 +117,7 @@ fn ends_run(instruction: Instruction) -> bool
     matches!(instruction, Instruction::Halt | Instruction::Fail)
 }
 
-/// Whether two places stand in one body, or both in none.
+/// Whether two places are in the same body, or both in none.
 fn is_same_body(a: Option<Body>, b: Option<Body>) -> bool
     ensures { result ≡ is_same_body a b }
 {
@@ -158,7 +157,7 @@ impl<'a> Layout<'a> {
         }
     }
 
-    /// What is wrong with where the instruction at a place jumps to.
+    /// What is wrong with the target of a jump at a place.
     fn jump_fault(&self, place: usize, instruction: Instruction) -> Option<FormFault>
         ensures { result ≡ first_failing (jump_checks self.now.code.now place instruction) }
     {
@@ -190,7 +189,7 @@ impl<'a> Layout<'a> {
         }
     }
 
-    /// What is wrong with where the instruction at a place is.
+    /// What is wrong with the position of the instruction at a place.
     fn order_fault(&self, place: usize, instruction: Instruction) -> Option<FormFault>
         requires { place < length self.now.code.now.instrs }
         ensures { result ≡ first_failing (order_checks self.now.code.now place instruction) }
@@ -227,7 +226,7 @@ impl<'a> Layout<'a> {
         self.order_fault(place, instruction)
     }
 
-    /// The first fault of form in rising place, with its place.
+    /// The first fault of form in the order of the places, with its place.
     pub(crate) fn first_fault(&self) -> Option<(FormFault, usize)>
         ensures { located_of result ≡ first_form_fault self.now.code.now }
     {

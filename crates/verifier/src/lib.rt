@@ -1,4 +1,4 @@
-//! The verifier: it reads code that comes from strangers, and accepts what is safe on every environment.
+//! The verifier: it reads code from strangers, and accepts only code that is safe on every environment.
 //!
 //! ```rust
 //! let verified = load(rt.alloc(), &file)?;
@@ -23,7 +23,7 @@ mod verified;
 mod walk;
 
 pub use budget::Budget;
-pub use code_file::{Code, CodeErrorKind};
+pub use code_file::{Code, CodeError, CodeErrorKind};
 pub use code_model::Instruction;
 pub use error::LoadError;
 pub use loading::load;

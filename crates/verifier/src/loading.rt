@@ -42,12 +42,12 @@ fn check(alloc: Global, code: &Code) -> Result<Vec<Instruction>, LoadError>
     Ok(layout.instructions(alloc)?)
 }
 
-/// Reads code from anyone, of either version, and accepts it if it is of good form and
-/// typable. What is accepted is safe on every environment; what is refused by kinds has no table of kinds.
+/// Reads code from anyone, of either version, and accepts it if it is of good form and typable. Accepted code is safe
+/// on every environment; for code that is rejected with `KindMismatch`, no table of kinds fits.
 ///
-/// The first fault is answered: of the file with its byte, then of form in rising place, then of kinds in
-/// rising place. `NoMemory` comes only to bytes that are a code file; the refusals of others need no memory.
-/// A loop's body is walked again only where what returns to its head raised a kind there.
+/// The error is the first fault: of the file, with its byte; then of form, in the order of the places; then of kinds,
+/// in the order of the places. `NoMemory` is returned only for bytes that are a code file; other bytes are rejected
+/// without an allocation. A loop's body is walked again only if a kind changed at its first place.
 pub fn load(alloc: Global, bytes: &[u8]) -> Result<Verified, LoadError>
     ensures code { IfOk result (IsCodeFile bytes.now) }
     ensures form { IfOk result HasGoodForm }

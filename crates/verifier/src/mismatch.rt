@@ -22,7 +22,7 @@ fn mismatch(layout: &Layout, table: &[Option<Row>], place: usize) -> Option<u16>
     row.unmet(layout.instruction(place))
 }
 
-/// The first place in rising order with a need that the table does not meet, and the register.
+/// The first place with a need that the table does not meet, and the register.
 pub(crate) fn first_mismatch(layout: &Layout, table: &[Option<Row>]) -> Option<(u16, usize)>
     requires form { HasGoodForm layout.now.code.now }
     requires long { length table.now ≡ length layout.now.code.now.instrs }

@@ -39,7 +39,7 @@ fn join(kind: Kind, other: Kind) -> Kind
     }
 }
 
-/// The kind of each register. Code of version 1 names the first 16; of the others nothing is known.
+/// The kind of each register. Code of version 1 uses only the first 16; nothing is known about the others.
 #[derive(Clone, Copy)]
 pub(crate) struct Row {
     pub(crate) kinds: [Kind; 64],
@@ -74,7 +74,7 @@ impl Row {
     }
 }
 
-/// Raises kinds to the least above both rows, and answers whether one rose.
+/// Raises kinds to the least kinds above both rows, and returns whether one rose.
 pub(crate) fn raise(kinds: &mut [Kind], others: &[Kind]) -> bool
     requires { length kinds.old ≡ length others.now }
     ensures joined { (r : ℕ) → slice_index_or kinds.new r Any ≡ kind_join (slice_index_or kinds.old r Any)

@@ -1,11 +1,11 @@
-//! The least table of kinds: kinds are carried along the edges of each place, in rising place, and again from the
-//! head of a loop while kinds rise there.
+//! The least table of kinds: kinds are propagated along the edges of each place, in the order of the places, and again
+//! from the first place of a loop's body while kinds rise there.
 
 ghost use Rattle.std.specs.Prelude.{◌≡◌, ◌<◌, ◌+◌, ◌⊎◌, [], ◌∷◌, length, min, IfOk};
 ghost use Rattle.std.specs.List.{AllByRecursion};
 ghost use Rattle.machine_model.specs.Form.{HasGoodForm};
 ghost use Rattle.machine_model.specs.Typable.{IsLeast};
-ghost use Rattle.verifier.specs.Private.Rows.{table_of, edge_of, edges_of, one_or_none};
+ghost use Rattle.verifier.specs.Private.Rows.{table_of, edge_of, one_or_none};
 ghost use Rattle.verifier.specs.Private.Walks.{Follows, IsSameBefore, GoesOn, IsClosedBefore, IsBelowClosed};
 ghost use Rattle.verifier.specs.Private.Walks.{ContinuesAt, IsReturn};
 
@@ -21,8 +21,8 @@ fn earlier(place: usize, other: usize) -> usize
     if other < place { other } else { place }
 }
 
-/// Joins the kinds that an edge carries with those of its end. Returns the place at which the walk continues:
-/// the end of the edge if kinds rose there and it is before `next`, and otherwise `next`.
+/// Joins the kinds of an edge with those of the place that it leads to. Returns the place at which the walk continues:
+/// that place if kinds rose there and it is before `next`, and otherwise `next`.
 fn push(table: &mut [Option<Row>], edge: Edge, next: usize) -> usize
     requires { edge.to < length table.old }
     ensures follows { Follows (edge_of edge ∷ []) (table_of table.old) (table_of table.new) }
@@ -55,8 +55,8 @@ fn follow(table: &mut [Option<Row>], edge: Option<Edge>, next: usize) -> usize
     }
 }
 
-/// Follows the edges of a place, and returns the place at which the walk continues: the next one, or the head of a
-/// loop's body if the place is its NEXT and kinds rose at the head.
+/// Follows the edges of a place, and returns the place at which the walk continues: the next one, or the first place of
+/// a loop's body if this place is its NEXT and kinds rose there.
 fn step(layout: &Layout, table: &mut [Option<Row>], place: usize) -> usize
     requires form { HasGoodForm layout.now.code.now }
     requires place { place < length layout.now.code.now.instrs }

@@ -1,4 +1,4 @@
--- What the program's frame and moves denote.
+-- The states and moves of the machine that the program's frames and moves denote.
 use Rattle.std.specs.Prelude.{ℕ, Option, Some, None, option_map, slice_index_or, string_bytes}
 use Rattle.machine_model.specs.Values as value
 use Rattle.machine_model.specs.States as state
@@ -23,7 +23,7 @@ loop_of l = record { start = l.start; end = l.end; element = l.element.number; l
 abbrev pub frame_of : Frame → state.Frame
 frame_of s = record { place = s.place; registers = registers_of s.registers; loop = option_map loop_of s.running; output = string_bytes s.output }
 
--- a move from what a frame has become
+-- the machine's move that a move of the program denotes, with the frame after it
 abbrev pub move_in : state.Frame → Move → step.Move
 move_in s move.Link = step.Ends (state.Link s.output)
 move_in s move.NoLink = step.Ends state.NoLink
@@ -33,7 +33,7 @@ move_in s (move.Returns d) = step.Returns (state.at d s)
 abbrev pub moves : state.Frame → Option Move → Option step.Move
 moves s m = option_map (move_in s) m
 
--- the state after a step, where the program's frame has become this
+-- the state after a step, if this is the program's frame after it
 abbrev pub stepped : Frame → Stepped → Option state.State
 stepped s after.Onward = Some (state.Running (frame_of s))
 stepped s after.Link = Some (state.Ended (state.Link (string_bytes s.output)))

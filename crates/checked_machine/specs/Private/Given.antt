@@ -1,4 +1,4 @@
--- What is known of the operands of an instruction that can be read.
+-- What is known about the operands of an instruction that can be read.
 use Rattle.std.specs.Prelude.{◌<◌, length}
 use Rattle.std.specs.List.{AllByRecursion}
 use Rattle.code_model.specs.Code.{Code}

@@ -1,4 +1,4 @@
--- URI text as a test that reads from the left, which private functions cite. It is the set `IsUriText`.
+-- URI text as a test that reads from the left, for private contracts. It holds exactly for the set `IsUriText`.
 use Rattle.std.specs.Prelude.{Bool, true, [], ◌∷◌, ◌&&◌, if◌then◌else◌}
 use Rattle.text_model.specs.Texts.{Text, is_triplet}
 use Rattle.text_model.specs.Writing.{is_unreserved_or_reserved}

@@ -1,4 +1,4 @@
--- For private contracts. How far the lines of a rule lead.
+-- How far the jumps of a rule's lines lead. For private contracts.
 use Rattle.std.specs.Prelude.{ℕ, suc, ◌+◌, ◌≤◌, List, [], ◌∷◌, length}
 use Rattle.compiler_model.specs.declared.lines.Target.{Target}
 use Rattle.compiler_model.specs.declared.lines.Target.TheVariants.{Ahead, Away}

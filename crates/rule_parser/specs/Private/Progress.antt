@@ -1,4 +1,4 @@
--- For private contracts. How far the lines of a rule text were read.
+-- How far the lines of a rule text have been read. For private contracts.
 use Rattle.std.specs.Prelude.{◌≡◌, ℕ, [], ◌∷◌, ◌++◌, Some, None, IfSome, length, ◌⊎◌}
 use Rattle.std.specs.Option.{option_map}
 use Rattle.text_model.specs.Texts.{Text}
@@ -15,18 +15,18 @@ no_rules = record { whole = record { lists = []; rules = [] }; guards = None }
 abbrev pub so_far_of : Reader → RulesSoFar
 so_far_of r = record { whole = record { lists = r.lists.items; rules = r.rules.items }; guards = option_map (λ line. r.guards.items) r.rule_line }
 
--- one more line, which spells one more statement
+-- one more line has been read, with one more statement
 pub record GoesOn (old new : RulesSoFar) (line : Text) : Type 0 where
   pub statement : Statement
   pub spelled : line ≡ line_of statement
   pub longer : statements_so_far new ≡ statements_so_far old ++ statement ∷ []
   pub sound : AreSoundSoFar new
 
--- the rule whose link is yet to come has the number of its line, where statements have these
+-- the rule whose link has not been read yet has the number of its line, if statements are numbered by this function
 abbrev pub IsNumbered : (ℕ → ℕ) → Reader → Type 0
 IsNumbered number_of r = IfSome r.rule_line (λ line. line ≡ number_of (length (statements (so_far_of r).whole)))
 
--- However statements are numbered, where the next one has this number: the rule has the number of its line still.
+-- Whatever the numbering of statements, if the next one has this number, the rule keeps the number of its line.
 abbrev pub KeepsLine : Reader → Reader → ℕ → Type 0
 KeepsLine old new number =
     (number_of : ℕ → ℕ) → number_of (length (statements_so_far (so_far_of old))) ≡ number → IsNumbered number_of old → IsNumbered number_of new

@@ -1,4 +1,4 @@
--- For private contracts. What the readers of a line answer: the value that a text spells, or that it spells none.
+-- What the readers of a line return: the value that a text has, or that it has none. For private contracts.
 use Rattle.std.specs.Prelude.{◌≡◌, ◌≢◌, Option, Some, None}
 use Rattle.std.specs.List.{AllByRecursion}
 use Rattle.text_model.specs.Texts.{Text}

@@ -9,7 +9,7 @@ use Rattle.target_vars.specs.declared.names.forks.Fork.{Fork}
 use Rattle.target_vars.specs.declared.names.forks.Branch.{Branch}
 use Rattle.target_vars.specs.declared.names.forks.Branch.TheVariants.{Further, Ends}
 
--- the names in the order in which they came, and for each a fork
+-- the names in the order in which they were added, and a fork for each
 pub record NamesValue : Type 0 where
   pub listed : List Text
   pub forks : List Fork
@@ -31,7 +31,7 @@ code_at text at = option_map_or (λ byte. byte + 1) (slice_get text at) 0
 abbrev pub is_set : ℕ → ℕ → Bool
 is_set code bit = (code / 2 ^ (bit % 16)) % 2 == 1
 
--- whether the bit that the fork looks at is set in the text
+-- whether the bit that the fork tests is set in the text
 abbrev pub is_high : Fork → Text → Bool
 is_high fork text = is_set (code_at text fork.at) fork.bit
 
@@ -46,7 +46,7 @@ turned fork text branch = if is_high fork text then record fork { high = branch 
 abbrev pub branch_at : List Fork → Text → ℕ → Option Branch
 branch_at forks text at = option_map (λ fork. branch_of fork text) (slice_get forks at)
 
--- from a fork on, the search for a text comes to these others, and ends at the last fork with a number
+-- from a fork on, the search for a text goes through these other forks, and ends at the last one, with a number
 abbrev pub Passes : List ℕ → List Fork → Text → ℕ → ℕ → ℕ → Type 0
 Passes [] forks text from last number = (from ≡ last) × (branch_at forks text last ≡ Some (Ends number))
 Passes (next ∷ others) forks text from last number = (branch_at forks text from ≡ Some (Further next)) × Passes others forks text next last number
@@ -64,7 +64,7 @@ IsForward count at (Ends number) = number < count
 abbrev pub AreForward : List Fork → Type 0
 AreForward forks = (text : Text) (at : ℕ) (branch : Branch) → branch_at forks text at ≡ Some branch → IsForward (length forks) at branch
 
--- each name lies whole among the bytes, and the search for it ends with its number
+-- the bytes contain each name at its place, and the search for it ends with its number
 pub record AreNames (bytes : Text) (places : List NamePlace) (forks : List Fork) : Type 0 where
   pub placed : All (IsNamePlace bytes) places
   pub one_each : length forks ≡ length places
@@ -84,7 +84,7 @@ pub record Separates (names : NamesValue) (name : Text) (gap : ℕ) (fork : Fork
   pub other : (number : ℕ) → branch_at names.forks name gap ≡ Some (Ends number) → branch_of fork (slice_index_or names.listed number []) ≡ Ends number
   pub ends : (text : Text) → (number : ℕ) × (number ≤ length names.listed) × (branch_of fork text ≡ Ends number)
 
--- one more fork, to which the search for the name comes from its gap, and no other search comes that did not end there too
+-- one more fork, which the search for the name reaches from its gap, and which only searches reach that ended at that gap before
 pub record IsForked (old : List Fork) (name : Text) (gap : ℕ) (fork : Fork) (new : List Fork) : Type 0 where
   pub longer : length new ≡ length old + 1
   pub last : (text : Text) → branch_at new text (length old) ≡ Some (branch_of fork text)

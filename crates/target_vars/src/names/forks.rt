@@ -5,7 +5,7 @@ ghost use Rattle.text_model.specs.Texts.{Text};
 ghost use Rattle.target_vars.specs.Private.NamesValue.{code_at, is_set, branch_of, turned, AreForward, Leads, IsForked};
 ghost use Rattle.target_vars.specs.declared.names.forks.Branch.TheVariants.{Ends};
 
-/// A step of the search for a name, which looks at one bit of the name's code at one place.
+/// A step of the search for a name, which tests one bit of the name's code at one place.
 #[derive(Clone, Copy)]
 pub(crate) struct Fork {
     at: usize,
@@ -124,7 +124,7 @@ fn differing_bit(code: u16, other: u16) -> u32
     bit
 }
 
-/// The last fork to which the search for the name comes, and the number of the name with which it ends.
+/// The last fork that the search for the name reaches, and the number of the name with which it ends.
 pub(crate) fn search(forks: &[Fork], name: &[u8]) -> (usize, usize)
     requires some { 0 < length forks.now }
     requires forward { AreForward forks.now }
@@ -140,7 +140,7 @@ pub(crate) fn search(forks: &[Fork], name: &[u8]) -> (usize, usize)
     }
 }
 
-/// Adds the fork of a new name. The search for the name comes to it from its gap.
+/// Adds the fork of a new name. The search for the name reaches it from its gap.
 pub(crate) fn put_fork(forks: &mut Vec<Fork>, name: &[u8], gap: usize, fork: Fork)
     requires { vec_len forks.old < vec_capacity forks.old }
     ensures { IsForked forks.old.items name.now gap fork forks.new.items }

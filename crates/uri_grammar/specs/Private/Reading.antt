@@ -1,4 +1,4 @@
--- What the reader's functions answer. Private contracts cite it.
+-- What the reader's functions return. For private contracts.
 use Rattle.std.specs.Prelude.{◌≡◌, ℕ, Bool, true, false, not, ◌&&◌, ◌==◌, nat_eq, List, [], ◌∷◌, length, Option, Some, None, ◌⊎◌, if◌then◌else◌}
 use Rattle.uri_grammar.specs.declared.error.TemplateError.{TemplateError}
 use Rattle.uri_grammar.specs.declared.error.TemplateErrorKind.{TemplateErrorKind}
@@ -26,14 +26,14 @@ abbrev pub begins_with_brace : List ℕ → Bool
 begins_with_brace [] = false
 begins_with_brace (c ∷ cs) = c == open_brace
 
--- the parts so far do not end with a literal
+-- the last part so far is not a literal
 abbrev pub EndsWithNoLiteral : List Part → Type 0
 EndsWithNoLiteral [] = Unit {0}
 EndsWithNoLiteral (Literal text ∷ []) = ⊥
 EndsWithNoLiteral (Expression op specs ∷ []) = Unit {0}
 EndsWithNoLiteral (first ∷ second ∷ parts) = EndsWithNoLiteral (second ∷ parts)
 
--- digits begin, and not with 0
+-- the text begins with a digit other than 0
 abbrev pub begins_above_zero : List ℕ → Bool
 begins_above_zero [] = false
 begins_above_zero (c ∷ cs) = not (c == digit_zero)
@@ -42,7 +42,7 @@ begins_above_zero (c ∷ cs) = not (c == digit_zero)
 abbrev pub number_of : List ℕ → Option ℕ
 number_of digits = if is_max_length digits then Some (value_from 0 digits) else None
 
--- the cut and whether it explodes, of a modifier
+-- the prefix of a modifier (0 for none), and whether it explodes
 abbrev pub modifier_of : List ℕ → Option (ℕ × Bool)
 modifier_of [] = Some (0, false)
 modifier_of (c ∷ cs) =

@@ -1,4 +1,4 @@
--- Pieces one after another, as they are appended. Private contracts cite it.
+-- Pieces one after another, as they are appended. For private contracts.
 use Rattle.std.specs.Prelude.{List, [], ◌∷◌, ◌++◌, Option, Some, None, Bool, true, false, if◌then◌else◌, codes}
 use Rattle.text_model.specs.Texts.{Text}
 use Rattle.text_model.specs.Writing.{written}
@@ -23,7 +23,7 @@ abbrev pub list_head : Style → Text → Bool → Text
 list_head style name false = if style.named then (name ++ codes "=") else []
 list_head style name true = []
 
--- a member of a list as it is written
+-- a member of a list as it is written in the expansion
 abbrev pub member_text : Style → Text → Bool → Text → Text
 member_text style name false t = written style.writing t
 member_text style name true t = item style name t

@@ -1,10 +1,10 @@
--- How long the item at the beginning of a text is (RFC 6570, section 2.4.1): what private contracts cite.
+-- How long the item at the beginning of a text is (RFC 6570, section 2.4.1). For private contracts.
 use Rattle.std.specs.Prelude.{ℕ, ◌+◌, [], ◌∷◌, Bool, false, not, ◌&&◌, if◌then◌else◌}
 use Rattle.std.specs.List.{prefix_len}
 use Rattle.text_model.specs.Texts.{Text, is_triplet}
 use Rattle.text_model.specs.Cut.{is_continuation}
 
--- the text continues with the code point before it
+-- the text begins with a byte that continues the code point before it
 abbrev pub continues : Text → Bool
 continues [] = false
 continues (b ∷ t) = is_continuation b

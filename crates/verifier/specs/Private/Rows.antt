@@ -1,4 +1,4 @@
--- Kinds, needs and edges as the program holds them.
+-- Kinds, needs and edges as the program stores them.
 use Rattle.std.specs.Prelude.{◌<◌, List, [], ◌∷◌, ◌++◌, Option, Some, None, option_map, slice_index_or}
 use Rattle.std.specs.List.{AllByRecursion}
 use Rattle.code_model.specs.Operands.{Operand, Register, TextName, ListName, LinkText, Compared, Items, Mode, operands}
@@ -12,7 +12,7 @@ use Rattle.verifier.specs.declared.row.Row.{Row}
 use Rattle.verifier.specs.declared.edges.Edge.{Edge}
 use Rattle.verifier.specs.declared.needs.Need.{Need}
 
--- of registers past a row nothing is known
+-- nothing is known about registers past the end of a row
 abbrev pub kinds_of : Row → Kinds
 kinds_of row r = slice_index_or row.kinds r Any
 

@@ -24,7 +24,7 @@ unfoldable pub row_rises : List Kind → ℕ
 row_rises [] = 0
 row_rises (k ∷ ks) = rises k + row_rises ks
 
--- kinds for a place that has none are a rise too
+-- the first kinds of a place are a rise too
 abbrev pub place_rises : Option Row → ℕ
 place_rises None = 129
 place_rises (Some row) = row_rises row.kinds
@@ -33,24 +33,24 @@ unfoldable pub table_rises : List (Option Row) → ℕ
 table_rises [] = 0
 table_rises (o ∷ rows) = place_rises o + table_rises rows
 
--- what rose can rise less often; what did not is as it was
+-- if it has risen, it can rise fewer times from now on; if not, it is unchanged
 abbrev pub Rises : {X : Type 0} → (X → ℕ) → Bool → X → X → Type 0
 Rises left true old new = left new < left old
 Rises left false old new = new ≡ old
 
 -- ---- following edges
 
--- the edges hold in the table that grew, with all that held before, and it is below each table in which they hold
+-- the edges hold in the new table, as does all that held before, and it is below each table in which they hold
 pub record Follows (es : List Edge) (t new : Table) : Type 0 where
   pub held : AllByRecursion (Holds new) es
   pub kept : (e : Edge) → Holds t e → Holds new e
   pub below : (u : Table) → AllByRecursion (Holds u) es → TableBelow t u → TableBelow new u
 
--- all places but one have what they had
+-- all places but one are unchanged
 abbrev pub IsSameAt : ℕ → Table → Table → Type 0
 IsSameAt p t new = (q : ℕ) → (q ≡ p → ⊥) → new q ≡ t q
 
--- places before this one have what they had
+-- the places before this one are unchanged
 abbrev pub IsSameBefore : ℕ → Table → Table → Type 0
 IsSameBefore n t new = (q : ℕ) → q < n → new q ≡ t q
 
@@ -59,11 +59,11 @@ pub record IsClosedBefore (c : Code) (n : ℕ) (t : Table) : Type 0 where
   pub first : Holds t (edge 0 any_kinds)
   pub along : (p : ℕ) (ks : Kinds) → p < n → t p ≡ Some ks → AllByRecursion (Holds t) (edges_at c p ks)
 
--- at or below every closed table
+-- the table is at or below every closed table
 abbrev pub IsBelowClosed : Code → Table → Type 0
 IsBelowClosed c t = (u : Table) → IsClosed c u → TableBelow t u
 
--- where the walk continues from: on, or back to a place where kinds rose
+-- where the walk continues: at a later place, or back at a place where kinds rose
 pub record GoesOn (from to : ℕ) (old new : List (Option Row)) : Type 0 where
   pub long : length new ≡ length old
   pub on : to ≤ from
@@ -72,12 +72,12 @@ pub record GoesOn (from to : ℕ) (old new : List (Option Row)) : Type 0 where
 
 -- ---- where the walk continues
 
--- at the place that was next, or at the end of one of the edges, where that end is earlier
+-- at the next place, or at the place of one of the edges if that is earlier
 abbrev pub ContinuesAt : ℕ → List Edge → ℕ → Type 0
 ContinuesAt next [] to = to ≡ next
 ContinuesAt next (e ∷ es) to = ((to ≡ e.to) × (to < next)) ⊎ ContinuesAt next es to
 
--- NEXT at place p returns to this place, the head of its body
+-- NEXT at place p returns to this place, the first of its body
 pub record IsReturn (c : Code) (p to : ℕ) : Type 0 where
   pub body : Body
   pub within : body_at c p ≡ Some body

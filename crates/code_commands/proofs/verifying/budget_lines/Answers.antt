@@ -5,7 +5,7 @@ use Rattle.machine_model.specs.Budget.{Sums}
 use Rattle.code_commands.specs.Verify.{line_feed, steps_line, bytes_line, verdict}
 use Rattle.code_commands.proofs.verifying.budget_lines.Goals as goal
 
--- the three lines, one appended to the other
+-- the three lines, one after the other
 lines_of : (view b : Sums) (first second third : Text) → view ≡ b → first ≡ codes "ok" ++ line_feed → second ≡ first ++ steps_line view.s0 view.s1
     → third ≡ second ++ bytes_line view.o0 view.o1 view.o2 view.o3 → third ≡ verdict b
 lines_of view b first second third same one two three =

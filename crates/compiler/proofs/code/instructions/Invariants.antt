@@ -6,7 +6,7 @@ use Rattle.code_file.specs.declared.limits.TheConstants.{MAX_INSTRS}
 use Rattle.compiler_model.specs.Compiled.{rule_lines, rules_instructions}
 use Rattle.compiler.proofs.code.instructions.Given as goal
 
--- what is pushed with the rules that are left is the whole, and there is room for it
+-- what has been pushed, with the rules that are left, is the whole, and there is room for it
 abbrev pub invariant-loop-rule : goal.invariant-loop-rule
 invariant-loop-rule l = record {
   whole : l.instrs.items ++ map spelling (rules_instructions l.tables.names.items l.tables.literals.items l.rules.lists (length l.instrs.items)

@@ -5,7 +5,7 @@ use Rattle.compiler_model.specs.Compiled.{instructions_from}
 use Rattle.compiler.specs.Private.Reach.{StayWithin}
 use Rattle.compiler.proofs.instructions.push_rule.Given as goal
 
--- what is pushed with the lines that are left is the whole; these stay within the rule, and each line has one instruction
+-- what has been pushed, with the lines that are left, is the whole; these lines stay within the rule, and each has one instruction
 abbrev pub invariant-loop-line : goal.invariant-loop-line
 invariant-loop-line l =
     (l.instrs.items ++ map spelling (instructions_from l.names l.literals l.away (length l.instrs.items) (drop l.line-index l.lines))

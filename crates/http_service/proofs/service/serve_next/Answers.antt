@@ -2,7 +2,7 @@ use Rattle.std.proofs.Common.{refl}
 use Rattle.http_service.specs.Connections.{Exchanged, Unread}
 use Rattle.http_service.proofs.service.serve_next.Goals as goal
 
--- the connection does not take the time-out
+-- the time-out could not be set for the connection
 pub returns-in_default-clause-served : goal.returns-in_default-clause-served
 returns-in_default-clause-served g c = (Unread, rw c.in_default.is at c.in_ok-input.ensures.gives, tt, refl)
 

@@ -3,7 +3,7 @@ use Rattle.std.specs.Duration.{as_nanos}
 use Rattle.http_service.specs.Connections.{AreServed, Connection, counts_of}
 use Rattle.http_service.proofs.service.serve_within.Given as goal
 
--- as many connections as the number of the turn were served, and each is counted by how it ended
+-- the number of connections served so far is that of the turn, and each is counted by how it ended
 abbrev pub invariant-loop-served : goal.invariant-loop-served
 invariant-loop-served g l =
     ((all : List (Connection g.row.L-In.Denot g.row.L-Out.Denot))

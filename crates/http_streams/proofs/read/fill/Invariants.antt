@@ -4,7 +4,7 @@ use Rattle.http_streams.specs.Private.Progress.{closes_with}
 use Rattle.http_streams.specs.Streams.{Hears}
 use Rattle.http_streams.proofs.read.fill.Given as goal
 
--- the first bytes of the room were read, no read has failed, and the progress says what more closes them
+-- the first bytes of the buffer were read, no read has failed, and the progress says which further bytes close the head
 abbrev pub invariant-loop-filled : goal.invariant-loop-filled
 invariant-loop-filled g l = record {
   within : l.filled ≤ length l.room;

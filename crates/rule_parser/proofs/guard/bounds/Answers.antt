@@ -1,4 +1,4 @@
--- A range is its first token, and what `to ` and the other bound follow.
+-- A range is its first token, followed by `to ` and the other bound.
 use Rattle.std.proofs.Common.{◌≡◌, Some, None, ◌++◌, codes, lit<}
 use Rattle.std.proofs.lemmas.Str.Pattern.{split_parts}
 use Rattle.rule_parser.proofs.TokenLemmas.{token_from_index}

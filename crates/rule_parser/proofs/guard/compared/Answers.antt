@@ -1,4 +1,4 @@
--- A name, a verb and the text after them spell a guard where the verb is one of four.
+-- A name, a verb and the text after them can be a guard only if the verb is one of four.
 use Rattle.std.proofs.lemmas.Bool.{iff_false}
 use Rattle.rule_parser.proofs.GuardLemmas.{no_compared_guard}
 use Rattle.rule_parser.proofs.guard.compared.Goals as goal

@@ -1,4 +1,4 @@
--- Two tokens spell a guard where the second is a name and the first one of three verbs.
+-- Two tokens are a guard if the second is a name and the first is one of three verbs.
 use Rattle.std.proofs.lemmas.Bool.{iff_false}
 use Rattle.rule_parser.proofs.GuardLemmas.{no_guard_without_name, no_guard_of_verb}
 use Rattle.rule_parser.proofs.guard.defined.Goals as goal

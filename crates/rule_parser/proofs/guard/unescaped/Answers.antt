@@ -1,4 +1,4 @@
--- Each character denotes itself, or waits after a backslash; another one ends what can be escaped.
+-- Each character denotes itself, or is escaped by the backslash before it; any other character makes the text invalid.
 use Rattle.std.proofs.Common.{sym, ◌∙◌}
 use Rattle.std.specs.String.{string_bytes}
 use Rattle.rule_parser.proofs.EscapeLemmas.{escaped_more, not_escaped, not_escaped_at_end, same_answers, other_answers}

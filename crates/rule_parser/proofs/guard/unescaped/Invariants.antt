@@ -1,4 +1,4 @@
--- What was read is the text so far, escaped, and a backslash that waits for its character.
+-- What was read is the text so far in escaped form, and perhaps a backslash whose character comes next.
 use Rattle.std.proofs.Common.{◌≡◌, ◌++◌}
 use Rattle.std.specs.String.{string_bytes}
 use Rattle.std.specs.Str.Iter.{chars_rest}

@@ -1,4 +1,4 @@
--- Lines spell one list of statements, and statements are those of one set of rules.
+-- Lines have at most one list of statements, and statements belong to at most one set of rules.
 use Rattle.std.specs.Str.Lines.{lines}
 use Rattle.rule_parser.proofs.FirstFaults.{rules_same}
 use Rattle.rule_parser.proofs.laws.one_rule_set.Goals as goal

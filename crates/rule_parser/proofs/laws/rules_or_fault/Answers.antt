@@ -1,4 +1,4 @@
--- Each line continues with those before it, or it is the first that cannot.
+-- Each line continues those before it, or it is the first that cannot.
 use Rattle.rule_parser.proofs.LineChoice.{bytes_choice}
 use Rattle.rule_parser.proofs.laws.rules_or_fault.Goals as goal
 

@@ -1,4 +1,4 @@
--- Each line is read, skipped or refused, and the end may lack a link.
+-- Each line is read, skipped or rejected, and at the end a link may be missing.
 use Rattle.std.proofs.Common.{[], sym, ◌∙◌}
 use Rattle.std.proofs.lemmas.Result.{err_from_is_err_and}
 use Rattle.rule_parser.proofs.LineLemmas.{line_at, all_lines, line_read, line_skipped, line_refused, end_result}

@@ -1,4 +1,4 @@
--- The bound's name comes last, unless it came before.
+-- The bound's name is appended, unless it came before.
 use Rattle.std.proofs.Common.{sym, ◌∙◌}
 use Rattle.rule_parser.proofs.MentionLemmas.{bound_added, bound_known}
 use Rattle.rule_parser.proofs.mentions.add_bound.Goals as goal

@@ -1,4 +1,4 @@
--- What is written with what is still to write is the whole.
+-- What has been written, with what is still to write, is the whole.
 use Rattle.std.proofs.Common.{◌≡◌, ◌++◌, string_bytes}
 use Rattle.std.specs.Str.Iter.{chars_rest}
 use Rattle.rule_parser.specs.Statements.{escaped}

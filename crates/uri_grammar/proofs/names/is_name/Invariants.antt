@@ -1,7 +1,7 @@
 use Rattle.std.proofs.Common.{◌≡◌, length, take}
 use Rattle.uri_grammar.proofs.names.is_name.Given as goal
 
--- the bytes so far stand in the buffer
+-- the bytes so far are in the buffer
 abbrev pub invariant-loop-i : goal.invariant-loop-i
 invariant-loop-i l = record {
   room : length l.chars ≡ 255;

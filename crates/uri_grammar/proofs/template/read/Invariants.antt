@@ -4,7 +4,7 @@ use Rattle.uri_grammar.specs.Templates.{Spells}
 use Rattle.uri_grammar.specs.Private.Reading.{EndsWithNoLiteral}
 use Rattle.uri_grammar.proofs.template.read.Given as goal
 
--- what was read spells the parts so far, and a literal can only come after an expression
+-- what was read is the text of the parts so far, and a literal can only come after an expression
 abbrev pub invariant-loop-done : goal.invariant-loop-done
 invariant-loop-done l = record {
   within : l.done ≤ length l.chars;

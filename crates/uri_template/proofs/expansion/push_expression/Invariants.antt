@@ -3,7 +3,7 @@ use Rattle.uri_template.specs.Expansion.{pieces, led}
 use Rattle.uri_template.specs.Private.Pieces.{pieces_from}
 use Rattle.uri_template.proofs.expansion.push_expression.Given as goal
 
--- what is appended with the variables that are left is the whole
+-- what has been appended, with the variables that are left, is the whole
 abbrev pub invariant-loop-spec : goal.invariant-loop-spec
 invariant-loop-spec g l =
     string_bytes l.out ++ pieces_from l.style.first l.style.sep l.is_first (pieces (g.V.Variables.look l.variables) l.style (drop l.spec-index l.specs))

@@ -4,7 +4,7 @@ use Rattle.uri_template.specs.Expansion.{joined_by}
 use Rattle.uri_template.specs.Private.Pieces.{member_text, member_sep, pieces_from}
 use Rattle.uri_template.proofs.pieces.push_members.Given as goal
 
--- what is appended with the members that are left is the whole
+-- what has been appended, with the members that are left, is the whole
 abbrev pub invariant-loop-i : goal.invariant-loop-i
 invariant-loop-i l =
     string_bytes l.out ++ pieces_from [] (member_sep l.style l.spec.explode) (l.i == 0)

@@ -3,7 +3,7 @@ use Rattle.text_model.specs.Cut.{cut}
 use Rattle.uri_text.specs.Prefix.{writing_of}
 use Rattle.uri_text.proofs.items.cut.Given as goal
 
--- what is taken with what is still to take is the cut
+-- the items so far, with those that are still missing, are the cut
 abbrev pub invariant-loop-left : goal.invariant-loop-left
 invariant-loop-left l = record {
   within : l.end ≤ length l.text;

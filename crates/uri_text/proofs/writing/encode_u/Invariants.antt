@@ -2,7 +2,7 @@ use Rattle.std.proofs.Common.{◌≡◌, ◌+◌, ◌≤◌, ◌++◌, length, s
 use Rattle.text_model.specs.Writing.{written_u}
 use Rattle.uri_text.proofs.writing.encode_u.Given as goal
 
--- what is written with what is still to write is the whole, and there is room for it
+-- what has been written, with what is still to write, is the whole, and there is capacity for it
 abbrev pub invariant-loop-rest : goal.invariant-loop-rest
 invariant-loop-rest l = record {
   bytes : string_bytes l.out ++ written_u l.rest ≡ string_bytes l.fn.out ++ written_u l.text;

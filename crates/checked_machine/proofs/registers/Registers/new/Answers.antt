@@ -5,7 +5,7 @@ use Rattle.std.proofs.Math.Path.{fun_ext}
 use Rattle.checked_machine.specs.Private.Values.{value_of}
 use Rattle.checked_machine.proofs.registers.Registers.new.Goals as goal
 
--- every register, also one past the last, reads as what all of them hold
+-- every register, even one past the last, reads as the value that all of them hold
 read_anywhere : {X : Type 0} (n r : ℕ) (x : X) → slice_index_or (replicate n x) r x ≡ x
 read_anywhere zero r x = refl
 read_anywhere (suc n) zero x = refl

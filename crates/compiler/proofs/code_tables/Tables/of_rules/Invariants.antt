@@ -6,7 +6,7 @@ use Rattle.compiler_model.specs.Compiled.{rule_lines}
 use Rattle.compiler.specs.Private.Growth.{gathered, IsUtf8Literal}
 use Rattle.compiler.proofs.code_tables.Tables.of_rules.Given as goal
 
--- what is gathered, and counted, with the rules that are left is the whole
+-- what has been gathered and counted, with the rules that are left, is the whole
 abbrev pub invariant-loop-rule : goal.invariant-loop-rule
 invariant-loop-rule l = record {
   names : gathered is_same_name l.tables.names.items (filter_map name_used (flat_map (rule_lines l.rules.lists) (drop l.rule-index l.all)))

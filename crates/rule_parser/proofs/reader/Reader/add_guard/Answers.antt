@@ -1,4 +1,4 @@
--- The tokens spell a guard that is in order and fits, or the line is faulty.
+-- The tokens are a guard that is in order and fits, or the line is faulty.
 use Rattle.std.proofs.Common.{sym, ◌∙◌}
 use Rattle.rule_parser.specs.Faults.{no_statement}
 use Rattle.rule_parser.specs.Private.Progress.{so_far_of}

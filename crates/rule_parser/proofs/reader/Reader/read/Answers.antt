@@ -1,4 +1,4 @@
--- A line of no known first token spells nothing.
+-- A line with an unknown first token is not that of a statement.
 use Rattle.std.proofs.Common.{sym, ◌∙◌, ap, codes}
 use Rattle.std.specs.Str.{bytes_eq}
 use Rattle.std.proofs.lemmas.Bool.{both_ways}

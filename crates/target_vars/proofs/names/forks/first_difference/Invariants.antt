@@ -1,7 +1,7 @@
 use Rattle.std.proofs.Common.{◌≢◌, ◌-◌, length, drop}
 use Rattle.target_vars.proofs.names.forks.first_difference.Given as goal
 
--- what is left of the names differs
+-- the names differ in what is left of them
 abbrev pub invariant-loop-at : goal.invariant-loop-at
 invariant-loop-at l = drop l.at l.name ≢ drop l.at l.other
 

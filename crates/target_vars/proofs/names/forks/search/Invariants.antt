@@ -2,7 +2,7 @@ use Rattle.std.proofs.Common.{ℕ, List, ◌<◌, ◌-◌, length}
 use Rattle.target_vars.specs.Private.NamesValue.{Passes, Leads}
 use Rattle.target_vars.proofs.names.forks.search.Given as goal
 
--- what the search from here on passes, the whole search does
+-- the forks that the search passes from here on are passed by the whole search
 abbrev pub invariant-loop-next : goal.invariant-loop-next
 invariant-loop-next l = record {
   within : l.at < length l.forks;
