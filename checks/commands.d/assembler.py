@@ -68,5 +68,5 @@ def code(names, literals, instructions, version=1):
 
 HALT = code([], [], "HALT")
 FAIL = code([], [], "FAIL")
-# The text `x` twenty times, where it is there.
+# Prints the text of `x` twenty times, if it is defined.
 TWENTY_TEXTS = code([("text", "x")], [], ["TEXT r2 n0", "UNDEF r2 22"] + ["PUT r2 u"] * 20 + ["HALT"])

@@ -17,7 +17,7 @@ def test_rules_become_code(program):
     for code, version in ("issn.olk", b"OLK1"), ("issn2.olk", b"OLK2"):
         program.prints(["run", code, "rft.issn=1234-5678"], "http://e.org/1234-5678")
         program.expect(f"the beginning of {code}", program.read(code)[:4], version)
-    program.expect("issn.olk.new is there", program.has("issn.olk.new"), False)
+    program.expect("issn.olk.new exists", program.has("issn.olk.new"), False)
 
 
 def test_refusals(program):
@@ -27,4 +27,4 @@ def test_refusals(program):
     for rules, code, status, fault in REFUSED:
         program.fails(["compile", rules, code], status, fault)
     program.fails(["compile", "good.rules"], 2, "usage")
-    program.expect("code is there", program.has("code"), False)
+    program.expect("code exists", program.has("code"), False)

@@ -1,6 +1,6 @@
 """What `compile` and `upgrade` find at the path that they write, and beside it: what they replace, what they refuse, and
 what a failure leaves."""
-import os, resource, signal
+import ctypes, errno, os, resource, signal, struct
 from assembler import LIST_FILE
 
 # A command without its last argument, the path that it writes; the number of bytes written there; and the first of them.
@@ -25,7 +25,7 @@ def places(program, command, name, size, first):
     program.expect(f"{name} is a regular file", os.path.isfile(path) and not os.path.islink(path))
     content = program.read(name) or b""
     program.expect(f"the file {name}", (len(content), content[:4]), (size, first))
-    program.expect(f"{name}.new is there", program.has(f"{name}.new"), False)
+    program.expect(f"{name}.new exists", program.has(f"{name}.new"), False)
 
 
 def test_no_regular_file(program):
@@ -41,7 +41,7 @@ def test_no_regular_file(program):
             before = kind_of(path)
             program.fails(command + [name], 4, f"device: {name}")
             program.expect(f"what is at {name}", kind_of(path), before)
-            program.expect(f"{name}.new is there", os.path.lexists(f"{path}.new"), False)
+            program.expect(f"{name}.new exists", os.path.lexists(f"{path}.new"), False)
 
 
 def test_symbolic_links(program):
@@ -55,7 +55,7 @@ def test_symbolic_links(program):
             places(program, command, name, size, first)
             os.remove(f"{program.folder}/{name}")
         program.expect("the file that a link led to", program.read("kept"), b"what was there")
-        program.expect("none is there", program.has("none"), False)
+        program.expect("none exists", program.has("none"), False)
 
 
 def test_a_file_beside_the_path(program):
@@ -95,10 +95,34 @@ def test_a_full_disk(program):
                 given = program.run(command + [name], **with_room(room, signal.SIG_IGN))
                 program.expect(f"{command} {name}, {room} bytes", given, (4, b"", f"openlink: device: {name}\n".encode()))
                 program.expect(f"the file {name}", program.read(name), content)
-                program.expect(f"{name}.new is there", program.has(f"{name}.new"), False)
+                program.expect(f"{name}.new exists", program.has(f"{name}.new"), False)
         given = program.run(command + ["code"], **with_room(size, signal.SIG_IGN))
         program.expect(f"{command}, {size} bytes", given, (0, f"{size} bytes\n".encode(), b""))
         program.expect("the first bytes", program.read("code")[:4], first)
+
+
+def refuse_to_store():
+    """Makes `fsync` and `fdatasync` fail, by a filter of the system calls of x86-64 (seccomp)."""
+    load, equal, answer = 0x20, 0x15, 0x06
+    steps = [(load, 0, 0, 0), (equal, 1, 0, 74), (equal, 0, 1, 75),
+             (answer, 0, 0, 0x00050000 | errno.EIO), (answer, 0, 0, 0x7FFF0000)]
+    code = ctypes.create_string_buffer(b"".join(struct.pack("=HBBI", *step) for step in steps))
+    filter = ctypes.create_string_buffer(struct.pack("@HP", len(steps), ctypes.addressof(code)))
+    libc = ctypes.CDLL(None, use_errno=True)
+    # PR_SET_NO_NEW_PRIVS, then PR_SET_SECCOMP with SECCOMP_MODE_FILTER.
+    if libc.prctl(38, 1, 0, 0, 0) or libc.prctl(22, 2, filter, 0, 0):
+        raise OSError(ctypes.get_errno(), "no filter of system calls")
+
+
+def test_a_file_that_is_not_stored(program):
+    """The new file is stored before it is renamed: if that fails, the old file stays."""
+    write_sources(program)
+    for command, _, _ in COMMANDS:
+        program.write("code", "the old file")
+        given = program.run(command + ["code"], preexec_fn=refuse_to_store)
+        program.expect(f"{command} without storing", given, (4, b"", b"openlink: device: code\n"))
+        program.expect("code", program.read("code"), b"the old file")
+        program.expect("code.new is there", program.has("code.new"), False)
 
 
 def test_a_command_that_is_killed(program):
@@ -116,11 +140,11 @@ def test_a_command_that_is_killed(program):
 
 
 def test_no_such_folder(program):
-    """Nothing is made where the path names no folder that is there, or no file in it."""
+    """Nothing is made if the folder of the path does not exist, or the path names no file in it."""
     write_sources(program)
     program.write("file", "no folder")
     for command, _, _ in COMMANDS:
         for name in "none/code", "file/code", "", "/":
             program.fails(command + [name], 4, f"device: {name}")
     program.expect("the file", program.read("file"), b"no folder")
-    program.expect(".new is there", program.has(".new"), False)
+    program.expect(".new exists", program.has(".new"), False)

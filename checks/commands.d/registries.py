@@ -111,7 +111,7 @@ def test_a_registry_of_256_targets_is_full(program):
         refuses(program, lines(numbered + [name]), 3, f"target {name}: Full")
 
 
-# The second row alone has a link. It has no cell for the last date, so the request's stands.
+# Only the second row has a link. It has no cell for the last date, so the request's value counts.
 RULES = ("list list\nrule\nwhen date_first_issue_online is \"2000\"\n"
          "link {+title_url}{?print_identifier,date_first_issue_online,date_last_issue_online,rft.issn,x,list*}\n")
 WITH_CELLS = ("rft.issn=1234567x&title_url=http%3A%2F%2Fevil.example&list=a&x=1&list=b&x=2"

@@ -1,7 +1,7 @@
 """Runs of accepted code: the link that it gives for a query, or that it gives none."""
 from assembler import LIST_FILE, code
 
-# What stands as a list in one of its names is a list of the query too, so `list` has no text.
+# A name that the code declares as a list is a list of the query too, so `list` has no text.
 NAMES = [
     ("text", "x"),
     ("list", "list"),

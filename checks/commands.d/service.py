@@ -55,7 +55,7 @@ class Service:
 
 
 def expect_replies(program, cases):
-    """A service gives each of these requests the reply that stands after it."""
+    """A service gives each of these requests the reply that follows it."""
     with Service(program, len(cases)) as service:
         for request, wanted in cases:
             program.expect(f"the reply to {str(request)[:200]}", service.reply(request), wanted)

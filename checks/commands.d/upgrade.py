@@ -19,7 +19,7 @@ def test_version_2(program):
     for old in "old.olk", "new.olk":
         program.prints(["upgrade", old, "new.olk"], "68 bytes")
         program.expect("new.olk", program.read("new.olk"), b"OLK2" + LIST_FILE[4:])
-        program.expect("new.olk.new is there", program.has("new.olk.new"), False)
+        program.expect("new.olk.new exists", program.has("new.olk.new"), False)
         program.prints(["verify", "new.olk"], "ok\nsteps 3 + 3*M\nbytes 0 + 1*M + 3*E + 0*M*E")
     program.expect("old.olk", program.read("old.olk"), LIST_FILE)
 
@@ -34,7 +34,7 @@ def test_what_stands_there_stays(program):
     program.expect("kept.olk", program.read("kept.olk"), LIST_FILE)
     program.expect("taken.olk.new", program.read("taken.olk.new"), b"another's")
     for name in "folder.new", "taken.olk":
-        program.expect(f"{name} is there", program.has(name), False)
+        program.expect(f"{name} exists", program.has(name), False)
 
 
 def test_other_arguments(program):

@@ -18,7 +18,7 @@ def decides(program, file, verdict):
         program.fails(["verify", "some.olk"], 3, f"load: {verdict}")
 
 
-# The version of the list's code, the place of an instruction, the one that stands there instead, and the verdict.
+# The version of the list's code, the place of an instruction, the one that replaces it, and the verdict.
 FORMS = [
     (1, 0, "LIST r0 n0", "ok"),
     (1, 0, "JUMP 3", "CrossesLoop at 0"),

@@ -1,9 +1,9 @@
 """Code files given to `verify`: the bounds of those that are accepted, and why others are refused."""
 from assembler import LIST_FILE, code
 
-# Prints the text of `x`, whether it is there or not.
+# Prints the text of `x`, whether it is defined or not.
 UNGUARDED = code([("text", "x")], [], "TEXT r2 n0, PUT r2 u, HALT")
-# Prints the text of `x` where it is there.
+# Prints the text of `x` if it is defined.
 GUARDED = code([("text", "x")], [], "TEXT r2 n0, UNDEF r2 3, PUT r2 u, HALT")
 
 

@@ -68,7 +68,7 @@ def test_each_character_of_the_version(program):
 
 
 def test_first_values(program):
-    """Of several values of a key the first counts, and each of the two keys by itself."""
+    """Of several values of a key the first counts. This holds for each of the two keys separately."""
     values = [VERSION, "1", ""]
     for key in KEYS:
         for first in values:

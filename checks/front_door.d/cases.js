@@ -73,7 +73,7 @@ const IDENTIFIERS = [
     ['bare numbers', 'rft_val_fmt=x&pmid=7&doi=10.5555/a,&rft.doi=doi:10.5555/A', 'x.doi=10.5555/A'
         + ' rft_id=info:doi/10.5555/A rft_id=info:pmid/7 x.pmid=7'],
     ['the same one twice', 'rft_val_fmt=x&rft_id=info:doi/10.5555/A&doi=10.5555/a', 'x.doi=10.5555/A'],
-    ['a number that is there', 'rft_val_fmt=x&rft.issn=2901-0012&rft_id=urn:ISSN:2908-0142', 'x.issn=2901-0012'],
+    ['a number that the request has', 'rft_val_fmt=x&rft.issn=2901-0012&rft_id=urn:ISSN:2908-0142', 'x.issn=2901-0012'],
     ['others', 'rft_val_fmt=x&id=oai:arXiv.org:1&rft_id=https://e.org/10.5555/a', '']
 ];
 
@@ -121,7 +121,7 @@ const PAGES = [
     ['letters', 'rft_val_fmt=x&rft.pages=e1004', 'rft.spage=e1004'],
     ['a supplement', 'rft_val_fmt=x&rft.pages=pp.+S12-S20', 'rft.spage=S12'],
     ['Roman', 'rft_val_fmt=x&rft.pages=xii-xx', 'rft.spage=xii'],
-    ['one that is there', 'rft_val_fmt=x&rft.pages=101-118&rft.spage=102', ''],
+    ['one that the request has', 'rft_val_fmt=x&rft.pages=101-118&rft.spage=102', ''],
     ['none', 'rft_val_fmt=x&rft.pages=n/a', '']
 ];
 

@@ -181,6 +181,14 @@ function testReasons() {
     expect('no report', staff.reasonsOf(['', '']).length, 0);
 }
 
+// A reply to a subrequest of nginx. The status 'cut' is that of a reply that a process has not written to its end: 200, with
+// less text than its head says.
+function replyWith(status) {
+    const text = 'a\thttp://a/\n';
+    const bytes = Buffer.from(status === 'cut' ? text.slice(0, -1) : text);
+    return { status: status === 'cut' ? 200 : status, headersOut: { 'Content-Length': String(text.length) }, responseBuffer: bytes };
+}
+
 // A request of nginx whose subrequests get these statuses; -1 throws.
 function requestWith(uri, statuses) {
     return {
@@ -190,7 +198,7 @@ function requestWith(uri, statuses) {
             const status = statuses[this.asked++];
             this.places.push(place + ' ' + options.args);
             if (status < 0) throw new Error('no\nreply');
-            return Promise.resolve({ status: status, responseText: 'a\thttp://a/\n' });
+            return Promise.resolve(replyWith(status));
         },
         return: function (status, text) { this.replied = status + ' ' + /(<h1>|<a href="[^"]*"|.error.:...|.citation.)|$/.exec(text)[0]; }
     };
@@ -203,6 +211,8 @@ async function expectReply(name, handler, request, wanted) {
 
 async function testRetries() {
     await expectReply('asked again', door.json, requestWith('/find.json?', [502, 200, 200]), '200 "citation", asked 3');
+    await expectReply('asked again after half a reply', door.json, requestWith('/find.json?', ['cut', 200, 200]), '200 "citation", asked 3');
+    await expectReply('half of a reply twice', door.go, requestWith('/go?', [200, 'cut', 'cut']), '503 <h1>, asked 3');
     await expectReply('asked again in vain', door.find, requestWith('/find?', [502, 502, 502, 502]), '503 <h1>, asked 4');
 }
 
@@ -210,6 +220,7 @@ async function testReplies() {
     await expectReply('both menus', door.find, requestWith('/find?', [200, 200]), '200 <h1>, asked 2');
     if (typeof njs === 'undefined') await testRetries();  // the njs command line has no timers
     await expectReply('not asked again', door.json, requestWith('/find.json', [504, 200]), '503 "error":503, asked 2');
+    await expectReply('no status', door.find, requestWith('/find?', [200, 0]), '503 <h1>, asked 2');
     await expectReply('refused', door.go, requestWith('/go?', [400, 200]), '400 <h1>, asked 2');
     const request = requestWith('/why?', [200, 200]);
     request.rawVariables.args = Buffer.from("au=O'Neill&issn=2901-0012");

@@ -1,7 +1,7 @@
 """The tests of the front door; checks/front_door starts it at the top of the repository."""
 import concurrent.futures, glob, json, os, re, shutil, signal, subprocess, sys, tempfile, threading, time
 from urllib.parse import quote
-import staff, targets
+import cut_short, staff, targets
 from running import FOR_EVERY_REQUEST, Site, free_ports
 
 HERE = os.path.dirname(os.path.abspath(__file__))
@@ -505,6 +505,10 @@ def test_processes(site):
     expect("no process, passed on", site.get(f"/openurl?{ARTICLE}").status in (502, 503, 504))
 
 
+def test_cut_short(site):
+    cut_short.test(site, expect)  # all processes have ended
+
+
 def probe(*words):
     done = subprocess.run(["deploy/probe", *words], capture_output=True, text=True)
     return done.returncode, done.stdout, done.stderr
@@ -591,7 +595,7 @@ def main():
         expect("nginx -t", (status, text if status else ""), (0, ""))
         site.start()
         for test in (test_requests, test_page, test_json, test_languages, test_go, test_hostile, test_form, test_passed_on, test_staff, test_faults,
-                     test_limit, test_hostile_labels, test_processes, test_logs):
+                     test_limit, test_hostile_labels, test_processes, test_cut_short, test_logs):
             test(site)
     finally:
         site.stop()

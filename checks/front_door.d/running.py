@@ -1,5 +1,5 @@
 """Starts nginx with the front door and processes of the program, in a temporary folder and on free local ports."""
-import http.client, json, os, re, shutil, signal, socket, subprocess, tempfile, time
+import http.client, json, os, random, re, shutil, signal, socket, subprocess, tempfile, time
 
 PROGRAM = os.path.abspath("crates/openlink/out/openlink")
 LIBRARY = {
@@ -40,10 +40,17 @@ http {{
 
 
 def free_ports(count):
-    sockets = [socket.create_server(("127.0.0.1", 0)) for _ in range(count)]
-    ports = [peer.getsockname()[1] for peer in sockets]
-    for peer in sockets:
-        peer.close()
+    """Ports at which nothing listens, below those that the system gives to clients (from 32768 on). While a process is down, a
+    client at such a port could get it as its own, and then hear itself."""
+    ports = []
+    while len(ports) < count:
+        port = random.randrange(20000, 32000)
+        try:
+            socket.create_server(("127.0.0.1", port)).close()
+        except OSError:
+            continue
+        if port not in ports:
+            ports.append(port)
     return ports
 
 

@@ -94,7 +94,7 @@ def problem_link(site, faults):
 
 
 def faults_of(data, loaded=None):
-    """Faults of a targets.json; `loaded` has the languages whose words are there."""
+    """Faults of a targets.json; `loaded` has the languages that have a file of words."""
     faults = []
     site = parsed(data, faults)
     if site is None:

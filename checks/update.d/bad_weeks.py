@@ -1,8 +1,14 @@
-"""Files that are rejected or doubtful, probes and processes that fail, full disks. The version before is served."""
-import os, resource, shutil, subprocess, sys
+"""Files that are rejected or doubtful, and probes, processes and commands that fail. The version before is served."""
+import os
 from counting import expect, expect_lines
-from fixture import Library
+from fixture import PROGRAM, Library
 from weeks import HTML
+
+# The program, but a command that is killed: `compile` after it has begun to write.
+KILLED = """#!/bin/sh
+case $1 in {command}) [ "$1" != compile ] || echo OLK1 >"$3.new"; kill -9 $$ ;; esac
+exec {program} "$@"
+"""
 
 
 def kept(name, library, reason, week, path=None):
@@ -144,47 +150,19 @@ def test_processes():
         expect("a restart that fails", (status, library.weeks_served(), "status 5, no unit" in said), (3, {"A"}, True))
 
 
-def test_full_disk():
-    """Less and less room, until nothing can be made: then the version before is served and nothing is left."""
-    folder = None
-    with Library() as aside:
-        folder = aside.aside("disk")
-        os.mkdir(folder)
-        if subprocess.run(["mount", "-t", "tmpfs", "-o", "size=1m", "tmpfs", folder], stderr=subprocess.DEVNULL).returncode:
-            print("checks/update: no tmpfs can be mounted here: files of limited size are tried, and no full disk", file=sys.stderr)
-            return test_file_limit(aside)
-        try:
-            with Library(folder=os.path.join(folder, "library")) as library:
-                fill(library, folder)
-        finally:
-            subprocess.run(["umount", "-l", folder], check=True)
+def test_killed_commands():
+    """A command of the program that is killed, with what it may leave: nothing is put in use."""
+    with Library() as library:
+        first, program = library.current(), library.aside("program")
+        library.input.deliver("B")
+        for command, status in (("compile", 4), ("inspect", 4), ("lint", 4), ("serve", 3)):
+            with open(program, "w") as file:
+                file.write(KILLED.format(command=command, program=PROGRAM))
+            os.chmod(program, 0o755)
+            got, said = library.run("--program", program)
+            expect(f"{command} is killed: {said}", (got, library.current(), library.weeks_served(), library.left_behind()),
+                   (status, first, {"A"}, []))
+            expect_lines(f"{command} is killed", said, f"{first} stays in use")
 
 
-def fill(library, folder):
-    library.input.deliver("B")
-    first, statuses = library.current(), []
-    for room in (0, 4, 16, 40, 64, 84, 96):
-        free = shutil.disk_usage(folder).free // 1024
-        with open(os.path.join(folder, "filler"), "wb") as file:
-            file.write(bytes(max(free - room, 0) * 1024))
-        status, said = library.run()
-        statuses.append(status)
-        os.unlink(os.path.join(folder, "filler"))
-        is_new = status == 0
-        expect(f"a disk with {room} KiB: {said}", (library.current() != first, library.weeks_served(), library.left_behind()),
-               (is_new, {"B" if is_new else "A"}, []))
-        if is_new:
-            break
-    expect("a full disk", (set(statuses[:4]), len(statuses) > 4), ({4}, True))
-    expect("no longer full", (library.run()[0], library.weeks_served()), (0, {"B"}))
-
-
-def test_file_limit(library):
-    library.input.deliver("B")
-    first = library.current()
-    child = subprocess.run(library.words(), capture_output=True, text=True,
-                           preexec_fn=lambda: resource.setrlimit(resource.RLIMIT_FSIZE, (600, 600)))
-    expect(f"a limit: {child.stderr}", (child.returncode, library.current(), library.left_behind()), (4, first, []))
-
-
-TESTS = [test_bad_files, test_code_cut_short, test_lists, test_probes, test_processes, test_full_disk]
+TESTS = [test_bad_files, test_code_cut_short, test_lists, test_probes, test_processes, test_killed_commands]

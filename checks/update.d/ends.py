@@ -17,67 +17,120 @@ def served(name, library):
         return "B" if "/titles/" in file.read() else "A"
 
 
+def stage(library):
+    """How far a killed run had come."""
+    names = os.listdir(library.folder)
+    if "before" in names:
+        return "restarting"
+    if "trial" in names:
+        return "trying"
+    return "making" if any(name.endswith(".new") for name in library.versions()) else "beginning"
+
+
+def time_of_a_run(library):
+    """The seconds that a whole run takes, from two of them. Week A is in use then, as before."""
+    took = []
+    for week in "BA":
+        library.input.deliver(week)
+        start = time.monotonic()
+        expect("a run", library.run()[0], 0)
+        took.append(time.monotonic() - start)
+    return max(took)
+
+
+def end_after(library, seconds, number):
+    """Starts a run and sends it a signal at this time. Returns its status, how long it took, and what it said."""
+    start = time.monotonic()
+    child = library.begin()
+    try:
+        said = child.communicate(timeout=seconds)
+    except subprocess.TimeoutExpired:
+        child.send_signal(number)
+        said = child.communicate(timeout=60)
+    return child.returncode, time.monotonic() - start, "".join(said)
+
+
 def test_killed():
-    """SIGKILL at moments that are spread over a run. Each run has something new, and the one before to clean up."""
+    """SIGKILL at 50 moments that are spread over a run. Each run has something new, and the one before to clean up."""
     with Library(probes=10) as library, Reader(library, pause=0.02) as reader:
-        took = []
-        for week in "BA":
-            library.input.deliver(week)
-            start = time.monotonic()
-            expect("a run", library.run()[0], 0)
-            took.append(time.monotonic() - start)
-        week, ended = "A", []
-        for moment in range(MOMENTS):
+        took, week, killed, whole, stages = time_of_a_run(library), "A", 0, 0, []
+        while killed < MOMENTS and whole < MOMENTS:
             library.input.deliver(OTHER[week])
-            child = library.begin()
-            time.sleep(min(took) * (moment + 0.5) / MOMENTS)
-            child.kill()
-            child.communicate()
-            ended.append(child.returncode)
-            week = served(f"killed at moment {moment}", library)
-        expect("runs that were killed", ended.count(-signal.SIGKILL) > MOMENTS // 2)
+            status, seconds, _ = end_after(library, took * (killed + 0.5) / MOMENTS, signal.SIGKILL)
+            if status == -signal.SIGKILL:
+                killed += 1
+                stages.append(stage(library))
+            else:  # it ended before: the same moment again, of the time that a run takes now
+                took, whole = seconds, whole + 1
+            week = served(f"killed at moment {killed}", library)
+        expect("runs that were killed", killed, MOMENTS)
+        expect(f"kills in each stage: {stages}", {"making", "trying", "restarting"} <= set(stages))
         library.input.deliver(OTHER[week])
         status, said = library.run()
         expect(f"the run after all: {said}", (status, library.weeks_served(), library.left_behind()), (0, {OTHER[week]}, []))
-    # After a kill, both processes may be restarted at once, and a page may then have no links.
-    without = [fault for fault in reader.faults if fault[1] != 200]
-    expect("meanwhile each request has a reply", (without[:3], reader.requests > 100), ([], True))
+    # Where a kill leaves no process for a moment, the page says so with status 503. It never says that there are no links.
+    wrong = [fault for fault in reader.faults if fault[1] != 503]
+    expect("meanwhile each request has a good reply, or 503", (wrong[:3], reader.requests > 100), ([], True))
+    expect(f"{len(reader.faults)} of {reader.requests} requests have 503", len(reader.faults) * 20 < reader.requests)
 
 
 def test_signals():
-    """SIGINT and SIGTERM: the run cleans up and goes back itself."""
+    """SIGINT and SIGTERM at 12 moments that are spread over a run: the run cleans up and goes back itself."""
     with Library() as library:
+        took, week, ended, whole = time_of_a_run(library), "A", 0, 0
+        while ended < 12 and whole < 12:
+            library.input.deliver(OTHER[week])
+            first, number = library.current(), (signal.SIGINT, signal.SIGTERM)[ended % 2]
+            status, seconds, said = end_after(library, took * (ended + 0.5) / 12, number)
+            if status == 0:  # it ended before
+                took, week, whole = seconds, OTHER[week], whole + 1
+                continue
+            # Before it has begun, it ends without a word, or with one of Python that is still starting.
+            wanted = 3 if "deploy/update: " in said else status
+            expect(f"a signal at moment {ended}: {said}", (status, library.current(), library.weeks_served(), library.left_behind()),
+                   (wanted, first, {week}, []))
+            ended += 1
+        expect("runs that were ended", ended, 12)
+        library.input.deliver(OTHER[week])
+        expect("the run after", (library.run()[0], library.weeks_served()), (0, {OTHER[week]}))
+
+
+def begin_slowly(library):
+    """Starts a run whose restarts take a second each, and returns it in the first of them."""
+    child = library.begin(restart=f"sh -c 'sleep 1; exec {library.restart}'")
+    while not os.path.lexists(library.path("before")):
+        time.sleep(0.01)
+    return child
+
+
+def test_signals_at_restarts():
+    """A signal after the link was moved: the run goes back, and a second signal does not stop it."""
+    with Library() as library:
+        first = library.current()
         library.input.deliver("B")
-        start = time.monotonic()
-        expect("a run", library.run("--dry-run")[0], 0)
-        took, first = (time.monotonic() - start) * 1.4, library.current()
-        for moment in range(12):
-            child = library.begin()
-            time.sleep(0.15 + took * moment / 12)
-            number = (signal.SIGINT, signal.SIGTERM)[moment % 2]
+        for number in (signal.SIGINT, signal.SIGTERM, signal.SIGHUP):
+            child = begin_slowly(library)
+            time.sleep(0.5)
+            expect("the link is moved", library.current() != first)
+            child.send_signal(number)
+            time.sleep(0.2)
             child.send_signal(number)
             said = "".join(child.communicate(timeout=60))
-            if child.returncode == 0:
-                break
-            # Before it has begun, it ends without a word.
-            wanted = -number if said == "" else 3
-            expect(f"a signal at moment {moment}: {said}",
-                   (child.returncode, library.current(), library.weeks_served(), library.left_behind()), (wanted, first, {"A"}, []))
-        expect("some were ended", moment > 6)
-        expect("the run after", (library.run()[0], library.weeks_served()), (0, {"B"}))
+            expect(f"{number.name} at a restart: {said}",
+                   (child.returncode, library.current(), library.weeks_served(), library.left_behind()), (3, first, {"A"}, []))
+            expect("its name is said", f"ended by {number.name}" in said)
 
 
 def test_two_runs():
     with Library() as library:
         library.input.deliver("B")
-        child = library.begin(restart=f"sh -c 'sleep 1; exec {library.restart}'")
-        while not os.path.lexists(library.path("before")):
-            time.sleep(0.01)
+        child = begin_slowly(library)
         start = time.monotonic()
         status, said = library.run()
         expect("a second run", (status, said), (4, f"deploy/update: {library.path('lock')}: another run has not ended\n"))
         expect("it ends at once", time.monotonic() - start < 1)
         expect("a trial too", library.run("--dry-run")[0], 4)
+        expect("going back too", library.run("--back")[0], 4)
         child.communicate(timeout=60)
         expect("the first run", (child.returncode, library.weeks_served(), library.left_behind()), (0, {"B"}, []))
 
@@ -93,4 +146,4 @@ def test_closed_output():
         expect("a closed output", (status, library.weeks_served(), library.left_behind()), (0, {"B"}, []))
 
 
-TESTS = [test_killed, test_signals, test_two_runs, test_closed_output]
+TESTS = [test_killed, test_signals, test_signals_at_restarts, test_two_runs, test_closed_output]

@@ -7,6 +7,7 @@ sys.path.insert(0, os.path.join(os.path.dirname(HERE), "front_door.d"))
 from running import PROGRAM, Site  # the site that checks/front_door tests
 
 UPDATE = "deploy/update"
+PYTHON = (sys.executable, "-S", "-B")  # without the packages of the machine, which take a third of a run's time to load
 
 
 class Supervisor(threading.Thread):
@@ -75,7 +76,7 @@ class Library:
         self.restart = f"{HERE}/restart {self.room} PORT"
 
     def __enter__(self):
-        # The first version: no process can run before it is there.
+        # No process can run before there is a first version.
         thread = threading.Thread(target=self.site.start)
         thread.start()
         self.first = self.run()
@@ -96,7 +97,7 @@ class Library:
         return [UPDATE, "--library", self.folder, "--input", self.input.folder, "--program", PROGRAM, "--site",
                 self.site.path("openlink.conf"), "--seconds", "5", "--restart", restart or self.restart, *options]
 
-    def begin(self, *options, before=(), **how):
+    def begin(self, *options, before=PYTHON, **how):
         """Starts a run."""
         return subprocess.Popen([*before, *self.words(*options, **how)], stdout=subprocess.PIPE, stderr=subprocess.PIPE, text=True)
 
@@ -169,11 +170,11 @@ def week_of(menu):
 
 
 class Reader(threading.Thread):
-    """Asks the front door for the same title again and again, until `enough` requests have been sent and it is told to end."""
+    """Asks the front door for the same title again and again."""
 
-    def __init__(self, library, enough=0, pause=0):
+    def __init__(self, library, pause=0):
         super().__init__(daemon=True)
-        self.library, self.enough, self.pause, self.is_told = library, enough, pause, False
+        self.library, self.pause, self.is_told = library, pause, False
         self.requests, self.faults, self.weeks = 0, [], set()
 
     def __enter__(self):
@@ -185,7 +186,7 @@ class Reader(threading.Thread):
         self.join()
 
     def run(self):
-        while not (self.is_told and self.requests >= self.enough):
+        while not self.is_told:
             self.requests += 1
             try:
                 reply = self.library.site.get(f"/find.json?{QUERY}")

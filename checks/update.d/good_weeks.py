@@ -15,7 +15,7 @@ def test_good_week():
         expect_lines("the first version", said, "tidal-press: new, 3 rows", "30 probes hold", f"{library.current()} is in use")
         first = library.current()
         library.input.deliver("B")
-        with Reader(library, 0) as reader:
+        with Reader(library) as reader:
             status, said = library.run()
         expect("a good week", (status, library.weeks_served(), reader.faults), (0, {"B"}, []))
         expect_lines("a good week", said, "tidal-press: 1 row added, 0 gone", "coastal-law: rules changed", "30 probes hold")
@@ -48,17 +48,17 @@ def test_changes():
         lines = ["catalogue: gone, since the list does not name it", "book-house: 1 row added, 1 gone", "extra: new, 1 row",
                  "  gains extra https://extra.example.org/Storm",
                  "  loses catalogue https://catalogue.example.org/search?index=number&term=2901-0012"]
-        expect_lines("what has changed", said, *lines, "1 probes hold")
+        expect_lines("what has changed", said, *lines, "1 probe holds")
         expect_lines("what a trial says", tried[1], *lines, "a trial: nothing was put in use")
         expect("targets", (status, library.names()), (0, ["tidal-press", "coastal-law", "book-house", "doi-resolver", "extra"]))
 
 
 def test_requests():
-    """A thousand requests while versions change."""
+    """A thousand requests while versions change and processes are restarted."""
     with Library() as library:
-        with Reader(library, 1000) as reader:
+        with Reader(library) as reader:
             week, runs = "A", []
-            while reader.requests < 900 or len(runs) < 3:
+            while reader.requests < 1000 or len(runs) < 3:
                 week = "B" if week == "A" else "A"
                 library.input.deliver(week)
                 runs.append(library.run()[0])

@@ -1,14 +1,14 @@
 """Runs that are killed directly before and after each rename."""
-import signal, sys
+import signal
 from counting import expect
 from ends import OTHER, served
-from fixture import HERE, Library
+from fixture import HERE, PYTHON, Library
 
 
 def killed_at(library, number, *options, **how):
     """A run that is killed at a rename; the number of such moments, if it ends before that one."""
     file = library.aside("moments")
-    before = (sys.executable, "-B", f"{HERE}/killed.py", str(number), file)
+    before = (*PYTHON, f"{HERE}/killed.py", str(number), file)
     child = library.begin(*options, before=before, **how)
     child.communicate(timeout=60)
     if child.returncode == -signal.SIGKILL:
@@ -18,15 +18,15 @@ def killed_at(library, number, *options, **how):
 
 
 def test_killed_at_renames():
-    """SIGKILL directly before and after each rename and link of a run that ends well, and of one that goes back. The next run
-    puts it right."""
-    for name, options, wanted in (("forward", {}, 10), ("back", {"restart": "true"}, 14)):
+    """SIGKILL directly before and after each rename and link of a run that ends well, those of `openlink compile` too, and of
+    one that goes back, from its first own rename on. The next run puts it right."""
+    for name, options, first, wanted in (("forward", {}, 0, 20), ("back", {"restart": "true"}, 10, 24)):
         with Library(probes=5) as library:
-            week, number, moments = "A", 0, None
+            week, number, moments = "A", first, None
             while moments is None:
                 library.input.deliver(OTHER[week])
                 moments = killed_at(library, number, **options)
-                served(f"{name}, killed at rename {number}", library)
+                served(f"{name}, killed at moment {number}", library)
                 number += 1
                 status, said = library.run()
                 week = OTHER[week]

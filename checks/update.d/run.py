@@ -3,7 +3,7 @@ name of one, it runs this one alone, prints how long each test takes, and last t
 import importlib, subprocess, sys, time
 from counting import counts
 
-MODULES = ("good_weeks", "bad_weeks", "ends", "renames")
+MODULES = ("good_weeks", "bad_weeks", "disks", "ends", "renames")
 
 
 def run(module):

@@ -310,7 +310,7 @@ const DATES = [
 function yearFirst(found) { return ymd(found[1], found[2], found[3]); }
 function yearInText(found, text) { return ymd(found[1], monthIn(text), 0); }
 
-// Two numbers that may both be months can't be told apart, so the year alone is certain.
+// If both numbers may be months, only the year is certain.
 function yearLast(found) {
     const a = Number(found[1]);
     const b = Number(found[2]);
@@ -404,19 +404,28 @@ function argsOf(r) {
     });
 }
 
-// Asks the program, and once more if no process can be reached: all of them are back within 400 ms of a restart.
-async function ask(r, place, args) {
+// The status and text of a reply of the program. A process that ends while it writes leaves a reply that is shorter than
+// its head says, which nginx gives as status 200: it counts as no reply, since a page without links would be wrong.
+async function replyOf(r, place, args) {
     const reply = await r.subrequest(place, { args: args });
+    const bytes = reply.responseBuffer || Buffer.from('');
+    const isWhole = reply.status !== 200 || reply.headersOut['Content-Length'] === String(bytes.length);
+    return { status: isWhole ? reply.status : 502, text: isWhole ? bytes.toString() : '' };
+}
+// Asks the program, and once more if no process replies: all of them are back within 400 ms of a restart.
+async function ask(r, place, args) {
+    const reply = await replyOf(r, place, args);
     if (reply.status !== 502) return reply;
     await new Promise(function (done) { setTimeout(done, 400); });
-    return r.subrequest(place, { args: args });
+    return replyOf(r, place, args);
 }
-// Asks with both queries; gives these, the worse status and both texts.
+// Asks with both queries; gives these, both texts, and the status: 200 only if both replies have it, else the greatest other.
 async function askBoth(r, place, q) {
     const queries = [requestText(q), anyText(q)];
     const replies = await Promise.all(queries.map((query) => ask(r, place, query)));
-    const status = Math.max(replies[0].status, replies[1].status);
-    return { queries: queries, status: status, texts: replies.map((reply) => reply.responseText || '') };
+    const others = replies.map((reply) => reply.status).filter((status) => status !== 200);
+    const status = others.length === 0 ? 200 : Math.max(others[0], others[others.length - 1]);
+    return { queries: queries, status: status, texts: replies.map((reply) => reply.text) };
 }
 
 function nameOf(line) { return line.slice(0, line.indexOf('\t')); }

@@ -5,8 +5,8 @@ DEATH_SIGNAL = 1  # PR_SET_PDEATHSIG of prctl
 LIBC = ctypes.CDLL(None)
 
 
-def start(words, folder, **how):
-    """Starts a command that gets SIGTERM when this process ends."""
+def tied():
+    """What a child calls before its command starts: it gets SIGTERM when this process ends."""
     parent = os.getpid()
 
     def tie():
@@ -14,7 +14,12 @@ def start(words, folder, **how):
         if os.getppid() != parent:
             os._exit(1)
 
-    return subprocess.Popen(words, cwd=folder, stdin=subprocess.DEVNULL, start_new_session=True, preexec_fn=tie, **how)
+    return tie
+
+
+def start(words, folder, **how):
+    """Starts a command that ends with this process."""
+    return subprocess.Popen(words, cwd=folder, stdin=subprocess.DEVNULL, start_new_session=True, preexec_fn=tied(), **how)
 
 
 def stop(child):

@@ -4,7 +4,7 @@ ALL_NEW, KEPT, USAGE, WENT_BACK, DEVICE = 0, 1, 2, 3, 4
 
 
 class Failure(Exception):
-    """The run cannot go on. Its text says what is wrong and where."""
+    """The run cannot continue. Its text says what is wrong and where."""
 
     def __init__(self, text, status=WENT_BACK):
         super().__init__(text)

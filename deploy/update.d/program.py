@@ -1,5 +1,6 @@
 """Runs the program's commands on files, and reads the warnings of `inspect` and `lint`."""
 import re, subprocess
+import children
 from outcome import DEVICE, Failure, Refused
 
 SECONDS = 600  # for a command
@@ -37,7 +38,7 @@ class Program:
         """What a command prints. Refused if it rejects a file; a Failure if it ends with another status above `most`."""
         try:
             done = subprocess.run([self.path, *words], cwd=self.folder, stdin=subprocess.DEVNULL, capture_output=True,
-                                  timeout=SECONDS, start_new_session=True)
+                                  timeout=SECONDS, start_new_session=True, preexec_fn=children.tied())
         except OSError as fault:
             raise Failure(f"{self.path}: {fault.strerror}", DEVICE) from fault
         except subprocess.TimeoutExpired as fault:

@@ -107,7 +107,7 @@ class Run:
             raise Failure(f"{len(differing)} of {len(probes.list)} probes differ at the ports")
         if probes.links(door.running) != links:
             raise Failure("the processes at the ports have other links than the new version")
-        report(f"{len(probes.list)} probes hold")
+        report(f"{len(probes.list)} probes hold" if len(probes.list) != 1 else "1 probe holds")
 
     def say_end(self, maker, text):
         parts = [text]

@@ -1,7 +1,7 @@
-"""Proves the crates that the program stands on, builds it, and runs it: python3 tools/prove [ARGUMENT ..]
+"""Proves the crates that the program depends on, builds it, and runs it: python3 tools/prove [ARGUMENT ..]
 
 Proofs run side by side (schedule.py), each as an rt command in a folder of its own (room.py). What they prove stays in
-crates/NAME/out/, so a run that was interrupted goes on from there."""
+crates/NAME/out/, so after an interrupt the next run continues from there."""
 
 import os
 import signal

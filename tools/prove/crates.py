@@ -1,4 +1,4 @@
-"""The crates of crates.txt that a program stands on: their order, how long each takes, and what is proved."""
+"""The crates of crates.txt that a program depends on: their order, how long each takes, and what is proved."""
 
 import hashlib
 import os
@@ -23,7 +23,7 @@ def read(root):
 
 
 class Crates:
-    """A program and the crates that it stands on; `names` has each after those that it stands on, the program last."""
+    """A program and the crates that it depends on. In `names`, each comes after those that it depends on, the program last."""
 
     def __init__(self, root, program, kit):
         self.root, self.program, self.kit = root, program, kit

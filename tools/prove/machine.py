@@ -11,7 +11,7 @@ JOB = 2_500_000_000
 
 
 def slots():
-    """Returns how many jobs can run at once: one a processor, as many as fit into memory, at least one. OPENLINK_JOBS
+    """Returns how many jobs can run at once: one for each processor, if memory suffices, and at least one. OPENLINK_JOBS
     sets another number."""
     wanted = os.environ.get("OPENLINK_JOBS", "")
     if wanted.isdigit() and int(wanted) > 0:

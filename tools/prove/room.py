@@ -65,7 +65,7 @@ def lock(folder, wait):
         except BlockingIOError:
             wait()
         except OSError:
-            return held  # some file systems have no locks, and rt goes on there too
+            return held  # some file systems have no locks, and rt continues there too
 
 
 def link(source, to):
@@ -83,7 +83,7 @@ def link(source, to):
 
 
 def move(source, to):
-    """Moves what an out/ folder keeps to another; what is there already stays."""
+    """Moves what an out/ folder keeps to another, except for what that one has already."""
     os.makedirs(to, exist_ok=True)
     for entry in os.listdir(source):
         if entry not in (LOG, ROOMS) and not os.path.lexists(f"{to}/{entry}"):
