@@ -1,7 +1,7 @@
 #!/usr/bin/env bash
-# Counts the instructions of `openlink compile` on rule files of a quarter, of half and of all the bytes that a rule file may
-# have, by callgrind, and prints a table; it fails where a code has not the size that is known. No part of the gate, which
-# builds the program that this runs.
+# Counts the instructions of `openlink compile`, by callgrind, on rule files that have a quarter, half and all of the bytes
+# that a rule file may have, and prints a table. Fails if the code has another size than is known. It needs the built program,
+# and is not part of the gate.
 set -euo pipefail
 cd "$(dirname "$0")/.."
 program=$PWD/crates/openlink/out/openlink
@@ -9,7 +9,7 @@ program=$PWD/crates/openlink/out/openlink
 work=$(mktemp -d)
 trap 'rm -rf "$work"' EXIT
 
-# So many rules, each with a name and a link text of its own, of 247 bytes each.
+# names N: rules with a name and a link text of their own, of 247 bytes each.
 names() {
   for ((i = 0; i < $1; i++)); do printf 'rule\nwhen has n%03d\nlink http://e.org/%03d%0207d\n' "$i" "$i" 0; done
 }

@@ -1,6 +1,6 @@
 #!/usr/bin/env bash
-# What it costs to expand a template for a stored request: instructions and allocations a round, by callgrind. The
-# program that does it, expand.rt.txt, checks its answers. It is no part of the gate.
+# What it costs to expand a template for a stored request: the instructions and allocations of each round, by callgrind. The
+# measured program, expand.rt.txt, checks its results. Not part of the gate.
 #
 #   benches/expand.sh             the working tree
 #   benches/expand.sh COMMIT      that commit, and then the working tree
@@ -9,7 +9,7 @@ cd "$(dirname "$0")/.."
 scratch=$(mktemp -d)
 trap 'rm -rf "$scratch"' EXIT
 
-# The program over the crates of a folder.
+# The measured program, built on the crates of a folder.
 build() {
     mkdir -p "$1/crates/expand_bench/src"
     cp benches/expand.rt.txt "$1/crates/expand_bench/src/main.rt"

@@ -1,6 +1,6 @@
 #!/usr/bin/env bash
-# Counts the instructions of filling an environment, by callgrind, and prints a table. No part of the gate.
-# usage: benches/fill.sh [a folder with the crates to measure; this repository's, if left out]
+# Counts the instructions of filling an environment, by callgrind, and prints a table: benches/fill.sh [FOLDER]
+# FOLDER has the crates to measure, and is this repository if it is not given. Not part of the gate.
 set -euo pipefail
 
 here=$(cd "$(dirname "$0")" && pwd)

@@ -1,6 +1,6 @@
 #!/usr/bin/env bash
-# What a step of accepted code costs, run without tags and by the checked machine: instructions, by callgrind. The program
-# that does it, runs.rt.txt, checks its answers. It is no part of the gate.
+# What a step of accepted code costs, run without tags and by the checked machine: its instructions, by callgrind. The measured
+# program, runs.rt.txt, checks its results. Not part of the gate.
 set -eu
 cd "$(dirname "$0")/.."
 scratch=$(mktemp -d)

@@ -1,5 +1,5 @@
-//! The same work in plain Rust, with the standard library alone: the lines of a table as text with the place where each
-//! ends, the first column of each name, and from each normalised identifier to its rows. It reads the table so often.
+//! The same work in plain Rust, with only the standard library. It reads a table as text, and keeps where each line ends, the
+//! first column of each name, and the rows of each normalised identifier. It does so the given number of times.
 
 use std::collections::HashMap;
 

@@ -1,7 +1,7 @@
 #!/usr/bin/env bash
-# What holdings tables cost: the time of reading one of 16 MiB and 200,000 rows beside the same work in plain Rust, the
-# memory that tables keep, the instructions of a look-up, and identifiers that were made to collide. The programs are
-# tables.rt.txt, which checks its answers, and tables.rs, which is left out where there is no rustc. No part of the gate.
+# What holdings tables cost: the time of reading one of 16 MiB and 200,000 rows, compared with the same work in plain Rust; the
+# memory that tables keep; the instructions of a look-up; and identifiers that were made to collide. The measured programs are
+# tables.rt.txt, which checks its results, and tables.rs, which is skipped if there is no rustc. Not part of the gate.
 set -euo pipefail
 cd "$(dirname "$0")/.."
 scratch=$(mktemp -d)
