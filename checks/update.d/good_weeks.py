@@ -77,8 +77,11 @@ def test_back():
         expect("four versions are kept", library.versions(), stamps[-4:])
         expect("back", library.run("--back"), (0, f"{stamps[-2]} is in use again\n"))
         expect("the version before", (library.current(), library.weeks_served(), library.left_behind()), (stamps[-2], {"A"}, []))
+        # A new version may have the stamp of the one that is removed, if both were made within a second.
+        open(library.path("versions", stamps[-1], "mark"), "w").close()
         expect("forward", library.run()[0], 0)
-        expect("the version after", (library.weeks_served(), stamps[-1] in library.versions()), ({"B"}, False))
+        kept = [stamp for stamp in library.versions() if os.path.exists(library.path("versions", stamp, "mark"))]
+        expect("the version after", (library.weeks_served(), kept), ({"B"}, []))
         for _ in range(len(library.versions()) - 1):
             expect("back again", library.run("--back")[0], 0)
         status, said = library.run("--back")
