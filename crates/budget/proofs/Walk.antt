@@ -2,7 +2,7 @@
 use Rattle.std.proofs.Common.{◌≡◌, ℕ, suc, ◌+◌, ◌<◌, ◌≤◌, Option, Some, None, refl, sym, ap, ◌∙◌, subst, arith, add-one}
 use Rattle.code_model.specs.Code.{Code, reading_at}
 use Rattle.machine_model.specs.declared.form.Body.{Body}
-use Rattle.machine_model.specs.Form.{begun, body_after, body_at}
+use Rattle.machine_model.specs.Form.{opened, body_after, body_at}
 use Rattle.std.specs.Prelude.{◌&&◌}
 use Rattle.code_model.specs.declared.code.Instruction.{Instruction}
 use Rattle.machine_model.specs.Budget.{keeps_element, prints, is_of_element}
@@ -50,9 +50,9 @@ module _ (c : Code) where
       let same : None ≡ body_at c (p + 1) = rw add-one (sym off) in
       ap (running_in c) {x = None} same
 
-  pub running_begun : (p : ℕ) → None ≡ running_at c p → running_in c (begun c p (reading_at c p)) ≡ running_at c (p + 1)
-  running_begun p h =
-      let after : body_at c (suc p) ≡ begun c p (reading_at c p) = body_suc c p ∙ ap (body_after c p) (no_body_at p h) in
+  pub running_opened : (p : ℕ) → None ≡ running_at c p → running_in c (opened c p (reading_at c p)) ≡ running_at c (p + 1)
+  running_opened p h =
+      let after : body_at c (suc p) ≡ opened c p (reading_at c p) = body_suc c p ∙ ap (body_after c p) (no_body_at p h) in
       ap (running_in c) (sym (rw add-one after))
 
   pub of_element_at : (p : ℕ) (r : Running) (i : Option Instruction) → Some r ≡ running_at c p → i ≡ reading_at c p

@@ -52,14 +52,14 @@ pub(crate) fn next_running(code: &Code, place: usize, running: Option<Running>) 
     match running {
         Some(running) if place + 1 < running.body.end => Some(running),
         Some(_) => None,
-        None => begun(code, place),
+        None => opened(code, place),
     }
 }
 
 /// The body that an EACH at the place begins.
-fn begun(code: &Code, place: usize) -> Option<Running>
+fn opened(code: &Code, place: usize) -> Option<Running>
     requires { place < length code.now.instrs }
-    ensures { result ≡ running_in code.now (form.begun code.now place (reading_at code.now place)) }
+    ensures { result ≡ running_in code.now (form.opened code.now place (reading_at code.now place)) }
 {
     let Some(Instruction::Each(element, _, end)) = reading(code, place) else {
         return None;

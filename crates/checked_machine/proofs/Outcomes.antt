@@ -6,7 +6,7 @@ use Rattle.environment_model.specs.Environment.{Environment}
 use Rattle.machine_model.specs.States.{Frame, State, Running, Ended, start}
 use Rattle.machine_model.specs.States as end
 use Rattle.machine_model.specs.Step.{Step}
-use Rattle.machine_model.specs.Runs.{After, ComesTo, Outcome, HasOutcome, Link, NoLink, Stuck}
+use Rattle.machine_model.specs.Runs.{After, EndsWith, Outcome, HasOutcome, Link, NoLink, Stuck}
 use Rattle.machine_model.specs.Next.{next_state, Course, course, course_of, step_limit}
 use Rattle.checked_machine.specs.Outcomes.{IsOutcome}
 
@@ -23,13 +23,13 @@ pub one_more : StepIsDecided → (c : Code) (v : Environment) (k : ℕ) (s : Fra
 unfolding After
 one_more decided c v k s new h e = rw add-one ((Running s, h, (decided c v (Running s) new).1 e))
 
-pub comes_to_link : StepIsDecided → (c : Code) (v : Environment) (k : ℕ) (s : Frame) → After c v k (Running s) → (text : _)
+pub ends_with_link : StepIsDecided → (c : Code) (v : Environment) (k : ℕ) (s : Frame) → After c v k (Running s) → (text : _)
     → next_state c v (Running s) ≡ Some (Ended (end.Link text)) → HasOutcome c v (Link text)
-comes_to_link decided c v k s h text e = (k + 1, one_more decided c v k s (Ended (end.Link text)) h e)
+ends_with_link decided c v k s h text e = (k + 1, one_more decided c v k s (Ended (end.Link text)) h e)
 
-pub comes_to_no_link : StepIsDecided → (c : Code) (v : Environment) (k : ℕ) (s : Frame) → After c v k (Running s)
+pub ends_with_no_link : StepIsDecided → (c : Code) (v : Environment) (k : ℕ) (s : Frame) → After c v k (Running s)
     → next_state c v (Running s) ≡ Some (Ended end.NoLink) → HasOutcome c v NoLink
-comes_to_no_link decided c v k s h e = (k + 1, one_more decided c v k s (Ended end.NoLink) h e)
+ends_with_no_link decided c v k s h e = (k + 1, one_more decided c v k s (Ended end.NoLink) h e)
 
 pub gets_stuck : StepIsDecided → (c : Code) (v : Environment) (k : ℕ) (s : Frame) → After c v k (Running s) → next_state c v (Running s) ≡ None
     → HasOutcome c v (Stuck s.place)
@@ -52,11 +52,11 @@ is_stuck_last decided c v s in_time h = (
 
 -- the law that what a run ends with is computed
 abbrev pub CourseIsDecided : Type 0
-CourseIsDecided = (c : Code) (v : Environment) (k : ℕ) (o : Outcome) → ComesTo c v k o ↔ (course_of c v ≡ course k o)
+CourseIsDecided = (c : Code) (v : Environment) (k : ℕ) (o : Outcome) → EndsWith c v k o ↔ (course_of c v ≡ course k o)
 
 pub the_only : CourseIsDecided → (c : Code) (v : Environment) (o : Outcome) → HasOutcome c v o → IsOutcome c v o
 the_only decided c v o h = record {
-  comes = h;
+  has_outcome = h;
   only = λ other g.
       let p : course_of c v ≡ course h.0 o = (decided c v h.0 o).0 h.1 in
       let q : course_of c v ≡ course g.0 other = (decided c v g.0 other).0 g.1 in

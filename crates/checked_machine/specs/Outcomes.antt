@@ -13,5 +13,5 @@ outcome_of (Stuck place) = run.Stuck place
 
 -- the run ends with this outcome, and with no other
 pub record IsOutcome (c : Code) (v : Environment) (o : run.Outcome) : Type 0 where
-  pub comes : run.HasOutcome c v o
+  pub has_outcome : run.HasOutcome c v o
   pub only : (other : run.Outcome) → run.HasOutcome c v other → other ≡ o

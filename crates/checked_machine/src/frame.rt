@@ -30,14 +30,14 @@ pub(crate) struct Frame<'a> {
 pub(crate) enum Move {
     Link,
     NoLink,
-    Goes(usize),
+    MovesTo(usize),
     Returns(usize),
 }
 
 impl<'a> Frame<'a> {
     ghost use Rattle.std.specs.Prelude.{◌≡◌, ◌<◌, if◌then◌else◌};
     ghost use Rattle.machine_model.specs.States.{start, at, on, holding};
-    ghost use Rattle.machine_model.specs.Step.{Goes};
+    ghost use Rattle.machine_model.specs.Step.{MovesTo};
     ghost use Rattle.checked_machine.specs.Private.Values.{value_of};
     ghost use Rattle.checked_machine.specs.Private.Frames.{frame_of, move_in};
 
@@ -67,19 +67,19 @@ impl<'a> Frame<'a> {
     /// To the next place.
     pub(crate) fn on(&self) -> Move
         requires { self.now.place < usize.MAX }
-        ensures { move_in (frame_of self.now) result ≡ Goes (on (frame_of self.now)) }
+        ensures { move_in (frame_of self.now) result ≡ MovesTo (on (frame_of self.now)) }
     {
-        Move::Goes(self.place + 1)
+        Move::MovesTo(self.place + 1)
     }
 
     /// To a place if a test holds, and otherwise to the next place.
     pub(crate) fn jump_if(&self, test: bool, to: u16) -> Move
         requires { self.now.place < usize.MAX }
         ensures { move_in (frame_of self.now) result
-            ≡ Goes (if test then at to (frame_of self.now) else on (frame_of self.now)) }
+            ≡ MovesTo (if test then at to (frame_of self.now) else on (frame_of self.now)) }
     {
         if test {
-            Move::Goes(to as usize)
+            Move::MovesTo(to as usize)
         } else {
             self.on()
         }

@@ -2,7 +2,7 @@
 
 ghost use Rattle.std.specs.Prelude.{◌≡◌, ◌<◌, Some, nat_lt, bytes_eq, if◌then◌else◌};
 ghost use Rattle.machine_model.specs.States.{on, at};
-ghost use Rattle.machine_model.specs.Step.{Goes};
+ghost use Rattle.machine_model.specs.Step.{MovesTo};
 ghost use Rattle.machine_model.specs.Next.{for_text, for_list, for_number, undef_move, jump_if_none};
 ghost use Rattle.checked_machine.specs.Private.Frames.{frame_of, moves};
 
@@ -18,7 +18,7 @@ impl<'a> Frame<'a> {
             ((frame_of self.now).registers register.number) }
     {
         match self.value(register) {
-            Value::Undefined => Some(Move::Goes(to as usize)),
+            Value::Undefined => Some(Move::MovesTo(to as usize)),
             Value::Text(_) => Some(self.on()),
             _ => None,
         }
@@ -58,7 +58,7 @@ impl<'a> Frame<'a> {
         requires { self.now.place < usize.MAX }
         ensures { moves (frame_of self.now) result ≡ for_text ((frame_of self.now).registers first.number)
             (λ t. for_text ((frame_of self.now).registers second.number)
-            (λ u. Some (Goes (if bytes_eq t u then on (frame_of self.now) else at to (frame_of self.now))))) }
+            (λ u. Some (MovesTo (if bytes_eq t u then on (frame_of self.now) else at to (frame_of self.now))))) }
     {
         match (self.value(first), self.value(second)) {
             (Value::Text(first), Value::Text(second)) => Some(self.jump_if(first != second, to)),
@@ -71,7 +71,7 @@ impl<'a> Frame<'a> {
         requires { self.now.place < usize.MAX }
         ensures { moves (frame_of self.now) result ≡ for_number ((frame_of self.now).registers first.number)
             (λ m. for_number ((frame_of self.now).registers second.number)
-            (λ n. Some (Goes (if nat_lt m n then at to (frame_of self.now) else on (frame_of self.now))))) }
+            (λ n. Some (MovesTo (if nat_lt m n then at to (frame_of self.now) else on (frame_of self.now))))) }
     {
         match (self.value(first), self.value(second)) {
             (Value::Number(first), Value::Number(second)) => Some(self.jump_if(first < second, to)),

@@ -7,7 +7,7 @@ ghost use Rattle.machine_model.specs.Operands.{name_at, literal_at};
 ghost use Rattle.machine_model.specs.Values as value;
 ghost use Rattle.machine_model.specs.Values.{text_or_undefined};
 ghost use Rattle.machine_model.specs.States.{on, holding};
-ghost use Rattle.machine_model.specs.Step.{Goes};
+ghost use Rattle.machine_model.specs.Step.{MovesTo};
 ghost use Rattle.machine_model.specs.Next.{for_text, for_list, number_move};
 ghost use Rattle.checked_machine.specs.Private.Values.{value_of};
 ghost use Rattle.checked_machine.specs.Private.Frames.{frame_of, move_in, moves};
@@ -58,7 +58,7 @@ impl<'a> Frame<'a> {
     pub(crate) fn load(&mut self, register: Register, value: Value<'a>) -> Move
         requires { self.old.place < usize.MAX }
         ensures { move_in (frame_of self.new) result
-            ≡ Goes (on (holding register.number (value_of value.entry) (frame_of self.old))) }
+            ≡ MovesTo (on (holding register.number (value_of value.entry) (frame_of self.old))) }
     {
         self.hold(register, value);
         self.on()
@@ -79,7 +79,7 @@ impl<'a> Frame<'a> {
             return None;
         };
         match leading_number(text) {
-            None => Some(Move::Goes(to as usize)),
+            None => Some(Move::MovesTo(to as usize)),
             Some(number) => Some(self.load(register, Value::Number(number))),
         }
     }
@@ -88,7 +88,7 @@ impl<'a> Frame<'a> {
     pub(crate) fn load_count(&mut self, register: Register, list: Register) -> Option<Move>
         requires { self.old.place < usize.MAX }
         ensures { moves (frame_of self.new) result ≡ for_list ((frame_of self.old).registers list.number)
-            (λ ts. Some (Goes (on (holding register.number (value.Number (length ts)) (frame_of self.old))))) }
+            (λ ts. Some (MovesTo (on (holding register.number (value.Number (length ts)) (frame_of self.old))))) }
     {
         let Value::List(members) = self.value(list) else {
             return None;

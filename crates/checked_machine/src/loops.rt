@@ -26,7 +26,7 @@ impl<'a> Frame<'a> {
             return None;
         };
         let Some((member, left)) = members.split_first() else {
-            return Some(Move::Goes(end));
+            return Some(Move::MovesTo(end));
         };
         self.running = Some(Loop {
             start,

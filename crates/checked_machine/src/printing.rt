@@ -5,7 +5,7 @@ ghost use Rattle.text_model.specs.UriText.{IsUriText};
 ghost use Rattle.text_model.specs.Writing.{written};
 ghost use Rattle.text_model.specs.Cut.{cut};
 ghost use Rattle.machine_model.specs.States.{on, printing};
-ghost use Rattle.machine_model.specs.Step.{Goes};
+ghost use Rattle.machine_model.specs.Step.{MovesTo};
 ghost use Rattle.machine_model.specs.Next.{for_text, in_loop};
 ghost use Rattle.checked_machine.specs.Private.Frames.{frame_of, move_in, moves};
 
@@ -39,7 +39,7 @@ impl<'a> Frame<'a> {
         requires uri_text { IsUriText text.now }
         requires place { self.old.place < usize.MAX }
         ensures { IfOk result
-            (λ to. move_in (frame_of self.new) to ≡ Goes (on (printing text.now (frame_of self.old)))) }
+            (λ to. move_in (frame_of self.new) to ≡ MovesTo (on (printing text.now (frame_of self.old)))) }
     {
         append(&mut self.output, text)?;
         Ok(self.on())
@@ -50,7 +50,7 @@ impl<'a> Frame<'a> {
         requires uri_text { IsUriText text.now }
         requires place { self.old.place < usize.MAX }
         ensures { IfOk result (λ to. moves (frame_of self.new) to ≡ in_loop (frame_of self.old).loop
-            (λ l. Some (Goes (on (if l.first then frame_of self.old else printing text.now (frame_of self.old)))))) }
+            (λ l. Some (MovesTo (on (if l.first then frame_of self.old else printing text.now (frame_of self.old)))))) }
     {
         let Some(running) = self.running else {
             return Ok(None);
@@ -70,7 +70,7 @@ impl<'a> Frame<'a> {
         requires { self.old.place < usize.MAX }
         ensures { IfOk result
             (λ to. moves (frame_of self.new) to ≡ for_text ((frame_of self.old).registers register.number)
-            (λ t. Some (Goes (on (printing (written writing t) (frame_of self.old)))))) }
+            (λ t. Some (MovesTo (on (printing (written writing t) (frame_of self.old)))))) }
     {
         let Value::Text(text) = self.value(register) else {
             return Ok(None);
@@ -89,7 +89,7 @@ impl<'a> Frame<'a> {
         requires { self.old.place < usize.MAX }
         ensures { IfOk result
             (λ to. moves (frame_of self.new) to ≡ for_text ((frame_of self.old).registers register.number)
-            (λ t. Some (Goes (on (printing (written writing (cut writing t count)) (frame_of self.old)))))) }
+            (λ t. Some (MovesTo (on (printing (written writing (cut writing t count)) (frame_of self.old)))))) }
     {
         let Value::Text(text) = self.value(register) else {
             return Ok(None);

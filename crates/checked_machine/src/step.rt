@@ -46,8 +46,8 @@ impl<'a> Frame<'a> {
         match to {
             Move::Link => Stepped::Link,
             Move::NoLink => Stepped::NoLink,
-            Move::Goes(place) if !self.is_onward(code, from, place) => Stepped::Stuck(from),
-            Move::Goes(place) | Move::Returns(place) => {
+            Move::MovesTo(place) if !self.is_onward(code, from, place) => Stepped::Stuck(from),
+            Move::MovesTo(place) | Move::Returns(place) => {
                 self.place = place;
                 Stepped::Onward
             }
@@ -57,7 +57,7 @@ impl<'a> Frame<'a> {
     /// Carries out the instruction at the place.
     pub(crate) fn step(&mut self, code: &'a Code, env: &'a Env) -> Result<Stepped, AllocError>
         ensures next { IfOk result
-            (λ came. stepped self.new came ≡ next_state code.now env.now.entries (Running (frame_of self.old))) }
+            (λ answer. stepped self.new answer ≡ next_state code.now env.now.entries (Running (frame_of self.old))) }
         ensures stuck { (place : ℕ) → result ≡ Ok (Stuck place) → place ≡ self.old.place }
     {
         let place = self.place;

@@ -1,6 +1,6 @@
 -- A code file that cannot be read, as an error of a command.
-use Rattle.std.proofs.Common.{◌≡◌, inl, inr, sym, subst}
-use Rattle.std.specs.Prelude.{◌≢◌, ◌⊎◌}
+use Rattle.std.proofs.Common.{inl, inr, sym, subst}
+use Rattle.std.specs.Prelude.{◌≢◌}
 use Rattle.text_model.specs.Texts.{Text}
 use Rattle.code_file.specs.Fault.{IsFirstFault, IsRefusal, too_long, fault}
 use Rattle.code_file.specs.declared.error.CodeError.{CodeError}

@@ -18,10 +18,10 @@ pub is_run : (code : Code) (query : Text) (env : EnvValue) (outcome known : Outc
 is_run code query env outcome known request within same ends =
     record { env = env; request = request; within = within; ends = subst (λ o. EndsSafely code env (outcome_of o)) same ends }
 
-pub not_begun : {T : Type 0} (query : Text) (code : Code) (env : EnvValue) (result : Result T PrepareError) (e : PrepareError)
+pub not_started : {T : Type 0} (query : Text) (code : Code) (env : EnvValue) (result : Result T PrepareError) (e : PrepareError)
     → IsRequest code query env → ((n : ℕ) → (result ≡ Err (OverBudget n)) ↔ ((n ≡ most_bytes code env) × (MAX_LINK_BYTES < n))) → result ≡ Err e
     → IsNoRun code query (prepare_fault e)
-not_begun query code env result (OverBudget n) request over is =
+not_started query code env result (OverBudget n) request over is =
     let told = (over n).0 is in
     record { env = env; request = request; bound = told.0; over = told.1 }
-not_begun query code env result NoMemory request over is = tt
+not_started query code env result NoMemory request over is = tt

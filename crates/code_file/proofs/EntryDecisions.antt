@@ -61,12 +61,12 @@ name_or_fault [] fits = inr (_, in_kind _ (no_kind refl))
 name_or_fault (kind ∷ rest) fits = elim (kind_or_fault kind) [
   | inr wrong ↦ inr (_, in_kind _ (bad_kind kind rest refl wrong))
   | inl good ↦
-      subst (λ (k : ℕ). IsEntryOrFault IsName name_field IsNameFault (k ∷ rest)) (sym good.1) (behind_kind good.0 rest)
+      subst (λ (k : ℕ). IsEntryOrFault IsName name_field IsNameFault (k ∷ rest)) (sym good.1) (after_kind good.0 rest)
 ]
   where
-    behind_kind : (list : Bool) (rest : Text) → IsEntryOrFault IsName name_field IsNameFault (kind_byte list ∷ rest)
-    behind_kind list [] = inr (_, no_length list refl)
-    behind_kind list (len ∷ rest) = elim (name_length_or_not len) [
+    after_kind : (list : Bool) (rest : Text) → IsEntryOrFault IsName name_field IsNameFault (kind_byte list ∷ rest)
+    after_kind list [] = inr (_, no_length list refl)
+    after_kind list (len ∷ rest) = elim (name_length_or_not len) [
       | inr bad ↦ inr (_, bad_length list len rest refl bad)
       | inl good ↦ text_of_name list len rest good
     ]
@@ -102,14 +102,14 @@ literal_or_fault (kind ∷ rest) fits = elim (kind_or_fault kind) [
   | inr wrong ↦ inr (_, in_kind _ (bad_kind kind rest refl wrong))
   | inl good ↦
       subst (λ (k : ℕ). IsEntryOrFault IsLiteral literal_field IsLiteralFault (k ∷ rest)) (sym good.1)
-      (behind_kind good.0 rest (λ i. fits (suc i)))
+      (after_kind good.0 rest (λ i. fits (suc i)))
 ]
   where
-    behind_kind : (compared : Bool) (rest : Text) → AreBytes rest
+    after_kind : (compared : Bool) (rest : Text) → AreBytes rest
         → IsEntryOrFault IsLiteral literal_field IsLiteralFault (kind_byte compared ∷ rest)
-    behind_kind compared [] fits = inr (_, no_length compared [] refl (omega arith))
-    behind_kind compared (high ∷ []) fits = inr (_, no_length compared (high ∷ []) refl (omega arith))
-    behind_kind compared (high ∷ low ∷ rest) fits =
+    after_kind compared [] fits = inr (_, no_length compared [] refl (omega arith))
+    after_kind compared (high ∷ []) fits = inr (_, no_length compared (high ∷ []) refl (omega arith))
+    after_kind compared (high ∷ low ∷ rest) fits =
         subst (λ (t : Text). IsEntryOrFault IsLiteral literal_field IsLiteralFault (kind_byte compared ∷ (t ++ rest)))
         (number_of_bytes high low (fits 0) (fits 1))
         (text_of_literal compared (256 * high + low) rest (number_small high low (fits 0) (fits 1)))

@@ -22,19 +22,19 @@ name_spelled bytes rest text after list len h front back n =
     (sym (ap (λ (t : Text). t ++ after) front ∙ ap (λ (t : Text). take len rest ++ t) back ∙ take-append-drop len rest))
     ∙ ap (λ (k : ℕ). kind_byte list ∷ k ∷ (text ++ after)) (sym n)
 
-pub literal_spelled : (bytes behind rest text after : Text) (compared : Bool) (len : ℕ) → bytes ≡ kind_byte compared ∷ behind
-    → behind ≡ number len ++ rest → text ≡ take len rest → after ≡ drop len rest → length text ≡ len
+pub literal_spelled : (bytes following rest text after : Text) (compared : Bool) (len : ℕ) → bytes ≡ kind_byte compared ∷ following
+    → following ≡ number len ++ rest → text ≡ take len rest → after ≡ drop len rest → length text ≡ len
     → bytes ≡ kind_byte compared ∷ (number (length text) ++ (text ++ after))
-literal_spelled bytes behind rest text after compared len h g front back n =
+literal_spelled bytes following rest text after compared len h g front back n =
     h ∙ ap (λ (t : Text). kind_byte compared ∷ t) g
     ∙ ap (λ (t : Text). kind_byte compared ∷ (number len ++ t))
     (sym (ap (λ (t : Text). t ++ after) front ∙ ap (λ (t : Text). take len rest ++ t) back ∙ take-append-drop len rest))
     ∙ ap (λ (k : ℕ). kind_byte compared ∷ (number k ++ (text ++ after))) (sym n)
 
 -- a kind, and what follows it
-pub name_head : (bytes behind rest : Text) (list : Bool) → bytes ≡ kind_byte list ∷ behind → behind ≡ rest
+pub name_head : (bytes following rest : Text) (list : Bool) → bytes ≡ kind_byte list ∷ following → following ≡ rest
     → bytes ≡ kind_byte list ∷ rest
-name_head bytes behind rest list h g = h ∙ ap (λ (t : Text). kind_byte list ∷ t) g
+name_head bytes following rest list h g = h ∙ ap (λ (t : Text). kind_byte list ∷ t) g
 
 -- ---- the text of a name is ASCII
 
@@ -45,14 +45,14 @@ ascii_name n good i =
       | inr past ↦ let none = get_or_past n.text i 0 past in omega (arith, none)
     ]
 
-pub name_text : (bytes behind text : Text) → BeginsWith IsName name_field bytes → behind ≡ drop 2 bytes
-    → text ≡ take (get_or bytes 1 0) behind → IsUtf8 text
-name_text bytes behind text b h e =
+pub name_text : (bytes following text : Text) → BeginsWith IsName name_field bytes → following ≡ drop 2 bytes
+    → text ≡ take (get_or bytes 1 0) following → IsUtf8 text
+name_text bytes following text b h e =
     let spells : bytes ≡ name_field b.0 ++ b.1 = b.3 in
     let len : get_or bytes 1 0 ≡ length b.0.text = ap (λ (t : Text). get_or t 1 0) spells in
-    let behind_is : behind ≡ b.0.text ++ b.1 = h ∙ ap (drop 2) spells in
+    let following_is : following ≡ b.0.text ++ b.1 = h ∙ ap (drop 2) spells in
     let same : text ≡ b.0.text =
-    e ∙ ap (λ (n : ℕ). take n behind) len ∙ ap (take (length b.0.text)) behind_is ∙ take-append_seam b.0.text b.1 in
+    e ∙ ap (λ (n : ℕ). take n following) len ∙ ap (take (length b.0.text)) following_is ∙ take-append_seam b.0.text b.1 in
     subst IsUtf8 (sym same) (IsUtf8-from_ascii b.0.text (ascii_name b.0 b.2))
 
 pub ok_of_utf8 : {T E : Type 0} (r : Result T E) (P : T → Type 0) (Q : E → Type 0) (U : Type 0)

@@ -92,10 +92,10 @@ instrs_here : (bytes : Text) → AreBytes bytes → length bytes ≤ MAX_BYTES �
 instrs_here bytes fits short p =
     let room = 8 * p.header.instrs in
     let instrs = take room p.rest in
-    let behind = drop room p.rest in
+    let following = drop room p.rest in
     let front = header_field p.header ++ (p.names ++ (p.literals ++ instrs)) in
-    let spells : bytes ≡ front ++ behind =
-    five_parts bytes (header_field p.header) (p.names ++ (p.literals ++ p.rest)) p.names (p.literals ++ p.rest) p.literals p.rest instrs behind
+    let spells : bytes ≡ front ++ following =
+    five_parts bytes (header_field p.header) (p.names ++ (p.literals ++ p.rest)) p.names (p.literals ++ p.rest) p.literals p.rest instrs following
     p.spells refl refl (sym (take-append-drop room p.rest)) in
     elim (cases_lt (length p.rest) room) [
       | inl few ↦ inr (_, in_instrs p few)
@@ -108,19 +108,19 @@ instrs_here bytes fits short p =
             room = length-take-le room p.rest enough;
             spells = refl;
           } in
-          elim (cases_lt 0 (length behind)) [
-            | inl some ↦ inr (_, trailing_here bytes front behind p.header p.names p.literals instrs tables spells some short fits)
+          elim (cases_lt 0 (length following)) [
+            | inl some ↦ inr (_, trailing_here bytes front following p.header p.names p.literals instrs tables spells some short fits)
             | inr none ↦
                 let same : front ≡ bytes =
-                sym (spells ∙ ap (λ (t : Text). front ++ t) (nil_from_length behind (omega arith)) ∙ append-nil front) in
+                sym (spells ∙ ap (λ (t : Text). front ++ t) (nil_from_length following (omega arith)) ∙ append-nil front) in
                 inl (code_of_tables bytes p.header p.names p.literals instrs
                 (subst (λ (t : Text). AreTables t p.header p.names p.literals instrs) same tables) short fits)
           ]
     ]
 
 literals_here : (bytes : Text) → AreBytes bytes → length bytes ≤ MAX_BYTES → (p : PastNames bytes) → AreBytes p.rest → IsAnswered bytes
-literals_here bytes fits short p behind =
-    elim (table_or_fault IsLiteral literal_field IsLiteralFault literal_or_fault p.header.literals p.rest behind) [
+literals_here bytes fits short p following =
+    elim (table_or_fault IsLiteral literal_field IsLiteralFault literal_or_fault p.header.literals p.rest following) [
       | inr bad ↦ inr (_, in_literals p bad.0 bad.1)
       | inl good ↦
           instrs_here bytes fits short
@@ -138,8 +138,8 @@ literals_here bytes fits short p behind =
 
 names_here : (bytes : Text) → AreBytes bytes → length bytes ≤ MAX_BYTES → PastHeader bytes → IsAnswered bytes
 names_here bytes fits short p =
-    let behind = bytes_right (header_field p.header) p.rest (subst AreBytes p.spells fits) in
-    elim (table_or_fault IsName name_field IsNameFault name_or_fault p.header.names p.rest behind) [
+    let following = bytes_right (header_field p.header) p.rest (subst AreBytes p.spells fits) in
+    elim (table_or_fault IsName name_field IsNameFault name_or_fault p.header.names p.rest following) [
       | inr bad ↦ inr (_, in_names p bad.0 bad.1)
       | inl good ↦
           literals_here bytes fits short
@@ -151,7 +151,7 @@ names_here bytes fits short p =
             name_table = good.2;
             spells = p.spells ∙ ap (λ (t : Text). header_field p.header ++ t) good.3;
           })
-          (bytes_right good.0 good.1 (subst AreBytes good.3 behind))
+          (bytes_right good.0 good.1 (subst AreBytes good.3 following))
     ]
 
 header_here : (bytes : Text) → AreBytes bytes → length bytes ≤ MAX_BYTES → PastCounts bytes → IsAnswered bytes

@@ -15,7 +15,7 @@ use Rattle.code_file.specs.Grammar.{header_field, header_of, name_field, literal
 use Rattle.code_file.specs.Fault.{fault, after, header_fault, PastHeader, PastNames, PastLiterals, IsNameFault, IsLiteralFault, IsTable, IsTableFault}
 use Rattle.code_file.specs.Fault.{IsFieldFault, bad_magic, no_counts, bad_counts, in_names, in_literals, in_instrs, trailing, IsFirstFault, too_long, in_field}
 use Rattle.code_file.specs.Fault.{IsRefusal}
-use Rattle.code_file.proofs.StageLemmas.{ReadsTable, found, faulty, Then, stops, goes}
+use Rattle.code_file.proofs.StageLemmas.{ReadsTable, found, faulty, Then, stops, continues}
 use Rattle.code_file.proofs.PartsLemmas.{length-instrs}
 use Rattle.code_file.proofs.ReadingStages.{outcome, ReadsHeader, no_magic, short_counts, counted, names_found, names_faulty, ReadsLiterals, literals_found}
 use Rattle.code_file.proofs.ReadingStages.{literals_faulty, ReadsInstrs, too_few, too_many, whole, Reads, one_reading}
@@ -61,9 +61,9 @@ table_faulty {X = X} IsGood field IsFault count bytes e t =
 names_read : (bytes : Text) (p : PastNames bytes) (r : Result Code CodeError)
     → Then ReadsLiterals ReadsInstrs (p.header, p.name_table.0, p.rest) r → Reads bytes r
 names_read bytes p r more =
-    goes (p.header, p.names ++ p.rest) r
+    continues (p.header, p.names ++ p.rest) r
     (header_read bytes (record { header = p.header; rest = p.names ++ p.rest; allowed = p.allowed; spells = p.spells }))
-    (goes (p.header, p.name_table.0, p.rest) r
+    (continues (p.header, p.name_table.0, p.rest) r
     (names_found p.name_table.0 p.rest (table_found IsName name_field IsNameFault p.header.names p.names p.rest p.name_table)) more)
 
 literals_read : (bytes : Text) (p : PastLiterals bytes) (r : Result Code CodeError)
@@ -79,27 +79,28 @@ literals_read bytes p r more =
       spells = p.spells;
     })
     r
-    (goes (p.header, p.name_table.0, p.literal_table.0, p.rest) r
+    (continues (p.header, p.name_table.0, p.literal_table.0, p.rest) r
     (literals_found p.literal_table.0 p.rest
     (table_found IsLiteral literal_field IsLiteralFault p.header.literals p.literals p.rest p.literal_table)) more)
 
 -- the tables of a code, with anything after them
-abbrev past_literals : (bytes front behind : Text) (c : Code) → IsCodeFile front c → bytes ≡ front ++ behind → PastLiterals bytes
-past_literals bytes front behind c f h = record {
+abbrev past_literals : (bytes front following : Text) (c : Code) → IsCodeFile front c → bytes ≡ front ++ following → PastLiterals bytes
+past_literals bytes front following c f h = record {
   header = header_of c;
   names = flat_map name_field c.names;
   literals = flat_map literal_field c.literals;
-  rest = flat_map instr_field c.instrs ++ behind;
+  rest = flat_map instr_field c.instrs ++ following;
   allowed = f.is_code.header;
   name_table = (c.names, record { good = f.is_code.names; counted = refl; spells = refl });
   literal_table = (c.literals, record { good = f.is_code.literals; counted = refl; spells = refl });
   spells =
-      h ∙ ap (λ (b : Text). b ++ behind) f.spells
-      ∙ append_assoc (header_field (header_of c)) (flat_map name_field c.names ++ (flat_map literal_field c.literals ++ flat_map instr_field c.instrs)) behind
+      h ∙ ap (λ (b : Text). b ++ following) f.spells
+      ∙ append_assoc (header_field (header_of c)) (flat_map name_field c.names ++ (flat_map literal_field c.literals ++ flat_map instr_field c.instrs))
+      following
       ∙ ap (λ (b : Text). header_field (header_of c) ++ b)
-      (append_assoc (flat_map name_field c.names) (flat_map literal_field c.literals ++ flat_map instr_field c.instrs) behind
+      (append_assoc (flat_map name_field c.names) (flat_map literal_field c.literals ++ flat_map instr_field c.instrs) following
       ∙ ap (λ (b : Text). flat_map name_field c.names ++ b)
-      (append_assoc (flat_map literal_field c.literals) (flat_map instr_field c.instrs) behind));
+      (append_assoc (flat_map literal_field c.literals) (flat_map instr_field c.instrs) following));
 }
 
 reads_code : (bytes : Text) (c : Code) → IsCodeFile bytes c → Reads bytes (Ok c)
@@ -125,7 +126,7 @@ reads_fault bytes e (no_counts p n) = stops _ (short_counts p n)
 reads_fault bytes e (bad_counts p f g) =
     stops f (subst (ReadsHeader bytes) (ap (λ (o : Option CodeError). outcome o p.header p.rest) g) (counted p))
 reads_fault bytes e (in_names p f t) =
-    goes (p.header, p.rest) _ (header_read bytes p)
+    continues (p.header, p.rest) _ (header_read bytes p)
     (stops _ (names_faulty f (table_faulty IsName name_field IsNameFault p.header.names p.rest f t)))
 reads_fault bytes e (in_literals p f t) =
     let place : after (10 + length (flat_map name_field p.name_table.0)) f ≡ after (10 + length p.names) f =

@@ -107,8 +107,8 @@ code_file_of bytes h names literals instrs t short ns n ls l is i =
 pub code_of_tables : (bytes : Text) (h : Header) (names literals instrs : Text) → AreTables bytes h names literals instrs
     → length bytes ≤ MAX_BYTES → AreBytes bytes → (code : Code) × IsCodeFile bytes code
 code_of_tables bytes h names literals instrs t short fits =
-    let behind = bytes_right (header_field h) (names ++ (literals ++ instrs)) (subst AreBytes t.spells fits) in
-    let last = bytes_right literals instrs (bytes_right names (literals ++ instrs) behind) in
+    let following = bytes_right (header_field h) (names ++ (literals ++ instrs)) (subst AreBytes t.spells fits) in
+    let last = bytes_right literals instrs (bytes_right names (literals ++ instrs) following) in
     let is = instrs_of h.instrs instrs t.room last in (
       record { version = h.version; names = t.name_table.0; literals = t.literal_table.0; instrs = is.0 },
       code_file_of bytes h names literals instrs t short t.name_table.0 t.name_table.1 t.literal_table.0 t.literal_table.1 is.0 is.1,

@@ -101,8 +101,8 @@ one_literal x y s t g h e =
     let q = literal_text_shape y t h.short in
     let both : literal_shape (literal_field x ++ s) ≡ literal_shape (literal_field y ++ t) = ap literal_shape e in
     let same : x ≡ y = cc in
-    let behind : x.bytes ++ s ≡ y.bytes ++ t = cc in
-    (same, (same_front x.bytes y.bytes s t (ap (λ (l : Literal). length l.bytes) same) behind).1)
+    let following : x.bytes ++ s ≡ y.bytes ++ t = cc in
+    (same, (same_front x.bytes y.bytes s t (ap (λ (l : Literal). length l.bytes) same) following).1)
 
 pub literals_apart : IsApart IsLiteral literal_field IsLiteralFault
 literals_apart = record {

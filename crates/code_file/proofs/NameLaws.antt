@@ -139,8 +139,8 @@ one_name : (x y : Name) (s t : Text) → name_field x ++ s ≡ name_field y ++ t
 one_name x y s t h =
     let kind : kind_byte x.list ≡ kind_byte y.list = cc in
     let len : length x.text ≡ length y.text = cc in
-    let behind : x.text ++ s ≡ y.text ++ t = cc in
-    let both = same_front x.text y.text s t len behind in (
+    let following : x.text ++ s ≡ y.text ++ t = cc in
+    let both = same_front x.text y.text s t len following in (
       ap (λ (l : Bool). let n : Name = record { list = l; text = x.text } in n) (same_kind x.list y.list kind)
           ∙ ap (λ (u : Text). let n : Name = record { list = y.list; text = u } in n) both.0,
       both.1,

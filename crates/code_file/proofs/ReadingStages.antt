@@ -39,8 +39,8 @@ same_magic v w s t h =
 
 same_header : (h k : Header) (s t : Text) → IsHeaderField h → IsHeaderField k → header_field h ++ s ≡ header_field k ++ t → (h ≡ k) × (s ≡ t)
 same_header h k s t p q same =
-    let behind = same_magic h.version k.version _ _ same in
-    let counts = behind.1 in
+    let following = same_magic h.version k.version _ _ same in
+    let counts = following.1 in
     let names_high : h.names / 256 % 256 ≡ k.names / 256 % 256 = cc in
     let names_low : h.names % 256 ≡ k.names % 256 = cc in
     let names : h.names ≡ k.names = same_number h.names k.names p.names q.names names_high names_low in
@@ -51,7 +51,7 @@ same_header h k s t p q same =
     let instrs_low : h.instrs % 256 ≡ k.instrs % 256 = cc in
     let instrs : h.instrs ≡ k.instrs = same_number h.instrs k.instrs p.instrs q.instrs instrs_high instrs_low in
     let tail : s ≡ t = cc in (
-      ap (λ (n : ℕ). let x : Header = record { version = n; names = h.names; literals = h.literals; instrs = h.instrs } in x) behind.0
+      ap (λ (n : ℕ). let x : Header = record { version = n; names = h.names; literals = h.literals; instrs = h.instrs } in x) following.0
           ∙ ap (λ (n : ℕ). let x : Header = record { version = k.version; names = n; literals = h.literals; instrs = h.instrs } in x) names
           ∙ ap (λ (n : ℕ). let x : Header = record { version = k.version; names = k.names; literals = n; instrs = h.instrs } in x) literals
           ∙ ap (λ (n : ℕ). let x : Header = record { version = k.version; names = k.names; literals = k.literals; instrs = n } in x) instrs,

@@ -92,12 +92,12 @@ IsOne {A} {B} R = (a : A) (r q : Result B CodeError) → R a r → R a q → r �
 pub data Then {A B C : Type 0} (R : A → Result B CodeError → Type 0) (S : B → Result C CodeError → Type 0) (a : A) :
     Result C CodeError → Type 0 where
   stops : (e : CodeError) → R a (Err e) → Then R S a (Err e)
-  goes : (b : B) (r : Result C CodeError) → R a (Ok b) → S b r → Then R S a r
+  continues : (b : B) (r : Result C CodeError) → R a (Ok b) → S b r → Then R S a r
 
 pub then_one : {A B C : Type 0} (R : A → Result B CodeError → Type 0) (S : B → Result C CodeError → Type 0)
     → IsOne R → IsOne S → IsOne (Then R S)
 then_one {B = B} R S one two a r q (stops e h) (stops f k) = let both = one a (Err e) (Err f) h k in let same : e ≡ f = cc in ap Err same
-then_one {B = B} R S one two a r q (stops e h) (goes b s k j) = let both = one a (Err e) (Ok b) h k in cc
-then_one {B = B} R S one two a r q (goes b s k j) (stops e h) = let both = one a (Err e) (Ok b) h k in cc
-then_one {B = B} R S one two a r q (goes b s h j) (goes d t k l) =
+then_one {B = B} R S one two a r q (stops e h) (continues b s k j) = let both = one a (Err e) (Ok b) h k in cc
+then_one {B = B} R S one two a r q (continues b s k j) (stops e h) = let both = one a (Err e) (Ok b) h k in cc
+then_one {B = B} R S one two a r q (continues b s h j) (continues d t k l) =
     let both = one a (Ok b) (Ok d) h k in let same : b ≡ d = cc in two d s t (subst (λ (x : B). S x s) same j) l

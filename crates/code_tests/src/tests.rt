@@ -49,7 +49,7 @@ fn checked(alloc: Global, file: &[u8], env: &Env) -> Result<String, Fail> {
     })
 }
 
-fn shown(alloc: Global, outcome: Outcome) -> Result<String, AllocError> {
+fn outcome_text(alloc: Global, outcome: Outcome) -> Result<String, AllocError> {
     match outcome {
         Outcome::Link(link) => format!(in alloc; "link {link}"),
         Outcome::NoLink => format!(in alloc; "no link"),

@@ -230,7 +230,7 @@ fn an_output_that_fails_is_a_device(rt: HostRuntime) -> Result<(), Fail> {
 }
 
 #[test]
-fn three_words_print_the_help(rt: HostRuntime) -> Result<(), Fail> {
+fn three_arguments_print_the_help(rt: HostRuntime) -> Result<(), Fail> {
     let mut outside = outside(rt.alloc(), &FILES)?;
     for word in ["--help", "-h", "help"] {
         let (mut output, mut errors) = (Vec::new(rt.alloc()), Vec::new(rt.alloc()));

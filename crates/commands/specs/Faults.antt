@@ -9,7 +9,6 @@ use Rattle.code_commands.specs.declared.fault.CodeFault.{CodeFault}
 use Rattle.menu_commands.specs.Faults.{status_of as status_of_menu}
 use Rattle.menu_commands.specs.declared.fault.MenuFault.{MenuFault}
 use Rattle.target_commands.specs.Faults.{status_of as status_of_review}
-use Rattle.target_commands.specs.declared.fault.ReviewFault.{ReviewFault}
 use Rattle.commands.specs.declared.fault.Fault.{Fault}
 use Rattle.commands.specs.declared.fault.Fault.TheVariants.{Usage, Rule, Code, Menu, Review, Base}
 

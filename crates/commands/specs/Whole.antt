@@ -5,7 +5,7 @@ use Rattle.files.specs.Found.{Disk}
 use Rattle.files.specs.Changes.{Unchanged}
 use Rattle.files.specs.declared.call.FileCall.{FileCall}
 use Rattle.registry.specs.Targets.{TargetValue}
-use Rattle.http_streams.specs.Streams.{Heard, Said}
+use Rattle.http_streams.specs.Streams.{InputState, OutputState}
 use Rattle.http_service.specs.declared.counts.Counts.{Counts}
 use Rattle.menu_commands.specs.Serve.{IsListening, RefusesToServe, Serves, StopsServing}
 use Rattle.menu_commands.specs.declared.service.Service.{Service}
@@ -27,13 +27,14 @@ use Rattle.commands.specs.declared.fault.Fault.TheVariants.{Usage, Menu, Review 
 -- and after it
 module _ {F K P L I O : Type 0} (at : F → Disk) (fails : F → FileCall → Text → F → Type 0) (draws : K → ℕ → ℕ → K → Type 0) (no_keys : K → K → Type 0)
     (binds : P → ℕ → L × ℕ → P → Type 0) (no_port : P → ℕ → P → Type 0) (gives : L → Option (I × O) → L → Type 0) (closes : L → I × O → L → Type 0)
-    (no_more : L → L → Type 0) (heard : I → Heard) (said : O → Said)
+    (no_more : L → L → Type 0) (input_state : I → InputState) (output_state : O → OutputState)
     (arguments : List Text) (old : F) (keys : K) (ports : P) (new : F) (drawn : K) (bound : P) where
   -- the arguments are those of a command, which is done, and has printed this
   pub data Succeeds : Text → Type 0 where
     prints : (command : Command) (text : Text) → AreArgumentsOf arguments command → Does draws (at old) keys (at new) drawn command text → Succeeds text
     serves : (service : Service) (line : Text) (counts : Counts) → AreArgumentsOf arguments (Serve service)
-        → Serves draws binds gives closes heard said (at old) keys ports service drawn bound line counts → Unchanged (at old) (at new) → Succeeds line
+        → Serves draws binds gives closes input_state output_state (at old) keys ports service drawn bound line counts → Unchanged (at old) (at new)
+        → Succeeds line
     reviews : (review : Review) (text : Text) → AreArgumentsOf arguments (OfReview review) → Reviews draws (at old) keys review drawn text true
         → Unchanged (at old) (at new) → Succeeds text
 
@@ -62,7 +63,8 @@ module _ {F K P L I O : Type 0} (at : F → Disk) (fails : F → FileCall → Te
   -- with a warning in it
   pub data Stops : Text → Fault → Type 0 where
     stops : (service : Service) (line : Text) (fault : MenuFault) → AreArgumentsOf arguments (Serve service)
-        → StopsServing draws binds gives closes heard said (at old) keys ports service drawn bound no_more line fault → Unchanged (at old) (at new)
+        → StopsServing draws binds gives closes input_state output_state (at old) keys ports service drawn bound no_more line fault
+        → Unchanged (at old) (at new)
         → Stops line (Menu fault)
     warns : (review : Review) (text : Text) (fault : ReviewFault) → AreArgumentsOf arguments (OfReview review)
         → Reviews draws (at old) keys review drawn text false → Unchanged (at old) (at new) → fault ≡ Warning → Stops text (OfReviewFault fault)

@@ -30,20 +30,20 @@ pub fn command<F: Files, K: KeySource, P: Ports, O: Write, E: Write>(
 ) -> u8
     ensures done { result ≡ 0 → (text : Text)
         × Succeeds F.at F.fails K.draws K.fails P.binds P.fails P.Bound.gives P.Bound.closes P.Bound.fails
-        P.Bound.In.heard P.Bound.Out.said
+        P.Bound.In.input_state P.Bound.Out.output_state
         (texts_of arguments.now) rt.old.files rt.old.keys rt.old.ports rt.new.files rt.new.keys rt.new.ports text
         × Appends (O.contents output.old) (O.contents output.new) text }
     ensures not_done { result ≢ 0 → (fault : Fault) × (result ≡ status_of fault)
         × ((Refuses F.at F.fails K.draws K.fails P.binds P.fails P.Bound.gives P.Bound.closes P.Bound.fails
-        P.Bound.In.heard P.Bound.Out.said
+        P.Bound.In.input_state P.Bound.Out.output_state
         (texts_of arguments.now) rt.old.files rt.old.keys rt.old.ports rt.new.files rt.new.keys rt.new.ports fault
         × (output.new ≡ output.old))
         ⊎ OutputFails F.at F.fails K.draws K.fails P.binds P.fails P.Bound.gives P.Bound.closes P.Bound.fails
-        P.Bound.In.heard P.Bound.Out.said
+        P.Bound.In.input_state P.Bound.Out.output_state
         (texts_of arguments.now) rt.old.files rt.old.keys rt.old.ports rt.new.files rt.new.keys rt.new.ports fault
         ⊎ ((line : Text)
         × Stops F.at F.fails K.draws K.fails P.binds P.fails P.Bound.gives P.Bound.closes P.Bound.fails
-        P.Bound.In.heard P.Bound.Out.said
+        P.Bound.In.input_state P.Bound.Out.output_state
         (texts_of arguments.now) rt.old.files rt.old.keys rt.old.ports rt.new.files rt.new.keys rt.new.ports line fault
         × Appends (O.contents output.old) (O.contents output.new) line)) }
     ensures no_line { (result ≡ 0) ⊎ (result ≡ 1) → errors.new ≡ errors.old }
@@ -75,20 +75,20 @@ fn run<'a, F: Files, K: KeySource, P: Ports, O: Write>(
 ) -> Result<(), Fault<'a>>
     ensures done { OnOk result ((text : Text)
         × Succeeds F.at F.fails K.draws K.fails P.binds P.fails P.Bound.gives P.Bound.closes P.Bound.fails
-        P.Bound.In.heard P.Bound.Out.said
+        P.Bound.In.input_state P.Bound.Out.output_state
         (texts_of arguments.now) rt.old.files rt.old.keys rt.old.ports rt.new.files rt.new.keys rt.new.ports text
         × Appends (O.contents output.old) (O.contents output.new) text) }
     ensures failed { IfErr result (λ fault.
         (Refuses F.at F.fails K.draws K.fails P.binds P.fails P.Bound.gives P.Bound.closes P.Bound.fails
-        P.Bound.In.heard P.Bound.Out.said
+        P.Bound.In.input_state P.Bound.Out.output_state
         (texts_of arguments.now) rt.old.files rt.old.keys rt.old.ports rt.new.files rt.new.keys rt.new.ports fault
         × (output.new ≡ output.old))
         ⊎ OutputFails F.at F.fails K.draws K.fails P.binds P.fails P.Bound.gives P.Bound.closes P.Bound.fails
-        P.Bound.In.heard P.Bound.Out.said
+        P.Bound.In.input_state P.Bound.Out.output_state
         (texts_of arguments.now) rt.old.files rt.old.keys rt.old.ports rt.new.files rt.new.keys rt.new.ports fault
         ⊎ ((line : Text)
         × Stops F.at F.fails K.draws K.fails P.binds P.fails P.Bound.gives P.Bound.closes P.Bound.fails
-        P.Bound.In.heard P.Bound.Out.said
+        P.Bound.In.input_state P.Bound.Out.output_state
         (texts_of arguments.now) rt.old.files rt.old.keys rt.old.ports rt.new.files rt.new.keys rt.new.ports line fault
         × Appends (O.contents output.old) (O.contents output.new) line)) }
 {

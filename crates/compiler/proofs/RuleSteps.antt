@@ -10,7 +10,7 @@ use Rattle.rule_parser.specs.Rules.{RuleSet}
 use Rattle.compiler_model.specs.declared.lines.Line.{Line}
 use Rattle.compiler_model.specs.declared.lines.Line.TheVariants.{Fails}
 use Rattle.compiler_model.specs.Compiled.{rule_lines, all_lines, instructions_from, rules_instructions, code_of}
-use Rattle.compiler_model.proofs.CodeLies.{length-instructions_from}
+use Rattle.compiler_model.proofs.CodePlaces.{length-instructions_from}
 use Rattle.compiler_model.proofs.CodeForm.{code_length}
 
 pub next_rule : (all : List Rule) (i : ℕ) (rule : Rule) → i < length all → rule ≡ get_or all i rule → drop i all ≡ rule ∷ drop (i + 1) all
@@ -39,14 +39,14 @@ module _ (names : List Name) (literals : List Literal) where
       let rest = drop (i + 1) all in
       let away = length old + length (rule_lines lists rule) in
       let here = instructions_from names literals away (length old) (rule_lines lists rule) in
-      let behind = rules_instructions names literals lists away rest in
+      let following = rules_instructions names literals lists away rest in
       let new_is : new ≡ old ++ map spelling here =
       made ∙ ap (λ (x : List Line). old ++ map spelling (instructions_from names literals (length old + length x) (length old) x)) lines in
       let size : length new ≡ away = length-instructions old new away (rule_lines lists rule) new_is in
       ap (λ n. new ++ map spelling (rules_instructions names literals lists n rest)) size
-      ∙ ap (λ (x : List Instr). x ++ map spelling behind) new_is
-      ∙ append_assoc old (map spelling here) (map spelling behind)
-      ∙ ap (λ (x : List Instr). old ++ x) (sym (map-append spelling here behind))
+      ∙ ap (λ (x : List Instr). x ++ map spelling following) new_is
+      ∙ append_assoc old (map spelling here) (map spelling following)
+      ∙ ap (λ (x : List Instr). old ++ x) (sym (map-append spelling here following))
       ∙ sym (ap (λ rs. old ++ map spelling (rules_instructions names literals lists (length old) rs)) (next_rule all i rule lt is))
       ∙ before
 

@@ -28,7 +28,7 @@ use crate::rule_lines::rule_lines;
 use code_file::laws::file_has_no_fault;
 use code_file::{Code, CodeErrorKind, Instr, Literal, Name, spelling};
 use code_model::Instruction;
-use compiler_model::laws::{code_comes_to_what_rules_mean, compiled_code_is_accepted};
+use compiler_model::laws::{code_gives_what_rules_mean, compiled_code_is_accepted};
 use rule_parser::{Guard, Rule, Rules};
 use std::alloc::{AllocError, Global};
 
@@ -130,7 +130,7 @@ pub fn compile(alloc: Global, rules: &Rules) -> Result<Code, CompileError>
         HasOutcome code v o ↔ (answer (meaning rules.now v) ≡ o)) }
 {
     compiled_code_is_accepted();
-    code_comes_to_what_rules_mean();
+    code_gives_what_rules_mean();
     let tables = Tables::of_rules(alloc, rules)?;
     tables.check()?;
     let instrs = instructions(alloc, rules, &tables)?;

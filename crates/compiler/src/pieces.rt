@@ -5,7 +5,7 @@ ghost use Rattle.compiler_model.specs.declared.lines.Action.TheVariants as actio
 ghost use Rattle.compiler_model.specs.declared.lines.Test.TheVariants as tests;
 ghost use Rattle.compiler_model.specs.Blocks.{Does, Then, Either, lines};
 ghost use Rattle.compiler_model.specs.Shapes.{lead_block, writing_action, named_block, item_block, head_block};
-ghost use Rattle.compiler_model.specs.Shapes.{shown_block, spec_block, specs_block, part_block};
+ghost use Rattle.compiler_model.specs.Shapes.{loaded_block, spec_block, specs_block, part_block};
 ghost use Rattle.compiler_model.specs.Shapes.{parts_block};
 ghost use Rattle.uri_template.specs.Expansion.{style_of};
 
@@ -176,7 +176,7 @@ fn push_members(
     style: &Style,
     spec: &Spec,
 ) -> Result<(), AllocError>
-    ensures { OnOk result (out.new.items ≡ out.old.items ++ lines (shown_block true style.now spec.now)) }
+    ensures { OnOk result (out.new.items ≡ out.old.items ++ lines (loaded_block true style.now spec.now)) }
 {
     let mut body = Vec::new(alloc);
     if spec.explode {
@@ -190,14 +190,14 @@ fn push_members(
     push_each(out, 5, 0, body)
 }
 
-fn push_shown(
+fn push_loaded(
     alloc: Global,
     out: &mut Vec<Line>,
     list: bool,
     style: &Style,
     spec: &Spec,
 ) -> Result<(), AllocError>
-    ensures { OnOk result (out.new.items ≡ out.old.items ++ lines (shown_block list style.now spec.now)) }
+    ensures { OnOk result (out.new.items ≡ out.old.items ++ lines (loaded_block list style.now spec.now)) }
 {
     if list {
         push_members(alloc, out, style, spec)
@@ -219,7 +219,7 @@ fn push_spec(
     let list = rules.is_list(name);
     let mut body = Vec::new(alloc);
     push_lead(alloc, &mut body, style.first, style.sep)?;
-    push_shown(alloc, &mut body, list, style, spec)?;
+    push_loaded(alloc, &mut body, list, style, spec)?;
     push_loading(alloc, out, list, name)?;
     push_unless(out, missing(list), body)
 }

@@ -23,10 +23,10 @@ use Rattle.compiler_model.specs.Tables.{is_same_literal, literal_used, firsts}
 use Rattle.compiler_model.specs.Compiled.{rule_lines, all_lines, rules_instructions, instructions_from, code_of}
 use Rattle.compiler_model.proofs.Places.{lie_both}
 use Rattle.compiler_model.proofs.Formed.{TreesAreSound, AreFormed}
-use Rattle.compiler_model.proofs.Standing.{IsFormedLine}
+use Rattle.compiler_model.proofs.Placement.{IsFormedLine}
 use Rattle.compiler_model.proofs.RuleRuns.{RulesLie}
-use Rattle.compiler_model.proofs.CodeLies.{IsFounded, length-instructions_from, code_formed, founded, code_lies}
-use Rattle.compiler_model.proofs.Forming.{body_next, body_behind}
+use Rattle.compiler_model.proofs.CodePlaces.{IsFounded, length-instructions_from, code_formed, founded, code_placed}
+use Rattle.compiler_model.proofs.Forming.{body_next, body_past}
 use Rattle.compiler_model.proofs.NoFaults.{HasNoFault, clean_one, clean_both, block_clean, last_good}
 
 -- ---- lengths
@@ -63,7 +63,7 @@ module _ (c : Code) (version : ℕ) (lists : List Text) where
       let next : last + 1 ≡ away = omega (arith, length-append (lines block) (Halts ∷ [])) in
       let whole : away + length (flat_map (rule_lines lists) rules) + 1 ≡ length c.instrs =
       omega (arith, eq, length-append (rule_lines lists rule) (flat_map (rule_lines lists) rules)) in
-      let at_last = body_behind c block version away place last None f.0 both.0 refl (omega (arith, next, whole)) tt at in
+      let at_last = body_past c block version away place last None f.0 both.0 refl (omega (arith, next, whole)) tt at in
       let at_away : body_at c away ≡ None = subst (λ n. body_at c n ≡ None) next (body_next c last instruction.Halt both.1.0.reads refl None at_last tt) in
       clean_both c place last (length c.instrs)
       (block_clean c block version away place last None f.0 both.0 refl (omega (arith, next, whole)) tt
@@ -134,7 +134,7 @@ module _ (trees : TreesAreSound) (rules : RuleSet) (sound : IsSound rules) where
   pub code_good : HasGoodForm (code_of rules)
   code_good =
       let c = code_of rules in
-      let clean = rules_clean c c.version rules.lists rules.rules 0 (code_formed trees rules sound) (code_lies trees rules sound) (no_body_first c)
+      let clean = rules_clean c c.version rules.lists rules.rules 0 (code_formed trees rules sound) (code_placed trees rules sound) (no_body_first c)
       (omega (arith, code_length rules)) in
       record { at = λ place. ⊎_elim (λ lt. clean place (omega arith) lt) (past_clean c place) (cases_lt place (length c.instrs)) }
 

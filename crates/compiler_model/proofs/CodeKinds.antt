@@ -29,7 +29,7 @@ use Rattle.compiler_model.specs.Blocks.{Block, Nothing, Does, Then, Unless, Eith
 use Rattle.compiler_model.specs.Compiled.{test_instruction}
 use Rattle.compiler_model.proofs.Places.{IsPlaced, Lie, lie_both}
 use Rattle.compiler_model.proofs.Formed.{IsFormed}
-use Rattle.compiler_model.proofs.Forming.{Room, room_less, body_next, loop_body, body_begins, test_each, each_read, none_outside, body_behind}
+use Rattle.compiler_model.proofs.Forming.{Room, room_less, body_next, loop_body, body_begins, test_each, each_read, none_outside, body_past}
 use Rattle.compiler_model.proofs.NoFaults.{test_read}
 use Rattle.compiler_model.proofs.Typed.{MeetsAction, after_action, MeetsTest, after_test, Typed, rows, length-rows, below_any, exactly}
 
@@ -140,7 +140,7 @@ module _ (c : Code) (t : Table) where
       let both = rows_both t p (rows x ks y.0 y.1) (rows z y.0 ms y.2) r in
       let later = subst (λ n. RowsLie t (p + n) (rows z y.0 ms y.2)) (length-rows x ks y.0 y.1) both.1 in
       let room1 = room_less c o mid q (omega (arith, eq2)) room in
-      let middle = body_behind c x version away p mid o f.0 lie.0 refl (omega (arith, eq2, lt)) room1 at in
+      let middle = body_past c x version away p mid o f.0 lie.0 refl (omega (arith, eq2, lt)) room1 at in
       let second = block_fits z version away mid q o f.1 lie.1 eq2 lt room m middle y.0 ms y.2 later k in
       let first = block_fits x version away p mid o f.0 lie.0 refl (omega (arith, eq2, lt)) room1 m at ks y.0 y.1 both.0 second.1 in
       (settled_both p mid q first.0 second.0, first.1)
@@ -163,7 +163,7 @@ module _ (c : Code) (t : Table) where
       let later = subst (λ n. RowsLie t (p + 1 + n) (ms ∷ rows z ks ms y.2)) (length-rows x (after_test test ks) ms y.1) both.1 in
       let room1 = room_less c o mid q (omega (arith, eq2)) room in
       let inner = body_next c p _ h.0.reads (test_each c test _) o at (room_less c o (p + 1) q (omega (arith, eq2)) room) in
-      let middle = body_behind c x version away (p + 1) mid o f.1 lie.0 refl (omega (arith, eq2, lt)) room1 inner in
+      let middle = body_past c x version away (p + 1) mid o f.1 lie.0 refl (omega (arith, eq2, lt)) room1 inner in
       let other = body_next c mid _ lie.1.0.reads refl o middle (room_less c o (mid + 1) q (omega (arith, eq2)) room) in
       let second = block_fits z version away (mid + 1) q o f.2 lie.1.1 eq2 lt room m other ks ms y.2 later.1 k in
       let first = block_fits x version away (p + 1) mid o f.1 lie.0 refl (omega (arith, eq2, lt)) room1 m inner (after_test test ks) ms y.1 both.0
@@ -187,7 +187,7 @@ module _ (c : Code) (t : Table) where
       let both = rows_both t (p + 1) (rows x y.0 y.1 y.3) (y.1 ∷ []) r.1 in
       let later = subst (λ n. RowsLie t (p + 1 + n) (y.1 ∷ [])) (length-rows x y.0 y.1 y.3) both.1 in
       let inner = body_begins c p last a b here lie.1.0.reads (omega arith) (omega (arith, eq2, lt)) (at ∙ none) in
-      let end = body_behind c x version away (p + 1) last (Some (loop_body c p last a)) f.3 lie.0 refl (omega (arith, eq2, lt)) (omega arith) inner in
+      let end = body_past c x version away (p + 1) last (Some (loop_body c p last a)) f.3 lie.0 refl (omega (arith, eq2, lt)) (omega arith) inner in
       let out : Takes (last + 1) ms = subst (λ n. Takes n ms) (sym eq2) k in
       let turn = block_fits x version away (p + 1) last (Some (loop_body c p last a)) f.3 lie.0 refl (omega (arith, eq2, lt)) (omega arith)
       (no_way (loop_body c p last a) away) inner y.0 y.1 y.3 both.0 (takes_row last y.1 later.0 y.1 (exactly y.1)) in (

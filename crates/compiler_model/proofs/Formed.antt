@@ -30,7 +30,7 @@ use Rattle.compiler_model.specs.declared.lines.Test.{Test}
 use Rattle.compiler_model.specs.declared.lines.Test.TheVariants.{IsUndefined, IsEmpty, HasNoMember, HasNoNumber, Differs, IsLess}
 use Rattle.compiler_model.specs.Blocks.{Block, Nothing, Does, Then, Unless, Either, ForEach, LeaveIf, Leave}
 use Rattle.compiler_model.specs.Shapes.{loading, is_missing, bound_block, bounds_block, guard_block, guards_block, lead_block, writing_action, named_block}
-use Rattle.compiler_model.specs.Shapes.{item_block, head_block, members_block, shown_block, specs_block, part_block, parts_block, rule_block}
+use Rattle.compiler_model.specs.Shapes.{item_block, head_block, members_block, loaded_block, specs_block, part_block, parts_block, rule_block}
 use Rattle.compiler_model.specs.Compiled.{is_counts}
 use Rattle.compiler_model.proofs.Entries.{or_second}
 
@@ -173,9 +173,9 @@ module _ (version : ℕ) where
   members_formed style w name u false = (head_formed style.named name u, (refl, refl, refl, ((refl, comma_uri), refl)))
   members_formed style w name u true = (refl, refl, refl, ((refl, w.sep), item_formed true style 5 refl name u (Puts 5 style.writing) refl))
 
-  shown_formed : (list : Bool) (style : Style) → WritesUri style → (spec : Spec) → IsSoundSpec spec → IsFormed version false (shown_block list style spec)
-  shown_formed true style w spec h = members_formed style w spec.name h.uri_text spec.explode
-  shown_formed false style w spec h = item_formed false style 0 refl spec.name h.uri_text (writing_action 0 style.writing spec.cut)
+  loaded_formed : (list : Bool) (style : Style) → WritesUri style → (spec : Spec) → IsSoundSpec spec → IsFormed version false (loaded_block list style spec)
+  loaded_formed true style w spec h = members_formed style w spec.name h.uri_text spec.explode
+  loaded_formed false style w spec h = item_formed false style 0 refl spec.name h.uri_text (writing_action 0 style.writing spec.cut)
       (writing_formed false 0 refl style.writing spec.cut h.cut)
 
   specs_formed : (lists : List Text) (style : Style) → WritesUri style → (specs : List Spec) → All IsSoundSpec specs
@@ -185,7 +185,7 @@ module _ (version : ℕ) where
       let list = is_list lists spec.name in (
         (
           loading_formed false list spec.name,
-          (missing_formed list, (lead_formed style.first style.sep w.first w.sep, shown_formed list style w spec (All-head IsSoundSpec spec specs h))),
+          (missing_formed list, (lead_formed style.first style.sep w.first w.sep, loaded_formed list style w spec (All-head IsSoundSpec spec specs h))),
         ),
         specs_formed lists style w specs (All-tail IsSoundSpec spec specs h),
       )

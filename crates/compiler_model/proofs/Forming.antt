@@ -15,7 +15,7 @@ use Rattle.machine_model.specs.Operands.{Reads, is_right, is_register, is_in_tab
 use Rattle.machine_model.specs.Form.{is_next, body_at, is_in_body, is_same_body, target, is_each, is_sep, ends_run, Check, checks, first_failing, fault_of}
 use Rattle.machine_model.specs.Form.{fault_in, fault_at, goes_to, ends_body}
 use Rattle.machine_model.proofs.Readings.{Reads-reading_at, instr_itself}
-use Rattle.machine_model.proofs.Bodies.{body_suc, body_on, body_off, begun_none}
+use Rattle.machine_model.proofs.Bodies.{body_suc, body_on, body_off, opened_none}
 use Rattle.compiler_model.specs.declared.lines.Action.{Action}
 use Rattle.compiler_model.specs.declared.lines.Action.TheVariants.{LoadText, LoadList, LoadConst, CountMembers, Emits, Separates, Puts, Cuts}
 use Rattle.compiler_model.specs.declared.lines.Test.{Test}
@@ -92,7 +92,7 @@ module _ (c : Code) where
 
   -- an instruction that neither begins nor ends a body is followed by a place in the same body
   pub body_next : (p : ℕ) (i : Instruction) → Reads c p i → is_each i ≡ false → (o : Option Body) → body_at c p ≡ o → Room o (p + 1) → body_at c (p + 1) ≡ o
-  body_next p i r e None h room = rw add-one (rw (body_suc c p, h, Reads-reading_at c p i r) (begun_none c p i e))
+  body_next p i r e None h room = rw add-one (rw (body_suc c p, h, Reads-reading_at c p i r) (opened_none c p i e))
   body_next p i r e (Some b) h room = rw add-one (body_on c p b h (omega (arith, room)))
 
   -- the body that EACH begins, from p + 1 to before q + 1
@@ -145,42 +145,42 @@ module _ (c : Code) where
   none_outside (Some b) h = absurd (cc)
 
   -- after a block the body is the same as before it
-  pub body_behind : (b : Block) (version away p q : ℕ) (o : Option Body) → IsFormed version (is_in_body o) b → Lie c away p (lines b)
+  pub body_past : (b : Block) (version away p q : ℕ) (o : Option Body) → IsFormed version (is_in_body o) b → Lie c away p (lines b)
       → p + length (lines b) ≡ q → q < length c.instrs → Room o q → body_at c p ≡ o → body_at c q ≡ o
-  body_behind Nothing version away p q o f h eq lt room at = let e : q ≡ p = omega (arith, eq) in ap (body_at c) e ∙ at
-  body_behind (Does a) version away p q o f h eq lt room at =
+  body_past Nothing version away p q o f h eq lt room at = let e : q ≡ p = omega (arith, eq) in ap (body_at c) e ∙ at
+  body_past (Does a) version away p q o f h eq lt room at =
       let e : q ≡ p + 1 = omega (arith, eq) in
       ap (body_at c) e ∙ body_next p _ h.0.reads (action_each a away p) o at (room_less o (p + 1) q (omega (arith, eq)) room)
-  body_behind (Then x y) version away p q o f h eq lt room at =
+  body_past (Then x y) version away p q o f h eq lt room at =
       let mid = p + length (lines x) in
       let both = lie_both c away p (lines x) (lines y) h in
       let eq2 : mid + length (lines y) ≡ q = omega (arith, eq, length-append (lines x) (lines y)) in
-      body_behind y version away mid q o f.1 both.1 eq2 lt room
-      (body_behind x version away p mid o f.0 both.0 refl (omega (arith, eq2, lt)) (room_less o mid q (omega (arith, eq2)) room) at)
-  body_behind (Unless t x) version away p q o f h eq lt room at =
+      body_past y version away mid q o f.1 both.1 eq2 lt room
+      (body_past x version away p mid o f.0 both.0 refl (omega (arith, eq2, lt)) (room_less o mid q (omega (arith, eq2)) room) at)
+  body_past (Unless t x) version away p q o f h eq lt room at =
       let eq2 : p + 1 + length (lines x) ≡ q = omega (arith, eq) in
-      body_behind x version away (p + 1) q o f.1 h.1 eq2 lt room
+      body_past x version away (p + 1) q o f.1 h.1 eq2 lt room
       (body_next p _ h.0.reads (test_each t _) o at (room_less o (p + 1) q (omega (arith, eq2)) room))
-  body_behind (Either t x y) version away p q o f h eq lt room at =
+  body_past (Either t x y) version away p q o f h eq lt room at =
       let mid = p + 1 + length (lines x) in
       let both = lie_both c away (p + 1) (lines x) (Jumps (Ahead (length (lines y) + 1)) ∷ lines y) h.1 in
       let eq2 : mid + 1 + length (lines y) ≡ q = omega (arith, eq, length-append (lines x) (Jumps (Ahead (length (lines y) + 1)) ∷ lines y)) in
       let first = body_next p _ h.0.reads (test_each t _) o at (room_less o (p + 1) q (omega (arith, eq2)) room) in
-      let second = body_behind x version away (p + 1) mid o f.1 both.0 refl (omega (arith, eq2, lt)) (room_less o mid q (omega (arith, eq2)) room) first in
-      body_behind y version away (mid + 1) q o f.2 both.1.1 eq2 lt room
+      let second = body_past x version away (p + 1) mid o f.1 both.0 refl (omega (arith, eq2, lt)) (room_less o mid q (omega (arith, eq2)) room) first in
+      body_past y version away (mid + 1) q o f.2 both.1.1 eq2 lt room
       (body_next mid _ both.1.0.reads refl o second (room_less o (mid + 1) q (omega (arith, eq2)) room))
-  body_behind (ForEach a b x) version away p q o f h eq lt room at =
+  body_past (ForEach a b x) version away p q o f h eq lt room at =
       let last = p + 1 + length (lines x) in
       let both = lie_both c away (p + 1) (lines x) (Turns ∷ []) h.1 in
       let eq2 : last + 1 ≡ q = omega (arith, eq, length-append (lines x) (Turns ∷ [])) in
       let none = none_outside o f.0 in
       let inside = body_begins p last a b (each_read away p last a b _ (omega arith) h.0) both.1.0.reads (omega arith) (omega (arith, eq2, lt)) (at ∙ none) in
-      let end = body_behind x version away (p + 1) last (Some (loop_body p last a)) f.3 both.0 refl (omega (arith, eq2, lt)) (omega arith) inside in
+      let end = body_past x version away (p + 1) last (Some (loop_body p last a)) f.3 both.0 refl (omega (arith, eq2, lt)) (omega arith) inside in
       ap (body_at c) (sym eq2) ∙ body_leaves p last a end ∙ sym none
-  body_behind (LeaveIf t) version away p q o f h eq lt room at =
+  body_past (LeaveIf t) version away p q o f h eq lt room at =
       let e : q ≡ p + 1 = omega (arith, eq) in
       ap (body_at c) e ∙ body_next p _ h.0.reads (test_each t _) o at (room_less o (p + 1) q (omega (arith, eq)) room)
-  body_behind Leave version away p q o f h eq lt room at =
+  body_past Leave version away p q o f h eq lt room at =
       let e : q ≡ p + 1 = omega (arith, eq) in
       ap (body_at c) e ∙ body_next p _ h.0.reads refl o at (room_less o (p + 1) q (omega (arith, eq)) room)
   -- ---- no faults

@@ -14,8 +14,8 @@ pub mod ListGuards
 pub mod RuleRuns
 pub mod Entries
 pub mod Formed
-pub mod Standing
-pub mod CodeLies
+pub mod Placement
+pub mod CodePlaces
 pub mod Forming
 pub mod NoFaults
 pub mod CodeForm

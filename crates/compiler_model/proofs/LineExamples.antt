@@ -115,8 +115,8 @@ listed load missing past own =
     ∷ own
 
 -- a variable is loaded; if it is defined, `sep` or, for the first one, `first` comes before its own lines
-abbrev shown : Action → Test → ℕ → Text → Text → List Line → List Line
-shown load missing past sep first own =
+abbrev printed : Action → Test → ℕ → Text → Text → List Line → List Line
+printed load missing past sep first own =
     Acts load
     ∷ Tests missing (Ahead past)
     ∷ Tests (IsEmpty 4) (Ahead 3)
@@ -134,24 +134,24 @@ simple_lines = refl
 reserved_lines : specified operator.Plus (prefix 9999 x) ≡ listed (LoadText 0 x) (IsUndefined 0) 5 (Acts (Cuts 0 9999 UR) ∷ [])
 reserved_lines = refl
 
-fragment_lines : specified operator.Hash (plain x) ≡ shown (LoadText 0 x) (IsUndefined 0) 7 (codes ",") (codes "#") (Acts (Puts 0 UR) ∷ [])
+fragment_lines : specified operator.Hash (plain x) ≡ printed (LoadText 0 x) (IsUndefined 0) 7 (codes ",") (codes "#") (Acts (Puts 0 UR) ∷ [])
 fragment_lines = refl
 
-path_lines : specified operator.Slash (prefix 3 x) ≡ shown (LoadText 0 x) (IsUndefined 0) 7 (codes "/") (codes "/") (Acts (Cuts 0 3 U) ∷ [])
+path_lines : specified operator.Slash (prefix 3 x) ≡ printed (LoadText 0 x) (IsUndefined 0) 7 (codes "/") (codes "/") (Acts (Cuts 0 3 U) ∷ [])
 path_lines = refl
 
 -- no equals sign after the name of an empty value
 parameter_lines : specified operator.Semicolon (prefix 1 x) ≡
-    shown (LoadText 0 x) (IsUndefined 0) 10 (codes ";") (codes ";")
+    printed (LoadText 0 x) (IsUndefined 0) 10 (codes ";") (codes ";")
     (Acts (Emits x) ∷ Tests (IsEmpty 0) (Ahead 3) ∷ Acts (Emits (codes "=")) ∷ Acts (Cuts 0 1 U) ∷ [])
 parameter_lines = refl
 
 query_lines : specified operator.Question (plain x) ≡
-    shown (LoadText 0 x) (IsUndefined 0) 8 (codes "&") (codes "?") (Acts (Emits (codes "x=")) ∷ Acts (Puts 0 U) ∷ [])
+    printed (LoadText 0 x) (IsUndefined 0) 8 (codes "&") (codes "?") (Acts (Emits (codes "x=")) ∷ Acts (Puts 0 U) ∷ [])
 query_lines = refl
 
 continuation_lines : specified operator.Ampersand (prefix 2 x) ≡
-    shown (LoadText 0 x) (IsUndefined 0) 8 (codes "&") (codes "&") (Acts (Emits (codes "x=")) ∷ Acts (Cuts 0 2 U) ∷ [])
+    printed (LoadText 0 x) (IsUndefined 0) 8 (codes "&") (codes "&") (Acts (Emits (codes "x=")) ∷ Acts (Cuts 0 2 U) ∷ [])
 continuation_lines = refl
 
 -- ---- expressions of a list
@@ -166,15 +166,15 @@ reserved_list_lines = refl
 
 -- only an exploded list has the operator's separator between its members
 label_list_lines : specified operator.Dot (plain authors) ≡
-    shown (LoadList 0 authors) (HasNoMember 0) 10 (codes ".") (codes ".") (Begins 5 0 4 ∷ Acts (Separates (codes ",")) ∷ Acts (Puts 5 U) ∷ Turns ∷ [])
+    printed (LoadList 0 authors) (HasNoMember 0) 10 (codes ".") (codes ".") (Begins 5 0 4 ∷ Acts (Separates (codes ",")) ∷ Acts (Puts 5 U) ∷ Turns ∷ [])
 label_list_lines = refl
 
 exploded_label_lines : specified operator.Dot (exploded authors) ≡
-    shown (LoadList 0 authors) (HasNoMember 0) 10 (codes ".") (codes ".") (Begins 5 0 4 ∷ Acts (Separates (codes ".")) ∷ Acts (Puts 5 U) ∷ Turns ∷ [])
+    printed (LoadList 0 authors) (HasNoMember 0) 10 (codes ".") (codes ".") (Begins 5 0 4 ∷ Acts (Separates (codes ".")) ∷ Acts (Puts 5 U) ∷ Turns ∷ [])
 exploded_label_lines = refl
 
 exploded_parameter_lines : specified operator.Semicolon (exploded authors) ≡
-    shown (LoadList 0 authors) (HasNoMember 0) 13 (codes ";") (codes ";")
+    printed (LoadList 0 authors) (HasNoMember 0) 13 (codes ";") (codes ";")
     (Begins 5 0 7
     ∷ Acts (Separates (codes ";"))
     ∷ Acts (Emits authors)
@@ -186,11 +186,11 @@ exploded_parameter_lines : specified operator.Semicolon (exploded authors) ≡
 exploded_parameter_lines = refl
 
 query_list_lines : specified operator.Question (plain authors) ≡
-    shown (LoadList 0 authors) (HasNoMember 0) 11 (codes "&") (codes "?")
+    printed (LoadList 0 authors) (HasNoMember 0) 11 (codes "&") (codes "?")
     (Acts (Emits (codes "rft.au=")) ∷ Begins 5 0 4 ∷ Acts (Separates (codes ",")) ∷ Acts (Puts 5 U) ∷ Turns ∷ [])
 query_list_lines = refl
 
 exploded_query_lines : specified operator.Question (exploded authors) ≡
-    shown (LoadList 0 authors) (HasNoMember 0) 11 (codes "&") (codes "?")
+    printed (LoadList 0 authors) (HasNoMember 0) 11 (codes "&") (codes "?")
     (Begins 5 0 5 ∷ Acts (Separates (codes "&")) ∷ Acts (Emits (codes "rft.au=")) ∷ Acts (Puts 5 U) ∷ Turns ∷ [])
 exploded_query_lines = refl

@@ -22,7 +22,7 @@ use Rattle.compiler_model.specs.Blocks.{Block, Nothing, Does, Then, Unless, Eith
 use Rattle.compiler_model.specs.Compiled.{place_of, test_instruction}
 use Rattle.compiler_model.proofs.Places.{IsPlaced, Lie, lie_both}
 use Rattle.compiler_model.proofs.Formed.{IsFormedAction, IsFormed}
-use Rattle.compiler_model.proofs.Forming.{Room, body_begins, body_behind, body_next, each_read, loop_body, none_outside, passes_all, room_less, same_body}
+use Rattle.compiler_model.proofs.Forming.{Room, body_begins, body_past, body_next, each_read, loop_body, none_outside, passes_all, room_less, same_body}
 use Rattle.compiler_model.proofs.Forming.{test_each}
 
 module _ (c : Code) where
@@ -35,8 +35,8 @@ module _ (c : Code) where
   pub clean_both : (p m q : ℕ) → HasNoFault p m → HasNoFault m q → HasNoFault p q
   clean_both p m q a b x low high = ⊎_elim (λ lt. a x low lt) (λ le. b x le high) (cases_lt x m)
 
-  goes_on_to : (p : ℕ) (i : Instruction) → p + 1 < length c.instrs → (nat_lt (p + 1) (length c.instrs) || ends_run i) ≡ true
-  goes_on_to p i lt = rw (lt-ltb (p + 1) (length c.instrs) lt) refl
+  continues_with : (p : ℕ) (i : Instruction) → p + 1 < length c.instrs → (nat_lt (p + 1) (length c.instrs) || ends_run i) ≡ true
+  continues_with p i lt = rw (lt-ltb (p + 1) (length c.instrs) lt) refl
 
   -- an instruction that leads only to the next place
   plain_good : (p : ℕ) (i : Instruction) → Reads c p i → is_each i ≡ false → is_next (Some i) ≡ false → target i ≡ None
@@ -46,7 +46,7 @@ module _ (c : Code) where
         reads = r;
         aims = (rw t refl, rw t refl, rw (e, t) refl);
         loops = (rw e refl, rw e refl, rw n refl, s);
-        last = goes_on_to p i lt;
+        last = continues_with p i lt;
       })
 
   -- an instruction that may jump within its body, or outside of loops
@@ -57,7 +57,7 @@ module _ (c : Code) where
         reads = r;
         aims = (rw t (lt-ltb p d low), rw t (lt-ltb d (length c.instrs) high), rw (e, t, at, there) (same_body c o));
         loops = (rw e refl, rw e refl, rw n refl, rw s refl);
-        last = goes_on_to p i (omega (arith, low, high));
+        last = continues_with p i (omega (arith, low, high));
       })
 
   each_good : (p q a b : ℕ) → Reads c p (instruction.Each a b (q + 1)) → Reads c q instruction.Next → p < q → q + 1 < length c.instrs → body_at c p ≡ None
@@ -69,7 +69,7 @@ module _ (c : Code) where
         reads = r;
         aims = (lt-ltb p (q + 1) (omega (arith, lt)), lt-ltb (q + 1) (length c.instrs) within, refl);
         loops = (rw at refl, next, refl, refl);
-        last = goes_on_to p (instruction.Each a b (q + 1)) (omega (arith, lt, within));
+        last = continues_with p (instruction.Each a b (q + 1)) (omega (arith, lt, within));
       })
 
   next_good : (p q a : ℕ) → Reads c q instruction.Next → body_at c q ≡ Some (loop_body c p q a) → q + 1 < length c.instrs → fault_at c q ≡ None
@@ -78,7 +78,7 @@ module _ (c : Code) where
         reads = r;
         aims = (refl, refl, refl);
         loops = (refl, refl, rw at (eq-eqb (q + 1) (q + 1) refl), refl);
-        last = goes_on_to q instruction.Next lt;
+        last = continues_with q instruction.Next lt;
       })
 
   -- HALT and FAIL may be anywhere
@@ -138,7 +138,7 @@ module _ (c : Code) where
       let mid = p + length (lines x) in
       let both = lie_both c away p (lines x) (lines y) h in
       let eq2 : mid + length (lines y) ≡ q = omega (arith, eq, length-append (lines x) (lines y)) in
-      let middle = body_behind c x version away p mid o f.0 both.0 refl (omega (arith, eq2, lt)) (room_less c o mid q (omega (arith, eq2)) room) at in
+      let middle = body_past c x version away p mid o f.0 both.0 refl (omega (arith, eq2, lt)) (room_less c o mid q (omega (arith, eq2)) room) at in
       clean_both p mid q
       (block_clean x version away p mid o f.0 both.0 refl (omega (arith, eq2, lt)) (room_less c o mid q (omega (arith, eq2)) room)
       (may_less o mid q away (omega (arith, eq2)) m) at)
@@ -146,9 +146,9 @@ module _ (c : Code) where
   block_clean (Unless t x) version away p q o f h eq lt room m at =
       let eq2 : p + 1 + length (lines x) ≡ q = omega (arith, eq) in
       let first = body_next c p _ h.0.reads (test_each c t _) o at (room_less c o (p + 1) q (omega (arith, eq2)) room) in
-      let behind = body_behind c x version away (p + 1) q o f.1 h.1 eq2 lt room first in
+      let following = body_past c x version away (p + 1) q o f.1 h.1 eq2 lt room first in
       clean_both p (p + 1) q
-      (clean_one p (p + 1) refl (test_good t p q o (test_read t _ away p q (omega (arith, eq)) h.0) (omega (arith, eq2)) lt at behind))
+      (clean_one p (p + 1) refl (test_good t p q o (test_read t _ away p q (omega (arith, eq)) h.0) (omega (arith, eq2)) lt at following))
       (block_clean x version away (p + 1) q o f.1 h.1 eq2 lt room m first)
   block_clean (Either t x y) version away p q o f h eq lt room m at =
       let mid = p + 1 + length (lines x) in
@@ -156,9 +156,9 @@ module _ (c : Code) where
       let eq2 : mid + 1 + length (lines y) ≡ q = omega (arith, eq, length-append (lines x) (Jumps (Ahead (length (lines y) + 1)) ∷ lines y)) in
       let over : mid + (length (lines y) + 1) ≡ q = omega (arith, eq2) in
       let first = body_next c p _ h.0.reads (test_each c t _) o at (room_less c o (p + 1) q (omega (arith, eq2)) room) in
-      let second = body_behind c x version away (p + 1) mid o f.1 both.0 refl (omega (arith, eq2, lt)) (room_less c o mid q (omega (arith, eq2)) room) first in
+      let second = body_past c x version away (p + 1) mid o f.1 both.0 refl (omega (arith, eq2, lt)) (room_less c o mid q (omega (arith, eq2)) room) first in
       let third = body_next c mid _ both.1.0.reads refl o second (room_less c o (mid + 1) q (omega (arith, eq2)) room) in
-      let behind = body_behind c y version away (mid + 1) q o f.2 both.1.1 eq2 lt room third in
+      let following = body_past c y version away (mid + 1) q o f.2 both.1.1 eq2 lt room third in
       clean_both p (p + 1) q
       (clean_one p (p + 1) refl (test_good t p (mid + 1) o (test_read t _ away p (mid + 1) (omega arith) h.0) (omega arith) (omega (arith, eq2, lt)) at third))
       (clean_both (p + 1) mid q
@@ -166,7 +166,7 @@ module _ (c : Code) where
       (may_less o mid q away (omega (arith, eq2)) m) first)
       (clean_both mid (mid + 1) q
       (clean_one mid (mid + 1) refl (jump_good mid q (instruction.Jump q) o (subst (λ d. Reads c mid (instruction.Jump d)) over both.1.0.reads) refl refl refl
-      refl (omega (arith, eq2)) lt second behind))
+      refl (omega (arith, eq2)) lt second following))
       (block_clean y version away (mid + 1) q o f.2 both.1.1 eq2 lt room m third)))
   block_clean (ForEach a b x) version away p q o f h eq lt room m at =
       let last = p + 1 + length (lines x) in
@@ -175,7 +175,7 @@ module _ (c : Code) where
       let none = none_outside c o f.0 in
       let here = each_read c away p last a b _ (omega arith) h.0 in
       let inside = body_begins c p last a b here both.1.0.reads (omega arith) (omega (arith, eq2, lt)) (at ∙ none) in
-      let end = body_behind c x version away (p + 1) last (Some (loop_body c p last a)) f.3 both.0 refl (omega (arith, eq2, lt)) (omega arith) inside in
+      let end = body_past c x version away (p + 1) last (Some (loop_body c p last a)) f.3 both.0 refl (omega (arith, eq2, lt)) (omega arith) inside in
       clean_both p (p + 1) q
       (clean_one p (p + 1) refl (each_good p last a b here both.1.0.reads (omega arith) (omega (arith, eq2, lt)) (at ∙ none)))
       (clean_both (p + 1) last q

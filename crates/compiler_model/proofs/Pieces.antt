@@ -134,22 +134,22 @@ module _ (v : Environment) where
 
   -- the block appends the text of r5 as a member is written
   abbrev pub ShowsMember : Block → (Text → Text) → Type 1
-  ShowsMember block shown = (turn : Option Bool) (t : Text) (s : Store) (Q : Claim) → s.registers 5 ≡ value.Text t → Adds s (shown t) Q
+  ShowsMember block printed = (turn : Option Bool) (t : Text) (s : Store) (Q : Claim) → s.registers 5 ≡ value.Text t → Adds s (printed t) Q
       → Brings v turn block s Q (λ never. ⊥)
 
-  turns_bring : (sep : Text) (block : Block) (shown : Text → Text) → ShowsMember block shown → (ts : List Text) (first : Bool) (s : Store) (Q : Claim)
-      → Shows s (parted sep first (map shown ts)) Q
+  turns_bring : (sep : Text) (block : Block) (printed : Text → Text) → ShowsMember block printed → (ts : List Text) (first : Bool) (s : Store) (Q : Claim)
+      → Shows s (parted sep first (map printed ts)) Q
       → InTurns (λ turn next Claimed. Brings v (Some turn) (Then (Does (Separates sep)) block) next Claimed (λ never. ⊥)) 5 ts first s Q
-  turns_bring sep block shown m [] true s Q k = k s refl (sym (append-nil s.output))
-  turns_bring sep block shown m [] false s Q k = k s refl (sym (append-nil s.output))
-  turns_bring sep block shown m (t ∷ ts) true s Q k =
+  turns_bring sep block printed m [] true s Q k = k s refl (sym (append-nil s.output))
+  turns_bring sep block printed m [] false s Q k = k s refl (sym (append-nil s.output))
+  turns_bring sep block printed m (t ∷ ts) true s Q k =
       m (Some true) t (keeping 5 (value.Text t) s) _ refl
-      (λ out eq. turns_bring sep block shown m ts false (record { registers = put s.registers 5 (value.Text t); output = out }) Q
-      (λ n kept added. k n kept (added ∙ ap (λ x. x ++ flat_map (λ next. sep ++ next) (map shown ts)) eq ∙ append_assoc s.output (shown t) _)))
-  turns_bring sep block shown m (t ∷ ts) false s Q k =
+      (λ out eq. turns_bring sep block printed m ts false (record { registers = put s.registers 5 (value.Text t); output = out }) Q
+      (λ n kept added. k n kept (added ∙ ap (λ x. x ++ flat_map (λ next. sep ++ next) (map printed ts)) eq ∙ append_assoc s.output (printed t) _)))
+  turns_bring sep block printed m (t ∷ ts) false s Q k =
       m (Some false) t (saying sep (keeping 5 (value.Text t) s)) _ refl
-      (λ out eq. turns_bring sep block shown m ts false (record { registers = put s.registers 5 (value.Text t); output = out }) Q
-      (λ n kept added. k n kept (added ∙ ap (λ x. x ++ flat_map (λ next. sep ++ next) (map shown ts)) eq ∙ simp append_assoc refl)))
+      (λ out eq. turns_bring sep block printed m ts false (record { registers = put s.registers 5 (value.Text t); output = out }) Q
+      (λ n kept added. k n kept (added ∙ ap (λ x. x ++ flat_map (λ next. sep ++ next) (map printed ts)) eq ∙ simp append_assoc refl)))
 
   head_brings : (named : Bool) (name : Text) (s : Store) (Q R : Claim) → Adds s (if named then (name ++ codes "=") else []) Q
       → Brings v None (head_block named name) s Q R

@@ -6,7 +6,7 @@ use Rattle.code_model.specs.Code.{Code, spelling}
 use Rattle.code_model.specs.declared.code.Instruction.{Instruction}
 use Rattle.machine_model.specs.Operands.{Reads, name_at, literal_at}
 use Rattle.machine_model.specs.States.{Loop, Frame, End, State, Running, Ended}
-use Rattle.machine_model.specs.Step.{Ends, Goes, Returns, Does, IsInside, Step}
+use Rattle.machine_model.specs.Step.{Ends, MovesTo, Returns, Does, IsInside, Step}
 use Rattle.machine_model.specs.Runs.{After}
 use Rattle.compiler_model.specs.declared.lines.Action.TheVariants.{LoadText, LoadList, LoadConst, Emits, Separates}
 use Rattle.compiler_model.specs.declared.lines.Line.{Line}
@@ -44,14 +44,14 @@ lie_both c away place (x ∷ a) b h =
 -- the machine runs from a frame to an end
 pub data Finishes (c : Code) (v : Environment) (e : End) : Frame → Type 0 where
   ends : (s : Frame) → Step c v (Running s) (Ended e) → Finishes c v e s
-  goes : (s t : Frame) → Step c v (Running s) (Running t) → Finishes c v e t → Finishes c v e s
+  moves : (s t : Frame) → Step c v (Running s) (Running t) → Finishes c v e t → Finishes c v e s
 
 step_within : (c : Code) (v : Environment) (s : Frame) (new : State) → Step c v (Running s) new → s.place < length c.instrs
 step_within c v s new st = slice_get_within c.instrs s.place (spelling st.0) st.1.spelled
 
 pub finishes_within : (c : Code) (v : Environment) (e : End) (s : Frame) → Finishes c v e s → s.place < length c.instrs
 finishes_within c v e _ (ends s st) = step_within c v s _ st
-finishes_within c v e _ (goes s t st f) = step_within c v s _ st
+finishes_within c v e _ (moves s t st f) = step_within c v s _ st
 
 one_more : (c : Code) (v : Environment) (k : ℕ) (old new : State) → After c v k old → Step c v old new → After c v (suc k) new
 unfolding After
@@ -60,19 +60,19 @@ one_more c v k old new h st = (old, h, st)
 -- a run that reaches such a frame reaches the end
 pub finishes_after : (c : Code) (v : Environment) (e : End) (s : Frame) → Finishes c v e s → (k : ℕ) → After c v k (Running s) → (j : ℕ) × After c v j (Ended e)
 finishes_after c v e _ (ends s st) k h = (suc k, one_more c v k (Running s) (Ended e) h st)
-finishes_after c v e _ (goes s t st f) k h = finishes_after c v e t f (suc k) (one_more c v k (Running s) (Running t) h st)
+finishes_after c v e _ (moves s t st f) k h = finishes_after c v e t f (suc k) (one_more c v k (Running s) (Running t) h st)
 
 -- a store at a place, in a loop or in none
 abbrev pub at_place : ℕ → Option Loop → Store → Frame
 at_place p l s = record { place = p; registers = s.registers; loop = l; output = s.output }
 
 module _ (c : Code) (v : Environment) (e : End) where
-  pub onward : (s t : Frame) (i : Instruction) → Reads c s.place i → Does c v s i (Goes t) → s.place < t.place → IsInside t.loop t.place → Finishes c v e t
+  pub onward : (s t : Frame) (i : Instruction) → Reads c s.place i → Does c v s i (MovesTo t) → s.place < t.place → IsInside t.loop t.place → Finishes c v e t
       → Finishes c v e s
-  onward s t i r d lt inside f = goes s t (i, r, Goes t, d, (record { forward = lt; within = finishes_within c v e t f; inside = inside }, refl)) f
+  onward s t i r d lt inside f = moves s t (i, r, MovesTo t, d, (record { forward = lt; within = finishes_within c v e t f; inside = inside }, refl)) f
 
   pub again : (s t : Frame) (i : Instruction) → Reads c s.place i → Does c v s i (Returns t) → Finishes c v e t → Finishes c v e s
-  again s t i r d f = goes s t (i, r, Returns t, d, refl) f
+  again s t i r d f = moves s t (i, r, Returns t, d, refl) f
 
   pub at_end : (s : Frame) (i : Instruction) → Reads c s.place i → Does c v s i (Ends e) → Finishes c v e s
   at_end s i r d = ends s (i, r, Ends e, d, refl)

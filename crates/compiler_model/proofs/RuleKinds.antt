@@ -21,9 +21,9 @@ use Rattle.compiler_model.specs.Shapes.{rule_block}
 use Rattle.compiler_model.specs.Compiled.{rule_lines, code_of}
 use Rattle.compiler_model.proofs.Places.{lie_both}
 use Rattle.compiler_model.proofs.Formed.{TreesAreSound, AreFormed}
-use Rattle.compiler_model.proofs.Forming.{body_next, body_behind}
+use Rattle.compiler_model.proofs.Forming.{body_next, body_past}
 use Rattle.compiler_model.proofs.RuleRuns.{RulesLie}
-use Rattle.compiler_model.proofs.CodeLies.{code_formed, code_lies}
+use Rattle.compiler_model.proofs.CodePlaces.{code_formed, code_placed}
 use Rattle.compiler_model.proofs.CodeForm.{code_length, no_body_first}
 use Rattle.compiler_model.proofs.Typed.{rows, length-rows, below_any}
 use Rattle.compiler_model.proofs.TypedExpressions.{rule_typed}
@@ -69,7 +69,7 @@ module _ (c : Code) (t : Table) (version : ℕ) (lists : List Text) where
       let both = rows_both t place (rows block any_kinds any_kinds (rule_typed lists rule)) (any_kinds ∷ rules_rows lists rules) r in
       let later = subst (λ n. RowsLie t (place + n) (any_kinds ∷ rules_rows lists rules)) (length-rows block any_kinds any_kinds (rule_typed lists rule))
       both.1 in
-      let at_last = body_behind c block version away place last None f.0 lie.0 refl (omega (arith, next, whole)) tt at in
+      let at_last = body_past c block version away place last None f.0 lie.0 refl (omega (arith, next, whole)) tt at in
       let at_away : body_at c away ≡ None = subst (λ n. body_at c n ≡ None) next (body_next c last instruction.Halt lie.1.0.reads refl None at_last tt) in
       let rest = rules_settled rules away f.1 h.1 at_away whole (subst (λ n. RowsLie t n (rules_rows lists rules)) next later.1) in
       let first = block_fits c t block version away place last None f.0 lie.0 refl (omega (arith, next, whole)) tt (λ e. rest.1) at any_kinds any_kinds
@@ -90,7 +90,7 @@ module _ (trees : TreesAreSound) (rules : RuleSet) (sound : IsSound rules) where
   unfolding table
   all_settled =
       let c = code_of rules in
-      rules_settled c table c.version rules.lists rules.rules 0 (code_formed trees rules sound) (code_lies trees rules sound) (no_body_first c)
+      rules_settled c table c.version rules.lists rules.rules 0 (code_formed trees rules sound) (code_placed trees rules sound) (no_body_first c)
       (omega (arith, code_length rules))
       (rows_lie table (rules_rows rules.lists rules.rules) 0 (λ n. let e : 0 + n ≡ n = omega arith in ap table e))
 

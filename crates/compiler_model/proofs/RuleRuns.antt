@@ -24,7 +24,7 @@ use Rattle.compiler_model.specs.Shapes.{rule_block, parts_block}
 use Rattle.compiler_model.specs.Compiled.{rule_lines}
 use Rattle.compiler_model.proofs.Effects.{Store, Claim, Brings}
 use Rattle.compiler_model.proofs.Places.{Lie, lie_both, Finishes, at_place, at_end}
-use Rattle.compiler_model.proofs.Simulation.{goes}
+use Rattle.compiler_model.proofs.Simulation.{moves}
 use Rattle.compiler_model.proofs.SpecPieces.{parts_bring}
 use Rattle.compiler_model.proofs.Guards.{Settles}
 use Rattle.compiler_model.proofs.ListGuards.{guards_bring}
@@ -71,7 +71,7 @@ module _ (c : Code) (v : Environment) (lists : List Text) where
       let last = p + length (lines (rule_block lists rule)) in
       let both = lie_both c away p (lines (rule_block lists rule)) (Halts ∷ []) h in
       let size : last + 1 ≡ away = omega (arith, length-append (lines (rule_block lists rule)) (Halts ∷ [])) in
-      goes c v (end_of link) (rule_block lists rule) away p last None both.0 refl (omega (arith, size)) (λ x low high. tt) s
+      moves c v (end_of link) (rule_block lists rule) away p last None both.0 refl (omega (arith, size)) (λ x low high. tt) s
       (λ n. (b ≡ true) × (n.output ≡ expansion look rule.template.parts)) (λ n. (b ≡ false) × (n.output ≡ []))
       (rule_brings rule sound s _ _ (rw holds (by_test b)))
       (λ n done. halts last n both.1.0.reads (e done.0 ∙ ap Some (sym done.1)))

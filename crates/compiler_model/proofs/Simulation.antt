@@ -153,8 +153,8 @@ module _ (c : Code) (v : Environment) (e : End) where
   -- ---- blocks
 
   -- a block goes from p to q, or leaves the rule
-  abbrev Goes : ℕ → ℕ → ℕ → Option Loop → Block → Type 1
-  Goes away p q l b =
+  abbrev MovesTo : ℕ → ℕ → ℕ → Option Loop → Block → Type 1
+  MovesTo away p q l b =
       (s : Store) (Q R : Claim) → Brings v (turn_of l) b s Q R → ((n : Store) → Q n → Ends q l n)
       → ((n : Store) → R n → IsInside l away × Ends away l n) → Ends p l s
 
@@ -162,23 +162,23 @@ module _ (c : Code) (v : Environment) (e : End) where
   none_of None h = refl
   none_of (Some l) h = absurd (cc)
 
-  pub goes : (b : Block) (away p q : ℕ) (l : Option Loop) → Lie c away p (lines b) → p + length (lines b) ≡ q → q ≤ away → Around l p q → Goes away p q l b
-  goes Nothing away p q l h eq le i s Q R b k m = same_place c v e p q l s (omega (arith, eq)) (k s b)
-  goes (Does a) away p q l h eq le i s Q R b k m =
+  pub moves : (b : Block) (away p q : ℕ) (l : Option Loop) → Lie c away p (lines b) → p + length (lines b) ≡ q → q ≤ away → Around l p q → MovesTo away p q l b
+  moves Nothing away p q l h eq le i s Q R b k m = same_place c v e p q l s (omega (arith, eq)) (k s b)
+  moves (Does a) away p q l h eq le i s Q R b k m =
       let next : p + 1 ≡ q = eq in
       acts a away p l s Q h.0 (i (p + 1) (omega arith) (omega (arith, eq))) b (λ n x. same_place c v e (p + 1) q l n next (k n x))
-  goes (Then x y) away p q l h eq le i s Q R b k m =
+  moves (Then x y) away p q l h eq le i s Q R b k m =
       let mid = p + length (lines x) in
       let both = lie_both c away p (lines x) (lines y) h in
       let eq2 : mid + length (lines y) ≡ q = omega (arith, eq, length-append (lines x) (lines y)) in
-      goes x away p mid l both.0 refl (omega (arith, eq2, le)) (λ n low high. i n low (omega (arith, high, eq2))) s _ R b
-      (λ n later. goes y away mid q l both.1 eq2 le (λ z low high. i z (omega (arith, low)) high) n Q R later k m) m
-  goes (Unless t x) away p q l h eq le i s Q R b k m =
+      moves x away p mid l both.0 refl (omega (arith, eq2, le)) (λ n low high. i n low (omega (arith, high, eq2))) s _ R b
+      (λ n later. moves y away mid q l both.1 eq2 le (λ z low high. i z (omega (arith, low)) high) n Q R later k m) m
+  moves (Unless t x) away p q l h eq le i s Q R b k m =
       let eq2 : p + 1 + length (lines x) ≡ q = omega (arith, eq) in
       tests t _ away p q l s (Q s) _ h.0 (omega (arith, eq)) (omega (arith, eq)) (i (p + 1) (omega arith) (omega (arith, eq))) b
       (λ done. (i q (omega (arith, eq)) (omega arith), k s done))
-      (λ n later. goes x away (p + 1) q l h.1 eq2 le (λ z low high. i z (omega (arith, low)) high) n Q R later k m)
-  goes (Either t x y) away p q l h eq le i s Q R b k m =
+      (λ n later. moves x away (p + 1) q l h.1 eq2 le (λ z low high. i z (omega (arith, low)) high) n Q R later k m)
+  moves (Either t x y) away p q l h eq le i s Q R b k m =
       let mid = p + 1 + length (lines x) in
       let both = lie_both c away (p + 1) (lines x) (Jumps (Ahead (length (lines y) + 1)) ∷ lines y) h.1 in
       let whole : p + 1 + length (lines x) + 1 + length (lines y) ≡ q =
@@ -187,28 +187,28 @@ module _ (c : Code) (v : Environment) (e : End) where
       tests t _ away p (mid + 1) l s _ _ h.0 (omega arith) (omega arith) (i (p + 1) (omega arith) (omega (arith, whole))) b
       (λ done. (
         i (mid + 1) (omega arith) (omega (arith, whole)),
-        goes y away (mid + 1) q l both.1.1 whole le (λ z low high. i z (omega (arith, low)) high) s Q
+        moves y away (mid + 1) q l both.1.1 whole le (λ z low high. i z (omega (arith, low)) high) s Q
             R done k m,
       ))
-      (λ n later. goes x away (p + 1) mid l both.0 refl (omega (arith, whole, le)) (λ z low high. i z (omega (arith, low)) (omega (arith, high, whole))) n Q R
+      (λ n later. moves x away (p + 1) mid l both.0 refl (omega (arith, whole, le)) (λ z low high. i z (omega (arith, low)) (omega (arith, high, whole))) n Q R
       later
       (λ o done. onward c v e (at_place mid l o) _ _ both.1.0.reads (step.jump _) (omega arith) (rw over (i q (omega (arith, whole)) (omega arith)))
       (rw over (k o done))) m)
-  goes (ForEach a x body) away p q l h eq le i s Q R b k m =
+  moves (ForEach a x body) away p q l h eq le i s Q R b k m =
       let last = p + 1 + length (lines body) in
       let both = lie_both c away (p + 1) (lines body) (Turns ∷ []) h.1 in
       let whole : last + 1 ≡ q = omega (arith, eq, length-append (lines body) (Turns ∷ [])) in
       let none = none_of l b.0 in
-      rw none (each away p last a x _ (λ ts first n Claimed now rest. goes body away (p + 1) last (Some (loop_at p last a ts first)) both.0 refl
+      rw none (each away p last a x _ (λ ts first n Claimed now rest. moves body away (p + 1) last (Some (loop_at p last a ts first)) both.0 refl
       (omega (arith, whole, le)) (around p last a ts first) n Claimed (λ never. ⊥) now rest (λ o never. absurd never)) (omega arith) _ (omega arith)
       h.0 both.1.0 b.1 s Q b.2 b.3
       (λ n done. same_place c v e (last + 1) q None n whole (subst (λ o. Finishes c v e (at_place q o n)) none (k n done))))
     where
       around : (p last a : ℕ) (ts : List Text) (first : Bool) → Around (Some (loop_at p last a ts first)) (p + 1) last
       around p last a ts first z low high = (omega (arith, low), omega (arith, high))
-  goes (LeaveIf t) away p q l h eq le i s Q R b k m =
+  moves (LeaveIf t) away p q l h eq le i s Q R b k m =
       tests t _ away p away l s (R s) Q h.0 refl (omega (arith, eq, le)) (i (p + 1) (omega arith) (omega (arith, eq))) b (m s)
       (λ n done. same_place c v e (p + 1) q l n eq (k n done))
-  goes Leave away p q l h eq le i s Q R b k m =
+  moves Leave away p q l h eq le i s Q R b k m =
       let at = m s b in
       onward c v e (at_place p l s) _ _ h.0.reads (step.jump _) (omega (arith, eq, le)) at.0 at.1

@@ -17,7 +17,7 @@ use Rattle.uri_grammar.specs.declared.parts.Part.TheVariants.{Literal, Expressio
 use Rattle.uri_template.specs.Expansion.{Style, style_of, item, list_piece, prefix, several_piece, piece, pieces, led, part_text, expansion}
 use Rattle.rule_parser.specs.Rules.{spec_fits, part_fits, parts_fit}
 use Rattle.compiler_model.specs.Blocks.{Does, Then, Unless}
-use Rattle.compiler_model.specs.Shapes.{loading, is_missing, lead_block, shown_block, specs_block, part_block, parts_block}
+use Rattle.compiler_model.specs.Shapes.{loading, is_missing, lead_block, loaded_block, specs_block, part_block, parts_block}
 use Rattle.compiler_model.proofs.Effects.{Store, Claim, Brings}
 use Rattle.compiler_model.proofs.Pieces.{EndsName, item_brings, lead_brings, members_bring, next_flag, opened, opening, style_ends_name}
 
@@ -33,7 +33,7 @@ module _ (v : Environment) where
   text_brings : (style : Style) → EndsName style.ifemp → (spec : Spec) (flag : Text) (m : Option Meaning) → look_up v spec.name ≡ m → (s : Store) (Q R : Claim)
       → s.registers 4 ≡ value.Text flag → Opens style flag (piece style spec (only_text m)) s Q
       → Brings v None (Then (Does (loading false spec.name))
-      (Unless (is_missing false) (Then (lead_block style.first style.sep) (shown_block false style spec)))) s Q R
+      (Unless (is_missing false) (Then (lead_block style.first style.sep) (loaded_block false style spec)))) s Q R
   text_brings style h spec flag None e s Q R f k = inl (ap (λ m. text_or_undefined (text_in m)) e, k _ f (sym (append-nil s.output)))
   text_brings style h spec flag (Some (Several ts)) e s Q R f k = inl (ap (λ m. text_or_undefined (text_in m)) e, k _ f (sym (append-nil s.output)))
   text_brings style h spec flag (Some (Single t)) e s Q R f k =
@@ -49,7 +49,7 @@ module _ (v : Environment) where
 
   list_brings : (style : Style) → EndsName style.ifemp → (spec : Spec) → spec.cut ≡ 0 → (flag : Text) (m : Option Meaning) → look_up v spec.name ≡ m
       → (s : Store) (Q R : Claim) → s.registers 4 ≡ value.Text flag → Opens style flag (piece style spec (only_list m)) s Q
-      → Brings v None (Then (Does (loading true spec.name)) (Unless (is_missing true) (Then (lead_block style.first style.sep) (shown_block true style spec))))
+      → Brings v None (Then (Does (loading true spec.name)) (Unless (is_missing true) (Then (lead_block style.first style.sep) (loaded_block true style spec))))
       s Q R
   list_brings style h spec z flag None e s Q R f k = inl (ap (λ m. value.List (members_in m)) e, k _ f (sym (append-nil s.output)))
   list_brings style h spec z flag (Some (Single t)) e s Q R f k = inl (ap (λ m. value.List (members_in m)) e, k _ f (sym (append-nil s.output)))
@@ -71,7 +71,7 @@ module _ (v : Environment) where
   spec_brings : (list : Bool) (style : Style) → EndsName style.ifemp → (spec : Spec) → (if list then spec.cut == 0 else true) ≡ true
       → (flag : Text) (s : Store) (Q R : Claim) → s.registers 4 ≡ value.Text flag → Opens style flag (piece style spec (seen_as list (look_up v spec.name))) s
       Q → Brings v None
-      (Then (Does (loading list spec.name)) (Unless (is_missing list) (Then (lead_block style.first style.sep) (shown_block list style spec)))) s Q R
+      (Then (Does (loading list spec.name)) (Unless (is_missing list) (Then (lead_block style.first style.sep) (loaded_block list style spec)))) s Q R
   spec_brings true style h spec z flag s Q R f k = list_brings style h spec (eqb-true spec.cut 0 z) flag (look_up v spec.name) refl s Q R f k
   spec_brings false style h spec z flag s Q R f k = text_brings style h spec flag (look_up v spec.name) refl s Q R f k
 

@@ -17,7 +17,7 @@ use Rattle.uri_template.specs.Expansion.{Style, style_of}
 use Rattle.rule_parser.specs.declared.rule.Rule.{Rule}
 use Rattle.compiler_model.specs.declared.lines.Action.TheVariants.{Separates, Puts}
 use Rattle.compiler_model.specs.Blocks.{Block, Does, Then, Unless, ForEach}
-use Rattle.compiler_model.specs.Shapes.{loading, is_missing, lead_block, writing_action, named_block, item_block, head_block, members_block, shown_block}
+use Rattle.compiler_model.specs.Shapes.{loading, is_missing, lead_block, writing_action, named_block, item_block, head_block, members_block, loaded_block}
 use Rattle.compiler_model.specs.Shapes.{specs_block, part_block, parts_block, rule_block}
 use Rattle.compiler_model.proofs.Typed.{HasKindIn, Typed, below_any, exactly, known_only, known_pair, only, pair, wider}
 use Rattle.compiler_model.proofs.TypedGuards.{guards_typed}
@@ -91,7 +91,7 @@ members_typed style name true =
     (turning, (tt, exactly turning), item_typed style 5 name style.writing 0 turning turning refl (exactly turning))
 
 spec_typed : (list : Bool) (style : Style) (spec : Spec)
-    → Typed (Then (Does (loading list spec.name)) (Unless (is_missing list) (Then (lead_block style.first style.sep) (shown_block list style spec)))) flagged
+    → Typed (Then (Does (loading list spec.name)) (Unless (is_missing list) (Then (lead_block style.first style.sep) (loaded_block list style spec)))) flagged
     flagged
 spec_typed true style spec =
     let ks = put flagged 0 kind.List in (

@@ -27,11 +27,11 @@ use Rattle.compiler_model.specs.declared.lines.Line.{Line}
 use Rattle.compiler_model.specs.declared.lines.Line.TheVariants.{Acts, Halts, Fails}
 use Rattle.compiler_model.specs.Blocks.{Block, Nothing, Does, Then, Unless, Either, ForEach, LeaveIf, Leave, lines}
 use Rattle.compiler_model.specs.Shapes.{loading, bound_block, guard_block, guards_block, lead_block, writing_action, named_block, item_block}
-use Rattle.compiler_model.specs.Shapes.{head_block, members_block, shown_block, specs_block, part_block, parts_block, rule_block}
+use Rattle.compiler_model.specs.Shapes.{head_block, members_block, loaded_block, specs_block, part_block, parts_block, rule_block}
 use Rattle.compiler_model.specs.Tables.{is_same_name, name_used, names_of}
 use Rattle.compiler_model.specs.Compiled.{rule_lines}
 use Rattle.compiler_model.proofs.Formed.{TreesAreSound}
-use Rattle.compiler_model.proofs.Standing.{all_append}
+use Rattle.compiler_model.proofs.Placement.{all_append}
 use Rattle.compiler_model.proofs.CodeForm.{firsts_keep}
 
 module _ (Right : Bool → Text → Type 0) where
@@ -127,9 +127,9 @@ module _ (Right : Bool → Text → Type 0) where
   members_right style name false = (head_right style.named name, (tt, tt))
   members_right style name true = (tt, item_right style 5 name (Puts 5 style.writing) tt)
 
-  shown_right : (list : Bool) (style : Style) (spec : Spec) → IsRightBlock (shown_block list style spec)
-  shown_right true style spec = members_right style spec.name spec.explode
-  shown_right false style spec = item_right style 0 spec.name (writing_action 0 style.writing spec.cut) (writing_right 0 style.writing spec.cut)
+  loaded_right : (list : Bool) (style : Style) (spec : Spec) → IsRightBlock (loaded_block list style spec)
+  loaded_right true style spec = members_right style spec.name spec.explode
+  loaded_right false style spec = item_right style 0 spec.name (writing_action 0 style.writing spec.cut) (writing_right 0 style.writing spec.cut)
 
   -- ---- lines
 
@@ -163,7 +163,7 @@ module _ (Right : Bool → Text → Type 0) where
     specs_right style (spec ∷ specs) h =
         let list = is_list lists spec.name in
         let loads = loading_right list spec.name (of_spec spec (All-head IsSoundSpec spec specs h)) in
-        ((loads, (lead_right style.first style.sep, shown_right list style spec)), specs_right style specs (All-tail IsSoundSpec spec specs h))
+        ((loads, (lead_right style.first style.sep, loaded_right list style spec)), specs_right style specs (All-tail IsSoundSpec spec specs h))
 
     parts_right : (parts : List Part) → All IsSoundPart parts → IsRightBlock (parts_block lists parts)
     parts_right [] h = tt

@@ -97,14 +97,14 @@ members_block style name true =
     ForEach 5 0 (Then (Does (Separates style.sep)) (item_block style 5 name (Puts 5 style.writing)))
 
 -- what was loaded into r0
-abbrev pub shown_block : Bool → Style → Spec → Block
-shown_block true style spec = members_block style spec.name spec.explode
-shown_block false style spec = item_block style 0 spec.name (writing_action 0 style.writing spec.cut)
+abbrev pub loaded_block : Bool → Style → Spec → Block
+loaded_block true style spec = members_block style spec.name spec.explode
+loaded_block false style spec = item_block style 0 spec.name (writing_action 0 style.writing spec.cut)
 
 abbrev pub spec_block : List Text → Style → Spec → Block
 spec_block lists style spec =
     Then (Does (loading (is_list lists spec.name) spec.name))
-    (Unless (is_missing (is_list lists spec.name)) (Then (lead_block style.first style.sep) (shown_block (is_list lists spec.name) style spec)))
+    (Unless (is_missing (is_list lists spec.name)) (Then (lead_block style.first style.sep) (loaded_block (is_list lists spec.name) style spec)))
 
 abbrev pub specs_block : List Text → Style → List Spec → Block
 specs_block lists style [] = Nothing

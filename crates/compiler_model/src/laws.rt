@@ -19,7 +19,7 @@ use uri_grammar::laws::trees_are_sound;
 
 /// On every environment the code of rules ends with the link of the first rule whose guards all hold, or with no link
 /// if there is no such rule. It ends with nothing else, and never gets stuck.
-pub fn code_comes_to_what_rules_mean()
+pub fn code_gives_what_rules_mean()
     ensures { (rules : RuleSet) → IsSound rules → (v : Environment) (o : Outcome) →
         HasOutcome (code_of rules) v o ↔ (answer (meaning rules v) ≡ o) }
 {

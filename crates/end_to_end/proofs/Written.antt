@@ -59,5 +59,5 @@ module _ (one : HasOneCode) (set : RuleSet) (bytes : Text) (limits : limit_passe
         compiled = are_compiled;
         within = subst (λ (c : Code). most_bytes c e ≤ MAX_LINK_BYTES) same ran.within;
         ends = subst (λ (c : Code). EndsSafely c e o) same ran.ends;
-        means = (means ran.code ran.file.is_file).0 (ran.ends.steps, ran.ends.comes);
+        means = (means ran.code ran.file.is_file).0 (ran.ends.steps, ran.ends.ending);
       }

@@ -1,6 +1,6 @@
 //! Rules, run by their code.
 
-ghost use Rattle.std.specs.Prelude.{◌≡◌, IfOk, IfErr};
+ghost use Rattle.std.specs.Prelude.{IfOk, IfErr};
 ghost use Rattle.verified_runs.specs.RunValue.{outcome_of};
 ghost use Rattle.end_to_end.specs.Ending.{RulesEndSafely, RuleFileEndsSafely};
 ghost use Rattle.end_to_end.specs.Causes.{IsRulesCause, IsRuleFileCause};

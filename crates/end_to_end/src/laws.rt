@@ -13,7 +13,7 @@ ghost use Rattle.compiler_model.specs.Answer.{answer};
 ghost use Rattle.safe_runs.specs.Ending.{IsAcceptedFile};
 
 use code_file::laws::file_has_one_code;
-use compiler_model::laws::{code_comes_to_what_rules_mean, compiled_code_is_accepted};
+use compiler_model::laws::{code_gives_what_rules_mean, compiled_code_is_accepted};
 use safe_runs::laws::accepted_file_has_no_fault;
 
 /// The verifier accepts the file of the code of rules: it can only run out of memory. The code that is read from the
@@ -29,5 +29,5 @@ pub fn files_of_rules_are_accepted()
     file_has_one_code();
     accepted_file_has_no_fault();
     compiled_code_is_accepted();
-    code_comes_to_what_rules_mean();
+    code_gives_what_rules_mean();
 }

@@ -41,22 +41,22 @@ other_in_front e env name absent = by_cases (bytes_eq e.name name) refl
     by_cases true same = let there : is_there (e ∷ env) name ≡ true = ap is_some (look_up-same e env name same) in cc
     by_cases false other = refl
 
-pub absent_behind : (e : Entry) (env : Environment) (name : Text) → is_there (e ∷ env) name ≡ false → is_there env name ≡ false
-absent_behind e env name absent = ap is_some (sym (look_up-other e env name (other_in_front e env name absent))) ∙ absent
+pub absent_after : (e : Entry) (env : Environment) (name : Text) → is_there (e ∷ env) name ≡ false → is_there env name ≡ false
+absent_after e env name absent = ap is_some (sym (look_up-other e env name (other_in_front e env name absent))) ∙ absent
 
 -- ---- entries with other names
 
 pub look_up-append : (front back : Environment) (name : Text) → is_there front name ≡ false → look_up (front ++ back) name ≡ look_up back name
 look_up-append [] back name absent = refl
 look_up-append (e ∷ front) back name absent =
-    look_up-other e (front ++ back) name (other_in_front e front name absent) ∙ look_up-append front back name (absent_behind e front name absent)
+    look_up-other e (front ++ back) name (other_in_front e front name absent) ∙ look_up-append front back name (absent_after e front name absent)
 
 pub with_member-append : (front back : Environment) (name t : Text) → is_there front name ≡ false → with_member (front ++ back) name t
     ≡ front ++ with_member back name t
 with_member-append [] back name t absent = refl
 with_member-append (e ∷ front) back name t absent =
     with_member-other e (front ++ back) name t (other_in_front e front name absent)
-    ∙ ap (λ es. e ∷ es) (with_member-append front back name t (absent_behind e front name absent))
+    ∙ ap (λ es. e ∷ es) (with_member-append front back name t (absent_after e front name absent))
 
 pub is_there-append : (front back : Environment) (name : Text) → is_there front name ≡ false → is_there back name ≡ false
     → is_there (front ++ back) name ≡ false
@@ -67,7 +67,7 @@ pub with_member-new : (env : Environment) (name t : Text) → is_there env name 
     → with_member env name t ≡ env ++ record { name = name; meaning = Several (t ∷ []) } ∷ []
 with_member-new [] name t absent = with_member-empty name t
 with_member-new (e ∷ env) name t absent =
-    with_member-other e env name t (other_in_front e env name absent) ∙ ap (λ es. e ∷ es) (with_member-new env name t (absent_behind e env name absent))
+    with_member-other e env name t (other_in_front e env name absent) ∙ ap (λ es. e ∷ es) (with_member-new env name t (absent_after e env name absent))
 
 -- the text of a new name comes last
 pub with_text-new : (env : Environment) (name t : Text) → is_there env name ≡ false
@@ -88,11 +88,11 @@ with_member-text (e ∷ env) name t is_text = by_cases (bytes_eq e.name name) re
 
     by_cases : (b : Bool) → bytes_eq e.name name ≡ b → (is_some (text_of env name) ≡ true → with_member env name t ≡ env)
         → with_member (e ∷ env) name t ≡ e ∷ env
-    by_cases true same behind =
+    by_cases true same following =
         with_member-same e env name t same ∙ ap (λ m. record { name = e.name; meaning = m } ∷ env)
         (keeps e.meaning (ap (λ o. is_some (text_in o)) (sym (look_up-same e env name same)) ∙ is_text))
-    by_cases false other behind =
-        with_member-other e env name t other ∙ ap (λ es. e ∷ es) (behind (ap (λ o. is_some (text_in o)) (sym (look_up-other e env name other)) ∙ is_text))
+    by_cases false other following =
+        with_member-other e env name t other ∙ ap (λ es. e ∷ es) (following (ap (λ o. is_some (text_in o)) (sym (look_up-other e env name other)) ∙ is_text))
 
 -- ---- E and M
 
@@ -137,14 +137,14 @@ byte_count-with_member (e ∷ env) name t no_text = by_cases (bytes_eq e.name na
   where
     by_cases : (b : Bool) → bytes_eq e.name name ≡ b → (is_some (text_of env name) ≡ false → byte_count (with_member env name t) ≡ byte_count env + length t)
         → byte_count (with_member (e ∷ env) name t) ≡ byte_count (e ∷ env) + length t
-    by_cases true same behind =
+    by_cases true same following =
         let grown : meaning_bytes (more e.meaning t) ≡ meaning_bytes e.meaning + length t =
         more_bytes e.meaning t (ap (λ o. is_some (text_in o)) (sym (look_up-same e env name same)) ∙ no_text) in
         let before = byte_count-cons e env in
         let after = byte_count-cons (record { name = e.name; meaning = more e.meaning t }) env in
         ap byte_count (with_member-same e env name t same) ∙ omega arith
-    by_cases false other behind =
-        let grown = behind (ap (λ o. is_some (text_in o)) (sym (look_up-other e env name other)) ∙ no_text) in
+    by_cases false other following =
+        let grown = following (ap (λ o. is_some (text_in o)) (sym (look_up-other e env name other)) ∙ no_text) in
         let before = byte_count-cons e env in
         let after = byte_count-cons e (with_member env name t) in
         ap byte_count (with_member-other e env name t other) ∙ omega arith
@@ -157,14 +157,14 @@ member_count-with_member (e ∷ env) name t no_text = by_cases (bytes_eq e.name 
   where
     by_cases : (b : Bool) → bytes_eq e.name name ≡ b → (is_some (text_of env name) ≡ false → member_count (with_member env name t) ≡ member_count env + 1)
         → member_count (with_member (e ∷ env) name t) ≡ member_count (e ∷ env) + 1
-    by_cases true same behind =
+    by_cases true same following =
         let grown : meaning_members (more e.meaning t) ≡ meaning_members e.meaning + 1 =
         more_members e.meaning t (ap (λ o. is_some (text_in o)) (sym (look_up-same e env name same)) ∙ no_text) in
         let before = member_count-cons e env in
         let after = member_count-cons (record { name = e.name; meaning = more e.meaning t }) env in
         ap member_count (with_member-same e env name t same) ∙ omega arith
-    by_cases false other behind =
-        let grown = behind (ap (λ o. is_some (text_in o)) (sym (look_up-other e env name other)) ∙ no_text) in
+    by_cases false other following =
+        let grown = following (ap (λ o. is_some (text_in o)) (sym (look_up-other e env name other)) ∙ no_text) in
         let before = member_count-cons e env in
         let after = member_count-cons e (with_member env name t) in
         ap member_count (with_member-other e env name t other) ∙ omega arith
@@ -178,18 +178,18 @@ is_there-with_member (e ∷ env) name t other there = by_cases (bytes_eq e.name 
   where
     front : (e e' : Entry) (es es' : Environment) → e.name ≡ e'.name → is_there es other ≡ is_there es' other
         → is_there (e ∷ es) other ≡ is_there (e' ∷ es') other
-    front e e' es es' same behind = by_name (bytes_eq e.name other) refl
+    front e e' es es' same following = by_name (bytes_eq e.name other) refl
       where
         by_name : (b : Bool) → bytes_eq e.name other ≡ b → is_there (e ∷ es) other ≡ is_there (e' ∷ es') other
         by_name true is = ap is_some (look_up-same e es other is ∙ refl)
             ∙ sym (ap is_some (look_up-same e' es' other (ap (λ n. bytes_eq n other) (sym same) ∙ is)))
-        by_name false not_is = ap is_some (look_up-other e es other not_is) ∙ behind
+        by_name false not_is = ap is_some (look_up-other e es other not_is) ∙ following
             ∙ sym (ap is_some (look_up-other e' es' other (ap (λ n. bytes_eq n other) (sym same) ∙ not_is)))
 
     by_cases : (b : Bool) → bytes_eq e.name name ≡ b → (is_there env name ≡ true → is_there (with_member env name t) other ≡ is_there env other)
         → is_there (with_member (e ∷ env) name t) other ≡ is_there (e ∷ env) other
-    by_cases true same behind =
+    by_cases true same following =
         ap (λ es. is_there es other) (with_member-same e env name t same) ∙ front (record { name = e.name; meaning = more e.meaning t }) e env env refl refl
-    by_cases false not_same behind =
+    by_cases false not_same following =
         let there' : is_there env name ≡ true = ap is_some (sym (look_up-other e env name not_same)) ∙ there in
-        ap (λ es. is_there es other) (with_member-other e env name t not_same) ∙ front e e (with_member env name t) env refl (behind there')
+        ap (λ es. is_there es other) (with_member-other e env name t not_same) ∙ front e e (with_member env name t) env refl (following there')

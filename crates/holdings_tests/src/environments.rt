@@ -12,13 +12,13 @@ type Given = (bool, &'static str, &'static str, bool);
 /// An environment of texts and members, and whether exactly those were accepted that should be.
 fn environment(alloc: Global, given: &[Given]) -> Result<(Env, bool), VarsError> {
     let mut env = Env::new(alloc);
-    let mut as_said = true;
+    let mut as_expected = true;
     for &(is_member, name, text, is_taken) in given {
         if enter(&mut env, is_member, name, text)? != is_taken {
-            as_said = false;
+            as_expected = false;
         }
     }
-    Ok((env, as_said))
+    Ok((env, as_expected))
 }
 
 /// The environment has this number of bytes, and this number of members.
@@ -35,8 +35,8 @@ const FIRST: &[Given] = &[
 
 #[test]
 fn first_text_stays(rt: HostRuntime) -> Result<(), Fail> {
-    let (env, as_said) = environment(rt.alloc(), FIRST)?;
-    assert!(rt; as_said && has_size(&env, 2, 1));
+    let (env, as_expected) = environment(rt.alloc(), FIRST)?;
+    assert!(rt; as_expected && has_size(&env, 2, 1));
     assert!(rt; has_texts(&env, &[("a", Some("x")), ("b", None)]));
     assert!(rt; has_counts(&env, &[("a", 0)]) && has_members(&env, &[("b", 0, Some("q"))]));
     Ok(())
@@ -134,8 +134,8 @@ fn has_spans(env: &Env) -> bool {
 
 #[test]
 fn buffer_and_spans(rt: HostRuntime) -> Result<(), Fail> {
-    let (env, as_said) = environment(rt.alloc(), IN_TURN)?;
-    assert!(rt; as_said && env.buffer() == "xpyrq".as_bytes());
+    let (env, as_expected) = environment(rt.alloc(), IN_TURN)?;
+    assert!(rt; as_expected && env.buffer() == "xpyrq".as_bytes());
     assert!(rt; has_text_places(&env) && has_member_places(&env));
     assert!(rt; env.members() == 3 && has_spans(&env));
     Ok(())
@@ -175,9 +175,9 @@ const LISTED: &[(&str, usize, Option<&str>)] = &[
 ];
 
 #[test]
-fn members_stand_in_the_order_in_which_they_came(rt: HostRuntime) -> Result<(), Fail> {
-    let (env, as_said) = environment(rt.alloc(), ADDED)?;
-    assert!(rt; as_said && has_size(&env, 43, 5));
+fn members_keep_the_order_of_the_values(rt: HostRuntime) -> Result<(), Fail> {
+    let (env, as_expected) = environment(rt.alloc(), ADDED)?;
+    assert!(rt; as_expected && has_size(&env, 43, 5));
     assert!(rt; has_members(&env, LISTED) && has_counts(&env, &[("rft.au", 3), ("rft_id", 2)]));
     Ok(())
 }
@@ -230,9 +230,9 @@ fn has_no_others(env: &Env) -> bool {
 }
 
 #[test]
-fn names_are_found_in_whichever_order_they_came(rt: HostRuntime) -> Result<(), Fail> {
-    let (env, as_said) = environment(rt.alloc(), NAMES)?;
-    assert!(rt; as_said && has_names(&env) && has_no_others(&env));
+fn names_are_found_in_any_order(rt: HostRuntime) -> Result<(), Fail> {
+    let (env, as_expected) = environment(rt.alloc(), NAMES)?;
+    assert!(rt; as_expected && has_names(&env) && has_no_others(&env));
     Ok(())
 }
 
@@ -278,8 +278,8 @@ fn are_none(members: Members<'_>) -> bool {
 
 #[test]
 fn lists_are_lent(rt: HostRuntime) -> Result<(), Fail> {
-    let (env, as_said) = environment(rt.alloc(), TITLE)?;
-    assert!(rt; as_said && are_authors(env.list("rft.au")));
+    let (env, as_expected) = environment(rt.alloc(), TITLE)?;
+    assert!(rt; as_expected && are_authors(env.list("rft.au")));
     assert!(rt;
         are_none(env.list("rft.title")) && are_none(env.list("x")) && are_none(Members::none())
     );

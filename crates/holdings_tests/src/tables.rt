@@ -116,10 +116,10 @@ const LIMITS: &[(&str, &str, usize, Option<TableError>)] = &[
 
 #[test]
 fn tables_have_limits(rt: HostRuntime) -> Result<(), Fail> {
-    for &(front, text, count, wanted) in LIMITS {
+    for &(front, text, count, expected) in LIMITS {
         assert_eq!(rt;
             fault(rt.alloc(), front, text, count)?,
-            wanted,
+            expected,
             "{text:?} {count}"
         );
     }

@@ -2,7 +2,7 @@
 use Rattle.std.proofs.Common.{◌≡◌, ℕ, ◌<◌, ◌++◌, Bool, false, List, Result, Ok, Err, length, subst, sym, ap, ◌∙◌}
 use Rattle.registry.specs.Targets.{TargetValue}
 use Rattle.http_streams.specs.HeadReading.{IsReadWhole}
-use Rattle.http_streams.specs.Streams.{Heard, Said}
+use Rattle.http_streams.specs.Streams.{InputState, OutputState}
 use Rattle.http_streams.specs.declared.read.TheConstants.{MAX_HEAD_BYTES}
 use Rattle.http_request.specs.Routes.{IsRouted, RouteValue}
 use Rattle.http_front.specs.Replies.{ReplyValue, head_of, printed, sent_body, unavailable}
@@ -32,13 +32,13 @@ pub reply-no_memory : (targets : List TargetValue) (bytes : List ℕ) (route : R
 reply-no_memory targets bytes route without_body text routed f =
     subst (λ (t : List ℕ). IsReply targets bytes 503 t) (sym f) (no_memory route without_body routed)
 
-pub reply-no_room : (targets : List TargetValue) (old new : Heard) (text : List ℕ)
+pub reply-no_room : (targets : List TargetValue) (old new : InputState) (text : List ℕ)
     → new ≡ old → text ≡ printed unavailable false → IsReplyToInput targets old new 503 text
 reply-no_room targets old new text unread f =
     subst (λ (t : List ℕ). IsReplyToInput targets old new 503 t) (sym f) (no_room unread)
 
 -- the bytes that were read are borrowed to make the reply
-pub reply-request : (targets : List TargetValue) (old new : Heard) (bytes lent : List ℕ) (status : ℕ) (reply : List ℕ)
+pub reply-request : (targets : List TargetValue) (old new : InputState) (bytes lent : List ℕ) (status : ℕ) (reply : List ℕ)
     → IsReadWhole MAX_HEAD_BYTES old bytes new → 0 < length bytes → lent ≡ bytes → IsReply targets lent status reply
     → IsReplyToInput targets old new status reply
 reply-request targets old new bytes lent status reply whole some same is =
@@ -46,7 +46,8 @@ reply-request targets old new bytes lent status reply whole some same is =
 
 -- ---- how much was written
 
-pub exchange-by_sent : (targets : List TargetValue) (old new : Heard) (before after : Said) (status : ℕ) (reply : List ℕ) (result : Result Served ServeError)
+pub exchange-by_sent : (targets : List TargetValue) (old new : InputState) (before after : OutputState) (status : ℕ) (reply : List ℕ)
+    (result : Result Served ServeError)
     → IsReplyToInput targets old new status reply → IsSent before status reply result after → IsExchange targets old before result new after
 exchange-by_sent targets old new before after status reply (Ok Nothing) to sent = absurd sent
 exchange-by_sent targets old new before after status reply (Ok (Replied named)) to sent =

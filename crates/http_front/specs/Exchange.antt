@@ -2,7 +2,7 @@
 use Rattle.std.specs.Prelude.{◌≡◌, ℕ, ◌<◌, Bool, false, List, [], Result, Ok, Err, length, take}
 use Rattle.registry.specs.Targets.{TargetValue}
 use Rattle.http_streams.specs.HeadReading.{IsReadWhole, IsReadInPart}
-use Rattle.http_streams.specs.Streams.{Heard, Said, Says, SaysInPart}
+use Rattle.http_streams.specs.Streams.{InputState, OutputState, Sends, SendsInPart}
 use Rattle.http_streams.specs.declared.read.TheConstants.{MAX_HEAD_BYTES}
 use Rattle.http_request.specs.Routes.{RouteValue, IsRouted}
 use Rattle.http_front.specs.Replies.{ReplyValue, printed, unavailable}
@@ -22,7 +22,7 @@ pub data IsReply (targets : List TargetValue) (bytes : List ℕ) : ℕ → List 
       → IsReply targets bytes unavailable.status (printed unavailable without_body)
 
 -- the same for the bytes that were read; if the buffer could not be allocated, nothing was read
-pub data IsReplyToInput (targets : List TargetValue) (old new : Heard) : ℕ → List ℕ → Type 0 where
+pub data IsReplyToInput (targets : List TargetValue) (old new : InputState) : ℕ → List ℕ → Type 0 where
   request : (bytes : List ℕ) (status : ℕ) (reply : List ℕ) → IsReadWhole MAX_HEAD_BYTES old bytes new → 0 < length bytes
       → IsReply targets bytes status reply → IsReplyToInput targets old new status reply
   no_room : new ≡ old → IsReplyToInput targets old new unavailable.status (printed unavailable false)
@@ -32,17 +32,17 @@ pub data IsReplyToInput (targets : List TargetValue) (old new : Heard) : ℕ →
 -- what an exchange does to its input and its output, depending on how it ends: the input ended at once, and nothing was written; a whole reply with this status
 -- was written; a read failed before the head was complete, and nothing was written; or a write failed after that many bytes from the beginning of a reply, but
 -- not all
-abbrev pub IsExchange : List TargetValue → Heard → Said → Result Served ServeError → Heard → Said → Type 0
+abbrev pub IsExchange : List TargetValue → InputState → OutputState → Result Served ServeError → InputState → OutputState → Type 0
 IsExchange targets old before (Ok Nothing) new after = IsReadWhole MAX_HEAD_BYTES old [] new × (after ≡ before)
 IsExchange targets old before (Ok (Replied status)) new after =
-    (reply : List ℕ) × IsReplyToInput targets old new status reply × Says before reply (length reply) after
+    (reply : List ℕ) × IsReplyToInput targets old new status reply × Sends before reply (length reply) after
 IsExchange targets old before (Err ReadFault) new after = (bytes : List ℕ) × IsReadInPart MAX_HEAD_BYTES old bytes new × (after ≡ before)
 IsExchange targets old before (Err (WriteFault n)) new after =
-    (status : ℕ) × (reply : List ℕ) × IsReplyToInput targets old new status reply × (n < length reply) × SaysInPart before (take n reply) n after
+    (status : ℕ) × (reply : List ℕ) × IsReplyToInput targets old new status reply × (n < length reply) × SendsInPart before (take n reply) n after
 
 -- the whole reply was written, or its first bytes
-abbrev pub IsSent : Said → ℕ → List ℕ → Result Served ServeError → Said → Type 0
+abbrev pub IsSent : OutputState → ℕ → List ℕ → Result Served ServeError → OutputState → Type 0
 IsSent before status reply (Ok Nothing) after = ⊥
-IsSent before status reply (Ok (Replied named)) after = (named ≡ status) × Says before reply (length reply) after
+IsSent before status reply (Ok (Replied named)) after = (named ≡ status) × Sends before reply (length reply) after
 IsSent before status reply (Err ReadFault) after = ⊥
-IsSent before status reply (Err (WriteFault n)) after = (n < length reply) × SaysInPart before (take n reply) n after
+IsSent before status reply (Err (WriteFault n)) after = (n < length reply) × SendsInPart before (take n reply) n after

@@ -39,7 +39,7 @@ fn send<O: Output>(
     head: &[u8],
     body: &[u8],
 ) -> Result<Served, ServeError>
-    ensures { spec.IsSent (O.said output.old) status (head.now ++ body.now) result (O.said output.new) }
+    ensures { spec.IsSent (O.output_state output.old) status (head.now ++ body.now) result (O.output_state output.new) }
 {
     match write_both(output, head, body) {
         Ok(()) => Ok(Served::Replied(status)),
@@ -56,7 +56,7 @@ fn answer<O: Output>(
 ) -> Result<Served, ServeError>
     requires { length bytes.now ≤ MAX_HEAD_BYTES }
     ensures { (status : ℕ) × (reply : List ℕ) × spec.IsReply registry.now bytes.now status reply
-        × spec.IsSent (O.said output.old) status reply result (O.said output.new) }
+        × spec.IsSent (O.output_state output.old) status reply result (O.output_state output.new) }
 {
     let request = read_request(bytes);
     match print_reply(alloc, registry, request) {
@@ -86,8 +86,8 @@ pub fn serve_one<I: Input, O: Output>(
     output: &mut O,
     registry: &Registry,
 ) -> Result<Served, ServeError>
-    ensures exchange { spec.IsExchange registry.now (I.heard input.old) (O.said output.old) result (I.heard input.new)
-        (O.said output.new) }
+    ensures exchange { spec.IsExchange registry.now (I.input_state input.old) (O.output_state output.old) result
+        (I.input_state input.new) (O.output_state output.new) }
     ensures limit { MAX_HEAD_BYTES ≡ 16384 }
 {
     match read_head(alloc, input) {

@@ -8,9 +8,9 @@ use Rattle.http_request.specs.Host.{host_count}
 pub route-by_head : (bytes : List ℕ) (head : RequestHead) (method target : List ℕ) (minor hosts : ℕ) (route : RouteValue) (without_body : Bool)
     → IsHeadOf bytes head → method ≡ head.method → target ≡ head.target → minor ≡ head.minor → hosts ≡ host_count head.fields
     → route ≡ route_of method target minor hosts → without_body ≡ is_head_method method → IsRouted bytes route without_body
-route-by_head bytes head method target minor hosts route without_body is e_method e_target e_minor e_hosts e_wanted e_only =
+route-by_head bytes head method target minor hosts route without_body is e_method e_target e_minor e_hosts e_expected e_only =
     let same : route ≡ head_route head =
-    e_wanted ∙ ap (λ (m : List ℕ). route_of m target minor hosts) e_method
+    e_expected ∙ ap (λ (m : List ℕ). route_of m target minor hosts) e_method
     ∙ ap (λ (t : List ℕ). route_of head.method t minor hosts) e_target
     ∙ ap (λ (v : ℕ). route_of head.method head.target v hosts) e_minor
     ∙ ap (λ (n : ℕ). route_of head.method head.target head.minor n) e_hosts in

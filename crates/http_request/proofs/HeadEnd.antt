@@ -19,9 +19,9 @@ record EndsFirst (test : List ℕ → Bool) (bytes : List ℕ) : Type 0 where
 -- ---- one more byte before
 
 -- after this byte one test continues as the other
-ends-behind : (test behind : List ℕ → Bool) (b : ℕ) (bytes : List ℕ) → test [] ≡ false → ((more : List ℕ) → test (b ∷ more) ≡ behind more)
-    → EndsFirst behind bytes → EndsFirst test (b ∷ bytes)
-ends-behind test behind b bytes none same e = record { whole = same bytes ∙ e.whole; front = front }
+ends-following : (test following : List ℕ → Bool) (b : ℕ) (bytes : List ℕ) → test [] ≡ false → ((more : List ℕ) → test (b ∷ more) ≡ following more)
+    → EndsFirst following bytes → EndsFirst test (b ∷ bytes)
+ends-following test following b bytes none same e = record { whole = same bytes ∙ e.whole; front = front }
   where
     front : (n : ℕ) → n < length (b ∷ bytes) → test (take n (b ∷ bytes)) ≡ false
     front zero l = none
@@ -30,7 +30,7 @@ ends-behind test behind b bytes none same e = record { whole = same bytes ∙ e.
 -- a byte of a line
 ends-byte : (b : ℕ) (bytes : List ℕ) → (b == 10) ≡ false → EndsFirst has_empty_line bytes → EndsFirst has_empty_line (b ∷ bytes)
 ends-byte b bytes apart e =
-    ends-behind has_empty_line has_empty_line b bytes refl
+    ends-following has_empty_line has_empty_line b bytes refl
     (λ more. ap (λ (t : Bool). (t && begins_with_empty_line more) || has_empty_line more) apart) e
 
 -- the LF of a line, with no empty line after it
@@ -81,9 +81,9 @@ ends-field [] raw bytes end token value e = let never : ⊥ = omega (arith, toke
 ends-field (b ∷ name) raw bytes end token value e =
     let passes = All-head (λ v. IsTrue (is_token_byte v)) b name token.1 in
     let apart = differs is_token_byte 10 b lf_no_token passes in
-    let behind = ends-byte 58 _ refl (ends-run is_value_byte raw _ refl value (ends-line_end end bytes e)) in
+    let following = ends-byte 58 _ refl (ends-run is_value_byte raw _ refl value (ends-line_end end bytes e)) in
     ends-line b _ apart (differs is_token_byte 13 b cr_no_token passes)
-    (ends-byte b _ apart (ends-run is_token_byte name _ lf_no_token (All-tail (λ v. IsTrue (is_token_byte v)) b name token.1) behind))
+    (ends-byte b _ apart (ends-run is_token_byte name _ lf_no_token (All-tail (λ v. IsTrue (is_token_byte v)) b name token.1) following))
 
 -- the LF of the line before, and then the fields and the empty line
 ends-section : (fields : List Field) (last : LineEnd) → All IsField fields → EndsFirst has_empty_line (10 ∷ print_section fields last)
@@ -119,7 +119,7 @@ ends-method : (method bytes : List ℕ) → IsToken method → EndsFirst has_emp
 ends-method [] bytes token e = let never : ⊥ = omega (arith, token.0) in absurd never
 ends-method (b ∷ method) bytes token e =
     let passes = All-head (λ v. IsTrue (is_token_byte v)) b method token.1 in
-    ends-behind is_closed has_empty_line b (method ++ bytes) refl
+    ends-following is_closed has_empty_line b (method ++ bytes) refl
     (λ more.
     ap (λ (t : Bool). if t || (b == 13) then is_closed more else has_empty_line more) (differs is_token_byte 10 b lf_no_token passes)
     ∙ ap (λ (t : Bool). if t then is_closed more else has_empty_line more) (differs is_token_byte 13 b cr_no_token passes))
@@ -128,9 +128,9 @@ ends-method (b ∷ method) bytes token e =
 ends-blank : (ends : List LineEnd) (bytes : List ℕ) → EndsFirst is_closed bytes → EndsFirst is_closed (print_blank ends ++ bytes)
 ends-blank [] bytes e = e
 ends-blank (crlf ∷ ends) bytes e =
-    ends-behind is_closed is_closed 13 (10 ∷ (print_blank ends ++ bytes)) refl (λ more. refl)
-    (ends-behind is_closed is_closed 10 (print_blank ends ++ bytes) refl (λ more. refl) (ends-blank ends bytes e))
-ends-blank (lf ∷ ends) bytes e = ends-behind is_closed is_closed 10 (print_blank ends ++ bytes) refl (λ more. refl) (ends-blank ends bytes e)
+    ends-following is_closed is_closed 13 (10 ∷ (print_blank ends ++ bytes)) refl (λ more. refl)
+    (ends-following is_closed is_closed 10 (print_blank ends ++ bytes) refl (λ more. refl) (ends-blank ends bytes e))
+ends-blank (lf ∷ ends) bytes e = ends-following is_closed is_closed 10 (print_blank ends ++ bytes) refl (λ more. refl) (ends-blank ends bytes e)
 
 -- ---- the head
 

@@ -35,8 +35,8 @@ after_authority bytes = if authority_length bytes == 0 then None else Some (drop
 -- ---- either form
 
 abbrev pub resource_by : Option (List ℕ) → Option (List ℕ) → Option (List ℕ)
-resource_by (Some behind_http) behind_https = after_authority behind_http
-resource_by None (Some behind_https) = after_authority behind_https
+resource_by (Some after_http) after_https = after_authority after_http
+resource_by None (Some after_https) = after_authority after_https
 resource_by None None = None
 
 -- the path and the query of a target; none for a target of another form

@@ -20,11 +20,11 @@ pub fn serve_on<L: Listener>(
     registry: &Registry,
 ) -> io::Result<Counts>
     ensures served { IfOk result
-        (ServesAll registry.now L.gives L.closes L.In.heard L.Out.said 2_000_000_000 count listener.old
+        (ServesAll registry.now L.gives L.closes L.In.input_state L.Out.output_state 2_000_000_000 count listener.old
         listener.new) }
     ensures stopped { OnErr result
-        (StopsEarly registry.now L.gives L.closes L.fails L.In.heard L.Out.said 2_000_000_000 count listener.old
-        listener.new) }
+        (StopsEarly registry.now L.gives L.closes L.fails L.In.input_state L.Out.output_state 2_000_000_000 count
+        listener.old listener.new) }
 {
     serve_within(alloc, listener, count, registry, Duration::from_secs(2))
 }
@@ -44,11 +44,11 @@ pub fn serve_within<L: Listener>(
     wait: Duration,
 ) -> io::Result<Counts>
     ensures served { IfOk result
-        (ServesAll registry.now L.gives L.closes L.In.heard L.Out.said (as_nanos wait) count listener.old
+        (ServesAll registry.now L.gives L.closes L.In.input_state L.Out.output_state (as_nanos wait) count listener.old
         listener.new) }
     ensures stopped { OnErr result
-        (StopsEarly registry.now L.gives L.closes L.fails L.In.heard L.Out.said (as_nanos wait) count listener.old
-        listener.new) }
+        (StopsEarly registry.now L.gives L.closes L.fails L.In.input_state L.Out.output_state (as_nanos wait) count
+        listener.old listener.new) }
 {
     let mut counts = Counts::new();
     for _served in 0..count {
@@ -66,7 +66,7 @@ fn serve_next<L: Listener>(
 ) -> io::Result<Result<Served, ServeError>>
     ensures served { IfOk result (λ exchange. (c : Connection L.In L.Out)
         × IsAccepted L.gives L.closes listener.old c listener.new
-        × IsServed registry.now L.In.heard L.Out.said (as_nanos wait) c × (exchange ≡ outcome c)) }
+        × IsServed registry.now L.In.input_state L.Out.output_state (as_nanos wait) c × (exchange ≡ outcome c)) }
     ensures stopped { OnErr result (L.fails listener.old listener.new) }
 {
     let Some((mut input, mut output)) = listener.accept(wait)? else {

@@ -1,5 +1,4 @@
 -- Bytes with nothing after them.
-use Rattle.std.proofs.Common.{ℕ}
 use Rattle.std.proofs.lemmas.List.{append-nil}
 
 pub ruleset appended = append-nil

@@ -5,7 +5,7 @@ use Rattle.std.proofs.Math.Nat.{add-zero}
 use Rattle.std.proofs.Math.Seq.{take-add, take-append-add}
 use Rattle.std.proofs.lemmas.List.{append-nil, length-append, length-take-le}
 use Rattle.http_streams.specs.HeadReading.{IsReadWhole}
-use Rattle.http_streams.specs.Streams.{Heard, Hears, IsAtEnd, Reads, Said, Says, SaysInPart, Writes, raised}
+use Rattle.http_streams.specs.Streams.{InputState, Receives, IsAtEnd, Reads, OutputState, Sends, SendsInPart, Writes, raised}
 use Rattle.http_streams.proofs.Counts.{raised-more, raised-none}
 
 -- ---- bytes, if they are known
@@ -47,13 +47,13 @@ IsAtEnd-read None None ended read = tt
 
 -- ---- inputs
 
-pub Hears-none : (heard : Heard) → Hears heard [] 0 heard
-Hears-none heard = record { left = Reads-none heard.left; taken = sym (raised-none heard.taken); failures = refl; wait = refl }
+pub Receives-none : (input_state : InputState) → Receives input_state [] 0 input_state
+Receives-none input_state = record { left = Reads-none input_state.left; taken = sym (raised-none input_state.taken); failures = refl; wait = refl }
 
 -- the bytes of two reads were read
-pub Hears-append : (before between after : Heard) (first second : List ℕ) (i n : ℕ)
-    → Hears before first i between → Hears between second n after → Hears before (first ++ second) (i + n) after
-Hears-append before between after first second i n one two = record {
+pub Receives-append : (before between after : InputState) (first second : List ℕ) (i n : ℕ)
+    → Receives before first i between → Receives between second n after → Receives before (first ++ second) (i + n) after
+Receives-append before between after first second i n one two = record {
   left = Reads-append before.left between.left after.left first second one.left two.left;
   taken = two.taken ∙ ap (λ (t : ℕ). raised t n) one.taken ∙ raised-more before.taken i n;
   failures = two.failures ∙ one.failures;
@@ -61,23 +61,23 @@ Hears-append before between after first second i n one two = record {
 }
 
 -- at the end of the input a read of nothing leaves the bytes that were read before
-Hears-end : (before between after : Heard) (bytes : List ℕ) (i : ℕ)
-    → Hears before bytes i between → Hears between [] 0 after → Hears before bytes i after
-Hears-end before between after bytes i one two =
-    subst (λ (k : ℕ). Hears before bytes k after) (add-zero i)
-    (subst (λ (b : List ℕ). Hears before b (i + 0) after) (append-nil bytes) (Hears-append before between after bytes [] i 0 one two))
+Receives-end : (before between after : InputState) (bytes : List ℕ) (i : ℕ)
+    → Receives before bytes i between → Receives between [] 0 after → Receives before bytes i after
+Receives-end before between after bytes i one two =
+    subst (λ (k : ℕ). Receives before bytes k after) (add-zero i)
+    (subst (λ (b : List ℕ). Receives before b (i + 0) after) (append-nil bytes) (Receives-append before between after bytes [] i 0 one two))
 
 -- everything has been read if a read returns nothing
-pub read-ended : (most : ℕ) (before between after : Heard) (old new rest : List ℕ) (i n : ℕ) → n ≡ 0 → i ≤ most → i ≤ length new
-    → take i new ≡ take i old → Hears before (take i old) i between → Hears between (take n rest) n after → IsAtEnd between.left
+pub read-ended : (most : ℕ) (before between after : InputState) (old new rest : List ℕ) (i n : ℕ) → n ≡ 0 → i ≤ most → i ≤ length new
+    → take i new ≡ take i old → Receives before (take i old) i between → Receives between (take n rest) n after → IsAtEnd between.left
     → IsReadWhole most before (take i new) after
 read-ended most before between after old new rest i n none few fits kept one two ended =
     let length_is : length (take i new) ≡ i = length-take-le i new fits in
-    let nothing : Hears between [] 0 after = subst (λ (k : ℕ). Hears between (take k rest) k after) none two in
-    let all : Hears before (take i new) i after =
-    subst (λ (b : List ℕ). Hears before b i after) (sym kept) (Hears-end before between after (take i old) i one nothing) in
+    let nothing : Receives between [] 0 after = subst (λ (k : ℕ). Receives between (take k rest) k after) none two in
+    let all : Receives before (take i new) i after =
+    subst (λ (b : List ℕ). Receives before b i after) (sym kept) (Receives-end before between after (take i old) i one nothing) in
     record {
-      read = subst (λ (k : ℕ). Hears before (take i new) k after) (sym length_is) all;
+      read = subst (λ (k : ℕ). Receives before (take i new) k after) (sym length_is) all;
       limit = omega (arith, length_is);
       stopped = inr (inr (IsAtEnd-read between.left after.left ended nothing.left));
     }
@@ -88,40 +88,40 @@ take-read old new i n kept = take-add i n new ∙ ap (λ x. x ++ take n (drop i 
 
 -- ---- outputs
 
-pub Says-none : (said : Said) → Says said [] 0 said
-Says-none said = record { written = Writes-none said.written; sent = sym (raised-none said.sent); failures = refl; wait = refl }
+pub Sends-none : (output_state : OutputState) → Sends output_state [] 0 output_state
+Sends-none output_state = record { written = Writes-none output_state.written; sent = sym (raised-none output_state.sent); failures = refl; wait = refl }
 
 -- the bytes of two writes were written
-pub Says-append : (before between after : Said) (first second : List ℕ) (i n : ℕ)
-    → Says before first i between → Says between second n after → Says before (first ++ second) (i + n) after
-Says-append before between after first second i n one two = record {
+pub Sends-append : (before between after : OutputState) (first second : List ℕ) (i n : ℕ)
+    → Sends before first i between → Sends between second n after → Sends before (first ++ second) (i + n) after
+Sends-append before between after first second i n one two = record {
   written = Writes-append before.written between.written after.written first second one.written two.written;
   sent = two.sent ∙ ap (λ (t : ℕ). raised t n) one.sent ∙ raised-more before.sent i n;
   failures = two.failures ∙ one.failures;
   wait = two.wait ∙ one.wait;
 }
 
-pub Says-take : (before between after : Said) (bytes : List ℕ) (i n : ℕ)
-    → Says before (take i bytes) i between → Says between (take n (drop i bytes)) n after → Says before (take (i + n) bytes) (i + n) after
-Says-take before between after bytes i n one two =
-    subst (λ (b : List ℕ). Says before b (i + n) after) (sym (take-add i n bytes))
-    (Says-append before between after (take i bytes) (take n (drop i bytes)) i n one two)
+pub Sends-take : (before between after : OutputState) (bytes : List ℕ) (i n : ℕ)
+    → Sends before (take i bytes) i between → Sends between (take n (drop i bytes)) n after → Sends before (take (i + n) bytes) (i + n) after
+Sends-take before between after bytes i n one two =
+    subst (λ (b : List ℕ). Sends before b (i + n) after) (sym (take-add i n bytes))
+    (Sends-append before between after (take i bytes) (take n (drop i bytes)) i n one two)
 
 -- ---- two texts, one after the other
 
-pub Says-both : (before between after : Said) (first second : List ℕ)
-    → Says before first (length first) between → Says between second (length second) after
-    → Says before (first ++ second) (length (first ++ second)) after
-Says-both before between after first second one two =
-    subst (λ (n : ℕ). Says before (first ++ second) n after) (sym (length-append first second))
-    (Says-append before between after first second (length first) (length second) one two)
+pub Sends-both : (before between after : OutputState) (first second : List ℕ)
+    → Sends before first (length first) between → Sends between second (length second) after
+    → Sends before (first ++ second) (length (first ++ second)) after
+Sends-both before between after first second one two =
+    subst (λ (n : ℕ). Sends before (first ++ second) n after) (sym (length-append first second))
+    (Sends-append before between after first second (length first) (length second) one two)
 
-pub SaysInPart-second : (before between after : Said) (first second : List ℕ) (n : ℕ)
-    → Says before first (length first) between → SaysInPart between (take n second) n after
-    → SaysInPart before (take (length first + n) (first ++ second)) (length first + n) after
-SaysInPart-second before between after first second n one two = record {
+pub SendsInPart-second : (before between after : OutputState) (first second : List ℕ) (n : ℕ)
+    → Sends before first (length first) between → SendsInPart between (take n second) n after
+    → SendsInPart before (take (length first + n) (first ++ second)) (length first + n) after
+SendsInPart-second before between after first second n one two = record {
   before = two.before;
-  said = subst (λ (b : List ℕ). Says before b (length first + n) two.before) (sym (take-append-add first second n))
-      (Says-append before between two.before first (take n second) (length first) n one two.said);
+  output_state = subst (λ (b : List ℕ). Sends before b (length first + n) two.before) (sym (take-append-add first second n))
+      (Sends-append before between two.before first (take n second) (length first) n one two.output_state);
   failed = two.failed;
 }

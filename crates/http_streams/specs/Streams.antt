@@ -9,7 +9,7 @@ raised count more = count + min more (2 ^ 64 - 1 - count)
 
 -- of an input: the bytes that are left to read, if they are known; how many bytes were read and how many reads have failed; and the nanoseconds that a read may
 -- take, if they are known
-pub record Heard : Type 0 where
+pub record InputState : Type 0 where
   pub left : Option (List ℕ)
   pub taken : ℕ
   pub failures : ℕ
@@ -17,7 +17,7 @@ pub record Heard : Type 0 where
 
 -- of an output: the bytes that were written, if they are known; how many there are and how many writes have failed; and the nanoseconds that a write may take,
 -- if they are known
-pub record Said : Type 0 where
+pub record OutputState : Type 0 where
   pub written : Option (List ℕ)
   pub sent : ℕ
   pub failures : ℕ
@@ -52,41 +52,41 @@ IsBlank None = Unit {0}
 -- ---- calls
 
 -- these bytes were read, `count` of them, and no read failed
-pub record Hears (old : Heard) (bytes : List ℕ) (count : ℕ) (new : Heard) : Type 0 where
+pub record Receives (old : InputState) (bytes : List ℕ) (count : ℕ) (new : InputState) : Type 0 where
   pub left : Reads old.left bytes new.left
   pub taken : new.taken ≡ raised old.taken count
   pub failures : new.failures ≡ old.failures
   pub wait : new.wait ≡ old.wait
 
 -- a read failed, and changed nothing else
-abbrev pub after_failed_read : Heard → Heard
-after_failed_read heard = record heard { failures = raised heard.failures 1 }
+abbrev pub after_failed_read : InputState → InputState
+after_failed_read input_state = record input_state { failures = raised input_state.failures 1 }
 
 -- these bytes were written, `count` of them, and no write failed
-pub record Says (old : Said) (bytes : List ℕ) (count : ℕ) (new : Said) : Type 0 where
+pub record Sends (old : OutputState) (bytes : List ℕ) (count : ℕ) (new : OutputState) : Type 0 where
   pub written : Writes old.written bytes new.written
   pub sent : new.sent ≡ raised old.sent count
   pub failures : new.failures ≡ old.failures
   pub wait : new.wait ≡ old.wait
 
 -- a write failed, and changed nothing else
-abbrev pub after_failed_write : Said → Said
-after_failed_write said = record said { failures = raised said.failures 1 }
+abbrev pub after_failed_write : OutputState → OutputState
+after_failed_write output_state = record output_state { failures = raised output_state.failures 1 }
 
 -- these bytes were written, `count` of them, and then a write failed
-pub record SaysInPart (old : Said) (bytes : List ℕ) (count : ℕ) (new : Said) : Type 0 where
-  pub before : Said
-  pub said : Says old bytes count before
+pub record SendsInPart (old : OutputState) (bytes : List ℕ) (count : ℕ) (new : OutputState) : Type 0 where
+  pub before : OutputState
+  pub output_state : Sends old bytes count before
   pub failed : new ≡ after_failed_write before
 
 -- ---- connections
 
 -- the streams of a new connection, each of whose calls may take that many nanoseconds
-pub record AreFresh (wait : ℕ) (heard : Heard) (said : Said) : Type 0 where
-  pub nothing_read : heard.taken ≡ 0
-  pub no_failed_read : heard.failures ≡ 0
-  pub read_wait : heard.wait ≡ Some wait
-  pub nothing_written : IsBlank said.written
-  pub nothing_sent : said.sent ≡ 0
-  pub no_failed_write : said.failures ≡ 0
-  pub write_wait : said.wait ≡ Some wait
+pub record AreFresh (wait : ℕ) (input_state : InputState) (output_state : OutputState) : Type 0 where
+  pub nothing_read : input_state.taken ≡ 0
+  pub no_failed_read : input_state.failures ≡ 0
+  pub read_wait : input_state.wait ≡ Some wait
+  pub nothing_written : IsBlank output_state.written
+  pub nothing_sent : output_state.sent ≡ 0
+  pub no_failed_write : output_state.failures ≡ 0
+  pub write_wait : output_state.wait ≡ Some wait

@@ -3,7 +3,7 @@
 ghost use Rattle.std.specs.Prelude.{Option, IfOk, IfSome, OnErr};
 ghost use Rattle.std.specs.Duration.{as_nanos};
 ghost use Rattle.http_streams.specs.Streams.{AreFresh};
-ghost use Rattle.http_streams.specs.Sockets.{heard_on, said_on};
+ghost use Rattle.http_streams.specs.Sockets.{input_state_on, output_state_on};
 
 use crate::stream::{Input, Output};
 use crate::wire::TimedWire;
@@ -36,7 +36,7 @@ pub trait Listener {
         ensures gives { IfOk result (λ streams. gives self.old streams self.new) }
         ensures fresh { IfOk result
             (λ streams. IfSome streams
-            (λ pair. AreFresh (as_nanos wait) (Self.In.heard pair.0) (Self.Out.said pair.1))) }
+            (λ pair. AreFresh (as_nanos wait) (Self.In.input_state pair.0) (Self.Out.output_state pair.1))) }
         ensures fails { OnErr result (fails self.old self.new) };
 
     /// Closes a connection.
@@ -70,7 +70,7 @@ impl Listener for TcpListener {
 
 /// The two directions of a connection; `None` if the time-out could not be set.
 fn wires(stream: TcpStream, wait: Duration) -> Option<(TimedWire, TimedWire)>
-    ensures { IfSome result (λ pair. AreFresh (as_nanos wait) (heard_on pair.0) (said_on pair.1)) }
+    ensures { IfSome result (λ pair. AreFresh (as_nanos wait) (input_state_on pair.0) (output_state_on pair.1)) }
 {
     let other = stream.try_clone().ok()?;
     Some((TimedWire::new(stream, wait)?, TimedWire::new(other, wait)?))

@@ -2,7 +2,7 @@
 
 ghost use Rattle.std.specs.Prelude.{◌≡◌, ◌<◌, ◌≤◌, ◌+◌, ℕ, List, Err, IfOk, OnErr, drop, length, take};
 ghost use Rattle.http_streams.specs.HeadReading.{IsReadInPart, IsReadWhole};
-ghost use Rattle.http_streams.specs.Streams.{Hears, IsAtEnd, after_failed_read};
+ghost use Rattle.http_streams.specs.Streams.{Receives, IsAtEnd, after_failed_read};
 ghost use Rattle.http_streams.specs.declared.error.HeadError.TheVariants as head_error;
 
 use crate::error::HeadError;
@@ -18,9 +18,10 @@ fn read_more<I: Input>(input: &mut I, room: &mut [u8], filled: usize) -> Result<
     requires { filled < length room.old }
     ensures within { IfOk result (λ n. filled + n ≤ length room.new) }
     ensures kept { take filled room.new ≡ take filled room.old }
-    ensures read { IfOk result (λ n. Hears (I.heard input.old) (take n (drop filled room.new)) n (I.heard input.new)) }
-    ensures end { IfOk result (λ n. n ≡ 0 → IsAtEnd (I.heard input.old).left) }
-    ensures failed { OnErr result (I.heard input.new ≡ after_failed_read (I.heard input.old)) }
+    ensures read { IfOk result (λ n. Receives (I.input_state input.old) (take n (drop filled room.new)) n
+        (I.input_state input.new)) }
+    ensures end { IfOk result (λ n. n ≡ 0 → IsAtEnd (I.input_state input.old).left) }
+    ensures failed { OnErr result (I.input_state input.new ≡ after_failed_read (I.input_state input.old)) }
 {
     input.read(&mut room[filled..])
 }
@@ -30,9 +31,9 @@ fn read_more<I: Input>(input: &mut I, room: &mut [u8], filled: usize) -> Result<
 fn fill<I: Input>(input: &mut I, room: &mut [u8]) -> Result<usize, Failed>
     ensures within { IfOk result (λ n. n ≤ length room.new) }
     ensures whole { IfOk result
-        (λ n. IsReadWhole (length room.old) (I.heard input.old) (take n room.new) (I.heard input.new)) }
+        (λ n. IsReadWhole (length room.old) (I.input_state input.old) (take n room.new) (I.input_state input.new)) }
     ensures in_part { OnErr result
-        ((bytes : List ℕ) × IsReadInPart (length room.old) (I.heard input.old) bytes (I.heard input.new)) }
+        ((bytes : List ℕ) × IsReadInPart (length room.old) (I.input_state input.old) bytes (I.input_state input.new)) }
 {
     let mut filled: usize = 0;
     let mut progress = Progress::BeforeText;
@@ -49,10 +50,11 @@ fn fill<I: Input>(input: &mut I, room: &mut [u8]) -> Result<usize, Failed>
 
 // The same into a new buffer, for at most `most` bytes.
 fn read_up_to<I: Input>(alloc: Global, input: &mut I, most: usize) -> Result<Vec<u8>, HeadError>
-    ensures whole { IfOk result (λ head. IsReadWhole most (I.heard input.old) head.items (I.heard input.new)) }
+    ensures whole { IfOk result (λ head. IsReadWhole most (I.input_state input.old) head.items
+        (I.input_state input.new)) }
     ensures in_part { result ≡ Err head_error.Failed
-        → ((bytes : List ℕ) × IsReadInPart most (I.heard input.old) bytes (I.heard input.new)) }
-    ensures no_memory { result ≡ Err head_error.NoMemory → I.heard input.new ≡ I.heard input.old }
+        → ((bytes : List ℕ) × IsReadInPart most (I.input_state input.old) bytes (I.input_state input.new)) }
+    ensures no_memory { result ≡ Err head_error.NoMemory → I.input_state input.new ≡ I.input_state input.old }
 {
     let mut room = vec![in alloc; 0; most]?;
     let filled = fill(input, &mut room)?;
@@ -66,13 +68,13 @@ fn read_up_to<I: Input>(alloc: Global, input: &mut I, most: usize) -> Result<Vec
 /// The error is `NoMemory` before anything is read, or `Failed` if a read fails.
 pub fn read_head<I: Input>(alloc: Global, input: &mut I) -> Result<Vec<u8>, HeadError>
     ensures whole { IfOk result
-        (λ head. IsReadWhole MAX_HEAD_BYTES (I.heard input.old) head.items (I.heard input.new)) }
+        (λ head. IsReadWhole MAX_HEAD_BYTES (I.input_state input.old) head.items (I.input_state input.new)) }
 
     // A read failed before the head was complete.
     ensures in_part { result ≡ Err head_error.Failed
-        → ((bytes : List ℕ) × IsReadInPart MAX_HEAD_BYTES (I.heard input.old) bytes (I.heard input.new)) }
+        → ((bytes : List ℕ) × IsReadInPart MAX_HEAD_BYTES (I.input_state input.old) bytes (I.input_state input.new)) }
 
-    ensures no_memory { result ≡ Err head_error.NoMemory → I.heard input.new ≡ I.heard input.old }
+    ensures no_memory { result ≡ Err head_error.NoMemory → I.input_state input.new ≡ I.input_state input.old }
     ensures limit { MAX_HEAD_BYTES ≡ 16384 }
 {
     read_up_to(alloc, input, MAX_HEAD_BYTES)

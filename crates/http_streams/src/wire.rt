@@ -1,6 +1,6 @@
 //! Streams over a socket.
 
-ghost use Rattle.std.specs.Prelude.{◌≡◌, ◌<◌, None, Some, IfOk, IfSome, length};
+ghost use Rattle.std.specs.Prelude.{◌≡◌, ◌<◌, None, Some, IfOk, IfSome};
 ghost use Rattle.std.specs.Duration.{as_nanos};
 ghost use Rattle.std.specs.Io.{ReadsAtMost, WritesAtMost};
 ghost use Rattle.std.specs.Io.KnownBytes.{ReadConsumes, WriteAppends};
@@ -41,9 +41,9 @@ impl<'a> Wire<'a> {
 }
 
 impl<'a> Input for Wire<'a> {
-    ghost use Rattle.http_streams.specs.Sockets.{heard_on};
+    ghost use Rattle.http_streams.specs.Sockets.{input_state_on};
 
-    ghost heard = { heard_on };
+    ghost input_state = { input_state_on };
 
     fn read(&mut self, room: &mut [u8]) -> Result<usize, Failed> {
         let mut stream = self.stream;
@@ -61,9 +61,9 @@ impl<'a> Input for Wire<'a> {
 }
 
 impl<'a> Output for Wire<'a> {
-    ghost use Rattle.http_streams.specs.Sockets.{said_on};
+    ghost use Rattle.http_streams.specs.Sockets.{output_state_on};
 
-    ghost said = { said_on };
+    ghost output_state = { output_state_on };
 
     #[tactic(auto, using(crate::proofs::Counts::counts))]
     fn write(&mut self, bytes: &[u8]) -> Result<usize, Failed> {
@@ -119,9 +119,9 @@ impl TimedWire {
 }
 
 impl Input for TimedWire {
-    ghost use Rattle.http_streams.specs.Sockets.{heard_on};
+    ghost use Rattle.http_streams.specs.Sockets.{input_state_on};
 
-    ghost heard = { heard_on };
+    ghost input_state = { input_state_on };
 
     fn read(&mut self, room: &mut [u8]) -> Result<usize, Failed> {
         match read_from(&mut self.stream, room) {
@@ -138,9 +138,9 @@ impl Input for TimedWire {
 }
 
 impl Output for TimedWire {
-    ghost use Rattle.http_streams.specs.Sockets.{said_on};
+    ghost use Rattle.http_streams.specs.Sockets.{output_state_on};
 
-    ghost said = { said_on };
+    ghost output_state = { output_state_on };
 
     #[tactic(auto, using(crate::proofs::Counts::counts))]
     fn write(&mut self, bytes: &[u8]) -> Result<usize, Failed> {

@@ -15,14 +15,14 @@ fn exchanges<R: Abort + AllocGlobal>(
     request: &[u8],
     piece: usize,
     fails: (Option<usize>, Option<usize>),
-    wanted: Result<Served, ServeError>,
+    expected: Result<Served, ServeError>,
     written: &[u8],
 ) -> Result<(), Fail> {
     let registry = Registry::new(rt.alloc());
     let mut input = PieceIn::new(rt.alloc(), request, piece.max(1), fails.0)?;
     let mut output = PieceOut::new(rt.alloc(), piece.max(1), fails.1)?;
     let served = serve_one(rt.alloc(), &mut input, &mut output, &registry);
-    assert_eq!(rt; served, wanted, "in pieces of {piece}");
+    assert_eq!(rt; served, expected, "in pieces of {piece}");
     assert_eq!(rt; output.written(), written, "in pieces of {piece}");
     Ok(())
 }

@@ -78,8 +78,8 @@ const COUNTED: [(u32, Option<u64>, (u32, u32, u32)); 3] = [
 fn counts_each_way(rt: HostRuntime) -> Result<(), Fail> {
     let (mut listener, port) = Loopback::new(&rt).bind(0)?;
     let _peers = peers(&rt, SocketAddr::from((Ipv4Addr::LOCALHOST, port)))?;
-    for (count, wait, wanted) in COUNTED {
-        assert_eq!(rt; counted(rt.alloc(), &mut listener, count, wait)?, wanted);
+    for (count, wait, expected) in COUNTED {
+        assert_eq!(rt; counted(rt.alloc(), &mut listener, count, wait)?, expected);
     }
     Ok(())
 }

@@ -88,18 +88,18 @@ const DIGITS: &[u8; 10] = b"0123456789";
 /// The digits in two parts.
 const PARTS: (&[u8], &[u8]) = (b"0123", b"456789");
 
-/// Whether writing the digits in two parts, at most `piece` bytes at a time, returns `wanted` and leaves `written`, if
+/// Whether writing the digits in two parts, at most `piece` bytes at a time, returns `expected` and leaves `written` if
 /// write number `fail_at` fails. The write after the one that fails succeeds.
 fn go_out(
     alloc: Global,
     piece: usize,
     fail_at: Option<usize>,
-    wanted: Result<(), usize>,
+    expected: Result<(), usize>,
     written: &[u8],
 ) -> Result<bool, AllocError> {
     let mut output = PieceOut::new(alloc, piece.max(1), fail_at)?;
     let (first, rest) = PARTS;
-    let went = write_both(&mut output, first, rest) == wanted && output.written() == written;
+    let went = write_both(&mut output, first, rest) == expected && output.written() == written;
     Ok(output.write(b"") == Ok(0) && went)
 }
 

@@ -85,7 +85,7 @@ other_keys_ask_for_nothing = refl
 -- ---- the rows that match
 
 abbrev table : Row → List Row → Holdings
-table header rows = record { header = header; rows = rows; keys = record { begun = initial } }
+table header rows = record { header = header; rows = rows; keys = record { hasher = initial } }
 
 -- the rows of a table with one row, under one column, that a query finds
 abbrev found_in : Text → Text → Text → List ℕ

@@ -99,7 +99,7 @@ names = codes "a" ∷ codes "b" ∷ []
 abbrev rows : List Row
 rows = (codes "1" ∷ codes "2" ∷ []) ∷ (codes "3" ∷ []) ∷ []
 
-first_line_is_the_header : IsTable (codes "a\tb\n1\t2\n3\n") (record { header = names; rows = rows; keys = record { begun = initial } })
+first_line_is_the_header : IsTable (codes "a\tb\n1\t2\n3\n") (record { header = names; rows = rows; keys = record { hasher = initial } })
 unfolding kbart_rows_on_literals Reached
 first_line_is_the_header = record {
   text = (omega arith, IsUtf8-from_is_utf8 _ refl);

@@ -35,9 +35,9 @@ reading_starts bytes reader fresh = record {
   reached = (sym fresh.state, refl);
 }
 
-pub reading_goes_on : (bytes : Text) (lines : List Row) (old new : Reader (Bor (List ℕ))) (cells : Row) → IsReading bytes lines old
+pub reading_continues : (bytes : Text) (lines : List Row) (old new : Reader (Bor (List ℕ))) (cells : Row) → IsReading bytes lines old
     → ReadRecord rest_of old new true cells → new.first ≡ true → IsReading bytes (lines ++ cells ∷ []) new
-reading_goes_on bytes lines old new cells reading read first =
+reading_continues bytes lines old new cells reading read first =
     let more = rows-more rest_of old new cells tab_separated state.StartRecord (strip_bom bytes) reading.rest lines reading.config reading.source
     reading.reached read in
     record {

@@ -10,5 +10,5 @@ abbrev pub keyed : ℕ → ℕ → DefaultHasher
 keyed first second = fold write (fold write initial (u64 first)) (u64 second)
 
 -- the state in which each hasher begins
-abbrev pub begun_by : Keys → DefaultHasher
-begun_by keys = keys.begun
+abbrev pub hasher_at_start : Keys → DefaultHasher
+hasher_at_start keys = keys.hasher

@@ -1,7 +1,7 @@
 //! The secret keys of hashed look-ups.
 
 ghost use Rattle.std.specs.Prelude.{◌≡◌};
-ghost use Rattle.kbart_rows.specs.Hashing.{begun_by, keyed};
+ghost use Rattle.kbart_rows.specs.Hashing.{hasher_at_start, keyed};
 
 use std::hash::{BuildHasher, DefaultHasher, Hasher};
 
@@ -9,27 +9,27 @@ use std::hash::{BuildHasher, DefaultHasher, Hasher};
 /// identifiers and column names that collide. No result depends on the keys.
 #[derive(Clone, Copy)]
 pub struct Keys {
-    begun: DefaultHasher,
+    hasher: DefaultHasher,
 }
 
 impl Keys {
     /// The keys made of these two numbers.
     pub fn new(first: u64, second: u64) -> Keys
-        ensures { begun_by result ≡ keyed first second }
+        ensures { hasher_at_start result ≡ keyed first second }
     {
-        let mut begun = DefaultHasher::new();
-        begun.write_u64(first);
-        begun.write_u64(second);
-        Keys { begun }
+        let mut hasher = DefaultHasher::new();
+        hasher.write_u64(first);
+        hasher.write_u64(second);
+        Keys { hasher }
     }
 }
 
 impl BuildHasher for Keys {
     type Hasher = DefaultHasher;
 
-    ghost build_hasher = { λ keys. keys.begun };
+    ghost build_hasher = { λ keys. keys.hasher };
 
     fn build_hasher(&self) -> DefaultHasher {
-        self.begun
+        self.hasher
     }
 }

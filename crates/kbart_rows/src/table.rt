@@ -9,7 +9,7 @@ ghost use Rattle.target_vars.specs.declared.error.VarsError.TheVariants as vars_
 ghost use Rattle.kev_read.specs.declared.read.TheConstants.{MAX_PAIRS, MAX_QUERY_BYTES};
 ghost use Rattle.kbart_rows.specs.Cells.{cell_bytes, cell_of, column_of, named_cells};
 ghost use Rattle.kbart_rows.specs.Filling.{filled, StopsAtCell};
-ghost use Rattle.kbart_rows.specs.Hashing.{begun_by, keyed};
+ghost use Rattle.kbart_rows.specs.Hashing.{hasher_at_start, keyed};
 ghost use Rattle.kbart_rows.specs.Identifiers as spec;
 ghost use Rattle.kbart_rows.specs.Lines.{cells_in};
 ghost use Rattle.kbart_rows.specs.Private.Kept.{lesser_of, rows_with};
@@ -79,7 +79,7 @@ impl Table {
     /// Bytes that are not a table are rejected by their first fault: see [`TableError`].
     pub fn read(alloc: Global, bytes: &[u8]) -> Result<Table, TableError>
         ensures accepted { IfOk result (IsTable bytes.now) }
-        ensures keyed { IfOk result (λ table. begun_by table.keys ≡ keyed 0 0) }
+        ensures keyed { IfOk result (λ table. hasher_at_start table.keys ≡ keyed 0 0) }
         ensures refused { IfErr result (IsFault bytes.now) }
 
         // Even if memory has run out.

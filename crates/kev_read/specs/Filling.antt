@@ -3,7 +3,7 @@ use Rattle.std.specs.Prelude.{◌≡◌, ◌↔◌, ◌⊎◌, ◌+◌, ◌<◌,
 use Rattle.text_model.specs.Texts.{Text}
 use Rattle.environment_model.specs.Environment.{Environment, is_there, byte_count, member_count, with_text, with_member}
 use Rattle.environment_model.specs.Lists.{is_list}
-use Rattle.target_vars.specs.EnvValue.{stands_for_text}
+use Rattle.target_vars.specs.EnvValue.{denotes_text}
 use Rattle.target_vars.specs.declared.env.TheConstants.{MAX_BYTES, MAX_MEMBERS}
 use Rattle.target_vars.specs.declared.error.VarsError.{VarsError}
 use Rattle.target_vars.specs.declared.error.VarsError.TheVariants.{TooLarge}
@@ -17,12 +17,12 @@ added list env pair = if list then with_member env pair.key pair.value else with
 
 -- the pair changes the environment: for a list its key has no text, and for a text its key is new
 abbrev pub is_added : Bool → Environment → KeyValue → Bool
-is_added list env pair = if list then not (stands_for_text env pair.key) else not (is_there env pair.key)
+is_added list env pair = if list then not (denotes_text env pair.key) else not (is_there env pair.key)
 
 -- the pair would be added, and exceed a limit of the environment
 abbrev pub MemberIsTooLarge : Environment → KeyValue → Type 0
 MemberIsTooLarge env pair =
-    (stands_for_text env pair.key ≡ false)
+    (denotes_text env pair.key ≡ false)
     × ((MAX_BYTES < byte_count env + length pair.value) ⊎ (MAX_MEMBERS < member_count env + 1))
 
 abbrev pub TextIsTooLarge : Environment → KeyValue → Type 0

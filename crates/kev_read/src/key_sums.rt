@@ -1,6 +1,6 @@
 //! How many bytes and members a request has if no further lists are declared.
 
-ghost use Rattle.std.specs.Prelude.{◌≡◌, ◌≤◌, ◌*◌, ◌<◌, ◌||◌, [], false, length, not, take, get_or, if◌then◌else◌};
+ghost use Rattle.std.specs.Prelude.{◌≡◌, ◌≤◌, ◌*◌, ◌<◌, ◌||◌, length, not, take, get_or, if◌then◌else◌};
 ghost use Rattle.std.specs.List.{list_any};
 ghost use Rattle.environment_model.specs.Lists as lists;
 ghost use Rattle.kev_read.specs.Pairs as spec;

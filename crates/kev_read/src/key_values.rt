@@ -4,7 +4,7 @@ ghost use Rattle.std.specs.Prelude.{◌≡◌, ◌+◌, ◌*◌, ◌≤◌, ◌<
 ghost use Rattle.std.specs.Prelude.{string_bytes};
 ghost use Rattle.text_model.specs.Texts.{Text};
 ghost use Rattle.environment_model.specs.Environment.{members_of};
-ghost use Rattle.target_vars.specs.EnvValue.{AreMembersAt, IsWithin, piece_at};
+ghost use Rattle.target_vars.specs.EnvValue.{AreMembersAt, IsWithin};
 ghost use Rattle.kev_read.specs.Pairs as spec;
 ghost use Rattle.kev_read.specs.Private.KeyOrder.{IsKeyOrder};
 ghost use Rattle.kev_read.specs.declared.read.TheConstants.{MAX_PAIRS, MAX_QUERY_BYTES};

@@ -19,7 +19,7 @@ use Rattle.registry.specs.RowEnvironments.{row_environment}
 use Rattle.registry.specs.Entries.{resolution_by}
 use Rattle.link_menu.specs.declared.fate.Fate as answer
 use Rattle.link_menu.specs.declared.batch.Batch.{Batch}
-use Rattle.link_menu.specs.Fates.{fate_of, is_over_budget, runs_of, said}
+use Rattle.link_menu.specs.Fates.{fate_of, is_over_budget, runs_of, fate_value}
 use Rattle.link_menu.specs.StepLists.{end_of, ends_of}
 use Rattle.link_menu.specs.RowsByRound.{steps_in, steps_of_row}
 use Rattle.link_menu.specs.Private.Searches.{SearchValue, IsBatchOf, IsNumbered, code_next, ends_next, env_next, fate_next, fates_next, is_open}
@@ -42,7 +42,7 @@ abbrev codes_from : SearchValue → Option ℕ → List SearchValue → List Cod
 codes_from s next searches = cons_option (option_map (λ row. s.target.code) next) (filter_map code_next searches)
 
 abbrev envs_from : SearchValue → Option ℕ → List SearchValue → List Environment
-envs_from s next searches = cons_option (option_map (λ row. row_environment s.target s.asked.pairs row) next) (filter_map env_next searches)
+envs_from s next searches = cons_option (option_map (λ row. row_environment s.target s.requested.pairs row) next) (filter_map env_next searches)
 
 side_by_side : (searches : List SearchValue) → map fate_at (zip (filter_map code_next searches) (filter_map env_next searches)) ≡ fates_next searches
 side_by_side [] = refl
@@ -50,9 +50,9 @@ side_by_side (s ∷ searches) = by_next s.next (side_by_side searches)
   where
     by_next : (next : Option ℕ) → map fate_at (zip (filter_map code_next searches) (filter_map env_next searches)) ≡ fates_next searches
         → map fate_at (zip (codes_from s next searches) (envs_from s next searches))
-        ≡ cons_option (option_map (λ row. fate_of_row s.target s.asked.pairs row) next) (fates_next searches)
+        ≡ cons_option (option_map (λ row. fate_of_row s.target s.requested.pairs row) next) (fates_next searches)
     by_next None rest = rest
-    by_next (Some row) rest = ap (λ fates. fate_of_row s.target s.asked.pairs row ∷ fates) rest
+    by_next (Some row) rest = ap (λ fates. fate_of_row s.target s.requested.pairs row ∷ fates) rest
 
 -- the steps of a code in an environment, if it has a run
 abbrev steps_at : Code × Environment → Option ℕ
@@ -78,9 +78,9 @@ ends_side_by_side (s ∷ searches) = by_next s.next (ends_side_by_side searches)
   where
     by_next : (next : Option ℕ) → filter_map steps_at (zip (filter_map code_next searches) (filter_map env_next searches)) ≡ ends_next searches
         → filter_map steps_at (zip (codes_from s next searches) (envs_from s next searches))
-        ≡ cons_option (option_and_then (steps_of_row s.target s.asked.pairs) next) (ends_next searches)
+        ≡ cons_option (option_and_then (steps_of_row s.target s.requested.pairs) next) (ends_next searches)
     by_next None rest = rest
-    by_next (Some row) rest = ap (cons_option (steps_of_row s.target s.asked.pairs row)) rest
+    by_next (Some row) rest = ap (cons_option (steps_of_row s.target s.requested.pairs row)) rest
 
 as_many : (searches : List SearchValue) → length (filter_map code_next searches) ≡ length (filter_map env_next searches)
 as_many [] = refl
@@ -186,17 +186,18 @@ module _ (old searches : List SearchValue) (i : ℕ) (new : SearchValue) where
       ∙ ap (λ s. cons_option (fate_next s) (fates_next (drop (i + 1) old))) (same_search inside others d)
 
   pub taken : (d : SearchValue) (fates rest : List answer.Fate) (fate : answer.Fate) → i < length searches → Others
-      → map said fates ≡ fates_next (drop i old) → fates ≡ fate ∷ rest → is_open (get_or searches i d) ≡ true
-      → (map said rest ≡ fates_next (drop (i + 1) old)) × (after_fate (get_or searches i d) (said fate) ≡ after_next_row (get_or searches i d))
+      → map fate_value fates ≡ fates_next (drop i old) → fates ≡ fate ∷ rest → is_open (get_or searches i d) ≡ true
+      → (map fate_value rest ≡ fates_next (drop (i + 1) old)) × (after_fate (get_or searches i d) (fate_value fate) ≡ after_next_row (get_or searches i d))
   taken d fates rest fate inside others left are opened =
-      by_next (get_or searches i d) (get_or searches i d).next opened (sym (ap (map said) are) ∙ left ∙ next_left d inside others)
+      by_next (get_or searches i d) (get_or searches i d).next opened (sym (ap (map fate_value) are) ∙ left ∙ next_left d inside others)
     where
       by_next : (s : SearchValue) (next : Option ℕ) → is_some next ≡ true
-          → (said fate ∷ map said rest) ≡ cons_option (option_map (λ row. fate_of_row s.target s.asked.pairs row) next) (fates_next (drop (i + 1) old))
-          → (map said rest ≡ fates_next (drop (i + 1) old)) × (after_fate_at s (said fate) next ≡ after_row_at s next)
+          → (fate_value fate ∷ map fate_value rest) ≡ cons_option (option_map (λ row. fate_of_row s.target s.requested.pairs row) next)
+          (fates_next (drop (i + 1) old))
+          → (map fate_value rest ≡ fates_next (drop (i + 1) old)) × (after_fate_at s (fate_value fate) next ≡ after_row_at s next)
       by_next s None opened is = absurd (false≢true opened)
       by_next s (Some row) opened is =
-          (ap (drop 1) is, ap (λ f. after_row s row (resolution_by row f)) (ap (λ fs. get_or fs 0 (said fate)) is))
+          (ap (drop 1) is, ap (λ f. after_row s row (resolution_by row f)) (ap (λ fs. get_or fs 0 (fate_value fate)) is))
 
   pub passed : (d : SearchValue) → i < length searches → Others → is_open (get_or searches i d) ≡ false
       → (fates_next (drop i old) ≡ fates_next (drop (i + 1) old)) × (get_or searches i d ≡ after_next_row (get_or searches i d))
@@ -205,7 +206,7 @@ module _ (old searches : List SearchValue) (i : ℕ) (new : SearchValue) where
       (next_left d inside others ∙ is.0, is.1)
     where
       by_next : (s : SearchValue) (next : Option ℕ) → is_some next ≡ false
-          → (cons_option (option_map (λ row. fate_of_row s.target s.asked.pairs row) next) (fates_next (drop (i + 1) old)) ≡ fates_next (drop (i + 1) old))
+          → (cons_option (option_map (λ row. fate_of_row s.target s.requested.pairs row) next) (fates_next (drop (i + 1) old)) ≡ fates_next (drop (i + 1) old))
           × (s ≡ after_row_at s next)
       by_next s None closed = (refl, refl)
       by_next s (Some row) closed = absurd (false≢true (sym closed))

@@ -10,7 +10,7 @@ use Rattle.target_vars.specs.EnvValue.{EnvValue}
 use Rattle.verified_runs.specs.RunValue.{RunValue, new_run, most_bytes}
 use Rattle.registry.specs.Fates.{Fate, OverBudget, ended, fate_in}
 use Rattle.link_menu.specs.declared.fate.Fate as answer
-use Rattle.link_menu.specs.Fates.{is_over_budget, fate_of, runs_of, said}
+use Rattle.link_menu.specs.Fates.{is_over_budget, fate_of, runs_of, fate_value}
 use Rattle.link_menu.specs.Private.Rounds.{AreOfTheSame, same_but_steps}
 use Rattle.link_menu.specs.Private.RunSets.{excess_of, fates_in, outcome_in_the_end}
 
@@ -80,4 +80,4 @@ module _ (pairs : List (Code × EnvValue)) (over_budget : List (Option ℕ)) (ol
 
 -- the fates so far, and those of the places and the runs that are left, are all
 abbrev pub AddUp : List answer.Fate → List (Option ℕ) → List RunValue → List Fate → Type 0
-AddUp fates over_budget runs all = map said fates ++ fates_in over_budget (outcomes_in_the_end runs) ≡ all
+AddUp fates over_budget runs all = map fate_value fates ++ fates_in over_budget (outcomes_in_the_end runs) ≡ all

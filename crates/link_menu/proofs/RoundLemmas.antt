@@ -40,7 +40,7 @@ rows_left_at pairs target None = []
 rows_left_at pairs target (Some row) = up_to_link target pairs (row ∷ filter (nat_le (row + 1)) (matching_rows_of target pairs))
 
 abbrev pub left_of : SearchValue → Left
-left_of s = (s.asked.pairs, s.target, rows_left_at s.asked.pairs s.target s.next)
+left_of s = (s.requested.pairs, s.target, rows_left_at s.requested.pairs s.target s.next)
 
 abbrev pub left_after : ℕ → List KeyValue → TargetValue → Left
 left_after k pairs target = (pairs, target, drop k (tried_rows target pairs))
@@ -74,26 +74,28 @@ module _ (all_from_start : AllFromStart) (none_from : NoneFrom) (first_and_rest 
       by_next None is = ap (up_to_link target pairs) (sym (none_from target pairs from is))
       by_next (Some row) is = ap (up_to_link target pairs) (sym (first_and_rest target pairs from row is))
 
-  pub left_at_start : (asked : RequestValue) (targets : List TargetValue) → map left_of (map (started asked) targets) ≡ map (left_after 0 asked.pairs) targets
-  left_at_start asked [] = refl
-  left_at_start asked (target ∷ targets) =
-      let pairs = asked.pairs in
-      ap (λ rows. (pairs, target, rows) ∷ map left_of (map (started asked) targets))
+  pub left_at_start : (requested : RequestValue) (targets : List TargetValue)
+      → map left_of (map (started requested) targets) ≡ map (left_after 0 requested.pairs) targets
+  left_at_start requested [] = refl
+  left_at_start requested (target ∷ targets) =
+      let pairs = requested.pairs in
+      ap (λ rows. (pairs, target, rows) ∷ map left_of (map (started requested) targets))
       (from_row pairs target 0 ∙ ap (up_to_link target pairs) (all_from_start target pairs))
-      ∙ ap (λ lefts. left_after 0 pairs target ∷ lefts) (left_at_start asked targets)
+      ∙ ap (λ lefts. left_after 0 pairs target ∷ lefts) (left_at_start requested targets)
 
   one_tried : (s : SearchValue) → left_of (after_next_row s) ≡ one_less (left_of s)
   one_tried s = by_next s.next refl
     where
       by_link : (row : ℕ) (b : Bool)
-          → rows_left_at s.asked.pairs s.target (if b then None else first_from (row + 1) (matching_rows_of s.target s.asked.pairs))
-          ≡ (if b then [] else up_to_link s.target s.asked.pairs (filter (nat_le (row + 1)) (matching_rows_of s.target s.asked.pairs)))
+          → rows_left_at s.requested.pairs s.target (if b then None else first_from (row + 1) (matching_rows_of s.target s.requested.pairs))
+          ≡ (if b then [] else up_to_link s.target s.requested.pairs (filter (nat_le (row + 1)) (matching_rows_of s.target s.requested.pairs)))
       by_link row true = refl
-      by_link row false = from_row s.asked.pairs s.target (row + 1)
+      by_link row false = from_row s.requested.pairs s.target (row + 1)
 
-      by_next : (next : Option ℕ) → s.next ≡ next → left_of (after_row_at s next) ≡ one_less (s.asked.pairs, s.target, rows_left_at s.asked.pairs s.target next)
-      by_next None is = ap (λ next. (s.asked.pairs, s.target, rows_left_at s.asked.pairs s.target next)) is
-      by_next (Some row) is = ap (λ rows. (s.asked.pairs, s.target, rows)) (by_link row (is_link (resolution_of_row s.target s.asked.pairs row)))
+      by_next : (next : Option ℕ) → s.next ≡ next → left_of (after_row_at s next) ≡ one_less
+          (s.requested.pairs, s.target, rows_left_at s.requested.pairs s.target next)
+      by_next None is = ap (λ next. (s.requested.pairs, s.target, rows_left_at s.requested.pairs s.target next)) is
+      by_next (Some row) is = ap (λ rows. (s.requested.pairs, s.target, rows)) (by_link row (is_link (resolution_of_row s.target s.requested.pairs row)))
 
   pub all_tried : (searches : List SearchValue) → map left_of (map after_next_row searches) ≡ map one_less (map left_of searches)
   all_tried [] = refl
@@ -119,7 +121,7 @@ end_of_search pairs target (Some row) = refl
 pub ends_of_searches : (searches : List SearchValue) → ends_next searches ≡ filter_map end_at (map left_of searches)
 ends_of_searches [] = refl
 ends_of_searches (s ∷ searches) =
-    ap (λ end. cons_option end (ends_next searches)) (end_of_search s.asked.pairs s.target s.next)
+    ap (λ end. cons_option end (ends_next searches)) (end_of_search s.requested.pairs s.target s.next)
     ∙ ap (cons_option (end_at (left_of s))) (ends_of_searches searches)
 
 pub ends_after : (pairs : List KeyValue) (k : ℕ) (targets : List TargetValue) → filter_map end_at (map (left_after k pairs) targets)
@@ -159,10 +161,10 @@ while_open [] some = absurd (false≢true some)
 while_open (s ∷ searches) some = by_next s.next (while_open searches) some
   where
     by_next : (next : Option ℕ) → (list_any is_open searches ≡ true → 0 < rounds_left searches) → (is_some next || list_any is_open searches) ≡ true
-        → 0 < max (length (rows_left_at s.asked.pairs s.target next)) (rounds_left searches)
+        → 0 < max (length (rows_left_at s.requested.pairs s.target next)) (rounds_left searches)
     by_next None rest some = others_left (rounds_left searches) (rest some)
     by_next (Some row) rest some =
-        let pairs = s.asked.pairs in
+        let pairs = s.requested.pairs in
         some_left (length (if is_link (resolution_of_row s.target pairs row) then []
         else up_to_link s.target pairs (filter (nat_le (row + 1)) (matching_rows_of s.target pairs)))) (rounds_left searches)
 
@@ -172,6 +174,6 @@ none_open [] none = refl
 none_open (s ∷ searches) none = by_next s.next (none_open searches) none
   where
     by_next : (next : Option ℕ) → (list_any is_open searches ≡ false → rounds_left searches ≡ 0) → (is_some next || list_any is_open searches) ≡ false
-        → max (length (rows_left_at s.asked.pairs s.target next)) (rounds_left searches) ≡ 0
+        → max (length (rows_left_at s.requested.pairs s.target next)) (rounds_left searches) ≡ 0
     by_next None rest none = none_left (rounds_left searches) (rest none)
     by_next (Some row) rest none = absurd (false≢true (sym none))

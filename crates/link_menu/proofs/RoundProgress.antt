@@ -1,6 +1,6 @@
 -- What holds after some rounds.
 
-use Rattle.std.proofs.Common.{◌≡◌, ℕ, suc, ◌+◌, ◌-◌, ◌<◌, ◌≤◌, List, [], ◌++◌, Option, true, false, refl, sym, ap, ◌∙◌, arith, map, append_assoc}
+use Rattle.std.proofs.Common.{◌≡◌, ℕ, suc, ◌+◌, ◌-◌, ◌<◌, ◌≤◌, List, ◌++◌, Option, true, false, refl, sym, ap, ◌∙◌, arith, map, append_assoc}
 use Rattle.std.specs.List.{filter_map, list_any}
 use Rattle.kev_read.specs.Pairs.{KeyValue}
 use Rattle.row_scope.specs.RequestValues.{RequestValue}
@@ -68,11 +68,11 @@ module _ (pairs : List KeyValue) (targets : List TargetValue) (searches : List S
       apart a b c d = simp append_assoc
 
 module _ (all_from_start : AllFromStart) (none_from : NoneFrom) (first_and_rest : FirstAndRest) (pairs : List KeyValue) (targets : List TargetValue) where
-  pub at_first : (asked : RequestValue) (told : Option (List (List ℕ))) → asked.pairs ≡ pairs
-      → AfterRounds pairs targets (map (started asked) targets) told told
+  pub at_first : (requested : RequestValue) (told : Option (List (List ℕ))) → requested.pairs ≡ pairs
+      → AfterRounds pairs targets (map (started requested) targets) told told
   unfolding step_lists_in_rounds
-  at_first asked told same =
-      (0, left_at_start all_from_start none_from first_and_rest asked targets ∙ ap (λ ps. map (left_after 0 ps) targets) same, omega arith, with_none told)
+  at_first requested told same =
+      (0, left_at_start all_from_start none_from first_and_rest requested targets ∙ ap (λ ps. map (left_after 0 ps) targets) same, omega arith, with_none told)
 
   pub one_round : (searches : List SearchValue) (told now new : Option (List (List ℕ))) (ends : List ℕ) → AfterRounds pairs targets searches told now
       → list_any is_open searches ≡ true → ends ≡ ends_next searches → HasSeenAll (step_lists_to_end ends) now new

@@ -10,7 +10,7 @@ use Rattle.std.proofs.lemmas.List.Elements.{filter_map-append}
 use Rattle.environment_model.specs.Environment.{Environment}
 use Rattle.code_model.specs.Code.{Code}
 use Rattle.machine_model.specs.States.{End, Link, NoLink, Ended}
-use Rattle.machine_model.specs.Runs.{After, ComesTo, EndsAfter, Outcome}
+use Rattle.machine_model.specs.Runs.{After, EndsWith, EndsAfter, Outcome}
 use Rattle.machine_model.specs.Runs as run
 use Rattle.machine_model.specs.Next.{Course, course, course_of}
 use Rattle.machine_model.specs.Safe.{IsSafe}
@@ -23,7 +23,7 @@ use Rattle.link_menu.specs.Private.RunSets.{excess_of, IsRunSetOf}
 
 -- the outcome of each run is the one that is computed
 abbrev pub CoursesAreDecided : Type 0
-CoursesAreDecided = (c : Code) (v : Environment) (k : ℕ) (o : Outcome) → ComesTo c v k o ↔ (course_of c v ≡ course k o)
+CoursesAreDecided = (c : Code) (v : Environment) (k : ℕ) (o : Outcome) → EndsWith c v k o ↔ (course_of c v ≡ course k o)
 
 -- ---- the budget
 
@@ -39,14 +39,14 @@ module _ (c : Code) (e : EnvValue) (n : ℕ) where
 
 -- ---- accepted code ends
 
-comes_to_its_end : (c : Code) (v : Environment) (k : ℕ) (e : End) → After c v k (Ended e) → (o : Outcome) × ComesTo c v k o
-comes_to_its_end c v k (Link text) after = (run.Link text, after)
-comes_to_its_end c v k NoLink after = (run.NoLink, after)
+reaches_its_end : (c : Code) (v : Environment) (k : ℕ) (e : End) → After c v k (Ended e) → (o : Outcome) × EndsWith c v k o
+reaches_its_end c v k (Link text) after = (run.Link text, after)
+reaches_its_end c v k NoLink after = (run.NoLink, after)
 
 ends_there : CoursesAreDecided → (c : Code) (v : Environment) (k : ℕ) (e : End) → After c v k (Ended e) → EndsAfter c v (course_of c v).steps
 ends_there decided c v k e after =
-    let comes = comes_to_its_end c v k e after in
-    let is : course_of c v ≡ course k comes.0 = (decided c v k comes.0).0 comes.1 in
+    let ended = reaches_its_end c v k e after in
+    let is : course_of c v ≡ course k ended.0 = (decided c v k ended.0).0 ended.1 in
     subst (λ (w : Course). EndsAfter c v w.steps) (sym is) (e, after)
 
 fresh_run : CoursesAreDecided → (c : Code) (e : EnvValue) → IsSafe c → IsFresh (new_run c e)
@@ -55,11 +55,11 @@ fresh_run decided c e safe =
     record { start = refl; ends = ends_there decided c e.entries ends.0 ends.1 ends.2 }
 
 pub fresh_alone : CoursesAreDecided → (c : Code) (e : EnvValue) → IsSafe c → AreFresh (runs_of ((c, e) ∷ []))
-fresh_alone decided c e safe = if_begun (is_over_budget c e)
+fresh_alone decided c e safe = if_started (is_over_budget c e)
   where
-    if_begun : (b : Bool) → AreFresh (cons_option (if b then None else Some (new_run c e)) [])
-    if_begun true = tt
-    if_begun false = (fresh_run decided c e safe, tt)
+    if_started : (b : Bool) → AreFresh (cons_option (if b then None else Some (new_run c e)) [])
+    if_started true = tt
+    if_started false = (fresh_run decided c e safe, tt)
 
 -- ---- one more
 

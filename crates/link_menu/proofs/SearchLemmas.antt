@@ -26,7 +26,7 @@ resolution_at pairs target so_far None = so_far
 resolution_at pairs target so_far (Some row) = resolution_after pairs target row (resolution_of_row target pairs row)
 
 abbrev pub entry_in_the_end : SearchValue → MenuEntry
-entry_in_the_end s = record { name = s.target.name; resolution = resolution_at s.asked.pairs s.target s.resolution s.next }
+entry_in_the_end s = record { name = s.target.name; resolution = resolution_at s.requested.pairs s.target s.resolution s.next }
 
 -- ---- rows in order
 
@@ -67,33 +67,34 @@ module _ (begins : Begins) (no_more : NoMore) (at_link : AtLink) (past_no_link :
       by_next (Some row) is = by_link row (is_link (resolution_of_row target pairs row)) is refl
 
   -- trying a row does not change the outcome of a search
-  tried_comes_to : (s : SearchValue) → entry_in_the_end (after_next_row s) ≡ entry_in_the_end s
-  tried_comes_to s = by_next s.next refl
+  tried_ends_with : (s : SearchValue) → entry_in_the_end (after_next_row s) ≡ entry_in_the_end s
+  tried_ends_with s = by_next s.next refl
     where
       by_link : (row : ℕ) (resolution : Resolution) (b : Bool)
-          → resolution_at s.asked.pairs s.target resolution (if b then None else first_from (row + 1) (matching_rows_of s.target s.asked.pairs))
-          ≡ (if b then resolution else resolution_from s.target s.asked.pairs (row + 1) resolution)
+          → resolution_at s.requested.pairs s.target resolution (if b then None else first_from (row + 1) (matching_rows_of s.target s.requested.pairs))
+          ≡ (if b then resolution else resolution_from s.target s.requested.pairs (row + 1) resolution)
       by_link row resolution true = refl
-      by_link row resolution false = from_next s.asked.pairs s.target (row + 1) resolution
+      by_link row resolution false = from_next s.requested.pairs s.target (row + 1) resolution
 
       by_next : (next : Option ℕ) → s.next ≡ next
-          → entry_in_the_end (after_row_at s next) ≡ record { name = s.target.name; resolution = resolution_at s.asked.pairs s.target s.resolution next }
-      by_next None is = ap (λ next. record { name = s.target.name; resolution = resolution_at s.asked.pairs s.target s.resolution next }) is
+          → entry_in_the_end (after_row_at s next) ≡ record { name = s.target.name; resolution = resolution_at s.requested.pairs s.target s.resolution next }
+      by_next None is = ap (λ next. record { name = s.target.name; resolution = resolution_at s.requested.pairs s.target s.resolution next }) is
       by_next (Some row) is =
-          let resolution = resolution_of_row s.target s.asked.pairs row in
+          let resolution = resolution_of_row s.target s.requested.pairs row in
           ap (λ r. record { name = s.target.name; resolution = r }) (by_link row resolution (is_link resolution))
 
-  pub menu_at_start : (asked : RequestValue) (targets : List TargetValue) → map entry_in_the_end (map (started asked) targets) ≡ menu_of targets asked.pairs
-  menu_at_start asked [] = refl
-  menu_at_start asked (target ∷ targets) =
-      let resolution = from_next asked.pairs target 0 NoRow ∙ sym (begins target asked.pairs) in
-      ap (λ r. record { name = target.name; resolution = r } ∷ map entry_in_the_end (map (started asked) targets)) resolution
-      ∙ ap (λ entries. entry_of target asked.pairs ∷ entries) (menu_at_start asked targets)
+  pub menu_at_start : (requested : RequestValue) (targets : List TargetValue)
+      → map entry_in_the_end (map (started requested) targets) ≡ menu_of targets requested.pairs
+  menu_at_start requested [] = refl
+  menu_at_start requested (target ∷ targets) =
+      let resolution = from_next requested.pairs target 0 NoRow ∙ sym (begins target requested.pairs) in
+      ap (λ r. record { name = target.name; resolution = r } ∷ map entry_in_the_end (map (started requested) targets)) resolution
+      ∙ ap (λ entries. entry_of target requested.pairs ∷ entries) (menu_at_start requested targets)
 
   pub menu_after_round : (searches : List SearchValue) → map entry_in_the_end (map after_next_row searches) ≡ map entry_in_the_end searches
   menu_after_round [] = refl
   menu_after_round (s ∷ searches) =
-      ap (λ entry. entry ∷ map entry_in_the_end (map after_next_row searches)) (tried_comes_to s)
+      ap (λ entry. entry ∷ map entry_in_the_end (map after_next_row searches)) (tried_ends_with s)
       ∙ ap (λ entries. entry_in_the_end s ∷ entries) (menu_after_round searches)
 
 -- if no search is open, all searches have their outcomes
@@ -103,7 +104,7 @@ menu_at_end (s ∷ searches) none = by_next s.next (menu_at_end searches) none
   where
     by_next : (next : Option ℕ) → (list_any is_open searches ≡ false → map entry_in_the_end searches ≡ map entry_so_far searches)
         → (is_some next || list_any is_open searches) ≡ false
-        → (record { name = s.target.name; resolution = resolution_at s.asked.pairs s.target s.resolution next } ∷ map entry_in_the_end searches)
+        → (record { name = s.target.name; resolution = resolution_at s.requested.pairs s.target s.resolution next } ∷ map entry_in_the_end searches)
         ≡ map entry_so_far (s ∷ searches)
     by_next None rest none = ap (λ entries. entry_so_far s ∷ entries) (rest none)
     by_next (Some row) rest none = absurd (grind (arith, none))

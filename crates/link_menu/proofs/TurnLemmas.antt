@@ -14,7 +14,7 @@ use Rattle.machine_model.specs.Next.{state_after, course_of}
 use Rattle.machine_model.specs.Runs.{After, EndsAfter}
 use Rattle.target_vars.specs.EnvValue.{EnvValue}
 use Rattle.verified_runs.specs.RunValue.{RunValue, HasEnded, all_steps}
-use Rattle.link_menu.specs.Turns.{goes_on, is_live, IsMoved, own_turns, IsPlayed}
+use Rattle.link_menu.specs.Turns.{continues, is_live, IsMoved, own_turns, IsPlayed}
 
 -- the states after steps are decided
 abbrev pub AreDecided : Type 0
@@ -23,9 +23,9 @@ AreDecided = (c : Code) (v : Environment) (k : ℕ) (s : State) → After c v k 
 -- ---- which runs continue
 
 pub ended_is_over : AreDecided → (r : RunValue) → HasEnded r → is_live r ≡ false
-ended_is_over decided r h = ap goes_on ((decided r.code r.env.entries r.steps (Ended h.0)).0 h.1)
+ended_is_over decided r h = ap continues ((decided r.code r.env.entries r.steps (Ended h.0)).0 h.1)
 
-unless_ended : (s : Option State) → ((e : End) → s ≡ Some (Ended e) → ⊥) → goes_on s ≡ true
+unless_ended : (s : Option State) → ((e : End) → s ≡ Some (Ended e) → ⊥) → continues s ≡ true
 unless_ended None never = refl
 unless_ended (Some (Running f)) never = refl
 unless_ended (Some (Ended e)) never = absurd (never e refl)

@@ -200,21 +200,21 @@ fewer_left t runs now new fresh was is lt =
 
 -- ---- what is observed
 
-pub nothing_shown : (told : Option (List (List ℕ))) (ends : List ℕ) → told ≡ with_lists told (step_lists_in 0 ends)
+pub nothing_observed : (told : Option (List (List ℕ))) (ends : List ℕ) → told ≡ with_lists told (step_lists_in 0 ends)
 unfolding step_lists_in
-nothing_shown told ends = with_none told
+nothing_observed told ends = with_none told
 
-pub shown_next : (told now new : Option (List (List ℕ))) (t : ℕ) (runs : List RunValue) → now ≡ with_lists told (step_lists_in t (ends_of runs))
+pub observed_next : (told now new : Option (List (List ℕ))) (t : ℕ) (runs : List RunValue) → now ≡ with_lists told (step_lists_in t (ends_of runs))
     → new ≡ with_list now (steps_of (all_after (64 * suc t) runs)) → new ≡ with_lists told (step_lists_in (suc t) (ends_of runs))
 unfolding step_lists_in
-shown_next told now new t runs before seen =
+observed_next told now new t runs before seen =
     let more = steps_after (64 * suc t) (ends_of runs) in
     seen ∙ ap (λ list. with_list now list) (steps_then (64 * suc t) runs) ∙ ap (λ lists. with_list lists more) before
     ∙ with_more told (step_lists_in t (ends_of runs)) (more ∷ [])
 
 -- the first turns give the first of all lists
-pub shown_at_first : (t : ℕ) (ends : List ℕ) (told now : Option (List (List ℕ))) → t ≤ turns_to_end ends → now ≡ with_lists told (step_lists_in t ends)
+pub observed_at_first : (t : ℕ) (ends : List ℕ) (told now : Option (List (List ℕ))) → t ≤ turns_to_end ends → now ≡ with_lists told (step_lists_in t ends)
     → HasSeenSome (step_lists_to_end ends) told now
 unfolding step_lists_in
-shown_at_first t ends told now few seen =
+observed_at_first t ends told now few seen =
     first_of (λ n. step_lists_in n ends) (λ n. steps_after (64 * suc n) ends ∷ []) (λ n. refl) t (turns_to_end ends) told now few seen

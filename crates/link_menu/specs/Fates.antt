@@ -25,7 +25,7 @@ abbrev pub runs_of : List (Code × EnvValue) → List RunValue
 runs_of pairs = filter_map run_of pairs
 
 -- the value of a fate of the program
-abbrev pub said : answer.Fate → Fate
-said (variant.OverBudget bytes) = OverBudget bytes
-said (variant.Link link) = Link (string_bytes link)
-said variant.NoLink = NoLink
+abbrev pub fate_value : answer.Fate → Fate
+fate_value (variant.OverBudget bytes) = OverBudget bytes
+fate_value (variant.Link link) = Link (string_bytes link)
+fate_value variant.NoLink = NoLink

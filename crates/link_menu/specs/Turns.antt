@@ -7,12 +7,12 @@ use Rattle.machine_model.specs.Next.{state_after}
 use Rattle.verified_runs.specs.RunValue.{RunValue, EndsInTime, all_steps}
 
 -- the run has not ended
-abbrev pub goes_on : Option State → Bool
-goes_on (Some (Ended e)) = false
-goes_on s = true
+abbrev pub continues : Option State → Bool
+continues (Some (Ended e)) = false
+continues s = true
 
 abbrev pub is_live : RunValue → Bool
-is_live r = goes_on (state_after r.code r.env.entries r.steps)
+is_live r = continues (state_after r.code r.env.entries r.steps)
 
 -- a run moved on by n steps: it is still a run of its code on its environment, with n more steps, or with those of the whole run if these are fewer; the run
 -- has an end, which is where its code ends

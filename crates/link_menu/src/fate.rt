@@ -4,7 +4,7 @@ ghost use Rattle.std.specs.Prelude.{◌≡◌};
 ghost use Rattle.verified_runs.specs.RunValue.{outcome_of};
 ghost use Rattle.registry.specs.Fates.{ended};
 ghost use Rattle.registry.specs.Entries.{resolution_by};
-ghost use Rattle.link_menu.specs.Fates.{said};
+ghost use Rattle.link_menu.specs.Fates.{fate_value};
 
 use menu::{Resolution, Text, is_web_link};
 use verified_runs::Outcome;
@@ -23,7 +23,7 @@ pub enum Fate {
 
 impl Fate {
     pub(crate) fn of(outcome: Outcome) -> Fate
-        ensures { said result ≡ ended (outcome_of outcome) }
+        ensures { fate_value result ≡ ended (outcome_of outcome) }
     {
         match outcome {
             Outcome::Link(link) => Fate::Link(link),
@@ -33,7 +33,7 @@ impl Fate {
 
     /// The resolution of a target whose row has this fate: only a web link counts as a link.
     pub(crate) fn into_resolution(self, row: usize) -> Resolution
-        ensures { result ≡ resolution_by row (said self) }
+        ensures { result ≡ resolution_by row (fate_value self) }
     {
         match self {
             Fate::OverBudget(bytes) => Resolution::OverBudget(bytes),

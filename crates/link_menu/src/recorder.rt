@@ -20,7 +20,7 @@ impl Model for Shown {
 
     ghost Value = { List (List ℕ) };
 
-    ghost view = { λ shown. map (λ list. list.items) shown.lists.items };
+    ghost view = { λ observed. map (λ list. list.items) observed.lists.items };
 }
 
 impl Shown {
@@ -45,7 +45,7 @@ impl Shown {
 impl Watch for Shown {
     ghost use Rattle.std.specs.Prelude.{Some};
 
-    ghost lists = { λ shown. Some shown };
+    ghost lists = { λ observed. Some observed };
 
     fn seen<E: Scope>(&mut self, runs: &[Run<'_, E>]) -> Result<(), AllocError> {
         let steps = runs

@@ -4,7 +4,7 @@ ghost use Rattle.std.specs.Prelude.{◌≡◌, All, IfOk, OnErr, OnOk, map};
 ghost use Rattle.std.specs.List.{list_any};
 ghost use Rattle.row_scope.specs.RequestValues.{IsApartFrom};
 ghost use Rattle.registry.specs.Entries.{menu_of};
-ghost use Rattle.link_menu.specs.Fates.{said};
+ghost use Rattle.link_menu.specs.Fates.{fate_value};
 ghost use Rattle.link_menu.specs.StepLists.{HasSeenAll, HasSeenSome, step_lists_to_end};
 ghost use Rattle.link_menu.specs.RowsByRound.{step_lists_in_all_rounds};
 ghost use Rattle.link_menu.specs.Private.Searches as spec;
@@ -45,7 +45,7 @@ pub fn resolve_watched<W: Watch>(
     watch: &mut W,
 ) -> Result<Menu, AllocError>
     ensures menu { IfOk result (λ menu. menu ≡ menu_of registry.now request.now.pairs) }
-    ensures shown { OnOk result
+    ensures observed { OnOk result
         (HasSeenAll (step_lists_in_all_rounds registry.now request.now.pairs) (W.lists watch.old)
         (W.lists watch.new)) }
     ensures err { OnErr result
@@ -97,7 +97,7 @@ fn try_next_rows<W: Watch>(
     watch: &mut W,
 ) -> Result<(), AllocError>
     ensures ok { OnOk result (searches.new ≡ map spec.after_next_row searches.old) }
-    ensures shown { OnOk result
+    ensures observed { OnOk result
         (HasSeenAll (step_lists_to_end (spec.ends_next searches.old)) (W.lists watch.old) (W.lists watch.new)) }
     ensures err { OnErr result
         (HasSeenSome (step_lists_to_end (spec.ends_next searches.old)) (W.lists watch.old) (W.lists watch.new)) }
@@ -115,8 +115,8 @@ fn run_next_rows<W: Watch>(
     searches: &[TargetSearch],
     watch: &mut W,
 ) -> Result<Vec<Fate>, AllocError>
-    ensures fates { IfOk result (λ fates. map said fates.items ≡ spec.fates_next searches.now) }
-    ensures shown { OnOk result
+    ensures fates { IfOk result (λ fates. map fate_value fates.items ≡ spec.fates_next searches.now) }
+    ensures observed { OnOk result
         (HasSeenAll (step_lists_to_end (spec.ends_next searches.now)) (W.lists watch.old) (W.lists watch.new)) }
     ensures err { OnErr result
         (HasSeenSome (step_lists_to_end (spec.ends_next searches.now)) (W.lists watch.old) (W.lists watch.new)) }
@@ -127,7 +127,7 @@ fn run_next_rows<W: Watch>(
 
 /// Gives the fates of one round to the searches that have a next row, in their order.
 fn take_over_all(searches: &mut [TargetSearch], fates: Vec<Fate>)
-    requires { map said fates.items ≡ spec.fates_next searches.old }
+    requires { map fate_value fates.items ≡ spec.fates_next searches.old }
     ensures { searches.new ≡ map spec.after_next_row searches.old }
 {
     let mut fates = fates.into_iter();

@@ -4,7 +4,7 @@ ghost use Rattle.std.specs.Prelude.{◌≡◌, All, IfOk, OnErr, OnOk, length, m
 ghost use Rattle.std.specs.List.{zip};
 ghost use Rattle.verified_runs.specs.declared.run.TheConstants.{MAX_LINK_BYTES};
 ghost use Rattle.verified_runs.specs.Names.{AreNumbered};
-ghost use Rattle.link_menu.specs.Fates.{fate_of, said};
+ghost use Rattle.link_menu.specs.Fates.{fate_of, fate_value};
 ghost use Rattle.link_menu.specs.Private.Rounds.{AreFresh, AreOfTheSame};
 ghost use Rattle.link_menu.specs.StepLists.{HasSeenAll, HasSeenSome, ends_of, step_lists_of, step_lists_to_end};
 
@@ -34,8 +34,8 @@ pub fn round<W: Watch>(
 ) -> Result<Vec<Fate>, AllocError>
     requires { length codes.now ≡ length envs.now }
     ensures fates { IfOk result
-        (λ fates. map said fates.items ≡ map fate_of (zip (map (λ code. code.now) codes.now) envs.now)) }
-    ensures shown { OnOk result
+        (λ fates. map fate_value fates.items ≡ map fate_of (zip (map (λ code. code.now) codes.now) envs.now)) }
+    ensures observed { OnOk result
         (HasSeenAll (step_lists_of (zip (map (λ code. code.now) codes.now) envs.now)) (W.lists watch.old)
         (W.lists watch.new)) }
     ensures err { OnErr result
@@ -60,9 +60,9 @@ pub fn round_over<E: Scope, W: Watch>(
     requires equal { length codes.now ≡ length envs.now }
     requires names { All (λ p. AreNumbered (E.is_number p.1) p.0) (zip (map (λ code. code.now) codes.now) envs.now) }
     ensures fates { IfOk result
-        (λ fates. map said fates.items
+        (λ fates. map fate_value fates.items
         ≡ map fate_of (zip (map (λ code. code.now) codes.now) (map E.environment envs.now))) }
-    ensures shown { OnOk result
+    ensures observed { OnOk result
         (HasSeenAll (step_lists_of (zip (map (λ code. code.now) codes.now) (map E.environment envs.now)))
         (W.lists watch.old) (W.lists watch.new)) }
     ensures err { OnErr result

@@ -3,7 +3,7 @@
 ghost use Rattle.std.specs.Prelude.{◌≡◌, All, ◌++◌, [], ◌∷◌, IfOk, OnOk, length, map, count_by, is_none};
 ghost use Rattle.std.specs.List.{zip};
 ghost use Rattle.verified_runs.specs.Names.{AreNumbered};
-ghost use Rattle.link_menu.specs.Fates.{runs_of, said};
+ghost use Rattle.link_menu.specs.Fates.{runs_of, fate_value};
 ghost use Rattle.link_menu.specs.Private.Rounds.{AreFresh};
 ghost use Rattle.link_menu.specs.Private.RunSets.{IsRunSetOf, excess_of, fates_in, outcome_in_the_end};
 
@@ -73,7 +73,7 @@ impl<'a, E: Scope> RunSet<'a, E> {
     pub(crate) fn finish_all(self, alloc: Global) -> Result<Vec<Fate>, AllocError>
         requires { count_by is_none self.over_budget.items ≡ length self.runs.items }
         ensures { IfOk result
-            (λ fates. map said fates.items ≡ fates_in self.entry.over_budget.items
+            (λ fates. map fate_value fates.items ≡ fates_in self.entry.over_budget.items
             (map outcome_in_the_end self.entry.runs.items)) }
     {
         course_is_decided();

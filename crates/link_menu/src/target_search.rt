@@ -3,7 +3,7 @@
 ghost use Rattle.std.specs.Prelude.{◌≡◌, IfOk};
 ghost use Rattle.menu.specs.Links as links;
 ghost use Rattle.row_scope.specs.RequestValues.{IsApartFrom};
-ghost use Rattle.link_menu.specs.Fates.{said};
+ghost use Rattle.link_menu.specs.Fates.{fate_value};
 ghost use Rattle.link_menu.specs.Private.Searches as spec;
 
 use crate::citation::Citation;
@@ -33,7 +33,7 @@ impl<'a> Model for TargetSearch<'a> {
     ghost Value = { SearchValue };
 
     ghost view = { λ s. record {
-      asked = s.citation.now;
+      requested = s.citation.now;
       target = s.target.now;
       next = s.next;
       resolution = s.resolution;
@@ -79,7 +79,7 @@ impl<'a> TargetSearch<'a> {
 
     /// Records the outcome of the next row, and continues with the one after it, unless that row gave a link.
     pub(crate) fn take_over(&mut self, fate: Fate)
-        ensures { self.new ≡ spec.after_fate self.old (said fate) }
+        ensures { self.new ≡ spec.after_fate self.old (fate_value fate) }
     {
         let Some(row) = self.next else {
             return;

@@ -1,6 +1,6 @@
 //! An observer of interleaved runs.
 
-ghost use Rattle.std.specs.Prelude.{◌≡◌, ℕ, List, OnErr, OnOk, Option, map};
+ghost use Rattle.std.specs.Prelude.{◌≡◌, ℕ, List, OnErr, OnOk, Option};
 ghost use Rattle.link_menu.specs.StepLists.{with_list, steps_of};
 
 use std::alloc::AllocError;

@@ -6,7 +6,7 @@ use Rattle.environment_model.specs.Environment.{Environment}
 use Rattle.code_model.specs.Code.{Code}
 use Rattle.machine_model.specs.States.{Frame, End, Link, NoLink, State, Running, Ended, start}
 use Rattle.machine_model.specs.Step.{Step}
-use Rattle.machine_model.specs.Runs.{After, Outcome, Link as linked, NoLink as unlinked, Stuck, ComesTo, HasOutcome}
+use Rattle.machine_model.specs.Runs.{After, Outcome, Link as linked, NoLink as unlinked, Stuck, EndsWith, HasOutcome}
 use Rattle.machine_model.specs.Next.{next_state, step_limit, outcome_at, Course, on_from, course_from, course_of, outcome_of}
 use Rattle.machine_model.proofs.Decides.{after_one, Step-next_state, next_state-Step}
 use Rattle.machine_laws.proofs.Limit.{within_limit}
@@ -52,18 +52,18 @@ module _ (c : Code) (v : Environment) where
   -- ---- courses
 
   -- the outcome of a run is that of its last state
-  last_state : (k : ℕ) (o : Outcome) → ComesTo c v k o → (s : State) × After c v k s × ((new : State) → Step c v s new → ⊥) × (outcome_at s ≡ o)
+  last_state : (k : ℕ) (o : Outcome) → EndsWith c v k o → (s : State) × After c v k s × ((new : State) → Step c v s new → ⊥) × (outcome_at s ≡ o)
   last_state k (linked t) h = (Ended (Link t), h, λ new st. st, refl)
   last_state k unlinked h = (Ended NoLink, h, λ new st. st, refl)
   last_state k (Stuck p) h = (Running h.0, h.1, h.3, ap Stuck h.2)
 
-  comes_to : (k : ℕ) (s : State) → After c v k s → ((new : State) → Step c v s new → ⊥) → ComesTo c v k (outcome_at s)
-  comes_to k (Ended (Link t)) h f = h
-  comes_to k (Ended NoLink) h f = h
-  comes_to k (Running s) h f = (s, h, refl, f)
+  ends_with : (k : ℕ) (s : State) → After c v k s → ((new : State) → Step c v s new → ⊥) → EndsWith c v k (outcome_at s)
+  ends_with k (Ended (Link t)) h f = h
+  ends_with k (Ended NoLink) h f = h
+  ends_with k (Running s) h f = (s, h, refl, f)
 
   -- a run has one course
-  pub one_course : (k m : ℕ) (o p : Outcome) → ComesTo c v k o → ComesTo c v m p → (k ≡ m) × (o ≡ p)
+  pub one_course : (k m : ℕ) (o p : Outcome) → EndsWith c v k o → EndsWith c v m p → (k ≡ m) × (o ≡ p)
   one_course k m o p h g =
       let s = last_state k o h in
       let x = last_state m p g in
@@ -71,19 +71,19 @@ module _ (c : Code) (v : Environment) where
       let same : s.0 ≡ x.0 = after_one c v m s.0 x.0 (subst (λ n. After c v n s.0) e s.1) x.1 in
       (e, sym s.3 ∙ ap outcome_at same ∙ x.3)
 
-  found : (n k : ℕ) (s : State) → n + k ≡ step_limit c v → After c v k s → ComesTo c v (course_from c v n k s).steps (course_from c v n k s).outcome
+  found : (n k : ℕ) (s : State) → n + k ≡ step_limit c v → After c v k s → EndsWith c v (course_from c v n k s).steps (course_from c v n k s).outcome
   unfolding course_from
-  found zero k s e h = comes_to k s h (λ new st. let le = within_limit c v (k + 1) new (after_more k s new h st) in absurd (omega (arith, le, e)))
+  found zero k s e h = ends_with k s h (λ new st. let le = within_limit c v (k + 1) new (after_more k s new h st) in absurd (omega (arith, le, e)))
   found (suc n) k s e h = by_next (λ new a. found n (suc k) new (omega (arith, e)) a) (next_state c v s) refl
     where
-      by_next : ((new : State) → After c v (suc k) new → ComesTo c v (course_from c v n (suc k) new).steps (course_from c v n (suc k) new).outcome)
+      by_next : ((new : State) → After c v (suc k) new → EndsWith c v (course_from c v n (suc k) new).steps (course_from c v n (suc k) new).outcome)
           → (o : Option State) → next_state c v s ≡ o
-          → (λ (x : Course). ComesTo c v x.steps x.outcome) (on_from o (course_from c v n (suc k)) (record { outcome = outcome_at s; steps = k }))
-      by_next go None q = comes_to k s h (λ new st. let f = Step-next_state c v s new st in absurd (cc (q, f)))
+          → (λ (x : Course). EndsWith c v x.steps x.outcome) (on_from o (course_from c v n (suc k)) (record { outcome = outcome_at s; steps = k }))
+      by_next go None q = ends_with k s h (λ new st. let f = Step-next_state c v s new st in absurd (cc (q, f)))
       by_next go (Some new) q = go new (after_suc k s new h (next_state-Step c v s new q))
 
   -- every run ends with an outcome, within the limit
-  pub course_found : ComesTo c v (course_of c v).steps (course_of c v).outcome
+  pub course_found : EndsWith c v (course_of c v).steps (course_of c v).outcome
   unfolding After
   course_found = found (step_limit c v) 0 (Running start) (omega arith) refl
 
@@ -91,14 +91,14 @@ module _ (c : Code) (v : Environment) where
   courses_same x k o h = λ i. record { outcome = h.1 i; steps = h.0 i }
 
   -- a run has exactly the course that is computed
-  pub course_decided : (k : ℕ) (o : Outcome) → ComesTo c v k o ↔ (course_of c v ≡ record { outcome = o; steps = k })
+  pub course_decided : (k : ℕ) (o : Outcome) → EndsWith c v k o ↔ (course_of c v ≡ record { outcome = o; steps = k })
   course_decided k o = (
     λ h. courses_same (course_of c v) k o (one_course (course_of c v).steps k (course_of c v).outcome o course_found h),
-    λ e. subst (λ (x : Course). ComesTo c v x.steps x.outcome) e course_found,
+    λ e. subst (λ (x : Course). EndsWith c v x.steps x.outcome) e course_found,
   )
 
   pub outcome_decided : (o : Outcome) → HasOutcome c v o ↔ (outcome_of c v ≡ o)
   outcome_decided o = (
     λ h. (one_course (course_of c v).steps h.0 (course_of c v).outcome o course_found h.1).1,
-    λ e. ((course_of c v).steps, subst (ComesTo c v (course_of c v).steps) e course_found),
+    λ e. ((course_of c v).steps, subst (EndsWith c v (course_of c v).steps) e course_found),
   )

@@ -70,8 +70,8 @@ all_carried P n (e ∷ es) rows all a = all_carried P n es (carried n e.to e.kin
 
 module _ (c : Code) (form : HasGoodForm c) (u : Table) (closed : IsClosed c u) where
   -- nothing is known past the registers, and the row is at or below that of the table
-  abbrev Lies : ℕ → Row → Type 0
-  Lies p row = IsAnyFrom (register_count c) (kinds_in row) × ((ms : Kinds) × (u p ≡ Some ms) × IsBelow (kinds_in row) ms)
+  abbrev IsBelowAt : ℕ → Row → Type 0
+  IsBelowAt p row = IsAnyFrom (register_count c) (kinds_in row) × ((ms : Kinds) × (u p ≡ Some ms) × IsBelow (kinds_in row) ms)
 
   holds_below : (es fs : List Edge) → EdgesBelow es fs → AllByRecursion (Holds u) fs → AllByRecursion (Holds u) es
   holds_below [] [] b h = tt
@@ -86,7 +86,7 @@ module _ (c : Code) (form : HasGoodForm c) (u : Table) (closed : IsClosed c u) w
       by_reading None k = tt
       by_reading (Some i) k = holds_below (edges p ks (body_at c p) i) (edges p ms (body_at c p) i) (edges_below p ks ms (body_at c p) i b) k
 
-  arrives : (e : Edge) → Holds u e → EdgeAny (register_count c) e → Arrives Lies (register_count c) e.to e.kinds
+  arrives : (e : Edge) → Holds u e → EdgeAny (register_count c) e → Arrives IsBelowAt (register_count c) e.to e.kinds
   arrives e h any None before =
       let same = listed_kinds (register_count c) e.kinds in (
         record { at = λ r le. same r any ∙ any.at r le },
@@ -101,24 +101,25 @@ module _ (c : Code) (form : HasGoodForm c) (u : Table) (closed : IsClosed c u) w
       )
 
   all_arrive : (es : List Edge) → AllByRecursion (Holds u) es → AllByRecursion (EdgeAny (register_count c)) es
-      → AllByRecursion (λ (e : Edge). Arrives Lies (register_count c) e.to e.kinds) es
+      → AllByRecursion (λ (e : Edge). Arrives IsBelowAt (register_count c) e.to e.kinds) es
   all_arrive [] h a = tt
   all_arrive (e ∷ es) h a = (arrives e h.0 a.0, all_arrive es h.1 a.1)
 
-  follows : (p : ℕ) (rows : Rows) → AllRows Lies rows → AllRows Lies (followed c p rows)
-  follows p rows all = all_carried Lies (register_count c) (edges_from c p (row_at rows p)) rows all (by_row (row_at rows p) (all p))
+  follows : (p : ℕ) (rows : Rows) → AllRows IsBelowAt rows → AllRows IsBelowAt (followed c p rows)
+  follows p rows all = all_carried IsBelowAt (register_count c) (edges_from c p (row_at rows p)) rows all (by_row (row_at rows p) (all p))
     where
-      by_row : (o : Option Row) → ((row : Row) → o ≡ Some row → Lies p row) → AllByRecursion (λ (e : Edge). Arrives Lies (register_count c) e.to e.kinds)
+      by_row : (o : Option Row) → ((row : Row) → o ≡ Some row → IsBelowAt p row)
+          → AllByRecursion (λ (e : Edge). Arrives IsBelowAt (register_count c) e.to e.kinds)
           (edges_from c p o)
       by_row None l = tt
       by_row (Some row) l =
           let here = l row refl in
           all_arrive (edges_at c p (kinds_in row)) (edges_hold p (kinds_in row) here.1.0 here.1.1 here.1.2) (edges_at_any c form p (kinds_in row) here.0)
 
-  pass_lies : (n : ℕ) (rows : Rows) → AllRows Lies rows → AllRows Lies (pass c n rows)
+  pass_below : (n : ℕ) (rows : Rows) → AllRows IsBelowAt rows → AllRows IsBelowAt (pass c n rows)
   unfolding pass
-  pass_lies zero rows all = all
-  pass_lies (suc p) rows all = follows p (pass c p rows) (pass_lies p rows all)
+  pass_below zero rows all = all
+  pass_below (suc p) rows all = follows p (pass c p rows) (pass_below p rows all)
 
   none_there : (n p : ℕ) (row : Row) → row_at (none_reached n) p ≡ Some row → ⊥
   unfolding none_reached
@@ -126,23 +127,24 @@ module _ (c : Code) (form : HasGoodForm c) (u : Table) (closed : IsClosed c u) w
   none_there (suc n) zero row e = absurd (cc)
   none_there (suc n) (suc p) row e = none_there n p row e
 
-  first_lies : AllRows Lies (first_rows c)
-  first_lies zero row e =
+  first_below : AllRows IsBelowAt (first_rows c)
+  first_below zero row e =
       let any : IsAnyFrom (register_count c) any_kinds = record { at = λ r le. refl } in
       let same : listed (register_count c) any_kinds ≡ row = some_one e in
-      subst (Lies 0) same (record { at = λ r le. listed_kinds (register_count c) any_kinds r any }, (any_kinds, closed.first, record { at = λ r. refl }))
-  first_lies (suc p) row e = absurd (none_there (length c.instrs - 1) p row e)
+      subst (IsBelowAt 0) same (record { at = λ r le. listed_kinds (register_count c) any_kinds r any }, (any_kinds, closed.first, record { at = λ r. refl }))
+  first_below (suc p) row e = absurd (none_there (length c.instrs - 1) p row e)
 
-  passes_lie : (n : ℕ) → AllRows Lies (passes c n)
+  passes_lie : (n : ℕ) → AllRows IsBelowAt (passes c n)
   unfolding passes
-  passes_lie zero = first_lies
-  passes_lie (suc n) = pass_lies (length c.instrs) (passes c n) (passes_lie n)
+  passes_lie zero = first_below
+  passes_lie (suc n) = pass_below (length c.instrs) (passes c n) (passes_lie n)
 
   -- the table that passes find is at or below every closed table
   pub passes_below : (n : ℕ) → TableBelow (table_in (passes c n)) u
   passes_below n p ks known = by_row (row_at (passes c n) p) (passes_lie n p) known
     where
-      by_row : (o : Option Row) → ((row : Row) → o ≡ Some row → Lies p row) → option_map kinds_in o ≡ Some ks → (ms : Kinds) × (u p ≡ Some ms) × IsBelow ks ms
+      by_row : (o : Option Row) → ((row : Row) → o ≡ Some row → IsBelowAt p row) → option_map kinds_in o ≡ Some ks → (ms : Kinds) × (u p ≡ Some ms)
+          × IsBelow ks ms
       by_row None l e = absurd (cc)
       by_row (Some row) l e = let here = l row refl in subst (λ k. (ms : Kinds) × (u p ≡ Some ms) × IsBelow k ms) (some_one e) here.1
 

@@ -17,7 +17,7 @@ use Rattle.text_model.proofs.Cuts.{length-cut}
 use Rattle.machine_model.specs.declared.form.Body.{Body}
 use Rattle.machine_model.specs.Operands.{is_link_text, has_right_operands, literal_at, writing_of}
 use Rattle.machine_model.specs.States.{Loop, Frame, Link, NoLink, State, Running, Ended}
-use Rattle.machine_model.specs.Step.{Move, Ends, Goes, Returns, Does, fail, emit, put_text, cut_text, later_turn, Leads, Step}
+use Rattle.machine_model.specs.Step.{Move, Ends, MovesTo, Returns, Does, fail, emit, put_text, cut_text, later_turn, Leads, Step}
 use Rattle.machine_model.specs.Runs.{After}
 use Rattle.machine_model.specs.Form.{body_at, is_in_body, HasGoodForm}
 use Rattle.machine_model.specs.Typable.{Table, IsClosed, MeetsNeeds, IsTypable}
@@ -38,13 +38,13 @@ use Rattle.machine_laws.proofs.Ends.{ends_in_time}
 abbrev pub move_output : Move → Text
 move_output (Ends (Link printed)) = printed
 move_output (Ends NoLink) = []
-move_output (Goes s) = s.output
+move_output (MovesTo s) = s.output
 move_output (Returns s) = s.output
 
 lead_output : (c : Code) (from : ℕ) (m : Move) (new : State) → Leads c from m new → output_of new ≡ move_output m
 lead_output c from (Ends (Link printed)) new h = ap output_of h
 lead_output c from (Ends NoLink) new h = ap output_of h
-lead_output c from (Goes s) new h = ap output_of h.1
+lead_output c from (MovesTo s) new h = ap output_of h.1
 lead_output c from (Returns s) new h = ap output_of h
 
 -- EMIT and SEP name link texts

@@ -76,7 +76,7 @@ module _ (c : Code) where
     element_fits p (Some b) e =
         let origin = (is_in c p b e).origin in
         let begins = origin.1 in
-        let lt : origin.0 < length c.instrs = omega (arith, begins.goes_on, begins.fits_in) in
+        let lt : origin.0 < length c.instrs = omega (arith, begins.continues, begins.fits_in) in
         let g = good_at c form origin.0 lt in
         let same : g.0 ≡ Each b.element begins.each.0 b.end = some_one (sym g.1.read ∙ begins.each.1) in
         first_register c (Each b.element begins.each.0 b.end) b.element _ refl (subst (λ i. has_right_operands c i ≡ true) same g.1.reads.right)

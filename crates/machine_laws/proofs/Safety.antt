@@ -1,6 +1,6 @@
 -- Every state that a typable code of good form reaches conforms to a table of kinds.
 
-use Rattle.std.proofs.Common.{ℕ, zero, suc, ◌<◌, [], length, refl, sym, subst}
+use Rattle.std.proofs.Common.{ℕ, zero, suc, ◌<◌, length, refl, sym, subst}
 use Rattle.std.specs.List.{AllByRecursion}
 use Rattle.environment_model.specs.Environment.{Environment}
 use Rattle.code_model.specs.Code.{Code}
@@ -14,7 +14,7 @@ use Rattle.machine_model.specs.Typable.{Table, Holds, IsClosed, IsMet, MeetsNeed
 use Rattle.machine_model.proofs.Decides.{step_one}
 use Rattle.machine_model.proofs.GoodPlaces.{IsGood, good_at}
 use Rattle.machine_model.specs.Fitting.{Conforms}
-use Rattle.machine_laws.proofs.Sound.{GoesOn, StateConforms, along, goes}
+use Rattle.machine_laws.proofs.Sound.{Continues, StateConforms, along, moves}
 
 -- every reached state of a typable code of good form is described by the table, and continues
 module _ (c : Code) (form : HasGoodForm c) (starts : 0 < length c.instrs) (t : Table) (closed : IsClosed c t) (meets : MeetsNeeds c t) (v : Environment) where
@@ -22,13 +22,13 @@ module _ (c : Code) (form : HasGoodForm c) (starts : 0 < length c.instrs) (t : T
   unfolding body_at
   begins = record { kinds = any_kinds; known = closed.first; fits = record { at = λ r. refl }; within = starts; body = refl }
 
-  pub moves_on : (s : Frame) (k : Conforms c t s) → (op : Instruction) × GoesOn c t v s op × IsGood c s.place op
+  pub moves_on : (s : Frame) (k : Conforms c t s) → (op : Instruction) × Continues c t v s op × IsGood c s.place op
   moves_on s k =
       let g = good_at c form s.place k.within in
       let n = subst (λ o. AllByRecursion (IsMet k.kinds) (for_instruction o needs)) g.1.read (meets.at s.place k.kinds k.known) in
       let h = subst (λ o. AllByRecursion (Holds t) (for_instruction o (edges s.place k.kinds (body_at c s.place)))) g.1.read
       (closed.along s.place k.kinds k.known) in
-      (g.0, goes c t v s k g.0 g.1 n h, g.1)
+      (g.0, moves c t v s k g.0 g.1 n h, g.1)
 
   pub stepping : (s : Frame) → Conforms c t s → (new : State) × Step c v (Running s) new × StateConforms c t new
   stepping s k = let m = moves_on s k in (m.1.1, (m.0, m.2.reads, m.1.0, m.1.2, m.1.3), m.1.4)

@@ -8,7 +8,7 @@ use Rattle.code_model.specs.Code.{Code}
 use Rattle.code_model.specs.declared.code.Instruction.{Instruction}
 use Rattle.machine_model.specs.Values.{Text as TextValue, List as ListValue}
 use Rattle.machine_model.specs.States.{Loop, Frame, End, put}
-use Rattle.machine_model.specs.Step.{Move, Ends, Goes, Returns, begun_loop, next_turn, Does, halt, fail, jump, text, list, const, number, no_number, undefined}
+use Rattle.machine_model.specs.Step.{Move, Ends, MovesTo, Returns, new_loop, next_turn, Does, halt, fail, jump, text, list, const, number, no_number, undefined}
 use Rattle.machine_model.specs.Step.{defined, empty, not_empty, no_member, a_member, equal, different, less, not_less, emit, put_text, cut_text, no_turn, enter}
 use Rattle.machine_model.specs.Step.{first_turn, later_turn, next_member, leave, count}
 use Rattle.machine_model.specs.Budget.{writes}
@@ -20,12 +20,12 @@ KeepsOthers i s f = (r : ℕ) → writes r (Some i) ≡ false → f.registers r 
 -- how a move of an instruction changes the state
 pub data Shape (s : Frame) (i : Instruction) : Move → Type 0 where
   ends : (e : End) → Shape s i (Ends e)
-  onward : (f : Frame) → f.loop ≡ s.loop → KeepsOthers i s f → Shape s i (Goes f)
+  onward : (f : Frame) → f.loop ≡ s.loop → KeepsOthers i s f → Shape s i (MovesTo f)
   enters : (f : Frame) (l : Loop) (b : ℕ) (t : Text) → s.loop ≡ None → s.registers b ≡ ListValue (t ∷ l.left) → f.loop ≡ Some l → l.start ≡ f.place
-      → f.place ≡ s.place + 1 → f.place < l.end → f.registers l.element ≡ TextValue t → Shape s i (Goes f)
+      → f.place ≡ s.place + 1 → f.place < l.end → f.registers l.element ≡ TextValue t → Shape s i (MovesTo f)
   again : (f : Frame) (l l' : Loop) (t : Text) → s.loop ≡ Some l → f.loop ≡ Some l' → s.place + 1 ≡ l.end → l.left ≡ t ∷ l'.left → l'.start ≡ l.start
       → l'.end ≡ l.end → f.place ≡ l.start → f.registers l'.element ≡ TextValue t → Shape s i (Returns f)
-  leaves : (f : Frame) (l : Loop) → s.loop ≡ Some l → f.loop ≡ None → s.place + 1 ≡ l.end → l.left ≡ [] → f.place ≡ l.end → Shape s i (Goes f)
+  leaves : (f : Frame) (l : Loop) → s.loop ≡ Some l → f.loop ≡ None → s.place + 1 ≡ l.end → l.left ≡ [] → f.place ≡ l.end → Shape s i (MovesTo f)
 
 put_here : {X : Type 0} (f : ℕ → X) (a : ℕ) (x : X) → put f a x a ≡ x
 put_here f a x = rw (eq-eqb a a refl) refl
@@ -37,7 +37,7 @@ pub shape : (c : Code) (v : Environment) (s : Frame) (i : Instruction) (m : Move
 shape c v s _ _ halt = ends _
 shape c v s _ _ fail = ends _
 shape c v s _ _ (no_turn a b d e lt h) = onward _ refl (λ r other. refl)
-shape c v s _ _ (enter a b d t ts e lt h) = enters _ (begun_loop s.place a d ts) b t e h refl refl refl lt (put_here s.registers a (TextValue t))
+shape c v s _ _ (enter a b d t ts e lt h) = enters _ (new_loop s.place a d ts) b t e h refl refl refl lt (put_here s.registers a (TextValue t))
 shape c v s _ _ (next_member l t ts e p h) = again _ l (next_turn l ts) t e refl p h refl refl refl (put_here s.registers l.element (TextValue t))
 shape c v s _ _ (leave l e p h) = leaves _ l e refl p h p
 shape c v s _ _ (jump d) = onward _ refl (λ r other. refl)

@@ -12,7 +12,8 @@ use Rattle.code_model.specs.declared.code.Instruction.TheVariants.{Const}
 use Rattle.machine_model.specs.Operands.{is_compared, has_right_operands, name_at, literal_at, text_of_literal}
 use Rattle.machine_model.specs.Values.{Value, Nothing, Undefined, Text as TextValue, List as ListValue, Number as NumberValue, text_or_undefined}
 use Rattle.machine_model.specs.States.{Loop, Frame, State, Running, Ended, put}
-use Rattle.machine_model.specs.Step.{Move, Ends, Goes, Returns, Does, halt, fail, text, list, const, number, no_turn, enter, next_member, leave, count, Leads}
+use Rattle.machine_model.specs.Step.{Move, Ends, MovesTo, Returns, Does, halt, fail, text, list}
+use Rattle.machine_model.specs.Step.{const, number, no_turn, enter, next_member, leave, count, Leads}
 use Rattle.machine_model.specs.Step.{Step}
 use Rattle.machine_model.specs.Runs.{After}
 use Rattle.machine_model.specs.Budget.{compared_length, longest_compared}
@@ -40,7 +41,7 @@ StateSmall m e n (Ended end) = Unit {0}
 
 abbrev pub MoveSmall : ℕ → ℕ → ℕ → Move → Type 0
 MoveSmall m e n (Ends end) = Unit {0}
-MoveSmall m e n (Goes s) = FrameSmall m e n s
+MoveSmall m e n (MovesTo s) = FrameSmall m e n s
 MoveSmall m e n (Returns s) = FrameSmall m e n s
 
 -- ---- values from the environment
@@ -136,7 +137,7 @@ module _ (c : Code) (v : Environment) where
 
   small_lead : (from : ℕ) (m : Move) (new : State) → MoveSmall (member_count v) (byte_count v) (text_limit c v) m → Leads c from m new → Small new
   small_lead from (Ends e) new k led = subst (StateSmall (member_count v) (byte_count v) (text_limit c v)) (sym led) tt
-  small_lead from (Goes f) new k led = subst (StateSmall (member_count v) (byte_count v) (text_limit c v)) (sym led.1) k
+  small_lead from (MovesTo f) new k led = subst (StateSmall (member_count v) (byte_count v) (text_limit c v)) (sym led.1) k
   small_lead from (Returns f) new k led = subst (StateSmall (member_count v) (byte_count v) (text_limit c v)) (sym led) k
 
   small_step : (s new : State) → Small s → Step c v s new → Small new

@@ -14,7 +14,7 @@ use Rattle.code_model.specs.declared.code.Instruction.{Instruction}
 use Rattle.code_model.specs.declared.code.Instruction.TheVariants.{Emit, Put, Cut, Each, Sep}
 use Rattle.machine_model.specs.declared.form.Body.{Body}
 use Rattle.machine_model.specs.Operands.{is_register, is_in_table, has_table_kind}
-use Rattle.machine_model.specs.Form.{is_next, begun, body_after, body_at, is_in_body, is_same_body, ends_body, target, goes_to, is_each, is_sep, Check, checks}
+use Rattle.machine_model.specs.Form.{is_next, opened, body_after, body_at, is_in_body, is_same_body, ends_body, target, goes_to, is_each, is_sep, Check, checks}
 use Rattle.machine_model.specs.Form.{first_failing, fault_of, fault_in, fault_at, HasGoodForm}
 use Rattle.machine_model.specs.Kinds.{Kinds, needs, edges, for_instruction, needs_at, edges_at}
 use Rattle.machine_model.specs.Typable.{Holds, IsMet, IsTypable}
@@ -28,12 +28,12 @@ module _ (c : Code) where
   is_next_same : (p : ℕ) → is_next (reading_at (upgraded c) p) ≡ is_next (reading_at c p)
   is_next_same p = ⊎_elim (λ same. ap is_next (sym same)) (λ other. rw (other.0, other.1.2) refl) (read_at c p)
 
-  begun_as : (p : ℕ) (o : Option Instruction) → begun (upgraded c) p o ≡ begun c p o
-  begun_as p (Some (Each a b d)) = rw (is_next_same (d - 1)) refl
-  begun_as p _ = refl
+  opened_as : (p : ℕ) (o : Option Instruction) → opened (upgraded c) p o ≡ opened c p o
+  opened_as p (Some (Each a b d)) = rw (is_next_same (d - 1)) refl
+  opened_as p _ = refl
 
-  begun_same : (p : ℕ) → begun (upgraded c) p (reading_at (upgraded c) p) ≡ begun c p (reading_at c p)
-  begun_same p = ⊎_elim (λ same. begun_as p (reading_at (upgraded c) p) ∙ ap (begun c p) (sym same)) (λ other. rw (other.0, other.1.2) refl) (read_at c p)
+  opened_same : (p : ℕ) → opened (upgraded c) p (reading_at (upgraded c) p) ≡ opened c p (reading_at c p)
+  opened_same p = ⊎_elim (λ same. opened_as p (reading_at (upgraded c) p) ∙ ap (opened c p) (sym same)) (λ other. rw (other.0, other.1.2) refl) (read_at c p)
 
   body_same : (p : ℕ) → body_at (upgraded c) p ≡ body_at c p
   unfolding body_at
@@ -41,7 +41,7 @@ module _ (c : Code) where
   body_same (suc p) = ap (body_after (upgraded c) p) (body_same p) ∙ by_body (body_at c p)
     where
       by_body : (o : Option Body) → body_after (upgraded c) p o ≡ body_after c p o
-      by_body None = begun_same p
+      by_body None = opened_same p
       by_body (Some b) = refl
 
   bodies_same : body_at (upgraded c) ≡ body_at c

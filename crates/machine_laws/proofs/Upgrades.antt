@@ -14,8 +14,8 @@ use Rattle.code_model.specs.declared.code.Instruction.{Instruction}
 use Rattle.code_model.specs.declared.code.Instruction.TheVariants.{Halt, Count}
 use Rattle.machine_model.specs.Operands.{is_register, is_in_table, has_table_kind, is_right, has_right_operands, Reads}
 use Rattle.machine_model.specs.States.{Frame, State, Running, Ended}
-use Rattle.machine_model.specs.Step.{Move, Ends, Goes, Returns, Leads, Step}
-use Rattle.machine_model.specs.Runs.{After, ComesTo, Outcome, Link, NoLink, Stuck}
+use Rattle.machine_model.specs.Step.{Move, Ends, MovesTo, Returns, Leads, Step}
+use Rattle.machine_model.specs.Runs.{After, EndsWith, Outcome, Link, NoLink, Stuck}
 use Rattle.machine_model.specs.Next.{move_of}
 use Rattle.machine_model.specs.Budget.{inside}
 use Rattle.machine_model.proofs.Moves.{move_of-does, does-move_of}
@@ -101,7 +101,7 @@ module _ (c : Code) where
 
   leads_same : (from : ℕ) (m : Move) (new : State) → Leads c from m new → Leads (upgraded c) from m new
   leads_same from (Ends e) new h = h
-  leads_same from (Goes s) new h = (record { forward = h.0.forward; within = h.0.within; inside = h.0.inside }, h.1)
+  leads_same from (MovesTo s) new h = (record { forward = h.0.forward; within = h.0.within; inside = h.0.inside }, h.1)
   leads_same from (Returns s) new h = h
 
   step_more : (v : Environment) (old new : State) → Step c v old new → Step (upgraded c) v old new
@@ -116,7 +116,7 @@ module _ (c : Code) where
   after_more v zero s h = h
   after_more v (suc k) s h = (h.0, after_more v k h.0 h.1, step_more v h.0 s h.2)
 
-  pub outcome_kept : (v : Environment) (k : ℕ) (o : Outcome) → (o ≡ NoLink) ⊎ ((text : Text) × (o ≡ Link text)) → ComesTo c v k o → ComesTo (upgraded c) v k o
+  pub outcome_kept : (v : Environment) (k : ℕ) (o : Outcome) → (o ≡ NoLink) ⊎ ((text : Text) × (o ≡ Link text)) → EndsWith c v k o → EndsWith (upgraded c) v k o
   outcome_kept v k (Link text) n h = after_more v k _ h
   outcome_kept v k NoLink n h = after_more v k _ h
   outcome_kept v k (Stuck place) n h = absurd (⊎_elim (λ e. cc) (λ e. absurd (cc (e.1))) n)

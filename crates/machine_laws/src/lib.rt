@@ -7,7 +7,7 @@ mod steps;
 mod typable;
 mod upgrade;
 
-pub use runs::{course_is_decided, every_run_ends, run_ends_once, running_comes_before_the_end};
+pub use runs::{course_is_decided, every_run_ends, run_ends_once, running_precedes_the_end};
 pub use safe::{reached_states_conform, typable_code_is_safe};
 pub use steps::{no_state_has_two_next_states, states_after_steps_are_decided, step_is_decided};
 pub use typable::{

@@ -23,7 +23,7 @@ pub fn typable_code_is_safe()
 pub fn reached_states_conform()
     ensures conforms { (c : Code) (t : Table) (v : Environment) (k : ℕ) (s : Frame) →
         HasGoodForm c → 0 < length c.instrs → IsClosed c t → MeetsNeeds c t → After c v k (Running s) → Conforms c t s }
-    ensures goes_on { (c : Code) (v : Environment) (k : ℕ) (s : Frame) →
+    ensures continues { (c : Code) (v : Environment) (k : ℕ) (s : Frame) →
         HasGoodForm c → 0 < length c.instrs → IsTypable c → After c v k (Running s) →
         (new : State) × Step c v (Running s) new }
 {}

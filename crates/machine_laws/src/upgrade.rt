@@ -5,7 +5,7 @@ ghost use Rattle.text_model.specs.Texts.{Text};
 ghost use Rattle.environment_model.specs.Environment.{Environment};
 ghost use Rattle.code_model.specs.Code.{Code, upgraded};
 ghost use Rattle.machine_model.specs.States.{State};
-ghost use Rattle.machine_model.specs.Runs.{After, ComesTo, Outcome, Link, NoLink};
+ghost use Rattle.machine_model.specs.Runs.{After, EndsWith, Outcome, Link, NoLink};
 ghost use Rattle.machine_model.specs.Form.{HasGoodForm};
 ghost use Rattle.machine_model.specs.Typable.{IsTypable};
 ghost use Rattle.machine_model.specs.Budget.{sums_of};
@@ -16,7 +16,7 @@ ghost use Rattle.machine_model.specs.Budget.{sums_of};
 pub fn upgrade_keeps_what_code_does()
     ensures states { (c : Code) (v : Environment) (k : ℕ) (s : State) → After c v k s → After (upgraded c) v k s }
     ensures outcome { (c : Code) (v : Environment) (k : ℕ) (o : Outcome) →
-        (o ≡ NoLink) ⊎ ((text : Text) × (o ≡ Link text)) → ComesTo c v k o → ComesTo (upgraded c) v k o }
+        (o ≡ NoLink) ⊎ ((text : Text) × (o ≡ Link text)) → EndsWith c v k o → EndsWith (upgraded c) v k o }
     ensures form { (c : Code) → HasGoodForm c → HasGoodForm (upgraded c) }
     ensures typable { (c : Code) → HasGoodForm c → IsTypable c ↔ IsTypable (upgraded c) }
     ensures budget { (c : Code) → HasGoodForm c → sums_of (upgraded c) ≡ sums_of c }

@@ -7,7 +7,7 @@ use Rattle.code_model.specs.Code.{Code}
 use Rattle.code_model.specs.declared.code.Instruction.{Instruction}
 use Rattle.machine_model.specs.Operands.{Reads}
 use Rattle.machine_model.specs.States.{Loop, Frame, State, Running, Ended}
-use Rattle.machine_model.specs.Step.{Move, Ends, Goes, Returns, IsInside, IsOnward, Leads, Step}
+use Rattle.machine_model.specs.Step.{Move, Ends, MovesTo, Returns, IsInside, IsOnward, Leads, Step}
 use Rattle.machine_model.specs.Runs.{After}
 use Rattle.machine_model.specs.Next.{instruction_at, move_of, is_inside, is_onward, judged, next_state, state_after}
 use Rattle.machine_model.proofs.Moves.{some_one, move_of-does, does-move_of}
@@ -33,14 +33,14 @@ module _ (c : Code) (from : ℕ) where
 
   Leads-judged : (m : Move) (new : State) → Leads c from m new → judged c from m ≡ Some new
   Leads-judged (Ends e) new h = ap Some (sym h)
-  Leads-judged (Goes s) new h = rw (onward_test s h.0) (ap Some (sym h.1))
+  Leads-judged (MovesTo s) new h = rw (onward_test s h.0) (ap Some (sym h.1))
   Leads-judged (Returns s) new h = ap Some (sym h)
 
   judged-Leads : (m : Move) (new : State) → judged c from m ≡ Some new → Leads c from m new
   judged-Leads (Ends e) new h = sym (some_one h)
-  judged-Leads (Goes s) new h = by_test (is_onward c from s) refl h
+  judged-Leads (MovesTo s) new h = by_test (is_onward c from s) refl h
     where
-      by_test : (t : Bool) → is_onward c from s ≡ t → (if t then Some (Running s) else None) ≡ Some new → Leads c from (Goes s) new
+      by_test : (t : Bool) → is_onward c from s ≡ t → (if t then Some (Running s) else None) ≡ Some new → Leads c from (MovesTo s) new
       by_test true e h = (onward_from s e, sym (some_one h))
       by_test false e h = absurd (cc)
   judged-Leads (Returns s) new h = sym (some_one h)

@@ -49,8 +49,8 @@ fits_any ks regs a f = record { at = λ r. by_test r (r == a) }
     by_test r false = f.at r
 
 -- a register that is known to hold a value of a kind
-pub fits_told : (ks : Kinds) (regs : ℕ → Value) (a : ℕ) (k : Kind) → Fits ks regs → HasKind (regs a) k → Fits (put ks a k) regs
-fits_told ks regs a k f h = record { at = λ r. by_test r (r == a) refl }
+pub fits_known : (ks : Kinds) (regs : ℕ → Value) (a : ℕ) (k : Kind) → Fits ks regs → HasKind (regs a) k → Fits (put ks a k) regs
+fits_known ks regs a k f h = record { at = λ r. by_test r (r == a) refl }
   where
     by_test : (r : ℕ) (t : Bool) → (r == a) ≡ t → HasKind (regs r) (if t then k else ks r)
     by_test r true e = subst (λ n. HasKind (regs n) k) (sym (eqb-true r a e)) h

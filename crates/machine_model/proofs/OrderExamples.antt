@@ -22,8 +22,8 @@ case p fields f = record { place = p; fields = fields; fault = f }
 abbrev first : Case → Option (Located FormFault)
 first x = first_form_fault (with_fields x.place x.fields list_code)
 
-abbrev wanted : Case → Option (Located FormFault)
-wanted x = Some (record { place = x.place; what = x.fault })
+abbrev expected : Case → Option (Located FormFault)
+expected x = Some (record { place = x.place; what = x.fault })
 
 -- a field is wrong, and also a register, an index, an entry's kind, each check of jumps and loops, the end
 abbrev fields_first : List Case
@@ -86,23 +86,23 @@ loops_first =
     ∷ case 5 (row 17 0 0 0 0) fault.StraySep
     ∷ []
 
-fields_first_hold : map first fields_first ≡ map wanted fields_first
+fields_first_hold : map first fields_first ≡ map expected fields_first
 unfolding first_below fault_at body_at reading
 fields_first_hold = refl
 
-registers_first_hold : map first registers_first ≡ map wanted registers_first
+registers_first_hold : map first registers_first ≡ map expected registers_first
 unfolding first_below fault_at body_at reading
 registers_first_hold = refl
 
-entries_first_hold : map first entries_first ≡ map wanted entries_first
+entries_first_hold : map first entries_first ≡ map expected entries_first
 unfolding first_below fault_at body_at reading
 entries_first_hold = refl
 
-jumps_first_hold : map first jumps_first ≡ map wanted jumps_first
+jumps_first_hold : map first jumps_first ≡ map expected jumps_first
 unfolding first_below fault_at body_at reading
 jumps_first_hold = refl
 
-loops_first_hold : map first loops_first ≡ map wanted loops_first
+loops_first_hold : map first loops_first ≡ map expected loops_first
 unfolding first_below fault_at body_at reading
 loops_first_hold = refl
 

@@ -89,22 +89,22 @@ is_reference t = BeginsWith ampersand_reference t ⊎ BeginsWith apostrophe_refe
 
 -- each ampersand of the text begins a reference
 are_references : Text → Type 0
-are_references t = (before behind : Text) → t ≡ before ++ (ampersand ∷ behind) → is_reference (ampersand ∷ behind)
+are_references t = (before following : Text) → t ≡ before ++ (ampersand ∷ following) → is_reference (ampersand ∷ following)
 
-behind_other : (b : ℕ) (t : Text) → b ≢ ampersand → are_references t → are_references (b ∷ t)
+after_other : (b : ℕ) (t : Text) → b ≢ ampersand → are_references t → are_references (b ∷ t)
 unfolding are_references head_of rest_of
-behind_other b t n h [] behind e = absurd (n (ap head_of e))
-behind_other b t n h (x ∷ before) behind e = h before behind (ap rest_of e)
+after_other b t n h [] following e = absurd (n (ap head_of e))
+after_other b t n h (x ∷ before) following e = h before following (ap rest_of e)
 
-behind_ampersand : (t : Text) → is_reference (ampersand ∷ t) → are_references t → are_references (ampersand ∷ t)
+after_ampersand : (t : Text) → is_reference (ampersand ∷ t) → are_references t → are_references (ampersand ∷ t)
 unfolding are_references rest_of
-behind_ampersand t r h [] behind e = subst is_reference e r
-behind_ampersand t r h (x ∷ before) behind e = h before behind (ap rest_of e)
+after_ampersand t r h [] following e = subst is_reference e r
+after_ampersand t r h (x ∷ before) following e = h before following (ap rest_of e)
 
 none_in_nothing : are_references []
 unfolding are_references head_of
-none_in_nothing [] behind e = absurd (omega (arith, ap head_of e))
-none_in_nothing (x ∷ before) behind e = absurd (cc)
+none_in_nothing [] following e = absurd (omega (arith, ap head_of e))
+none_in_nothing (x ∷ before) following e = absurd (cc)
 
 references_only : (t : Text) → are_references (escaped t)
 unfolding is_reference
@@ -114,14 +114,14 @@ references_only (b ∷ t) = by_tests (b == ampersand) (b == apostrophe) refl (re
     by_tests : (x y : Bool) → (b == ampersand) ≡ x → are_references (escaped t)
         → are_references ((if x then ampersand_reference else (if y then apostrophe_reference else (b ∷ []))) ++ escaped t)
     by_tests true y e h =
-        behind_ampersand _ (inl (escaped t, refl))
-        (behind_other _ _ (λ q. omega (arith, q))
-        (behind_other _ _ (λ q. omega (arith, q)) (behind_other _ _ (λ q. omega (arith, q)) (behind_other _ _ (λ q. omega (arith, q)) h))))
+        after_ampersand _ (inl (escaped t, refl))
+        (after_other _ _ (λ q. omega (arith, q))
+        (after_other _ _ (λ q. omega (arith, q)) (after_other _ _ (λ q. omega (arith, q)) (after_other _ _ (λ q. omega (arith, q)) h))))
     by_tests false true e h =
-        behind_ampersand _ (inr (escaped t, refl))
-        (behind_other _ _ (λ q. omega (arith, q))
-        (behind_other _ _ (λ q. omega (arith, q)) (behind_other _ _ (λ q. omega (arith, q)) (behind_other _ _ (λ q. omega (arith, q)) h))))
-    by_tests false false e h = behind_other b _ (eqb-false b ampersand e) h
+        after_ampersand _ (inr (escaped t, refl))
+        (after_other _ _ (λ q. omega (arith, q))
+        (after_other _ _ (λ q. omega (arith, q)) (after_other _ _ (λ q. omega (arith, q)) (after_other _ _ (λ q. omega (arith, q)) h))))
+    by_tests false false e h = after_other b _ (eqb-false b ampersand e) h
 
 pub escaped-contained : (link : Text) → IsUriText link → IsContained (escaped link)
 unfolding is_reference are_references

@@ -24,23 +24,23 @@ unfoldable pub rest_of : Text → Text
 rest_of [] = []
 rest_of (b ∷ t) = t
 
-behind_reference : Text → Text
-behind_reference t = rest_of (rest_of (rest_of (rest_of (rest_of t))))
+after_reference : Text → Text
+after_reference t = rest_of (rest_of (rest_of (rest_of (rest_of t))))
 
 -- a text is read as only one text
 pub one_reading : (written other t u : Text) → written ≡ other → IsReadAs written t → IsReadAs other u → t ≡ u
-unfolding head_of rest_of behind_reference
+unfolding head_of rest_of after_reference
 one_reading _ _ _ _ e read_nothing read_nothing = refl
 one_reading _ _ _ _ e read_nothing (read_ampersand t u h) = absurd (cc)
 one_reading _ _ _ _ e read_nothing (read_apostrophe t u h) = absurd (cc)
 one_reading _ _ _ _ e read_nothing (read_character b t u n h) = absurd (cc)
 one_reading _ _ _ _ e (read_ampersand t u h) read_nothing = absurd (cc)
-one_reading _ _ _ _ e (read_ampersand t u h) (read_ampersand v w k) = ap (λ x. ampersand ∷ x) (one_reading t v u w (ap behind_reference e) h k)
+one_reading _ _ _ _ e (read_ampersand t u h) (read_ampersand v w k) = ap (λ x. ampersand ∷ x) (one_reading t v u w (ap after_reference e) h k)
 one_reading _ _ _ _ e (read_ampersand t u h) (read_apostrophe v w k) = absurd (omega (arith, ap (λ x. head_of (rest_of x)) e))
 one_reading _ _ _ _ e (read_ampersand t u h) (read_character c v w n k) = absurd (n (sym (ap head_of e)))
 one_reading _ _ _ _ e (read_apostrophe t u h) read_nothing = absurd (cc)
 one_reading _ _ _ _ e (read_apostrophe t u h) (read_ampersand v w k) = absurd (omega (arith, ap (λ x. head_of (rest_of x)) e))
-one_reading _ _ _ _ e (read_apostrophe t u h) (read_apostrophe v w k) = ap (λ x. apostrophe ∷ x) (one_reading t v u w (ap behind_reference e) h k)
+one_reading _ _ _ _ e (read_apostrophe t u h) (read_apostrophe v w k) = ap (λ x. apostrophe ∷ x) (one_reading t v u w (ap after_reference e) h k)
 one_reading _ _ _ _ e (read_apostrophe t u h) (read_character c v w n k) = absurd (n (sym (ap head_of e)))
 one_reading _ _ _ _ e (read_character b t u n h) read_nothing = absurd (cc)
 one_reading _ _ _ _ e (read_character b t u n h) (read_ampersand v w k) = absurd (n (ap head_of e))

@@ -16,8 +16,8 @@ BeginsWith front text = (rest : Text) × (text ≡ front ++ rest)
 -- no delimiter, and no ampersand except at the beginning of one of the two references
 pub record IsContained (text : Text) : Type 0 where
   pub no_delimiter : All (λ b. is_delimiter b ≡ false) text
-  pub references : (before behind : Text) → text ≡ before ++ (ampersand ∷ behind) → BeginsWith ampersand_reference (ampersand ∷ behind)
-      ⊎ BeginsWith apostrophe_reference (ampersand ∷ behind)
+  pub references : (before following : Text) → text ≡ before ++ (ampersand ∷ following) → BeginsWith ampersand_reference (ampersand ∷ following)
+      ⊎ BeginsWith apostrophe_reference (ampersand ∷ following)
 
 -- ---- names of targets
 

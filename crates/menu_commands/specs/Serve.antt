@@ -6,7 +6,7 @@ use Rattle.registry.specs.Targets.{TargetValue}
 use Rattle.files.specs.Found.{Disk}
 use Rattle.files.specs.declared.call.FileCall.{FileCall}
 use Rattle.registry_file.specs.Loading.{IsLoaded}
-use Rattle.http_streams.specs.Streams.{Heard, Said}
+use Rattle.http_streams.specs.Streams.{InputState, OutputState}
 use Rattle.http_service.specs.Connections.{ServesAll, StopsEarly}
 use Rattle.http_service.specs.declared.counts.Counts.{Counts}
 use Rattle.menu_commands.specs.Faults.{out_of_memory}
@@ -50,7 +50,7 @@ RefusesToServe fails draws no_keys no_port disk keys_before ports_before service
     ⊎ (fault ≡ out_of_memory)
 
 module _ {K P L I O : Type 0} (draws : K → ℕ → ℕ → K → Type 0) (binds : P → ℕ → L × ℕ → P → Type 0)
-    (gives : L → Option (I × O) → L → Type 0) (closes : L → I × O → L → Type 0) (heard : I → Heard) (said : O → Said)
+    (gives : L → Option (I × O) → L → Type 0) (closes : L → I × O → L → Type 0) (input_state : I → InputState) (output_state : O → OutputState)
     (disk : Disk) (keys_before : K) (ports_before : P) (service : Service) (keys_after : K) (ports_after : P) where
   -- it listens, and exactly the requested connections are served
   pub record Serves (line : Text) (counts : Counts) : Type 0 where
@@ -58,7 +58,7 @@ module _ {K P L I O : Type 0} (draws : K → ℕ → ℕ → K → Type 0) (bind
     pub first : L
     pub last : L
     pub listening : IsListening draws binds disk keys_before ports_before service keys_after ports_after targets first line
-    pub served : ServesAll targets gives closes heard said wait service.count first last counts
+    pub served : ServesAll targets gives closes input_state output_state wait service.count first last counts
 
   -- it listens, fewer connections are served, and then none can be accepted
   pub record StopsServing (no_more : L → L → Type 0) (line : Text) (fault : MenuFault) : Type 0 where
@@ -66,5 +66,5 @@ module _ {K P L I O : Type 0} (draws : K → ℕ → ℕ → K → Type 0) (bind
     pub first : L
     pub last : L
     pub listening : IsListening draws binds disk keys_before ports_before service keys_after ports_after targets first line
-    pub stopped : StopsEarly targets gives closes no_more heard said wait service.count first last
+    pub stopped : StopsEarly targets gives closes no_more input_state output_state wait service.count first last
     pub told : fault ≡ Port service.port_text

@@ -31,7 +31,7 @@ pub fn serve<'a, F: Files, K: KeySource, P: Ports, O: Write>(
     output: &mut O,
 ) -> Result<Counts, MenuFault<'a>>
     ensures served { IfOk result (λ counts. (line : Text)
-        × Serves K.draws P.binds P.Bound.gives P.Bound.closes P.Bound.In.heard P.Bound.Out.said
+        × Serves K.draws P.binds P.Bound.gives P.Bound.closes P.Bound.In.input_state P.Bound.Out.output_state
         (F.at files.old) keys.old ports.old service.entry keys.new ports.new line counts
         × Appends (O.contents output.old) (O.contents output.new) line) }
     ensures failed { IfErr result (λ fault.
@@ -43,7 +43,7 @@ pub fn serve<'a, F: Files, K: KeySource, P: Ports, O: Write>(
         listener line
         × IsOutputFault fault)
         ⊎ ((line : Text)
-        × StopsServing K.draws P.binds P.Bound.gives P.Bound.closes P.Bound.In.heard P.Bound.Out.said
+        × StopsServing K.draws P.binds P.Bound.gives P.Bound.closes P.Bound.In.input_state P.Bound.Out.output_state
         (F.at files.old) keys.old ports.old service.entry keys.new ports.new P.Bound.fails line fault
         × Appends (O.contents output.old) (O.contents output.new) line)) }
     ensures same { Unchanged (F.at files.old) (F.at files.new) }

@@ -53,7 +53,7 @@ fn add(
 
 /// The lists that the watch recorded, as text.
 #[cfg(test)]
-fn lists(alloc: Global, shown: &Shown) -> Result<String, AllocError> {
-    let lists = shown.lists();
+fn lists(alloc: Global, recorder: &Shown) -> Result<String, AllocError> {
+    let lists = recorder.lists();
     format!(in alloc; "{lists:?}")
 }

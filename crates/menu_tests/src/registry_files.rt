@@ -110,40 +110,40 @@ fn load(alloc: Global, files: &mut Memory) -> Result<Registry, RegistryError> {
 fn compare<R: Abort + AllocGlobal>(
     rt: &R,
     read: Result<Registry, RegistryError>,
-    wanted: &str,
+    expected: &str,
 ) -> Result<(), Fail> {
     let Err(fault) = read else {
-        return Ok(assert!(rt; wanted.is_empty(), "{wanted}"));
+        return Ok(assert!(rt; expected.is_empty(), "{wanted}"));
     };
     if matches!(&fault, RegistryError::NoMemory) {
         return Err(AllocError.into());
     }
     let printed = format!(in rt.alloc(); "{fault}")?;
-    assert_eq!(rt; printed.as_str(), wanted);
+    assert_eq!(rt; printed.as_str(), expected);
     Ok(())
 }
 
 #[test]
 fn names_the_first_fault(rt: HostRuntime) -> Result<(), Fail> {
-    for (registry, wanted) in CASES {
+    for (registry, expected) in CASES {
         let mut files = memory(rt.alloc(), registry)?;
-        compare(&rt, load(rt.alloc(), &mut files), wanted)?;
+        compare(&rt, load(rt.alloc(), &mut files), expected)?;
     }
     Ok(())
 }
 
 #[test]
 fn each_call_fails_in_turn(rt: HostRuntime) -> Result<(), Fail> {
-    let wanted = [
+    let expected = [
         "device",
         "target alpha: device: a code.olk",
         "target alpha: device: table.txt",
         "",
     ];
-    for (calls, wanted) in wanted.iter().enumerate() {
+    for (calls, expected) in expected.iter().enumerate() {
         let mut files = memory(rt.alloc(), CASES[0].0)?;
         files.fail_after(calls);
-        compare(&rt, load(rt.alloc(), &mut files), wanted)?;
+        compare(&rt, load(rt.alloc(), &mut files), expected)?;
     }
     Ok(())
 }
@@ -171,14 +171,18 @@ fn a_last_line_needs_no_end(rt: HostRuntime) -> Result<(), Fail> {
 /// A registry file may have 65,536 bytes. For a longer one no keys are drawn.
 #[test]
 fn has_no_line_0(rt: HostRuntime) -> Result<(), Fail> {
-    for (count, wanted) in [(65_536, ""), (65_537, "line 0")] {
+    for (count, expected) in [(65_536, ""), (65_537, "line 0")] {
         let lines = vec![in rt.alloc(); b'\n'; count]?;
         let mut files = memory(rt.alloc(), &lines)?;
-        compare(&rt, load(rt.alloc(), &mut files), wanted)?;
+        compare(&rt, load(rt.alloc(), &mut files), expected)?;
         let mut keys = Known { numbers: None };
         let read = load_registry(rt.alloc(), &mut files, &mut keys, PATH);
-        let wanted = if wanted.is_empty() { "device" } else { wanted };
-        compare(&rt, read, wanted)?;
+        let expected = if expected.is_empty() {
+            "device"
+        } else {
+            expected
+        };
+        compare(&rt, read, expected)?;
     }
     Ok(())
 }
@@ -191,11 +195,11 @@ const CODES: [(usize, &str); 2] = [
 
 #[test]
 fn a_code_up_to_its_limit_is_read(rt: HostRuntime) -> Result<(), Fail> {
-    for (count, wanted) in CODES {
+    for (count, expected) in CODES {
         let mut files = memory(rt.alloc(), CASES[0].0)?;
         let zeros = vec![in rt.alloc(); 0u8; count]?;
         files.put("a code.olk", Content::File(zeros))?;
-        compare(&rt, load(rt.alloc(), &mut files), wanted)?;
+        compare(&rt, load(rt.alloc(), &mut files), expected)?;
     }
     Ok(())
 }
@@ -205,8 +209,8 @@ fn a_table_may_be_too_long(rt: HostRuntime) -> Result<(), Fail> {
     let mut files = memory(rt.alloc(), CASES[0].0)?;
     let letters = vec![in rt.alloc(); b'a'; MAX_TABLE_BYTES + 1]?;
     files.put("table.txt", Content::File(letters))?;
-    let wanted = "target alpha: table: TooLong";
-    compare(&rt, load(rt.alloc(), &mut files), wanted)
+    let expected = "target alpha: table: TooLong";
+    compare(&rt, load(rt.alloc(), &mut files), expected)
 }
 
 /// Each table has the keys that were drawn.
@@ -242,10 +246,10 @@ fn a_257th_target_is_read_before_it_is_refused(rt: HostRuntime) -> Result<(), Fa
         ("a code.olk", "bad.txt", "target t256: table: NotUtf8"),
         ("a code.olk", "table.txt", "target t256: Full"),
     ];
-    for (code, table, wanted) in cases {
+    for (code, table, expected) in cases {
         let registry = many(rt.alloc(), code, table)?;
         let mut files = memory(rt.alloc(), registry.as_bytes())?;
-        compare(&rt, load(rt.alloc(), &mut files), wanted)?;
+        compare(&rt, load(rt.alloc(), &mut files), expected)?;
     }
     Ok(())
 }
@@ -267,9 +271,9 @@ fn files_and_keys_of_the_system(rt: HostRuntime) -> Result<(), Fail> {
     }
     fs::write(&rt, PATH, CASES[0].0)?;
     let mut files = SystemFiles::new(&rt);
-    for (path, wanted) in [(PATH, ""), ("none.txt", "device")] {
+    for (path, expected) in [(PATH, ""), ("none.txt", "device")] {
         let read = load_registry(rt.alloc(), &mut files, &mut SystemKeys::new(&rt), path);
-        compare(&rt, read, wanted)?;
+        compare(&rt, read, expected)?;
     }
     let read = load_registry(
         rt.alloc(),
@@ -309,7 +313,7 @@ fn draws_a_number_for_each_key(rt: HostRuntime) -> Result<(), Fail> {
         calls: Cell::new(0),
     };
     let keys = SystemKeys::new(&numbers).draw()?;
-    let wanted = Keys::new(0x0101_0101_0101_0101, 0x0202_0202_0202_0202);
-    assert_eq!(rt; hash_of(keys), hash_of(wanted));
+    let expected = Keys::new(0x0101_0101_0101_0101, 0x0202_0202_0202_0202);
+    assert_eq!(rt; hash_of(keys), hash_of(expected));
     Ok(())
 }

@@ -22,10 +22,10 @@ fn registered(alloc: Global) -> Result<Registry, Fail> {
 }
 
 /// The report of the menu for the query; the watch observes the runs.
-fn watched(alloc: Global, query: &str, shown: &mut Shown) -> Result<String, Fail> {
+fn watched(alloc: Global, query: &str, recorder: &mut Shown) -> Result<String, Fail> {
     let registry = registered(alloc)?;
     let request = read_kev(alloc, query.as_bytes())?;
-    let menu = resolve_watched(alloc, &registry, &request, shown)?;
+    let menu = resolve_watched(alloc, &registry, &request, recorder)?;
     Ok(menu.report(alloc)?)
 }
 
@@ -56,10 +56,10 @@ fn twenty_texts(alloc: Global) -> Result<Vec<u8>, AllocError> {
 fn rounds(rt: HostRuntime) -> Result<(), Fail> {
     let members = "&list=a".repeat(rt.alloc(), 40)?;
     let query = format!(in rt.alloc(); "rft.issn=1234567x{members}")?;
-    let mut shown = Shown::new(rt.alloc());
-    let report = watched(rt.alloc(), query.as_str(), &mut shown)?;
+    let mut recorder = Shown::new(rt.alloc());
+    let report = watched(rt.alloc(), query.as_str(), &mut recorder)?;
     assert_eq!(rt; report.as_str(), "p\tnot a web link\nq\tlink 0\n");
-    let lists = lists(rt.alloc(), &shown)?;
+    let lists = lists(rt.alloc(), &recorder)?;
     assert_eq!(rt; lists.as_str(), "[[64, 8], [123, 8], [64], [123]]");
     let text = resolved(rt.alloc(), query.as_str())?;
     assert_eq!(rt; text.as_str(), "q\thttp://e.org/1234567x\n");

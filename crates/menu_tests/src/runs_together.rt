@@ -62,25 +62,25 @@ fn runs<'a>(alloc: Global, codes: &'a [Verified], envs: &'a [Env]) -> Result<Vec
 }
 
 /// Turns of two, two and 64 steps of all runs: how many continue after each. The watch observes the runs.
-fn turned(alloc: Global, shown: &mut Shown) -> Result<Vec<usize>, Fail> {
+fn turned(alloc: Global, recorder: &mut Shown) -> Result<Vec<usize>, Fail> {
     let codes = codes(alloc, TWO)?;
     let envs = environments(alloc, TWO)?;
     let mut runs = runs(alloc, &codes, &envs)?;
     let mut live = Vec::new(alloc);
     for n in [2, 2, 64] {
         live.push(turn_all(runs.as_mut_slice(), n))?;
-        shown.seen(&runs)?;
+        recorder.seen(&runs)?;
     }
     Ok(live)
 }
 
 #[test]
 fn turns_of_all(rt: HostRuntime) -> Result<(), Fail> {
-    let mut shown = Shown::new(rt.alloc());
-    let live = turned(rt.alloc(), &mut shown)?;
+    let mut recorder = Shown::new(rt.alloc());
+    let live = turned(rt.alloc(), &mut recorder)?;
     assert_eq!(rt; live.as_slice(), [2, 1, 0].as_slice());
     assert_eq!(rt;
-        lists(rt.alloc(), &shown)?.as_str(),
+        lists(rt.alloc(), &recorder)?.as_str(),
         "[[2, 2], [4, 4], [12, 4]]"
     );
     Ok(())
@@ -94,12 +94,12 @@ fn play_both(runs: &mut [Run<'_>]) {
 }
 
 /// What both have printed by then. The watch observes the runs.
-fn played(alloc: Global, shown: &mut Shown) -> Result<Vec<u8>, Fail> {
+fn played(alloc: Global, recorder: &mut Shown) -> Result<Vec<u8>, Fail> {
     let codes = codes(alloc, TWO)?;
     let envs = environments(alloc, TWO)?;
     let mut runs = runs(alloc, &codes, &envs)?;
     play_both(runs.as_mut_slice());
-    shown.seen(&runs)?;
+    recorder.seen(&runs)?;
     let mut printed = Vec::new(alloc);
     for run in &runs {
         printed.extend_from_slice(run.output())?;
@@ -110,37 +110,37 @@ fn played(alloc: Global, shown: &mut Shown) -> Result<Vec<u8>, Fail> {
 
 #[test]
 fn schedule(rt: HostRuntime) -> Result<(), Fail> {
-    let mut shown = Shown::new(rt.alloc());
-    let printed = played(rt.alloc(), &mut shown)?;
+    let mut recorder = Shown::new(rt.alloc());
+    let printed = played(rt.alloc(), &mut recorder)?;
     assert_eq!(rt; printed.as_slice(), b"red;a;".as_slice());
-    assert_eq!(rt; lists(rt.alloc(), &shown)?.as_str(), "[[4, 3]]");
+    assert_eq!(rt; lists(rt.alloc(), &recorder)?.as_str(), "[[4, 3]]");
     Ok(())
 }
 
 /// Fates as text.
-fn said(alloc: Global, fates: &[Fate]) -> Result<String, AllocError> {
-    let mut said = String::new(alloc);
+fn fates_text(alloc: Global, fates: &[Fate]) -> Result<String, AllocError> {
+    let mut fates_text = String::new(alloc);
     for fate in fates {
         let one = match fate {
             Fate::OverBudget(bytes) => format!(in alloc; "over budget {bytes};")?,
             Fate::Link(link) => format!(in alloc; "link {link};")?,
             Fate::NoLink => format!(in alloc; "no link;")?,
         };
-        said.push_str(one.as_str())?;
+        fates_text.push_str(one.as_str())?;
     }
-    Ok(said)
+    Ok(fates_text)
 }
 
 /// The fates of the runs, as text; the watch observes the runs.
-fn fates(alloc: Global, given: &[Given], shown: &mut Shown) -> Result<String, Fail> {
+fn fates(alloc: Global, given: &[Given], recorder: &mut Shown) -> Result<String, Fail> {
     let codes = codes(alloc, given)?;
     let envs = environments(alloc, given)?;
     let codes = codes.iter().collect::<Vec<&Verified>>(alloc)?;
     if codes.len() != envs.len() {
         return Ok(String::new(alloc));
     }
-    let fates = round(alloc, &codes, &envs, shown)?;
-    Ok(said(alloc, &fates)?)
+    let fates = round(alloc, &codes, &envs, recorder)?;
+    Ok(fates_text(alloc, &fates)?)
 }
 
 /// The codes, how the text of their fates begins, and what the watch observes. A run that has ended waits for the
@@ -157,11 +157,11 @@ const ROUNDS: [(&[Given], &str, &str); 3] = [
 
 #[test]
 fn rounds(rt: HostRuntime) -> Result<(), Fail> {
-    for (given, said, wanted) in ROUNDS {
-        let mut shown = Shown::new(rt.alloc());
-        let fates = fates(rt.alloc(), given, &mut shown)?;
-        assert!(rt; fates.as_str().starts_with(said), "{said}");
-        assert_eq!(rt; lists(rt.alloc(), &shown)?.as_str(), wanted);
+    for (given, fates_text, expected) in ROUNDS {
+        let mut recorder = Shown::new(rt.alloc());
+        let fates = fates(rt.alloc(), given, &mut recorder)?;
+        assert!(rt; fates.as_str().starts_with(fates_text), "{said}");
+        assert_eq!(rt; lists(rt.alloc(), &recorder)?.as_str(), expected);
     }
     Blind.seen::<Env>(&[])?;
     Ok(())

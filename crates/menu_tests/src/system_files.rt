@@ -51,8 +51,8 @@ fn one_byte_past_the_limit_is_read(rt: HostRuntime) -> Result<(), Fail> {
         (3, b"abc", true),
         (9, b"abc", true),
     ];
-    for (limit, wanted, whole) in cases {
-        assert_eq!(rt; files.read(rt.alloc(), "abc", limit)?.as_slice(), wanted);
+    for (limit, expected, whole) in cases {
+        assert_eq!(rt; files.read(rt.alloc(), "abc", limit)?.as_slice(), expected);
         assert_eq!(rt;
             read_whole(rt.alloc(), &mut files, "abc", limit).is_ok(),
             whole

@@ -2,7 +2,7 @@
 
 ghost use Rattle.std.specs.Prelude.{◌≡◌, ◌++◌, OnOk, string_bytes};
 ghost use Rattle.std.specs.List.{flat_map};
-ghost use Rattle.printed_text.specs.Printed.{byte_text, escape, is_plain, is_visible, visible_byte};
+ghost use Rattle.printed_text.specs.Printed.{byte_text, escape, is_plain, visible_byte};
 ghost use Rattle.printed_text.specs.Printed.{quoted, shortened, visible};
 
 use std::alloc::AllocError;

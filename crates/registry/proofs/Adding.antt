@@ -38,9 +38,9 @@ with_one_more targets target known safe may =
     }
 
 -- a registry after a target was added, or was not
-pub after_adding : (targets : List TargetValue) (target : TargetValue) (came : Bool) (now : List TargetValue) → IsRegistry targets → IsSafe target.code
+pub after_adding : (targets : List TargetValue) (target : TargetValue) (added : Bool) (now : List TargetValue) → IsRegistry targets → IsSafe target.code
     → MayBeAdded targets target.name
-    → now ≡ (if came then targets ++ target ∷ [] else targets) → IsRegistry now
+    → now ≡ (if added then targets ++ target ∷ [] else targets) → IsRegistry now
 after_adding targets target true now known safe may is = subst IsRegistry (sym is) (with_one_more targets target known safe may)
 after_adding targets target false now known safe may is = subst IsRegistry (sym is) known
 
@@ -52,15 +52,15 @@ all_stay (t ∷ targets) old new is_first is kept among =
     All-weaker (λ target. AreAmong old target.table.header) (λ target. AreAmong new target.table.header)
     (λ target names name named. kept (grind (arith, is)) name (names name named)) (t ∷ targets) among
 
-with_its_columns : (targets : List TargetValue) (target : TargetValue) (came : Bool) (now : List TargetValue) (columns : ColumnNames)
-    → AreAllAmong columns targets → AreAmong columns target.table.header → now ≡ (if came then targets ++ target ∷ [] else targets) → AreAllAmong columns now
+with_its_columns : (targets : List TargetValue) (target : TargetValue) (added : Bool) (now : List TargetValue) (columns : ColumnNames)
+    → AreAllAmong columns targets → AreAmong columns target.table.header → now ≡ (if added then targets ++ target ∷ [] else targets) → AreAllAmong columns now
 with_its_columns targets target true now columns others its is =
     subst (AreAllAmong columns) (sym is) (All-push (λ other. AreAmong columns other.table.header) targets target others its)
 with_its_columns targets target false now columns others its is = subst (AreAllAmong columns) (sym is) others
 
 -- the names of the columns of all tables, after a target was added, or was not
-pub among_after_adding : (targets : List TargetValue) (target : TargetValue) (came : Bool) (now : List TargetValue) (old new : ColumnNames) (is_first : Bool)
+pub among_after_adding : (targets : List TargetValue) (target : TargetValue) (added : Bool) (now : List TargetValue) (old new : ColumnNames) (is_first : Bool)
     → AreAllAmong old targets → is_first ≡ (length targets == 0) → (is_first ≡ false → (name : Text) → has old name ≡ true → has new name ≡ true)
-    → AreAmong new target.table.header → now ≡ (if came then targets ++ target ∷ [] else targets) → AreAllAmong new now
-among_after_adding targets target came now old new is_first among is kept its =
-    with_its_columns targets target came now new (all_stay targets old new is_first is kept among) its
+    → AreAmong new target.table.header → now ≡ (if added then targets ++ target ∷ [] else targets) → AreAllAmong new now
+among_after_adding targets target added now old new is_first among is kept its =
+    with_its_columns targets target added now new (all_stay targets old new is_first is kept among) its

@@ -51,7 +51,7 @@ table =
       header = codes "print_identifier" ∷ codes "title_url" ∷ codes "date_first_issue_online" ∷ codes "date_last_issue_online" ∷ [];
       rows = (codes "1234-567X" ∷ codes "http://e.org/a" ∷ codes "1990" ∷ codes "1995" ∷ []) ∷ (codes "1234-567X" ∷ codes "http://e.org/b" ∷ codes
           "2000" ∷ [] ∷ []) ∷ [];
-      keys = record { begun = initial };
+      keys = record { hasher = initial };
     }
 
 -- EMIT of a text and HALT; `list` is read as a list

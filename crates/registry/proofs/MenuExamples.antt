@@ -41,7 +41,7 @@ target name rows =
     record {
       name = name;
       code = url_code;
-      table = record { header = codes "print_identifier" ∷ codes "title_url" ∷ []; rows = rows; keys = record { begun = initial } };
+      table = record { header = codes "print_identifier" ∷ codes "title_url" ∷ []; rows = rows; keys = record { hasher = initial } };
     }
 
 -- rows without a URL, with one that is not a web link, and with a web link

@@ -9,7 +9,7 @@ use std::io;
 use std::io::Write;
 use std::test::Fail;
 
-/// Whether `explain` writes this text for these rules, table and query, and returns `wanted`.
+/// Whether `explain` writes this text for these rules, table and query, and returns `expected`.
 fn prints(
     alloc: Global,
     files: (&[u8], &[u8]),

@@ -16,7 +16,7 @@ use Rattle.row_laws.specs.Shadowing.{row_of}
 use Rattle.row_laws.proofs.Columns.{entries_of, entries_more}
 use Rattle.environment_model.proofs.NameTests.{differs_back}
 use Rattle.environment_model.proofs.OtherNames.{with_text-differs}
-use Rattle.row_laws.proofs.AskedEntries.{grown, with_text-same}
+use Rattle.row_laws.proofs.RequestedEntries.{grown, with_text-same}
 
 abbrev single : Option Text → Option Meaning
 single None = None

@@ -7,10 +7,10 @@ use Rattle.environment_model.specs.Environment.{Environment, Entry, Meaning, loo
 use Rattle.target_vars.specs.EnvValue.{EachNameOnce}
 use Rattle.kev_read.specs.Pairs.{KeyValue}
 use Rattle.kbart_rows.specs.Cells.{Row, defined, is_first, name_cell, named_cell, named_cells}
-use Rattle.row_laws.specs.Shadowing.{asked, row_of, hidden, found_in, has_cell, asked_bytes, asked_members, hidden_bytes_at, hidden_members_at}
-use Rattle.row_laws.proofs.AskedEntries.{bytes_asked, members_counted}
+use Rattle.row_laws.specs.Shadowing.{requested, row_of, hidden, found_in, has_cell, requested_bytes, requested_members, hidden_bytes_at, hidden_members_at}
+use Rattle.row_laws.proofs.RequestedEntries.{bytes_requested, members_counted}
 use Rattle.row_laws.proofs.HiddenSums.{hidden_sum}
-use Rattle.row_laws.proofs.NamesOnce.{row_once, asked_once}
+use Rattle.row_laws.proofs.NamesOnce.{row_once, requested_once}
 use Rattle.row_laws.proofs.RowSums.{same_sums, of_cell, by_columns}
 
 -- the number that is under each key
@@ -41,13 +41,14 @@ module _ (f : Meaning → ℕ) (env : Environment) (once : EachNameOnce env) (un
       (of_column header cells) (range_with_len 0 (length header))
 
 pub bytes_by_columns : (header cells : Row) (lists : List Text) (pairs : List KeyValue)
-    → byte_count (hidden (row_of (named_cells header cells)) (asked lists pairs))
+    → byte_count (hidden (row_of (named_cells header cells)) (requested lists pairs))
     ≡ sum_by (hidden_bytes_at header cells lists pairs) (range_with_len 0 (length header))
 bytes_by_columns header cells lists pairs =
-    hidden_columns meaning_bytes (asked lists pairs) (asked_once lists pairs) (asked_bytes lists pairs) (bytes_asked lists pairs) header cells
+    hidden_columns meaning_bytes (requested lists pairs) (requested_once lists pairs) (requested_bytes lists pairs) (bytes_requested lists pairs) header cells
 
 pub members_by_columns : (header cells : Row) (lists : List Text) (pairs : List KeyValue)
-    → member_count (hidden (row_of (named_cells header cells)) (asked lists pairs))
+    → member_count (hidden (row_of (named_cells header cells)) (requested lists pairs))
     ≡ sum_by (hidden_members_at header cells lists pairs) (range_with_len 0 (length header))
 members_by_columns header cells lists pairs =
-    hidden_columns meaning_members (asked lists pairs) (asked_once lists pairs) (asked_members lists pairs) (members_counted lists pairs) header cells
+    hidden_columns meaning_members (requested lists pairs) (requested_once lists pairs) (requested_members lists pairs) (members_counted lists pairs)
+    header cells

@@ -2,7 +2,7 @@ pub mod NamesOnce
 pub mod Columns
 pub mod Shadowing
 pub mod ShadowedPairs
-pub mod AskedEntries
+pub mod RequestedEntries
 pub mod HiddenSums
 pub mod CellsByName
 pub mod RowSums

@@ -10,7 +10,7 @@ use Rattle.kev_read.specs.Pairs.{KeyValue}
 use Rattle.kev_read.specs.Filling as by_pairs
 use Rattle.kbart_rows.specs.Cells.{NamedCell}
 use Rattle.kbart_rows.specs.Filling as by_cells
-use Rattle.row_laws.specs.Shadowing.{asked, row_of}
+use Rattle.row_laws.specs.Shadowing.{requested, row_of}
 
 once-with_text : (env : Environment) (name t : Text) → EachNameOnce env → EachNameOnce (with_text env name t)
 once-with_text env name t once = by_test (is_there env name) refl
@@ -36,5 +36,5 @@ once-pairs lists env (pair ∷ pairs) once = once-pairs lists (by_pairs.fill_one
 pub row_once : (cells : List NamedCell) → EachNameOnce (row_of cells)
 row_once cells = once-cells [] cells tt
 
-pub asked_once : (lists : List Text) (pairs : List KeyValue) → EachNameOnce (asked lists pairs)
-asked_once lists pairs = once-pairs lists [] pairs tt
+pub requested_once : (lists : List Text) (pairs : List KeyValue) → EachNameOnce (requested lists pairs)
+requested_once lists pairs = once-pairs lists [] pairs tt

@@ -14,9 +14,9 @@ use Rattle.environment_model.proofs.Environments.{byte_count-with_text, member_c
 use Rattle.environment_model.proofs.Environments.{with_text-known}
 use Rattle.kev_read.specs.Pairs.{KeyValue, all_of, first_of, has_key}
 use Rattle.kev_read.specs.Filling.{added, fill_one, filled}
-use Rattle.row_laws.specs.Shadowing.{asked, first_bytes}
+use Rattle.row_laws.specs.Shadowing.{requested, first_bytes}
 use Rattle.environment_model.proofs.NameTests.{differs_back}
-use Rattle.row_laws.proofs.AskedEntries.{grown, look_up-asked, text_asked}
+use Rattle.row_laws.proofs.RequestedEntries.{grown, look_up-requested, text_requested}
 
 -- ---- one more list
 
@@ -54,8 +54,9 @@ all_of-one pair key same = rw same refl
 all_of-none : (pair : KeyValue) (key : Text) → bytes_eq pair.key key ≡ false → all_of (pair ∷ []) key ≡ []
 all_of-none pair key differs = rw differs refl
 
-asked-push : (lists : List Text) (pairs : List KeyValue) (pair : KeyValue) → asked lists (pairs ++ pair ∷ []) ≡ fill_one lists (asked lists pairs) pair
-asked-push lists pairs pair = fold_push (fill_one lists) [] pairs pair
+requested-push : (lists : List Text) (pairs : List KeyValue) (pair : KeyValue)
+    → requested lists (pairs ++ pair ∷ []) ≡ fill_one lists (requested lists pairs) pair
+requested-push lists pairs pair = fold_push (fill_one lists) [] pairs pair
 
 -- what a pair adds to E, if its key already has these values
 abbrev weight : List Text → Bool → ℕ → ℕ
@@ -68,61 +69,61 @@ always [] n = refl
 always (v ∷ vs) n = refl
 
 pair_bytes : (lists : List Text) (pairs : List KeyValue) (pair : KeyValue)
-    → byte_count (fill_one lists (asked lists pairs) pair)
-    ≡ byte_count (asked lists pairs) + weight (all_of pairs pair.key) (is_list lists pair.key) (length pair.value)
+    → byte_count (fill_one lists (requested lists pairs) pair)
+    ≡ byte_count (requested lists pairs) + weight (all_of pairs pair.key) (is_list lists pair.key) (length pair.value)
 pair_bytes lists pairs pair = by_list (is_list lists pair.key) refl
   where
     by_values : (vs : List Text) → all_of pairs pair.key ≡ vs → is_list lists pair.key ≡ false
-        → byte_count (added false (asked lists pairs) pair) ≡ byte_count (asked lists pairs) + weight vs false (length pair.value)
+        → byte_count (added false (requested lists pairs) pair) ≡ byte_count (requested lists pairs) + weight vs false (length pair.value)
     by_values [] none is =
-        byte_count-with_text (asked lists pairs) pair.key pair.value
-        (ap is_some (look_up-asked lists pairs pair.key ∙ ap (λ vs. grown vs (is_list lists pair.key) None) none))
+        byte_count-with_text (requested lists pairs) pair.key pair.value
+        (ap is_some (look_up-requested lists pairs pair.key ∙ ap (λ vs. grown vs (is_list lists pair.key) None) none))
     by_values (v ∷ vs) some is =
-        let there : is_there (asked lists pairs) pair.key ≡ true =
-        ap is_some (look_up-asked lists pairs pair.key ∙ ap (λ us. grown us (is_list lists pair.key) None) some ∙ ap (λ b. grown (v ∷ vs) b None) is) in
-        ap byte_count (with_text-known (asked lists pairs) pair.key pair.value there) ∙ omega arith
+        let there : is_there (requested lists pairs) pair.key ≡ true =
+        ap is_some (look_up-requested lists pairs pair.key ∙ ap (λ us. grown us (is_list lists pair.key) None) some ∙ ap (λ b. grown (v ∷ vs) b None) is) in
+        ap byte_count (with_text-known (requested lists pairs) pair.key pair.value there) ∙ omega arith
 
     by_list : (b : Bool) → is_list lists pair.key ≡ b
-        → byte_count (fill_one lists (asked lists pairs) pair)
-        ≡ byte_count (asked lists pairs) + weight (all_of pairs pair.key) (is_list lists pair.key) (length pair.value)
+        → byte_count (fill_one lists (requested lists pairs) pair)
+        ≡ byte_count (requested lists pairs) + weight (all_of pairs pair.key) (is_list lists pair.key) (length pair.value)
     by_list true is =
-        let no_text : is_some (text_of (asked lists pairs) pair.key) ≡ false =
-        ap is_some (text_asked lists pairs pair.key ∙ ap (λ b. if b then None else first_of pairs pair.key) is) in
-        ap (λ b. byte_count (added b (asked lists pairs) pair)) is
-        ∙ byte_count-with_member (asked lists pairs) pair.key pair.value no_text
-        ∙ ap (λ m. byte_count (asked lists pairs) + m) (sym (always (all_of pairs pair.key) (length pair.value)))
-        ∙ ap (λ b. byte_count (asked lists pairs) + weight (all_of pairs pair.key) b (length pair.value)) (sym is)
+        let no_text : is_some (text_of (requested lists pairs) pair.key) ≡ false =
+        ap is_some (text_requested lists pairs pair.key ∙ ap (λ b. if b then None else first_of pairs pair.key) is) in
+        ap (λ b. byte_count (added b (requested lists pairs) pair)) is
+        ∙ byte_count-with_member (requested lists pairs) pair.key pair.value no_text
+        ∙ ap (λ m. byte_count (requested lists pairs) + m) (sym (always (all_of pairs pair.key) (length pair.value)))
+        ∙ ap (λ b. byte_count (requested lists pairs) + weight (all_of pairs pair.key) b (length pair.value)) (sym is)
     by_list false is =
-        ap (λ b. byte_count (added b (asked lists pairs) pair)) is
+        ap (λ b. byte_count (added b (requested lists pairs) pair)) is
         ∙ by_values (all_of pairs pair.key) refl is
-        ∙ ap (λ b. byte_count (asked lists pairs) + weight (all_of pairs pair.key) b (length pair.value)) (sym is)
+        ∙ ap (λ b. byte_count (requested lists pairs) + weight (all_of pairs pair.key) b (length pair.value)) (sym is)
 
 pair_members : (lists : List Text) (pairs : List KeyValue) (pair : KeyValue)
-    → member_count (fill_one lists (asked lists pairs) pair) ≡ member_count (asked lists pairs) + (if is_list lists pair.key then 1 else 0)
+    → member_count (fill_one lists (requested lists pairs) pair) ≡ member_count (requested lists pairs) + (if is_list lists pair.key then 1 else 0)
 pair_members lists pairs pair = by_list (is_list lists pair.key) refl
   where
     by_list : (b : Bool) → is_list lists pair.key ≡ b
-        → member_count (fill_one lists (asked lists pairs) pair) ≡ member_count (asked lists pairs) + (if is_list lists pair.key then 1 else 0)
+        → member_count (fill_one lists (requested lists pairs) pair) ≡ member_count (requested lists pairs) + (if is_list lists pair.key then 1 else 0)
     by_list true is =
-        let no_text : is_some (text_of (asked lists pairs) pair.key) ≡ false =
-        ap is_some (text_asked lists pairs pair.key ∙ ap (λ b. if b then None else first_of pairs pair.key) is) in
-        ap (λ b. member_count (added b (asked lists pairs) pair)) is
-        ∙ member_count-with_member (asked lists pairs) pair.key pair.value no_text
-        ∙ ap (λ b. member_count (asked lists pairs) + (if b then 1 else 0)) (sym is)
+        let no_text : is_some (text_of (requested lists pairs) pair.key) ≡ false =
+        ap is_some (text_requested lists pairs pair.key ∙ ap (λ b. if b then None else first_of pairs pair.key) is) in
+        ap (λ b. member_count (added b (requested lists pairs) pair)) is
+        ∙ member_count-with_member (requested lists pairs) pair.key pair.value no_text
+        ∙ ap (λ b. member_count (requested lists pairs) + (if b then 1 else 0)) (sym is)
     by_list false is =
-        ap (λ b. member_count (added b (asked lists pairs) pair)) is
-        ∙ member_count-with_text (asked lists pairs) pair.key pair.value
-        ∙ (let same : member_count (asked lists pairs) ≡ member_count (asked lists pairs) + 0 = omega arith in same)
-        ∙ ap (λ b. member_count (asked lists pairs) + (if b then 1 else 0)) (sym is)
+        ap (λ b. member_count (added b (requested lists pairs) pair)) is
+        ∙ member_count-with_text (requested lists pairs) pair.key pair.value
+        ∙ (let same : member_count (requested lists pairs) ≡ member_count (requested lists pairs) + 0 = omega arith in same)
+        ∙ ap (λ b. member_count (requested lists pairs) + (if b then 1 else 0)) (sym is)
 
 -- ---- all pairs
 
 module _ (l : Text) (lists : List Text) (new : is_list lists l ≡ false) where
   abbrev BytesAre : List KeyValue → Type 0
-  BytesAre pairs = byte_count (asked (l ∷ lists) pairs) + first_bytes (all_of pairs l) ≡ byte_count (asked lists pairs) + sum_by length (all_of pairs l)
+  BytesAre pairs = byte_count (requested (l ∷ lists) pairs) + first_bytes (all_of pairs l) ≡ byte_count (requested lists pairs) + sum_by length (all_of pairs l)
 
   abbrev MembersAre : List KeyValue → Type 0
-  MembersAre pairs = member_count (asked (l ∷ lists) pairs) ≡ member_count (asked lists pairs) + length (all_of pairs l)
+  MembersAre pairs = member_count (requested (l ∷ lists) pairs) ≡ member_count (requested lists pairs) + length (all_of pairs l)
 
   own_list : (key : Text) → bytes_eq key l ≡ true → is_list (l ∷ lists) key ≡ true
   own_list key same =
@@ -155,29 +156,29 @@ module _ (l : Text) (lists : List Text) (new : is_list lists l ≡ false) where
       by_key : (b : Bool) → bytes_eq pair.key l ≡ b → BytesAre (pairs ++ pair ∷ [])
       by_key true same =
           let vs = all_of pairs l in
-          let with = byte_count (asked (l ∷ lists) pairs) in
-          let without = byte_count (asked lists pairs) in
-          let left : byte_count (asked (l ∷ lists) (pairs ++ pair ∷ [])) ≡ with + length pair.value =
-          ap byte_count (asked-push (l ∷ lists) pairs pair) ∙ pair_bytes (l ∷ lists) pairs pair
+          let with = byte_count (requested (l ∷ lists) pairs) in
+          let without = byte_count (requested lists pairs) in
+          let left : byte_count (requested (l ∷ lists) (pairs ++ pair ∷ [])) ≡ with + length pair.value =
+          ap byte_count (requested-push (l ∷ lists) pairs pair) ∙ pair_bytes (l ∷ lists) pairs pair
           ∙ ap (λ b. with + weight (all_of pairs pair.key) b (length pair.value)) (own_list pair.key same)
           ∙ ap (λ m. with + m) (always (all_of pairs pair.key) (length pair.value)) in
-          let right : byte_count (asked lists (pairs ++ pair ∷ [])) ≡ without + weight vs false (length pair.value) =
-          ap byte_count (asked-push lists pairs pair) ∙ pair_bytes lists pairs pair
+          let right : byte_count (requested lists (pairs ++ pair ∷ [])) ≡ without + weight vs false (length pair.value) =
+          ap byte_count (requested-push lists pairs pair) ∙ pair_bytes lists pairs pair
           ∙ ap (λ b. without + weight (all_of pairs pair.key) b (length pair.value)) (own_new pair.key same)
           ∙ ap (λ k. without + weight (all_of pairs k) false (length pair.value)) ((bytes_eq-Decides pair.key l).0 same) in
           let values : all_of (pairs ++ pair ∷ []) l ≡ vs ++ pair.value ∷ [] = all_of-push pairs pair l ∙ ap (λ us. vs ++ us) (all_of-one pair l same) in
-          let with' = byte_count (asked (l ∷ lists) (pairs ++ pair ∷ [])) in
-          let without' = byte_count (asked lists (pairs ++ pair ∷ [])) in
+          let with' = byte_count (requested (l ∷ lists) (pairs ++ pair ∷ [])) in
+          let without' = byte_count (requested lists (pairs ++ pair ∷ [])) in
           subst (Gain with' without') (sym values) (grows vs pair.value with without with' without' before left right)
       by_key false differs =
           let vs = all_of pairs l in
-          let left : byte_count (asked (l ∷ lists) (pairs ++ pair ∷ []))
-          ≡ byte_count (asked (l ∷ lists) pairs) + weight (all_of pairs pair.key) (is_list lists pair.key) (length pair.value) =
-          ap byte_count (asked-push (l ∷ lists) pairs pair) ∙ pair_bytes (l ∷ lists) pairs pair
-          ∙ ap (λ b. byte_count (asked (l ∷ lists) pairs) + weight (all_of pairs pair.key) b (length pair.value)) (other_list pair.key differs) in
-          let right = ap byte_count (asked-push lists pairs pair) ∙ pair_bytes lists pairs pair in
+          let left : byte_count (requested (l ∷ lists) (pairs ++ pair ∷ []))
+          ≡ byte_count (requested (l ∷ lists) pairs) + weight (all_of pairs pair.key) (is_list lists pair.key) (length pair.value) =
+          ap byte_count (requested-push (l ∷ lists) pairs pair) ∙ pair_bytes (l ∷ lists) pairs pair
+          ∙ ap (λ b. byte_count (requested (l ∷ lists) pairs) + weight (all_of pairs pair.key) b (length pair.value)) (other_list pair.key differs) in
+          let right = ap byte_count (requested-push lists pairs pair) ∙ pair_bytes lists pairs pair in
           let values : all_of (pairs ++ pair ∷ []) l ≡ vs = all_of-push pairs pair l ∙ ap (λ us. vs ++ us) (all_of-none pair l differs) ∙ append-nil vs in
-          subst (Gain (byte_count (asked (l ∷ lists) (pairs ++ pair ∷ []))) (byte_count (asked lists (pairs ++ pair ∷ [])))) (sym values)
+          subst (Gain (byte_count (requested (l ∷ lists) (pairs ++ pair ∷ []))) (byte_count (requested lists (pairs ++ pair ∷ [])))) (sym values)
           (omega (arith, left, right, before))
 
   members_next : (pairs : List KeyValue) (pair : KeyValue) → MembersAre pairs → MembersAre (pairs ++ pair ∷ [])
@@ -186,21 +187,21 @@ module _ (l : Text) (lists : List Text) (new : is_list lists l ≡ false) where
       by_key : (b : Bool) → bytes_eq pair.key l ≡ b → MembersAre (pairs ++ pair ∷ [])
       by_key true same =
           let vs = all_of pairs l in
-          let left : member_count (asked (l ∷ lists) (pairs ++ pair ∷ [])) ≡ member_count (asked (l ∷ lists) pairs) + 1 =
-          ap member_count (asked-push (l ∷ lists) pairs pair) ∙ pair_members (l ∷ lists) pairs pair
-          ∙ ap (λ b. member_count (asked (l ∷ lists) pairs) + (if b then 1 else 0)) (own_list pair.key same) in
-          let right : member_count (asked lists (pairs ++ pair ∷ [])) ≡ member_count (asked lists pairs) + 0 =
-          ap member_count (asked-push lists pairs pair) ∙ pair_members lists pairs pair
-          ∙ ap (λ b. member_count (asked lists pairs) + (if b then 1 else 0)) (own_new pair.key same) in
+          let left : member_count (requested (l ∷ lists) (pairs ++ pair ∷ [])) ≡ member_count (requested (l ∷ lists) pairs) + 1 =
+          ap member_count (requested-push (l ∷ lists) pairs pair) ∙ pair_members (l ∷ lists) pairs pair
+          ∙ ap (λ b. member_count (requested (l ∷ lists) pairs) + (if b then 1 else 0)) (own_list pair.key same) in
+          let right : member_count (requested lists (pairs ++ pair ∷ [])) ≡ member_count (requested lists pairs) + 0 =
+          ap member_count (requested-push lists pairs pair) ∙ pair_members lists pairs pair
+          ∙ ap (λ b. member_count (requested lists pairs) + (if b then 1 else 0)) (own_new pair.key same) in
           let values = ap length (all_of-push pairs pair l ∙ ap (λ us. vs ++ us) (all_of-one pair l same)) ∙ length-append vs (pair.value ∷ []) in
           omega (arith, left, right, values, before)
       by_key false differs =
           let vs = all_of pairs l in
-          let left : member_count (asked (l ∷ lists) (pairs ++ pair ∷ []))
-          ≡ member_count (asked (l ∷ lists) pairs) + (if is_list lists pair.key then 1 else 0) =
-          ap member_count (asked-push (l ∷ lists) pairs pair) ∙ pair_members (l ∷ lists) pairs pair
-          ∙ ap (λ b. member_count (asked (l ∷ lists) pairs) + (if b then 1 else 0)) (other_list pair.key differs) in
-          let right = ap member_count (asked-push lists pairs pair) ∙ pair_members lists pairs pair in
+          let left : member_count (requested (l ∷ lists) (pairs ++ pair ∷ []))
+          ≡ member_count (requested (l ∷ lists) pairs) + (if is_list lists pair.key then 1 else 0) =
+          ap member_count (requested-push (l ∷ lists) pairs pair) ∙ pair_members (l ∷ lists) pairs pair
+          ∙ ap (λ b. member_count (requested (l ∷ lists) pairs) + (if b then 1 else 0)) (other_list pair.key differs) in
+          let right = ap member_count (requested-push lists pairs pair) ∙ pair_members lists pairs pair in
           let values = ap length (all_of-push pairs pair l ∙ ap (λ us. vs ++ us) (all_of-none pair l differs) ∙ append-nil vs) in
           omega (arith, left, right, values, before)
 
@@ -226,13 +227,13 @@ same_filled lists others env [] same = refl
 same_filled lists others env (pair ∷ pairs) same =
     ap (λ b. filled lists (added b env pair) pairs) (same pair.key) ∙ same_filled lists others (fill_one others env pair) pairs same
 
-pub same_asked : (lists others : List Text) (pairs : List KeyValue) → ((key : Text) → is_list lists key ≡ is_list others key)
-    → asked lists pairs ≡ asked others pairs
-same_asked lists others pairs same = same_filled lists others [] pairs same
+pub same_requested : (lists others : List Text) (pairs : List KeyValue) → ((key : Text) → is_list lists key ≡ is_list others key)
+    → requested lists pairs ≡ requested others pairs
+same_requested lists others pairs same = same_filled lists others [] pairs same
 
 -- a list that is declared already
-pub known_list : (l : Text) (lists : List Text) (pairs : List KeyValue) → is_list lists l ≡ true → asked (l ∷ lists) pairs ≡ asked lists pairs
-known_list l lists pairs known = same_asked (l ∷ lists) lists pairs (λ key. one_more l lists key ∙ by_key key (bytes_eq l key) refl)
+pub known_list : (l : Text) (lists : List Text) (pairs : List KeyValue) → is_list lists l ≡ true → requested (l ∷ lists) pairs ≡ requested lists pairs
+known_list l lists pairs known = same_requested (l ∷ lists) lists pairs (λ key. one_more l lists key ∙ by_key key (bytes_eq l key) refl)
   where
     by_key : (key : Text) (b : Bool) → bytes_eq l key ≡ b → (is_list lists key || b) ≡ is_list lists key
     by_key key true same =

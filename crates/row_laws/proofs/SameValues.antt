@@ -8,11 +8,11 @@ use Rattle.environment_model.specs.Lists.{is_list}
 use Rattle.environment_model.proofs.Environments.{look_up-same, look_up-other}
 use Rattle.target_vars.specs.EnvValue.{EachNameOnce}
 use Rattle.kev_read.specs.Pairs.{KeyValue, all_of}
-use Rattle.row_laws.specs.Shadowing.{asked, found_in, hidden}
-use Rattle.row_laws.proofs.AskedEntries.{grown, look_up-asked}
+use Rattle.row_laws.specs.Shadowing.{requested, found_in, hidden}
+use Rattle.row_laws.proofs.RequestedEntries.{grown, look_up-requested}
 use Rattle.row_laws.proofs.HiddenSums.{hidden_sum}
 use Rattle.environment_model.proofs.NameTests.{itself}
-use Rattle.row_laws.proofs.NamesOnce.{asked_once}
+use Rattle.row_laws.proofs.NamesOnce.{requested_once}
 
 -- a row that has all names hides all entries
 all_hidden : (row env : Environment) → ((name : Text) → is_there env name ≡ true → is_there row name ≡ true) → hidden row env ≡ env
@@ -42,7 +42,7 @@ same_sum f row env row_once once same =
     ∙ ap (sum_by weigh) (all_hidden row env (λ name there. ap is_some (same name) ∙ there))
 
 pub same_values : (f : Meaning → ℕ) (lists : List Text) (pairs others : List KeyValue) → ((key : Text) → all_of pairs key ≡ all_of others key)
-    → sum_by (λ (e : Entry). f e.meaning) (asked lists pairs) ≡ sum_by (λ (e : Entry). f e.meaning) (asked lists others)
+    → sum_by (λ (e : Entry). f e.meaning) (requested lists pairs) ≡ sum_by (λ (e : Entry). f e.meaning) (requested lists others)
 same_values f lists pairs others same =
-    same_sum f (asked lists pairs) (asked lists others) (asked_once lists pairs) (asked_once lists others)
-    (λ key. look_up-asked lists pairs key ∙ ap (λ vs. grown vs (is_list lists key) None) (same key) ∙ sym (look_up-asked lists others key))
+    same_sum f (requested lists pairs) (requested lists others) (requested_once lists pairs) (requested_once lists others)
+    (λ key. look_up-requested lists pairs key ∙ ap (λ vs. grown vs (is_list lists key) None) (same key) ∙ sym (look_up-requested lists others key))

@@ -15,149 +15,154 @@ use Rattle.kev_read.specs.Pairs.{KeyValue}
 use Rattle.kev_read.specs.Filling as by_pairs
 use Rattle.kev_read.specs.Filling.{added, fill_one}
 use Rattle.kbart_rows.specs.Cells.{NamedCell}
-use Rattle.row_laws.specs.Shadowing.{asked, row_of, is_hidden, is_shown, shown, hidden}
-use Rattle.row_laws.proofs.Shadowing.{HasTextsAlone, look_up-front, look_up-shown, members_of_texts, row_has_texts, same_name, shown-hidden, shown-seen}
+use Rattle.row_laws.specs.Shadowing.{requested, row_of, is_hidden, is_visible, visible, hidden}
+use Rattle.row_laws.proofs.Shadowing.{HasTextsAlone, look_up-front, look_up-visible, members_of_texts, row_has_texts, same_name, visible-hidden, visible-seen}
 use Rattle.row_laws.proofs.Shadowing.{there_is_text, with_text-append}
 
-with_text-hidden : (row env : Environment) (name t : Text) → is_there row name ≡ true → shown row (with_text env name t) ≡ shown row env
+with_text-hidden : (row env : Environment) (name t : Text) → is_there row name ≡ true → visible row (with_text env name t) ≡ visible row env
 with_text-hidden row env name t there = by_test (is_there env name) refl
   where
-    by_test : (b : Bool) → is_there env name ≡ b → shown row (with_text env name t) ≡ shown row env
-    by_test true known = ap (shown row) (with_text-known env name t known)
+    by_test : (b : Bool) → is_there env name ≡ b → visible row (with_text env name t) ≡ visible row env
+    by_test true known = ap (visible row) (with_text-known env name t known)
     by_test false new =
-        ap (shown row) (with_text-new env name t new)
-        ∙ filter-append (is_shown row) env (record { name = name; meaning = Single t } ∷ [])
-        ∙ ap (λ es. shown row env ++ es) (shown-hidden row (record { name = name; meaning = Single t }) [] there)
-        ∙ append-nil (shown row env)
+        ap (visible row) (with_text-new env name t new)
+        ∙ filter-append (is_visible row) env (record { name = name; meaning = Single t } ∷ [])
+        ∙ ap (λ es. visible row env ++ es) (visible-hidden row (record { name = name; meaning = Single t }) [] there)
+        ∙ append-nil (visible row env)
 
-with_member-hidden : (row env : Environment) (name t : Text) → is_there row name ≡ true → shown row (with_member env name t) ≡ shown row env
+with_member-hidden : (row env : Environment) (name t : Text) → is_there row name ≡ true → visible row (with_member env name t) ≡ visible row env
 with_member-hidden row [] name t there =
-    ap (shown row) (with_member-empty name t) ∙ shown-hidden row (record { name = name; meaning = Several (t ∷ []) }) [] there
+    ap (visible row) (with_member-empty name t) ∙ visible-hidden row (record { name = name; meaning = Several (t ∷ []) }) [] there
 with_member-hidden row (e ∷ env) name t there = by_name (bytes_eq e.name name) refl (with_member-hidden row env name t there)
   where
-    by_name : (b : Bool) → bytes_eq e.name name ≡ b → shown row (with_member env name t) ≡ shown row env
-        → shown row (with_member (e ∷ env) name t) ≡ shown row (e ∷ env)
+    by_name : (b : Bool) → bytes_eq e.name name ≡ b → visible row (with_member env name t) ≡ visible row env
+        → visible row (with_member (e ∷ env) name t) ≡ visible row (e ∷ env)
     by_name true same after =
         let there' : is_there row e.name ≡ true = same_name row e.name name same ∙ there in
-        ap (shown row) (with_member-same e env name t same)
-        ∙ shown-hidden row (record { name = e.name; meaning = more e.meaning t }) env there'
-        ∙ sym (shown-hidden row e env there')
-    by_name false other after = ap (shown row) (with_member-other e env name t other) ∙ by_row (is_there row e.name) refl
+        ap (visible row) (with_member-same e env name t same)
+        ∙ visible-hidden row (record { name = e.name; meaning = more e.meaning t }) env there'
+        ∙ sym (visible-hidden row e env there')
+    by_name false other after = ap (visible row) (with_member-other e env name t other) ∙ by_row (is_there row e.name) refl
       where
-        by_row : (b : Bool) → is_there row e.name ≡ b → shown row (e ∷ with_member env name t) ≡ shown row (e ∷ env)
-        by_row true over = shown-hidden row e (with_member env name t) over ∙ after ∙ sym (shown-hidden row e env over)
-        by_row false seen = shown-seen row e (with_member env name t) seen ∙ ap (λ es. e ∷ es) after ∙ sym (shown-seen row e env seen)
+        by_row : (b : Bool) → is_there row e.name ≡ b → visible row (e ∷ with_member env name t) ≡ visible row (e ∷ env)
+        by_row true over = visible-hidden row e (with_member env name t) over ∙ after ∙ sym (visible-hidden row e env over)
+        by_row false seen = visible-seen row e (with_member env name t) seen ∙ ap (λ es. e ∷ es) after ∙ sym (visible-seen row e env seen)
 
 -- ---- a pair whose key the row does not have
 
-with_text-shown : (row env : Environment) (name t : Text) → is_there row name ≡ false → shown row (with_text env name t) ≡ with_text (shown row env) name t
-with_text-shown row env name t absent = by_test (is_there env name) refl
+with_text-visible : (row env : Environment) (name t : Text) → is_there row name ≡ false
+    → visible row (with_text env name t) ≡ with_text (visible row env) name t
+with_text-visible row env name t absent = by_test (is_there env name) refl
   where
-    same_test : is_there (shown row env) name ≡ is_there env name
-    same_test = ap is_some (look_up-shown row env name absent)
+    same_test : is_there (visible row env) name ≡ is_there env name
+    same_test = ap is_some (look_up-visible row env name absent)
 
-    by_test : (b : Bool) → is_there env name ≡ b → shown row (with_text env name t) ≡ with_text (shown row env) name t
-    by_test true known = ap (shown row) (with_text-known env name t known) ∙ sym (with_text-known (shown row env) name t (same_test ∙ known))
+    by_test : (b : Bool) → is_there env name ≡ b → visible row (with_text env name t) ≡ with_text (visible row env) name t
+    by_test true known = ap (visible row) (with_text-known env name t known) ∙ sym (with_text-known (visible row env) name t (same_test ∙ known))
     by_test false new =
-        ap (shown row) (with_text-new env name t new)
-        ∙ filter-append (is_shown row) env (record { name = name; meaning = Single t } ∷ [])
-        ∙ ap (λ es. shown row env ++ es) (shown-seen row (record { name = name; meaning = Single t }) [] absent)
-        ∙ sym (with_text-new (shown row env) name t (same_test ∙ new))
+        ap (visible row) (with_text-new env name t new)
+        ∙ filter-append (is_visible row) env (record { name = name; meaning = Single t } ∷ [])
+        ∙ ap (λ es. visible row env ++ es) (visible-seen row (record { name = name; meaning = Single t }) [] absent)
+        ∙ sym (with_text-new (visible row env) name t (same_test ∙ new))
 
-with_member-shown : (row env : Environment) (name t : Text) → is_there row name ≡ false
-    → shown row (with_member env name t) ≡ with_member (shown row env) name t
-with_member-shown row [] name t absent =
-    ap (shown row) (with_member-empty name t) ∙ shown-seen row (record { name = name; meaning = Several (t ∷ []) }) [] absent ∙ sym (with_member-empty name t)
-with_member-shown row (e ∷ env) name t absent = by_name (bytes_eq e.name name) refl (with_member-shown row env name t absent)
+with_member-visible : (row env : Environment) (name t : Text) → is_there row name ≡ false
+    → visible row (with_member env name t) ≡ with_member (visible row env) name t
+with_member-visible row [] name t absent =
+    ap (visible row) (with_member-empty name t) ∙ visible-seen row (record { name = name; meaning = Several (t ∷ []) }) [] absent
+    ∙ sym (with_member-empty name t)
+with_member-visible row (e ∷ env) name t absent = by_name (bytes_eq e.name name) refl (with_member-visible row env name t absent)
   where
-    by_name : (b : Bool) → bytes_eq e.name name ≡ b → shown row (with_member env name t) ≡ with_member (shown row env) name t
-        → shown row (with_member (e ∷ env) name t) ≡ with_member (shown row (e ∷ env)) name t
+    by_name : (b : Bool) → bytes_eq e.name name ≡ b → visible row (with_member env name t) ≡ with_member (visible row env) name t
+        → visible row (with_member (e ∷ env) name t) ≡ with_member (visible row (e ∷ env)) name t
     by_name true same after =
         let absent' : is_there row e.name ≡ false = same_name row e.name name same ∙ absent in
-        ap (shown row) (with_member-same e env name t same)
-        ∙ shown-seen row (record { name = e.name; meaning = more e.meaning t }) env absent'
-        ∙ sym (with_member-same e (shown row env) name t same)
-        ∙ ap (λ es. with_member es name t) (sym (shown-seen row e env absent'))
-    by_name false other after = ap (shown row) (with_member-other e env name t other) ∙ by_row (is_there row e.name) refl
+        ap (visible row) (with_member-same e env name t same)
+        ∙ visible-seen row (record { name = e.name; meaning = more e.meaning t }) env absent'
+        ∙ sym (with_member-same e (visible row env) name t same)
+        ∙ ap (λ es. with_member es name t) (sym (visible-seen row e env absent'))
+    by_name false other after = ap (visible row) (with_member-other e env name t other) ∙ by_row (is_there row e.name) refl
       where
-        by_row : (b : Bool) → is_there row e.name ≡ b → shown row (e ∷ with_member env name t) ≡ with_member (shown row (e ∷ env)) name t
-        by_row true over = shown-hidden row e (with_member env name t) over ∙ after ∙ ap (λ es. with_member es name t) (sym (shown-hidden row e env over))
+        by_row : (b : Bool) → is_there row e.name ≡ b → visible row (e ∷ with_member env name t) ≡ with_member (visible row (e ∷ env)) name t
+        by_row true over = visible-hidden row e (with_member env name t) over ∙ after ∙ ap (λ es. with_member es name t) (sym (visible-hidden row e env over))
         by_row false seen =
-            shown-seen row e (with_member env name t) seen ∙ ap (λ es. e ∷ es) after
-            ∙ sym (with_member-other e (shown row env) name t other) ∙ ap (λ es. with_member es name t) (sym (shown-seen row e env seen))
+            visible-seen row e (with_member env name t) seen ∙ ap (λ es. e ∷ es) after
+            ∙ sym (with_member-other e (visible row env) name t other) ∙ ap (λ es. with_member es name t) (sym (visible-seen row e env seen))
 
 -- ---- all pairs
 
 one_pair : (row env : Environment) (list : Bool) (pair : KeyValue) → HasTextsAlone row
-    → added list (row ++ shown row env) pair ≡ row ++ shown row (added list env pair)
+    → added list (row ++ visible row env) pair ≡ row ++ visible row (added list env pair)
 one_pair row env true pair alone = by_row (is_there row pair.key) refl
   where
     by_row : (b : Bool) → is_there row pair.key ≡ b
-        → with_member (row ++ shown row env) pair.key pair.value ≡ row ++ shown row (with_member env pair.key pair.value)
+        → with_member (row ++ visible row env) pair.key pair.value ≡ row ++ visible row (with_member env pair.key pair.value)
     by_row true there =
-        let text : is_some (text_of (row ++ shown row env) pair.key) ≡ true =
-        ap (λ o. is_some (text_in o)) (look_up-front row (shown row env) pair.key there) ∙ there_is_text row pair.key alone there in
-        with_member-text (row ++ shown row env) pair.key pair.value text ∙ ap (λ es. row ++ es) (sym (with_member-hidden row env pair.key pair.value there))
+        let text : is_some (text_of (row ++ visible row env) pair.key) ≡ true =
+        ap (λ o. is_some (text_in o)) (look_up-front row (visible row env) pair.key there) ∙ there_is_text row pair.key alone there in
+        with_member-text (row ++ visible row env) pair.key pair.value text ∙ ap (λ es. row ++ es) (sym (with_member-hidden row env pair.key pair.value there))
     by_row false absent =
-        with_member-append row (shown row env) pair.key pair.value absent ∙ ap (λ es. row ++ es) (sym (with_member-shown row env pair.key pair.value absent))
+        with_member-append row (visible row env) pair.key pair.value absent
+        ∙ ap (λ es. row ++ es) (sym (with_member-visible row env pair.key pair.value absent))
 one_pair row env false pair alone = by_row (is_there row pair.key) refl
   where
     by_row : (b : Bool) → is_there row pair.key ≡ b
-        → with_text (row ++ shown row env) pair.key pair.value ≡ row ++ shown row (with_text env pair.key pair.value)
+        → with_text (row ++ visible row env) pair.key pair.value ≡ row ++ visible row (with_text env pair.key pair.value)
     by_row true there =
-        with_text-known (row ++ shown row env) pair.key pair.value (ap is_some (look_up-front row (shown row env) pair.key there) ∙ there)
+        with_text-known (row ++ visible row env) pair.key pair.value (ap is_some (look_up-front row (visible row env) pair.key there) ∙ there)
         ∙ ap (λ es. row ++ es) (sym (with_text-hidden row env pair.key pair.value there))
     by_row false absent =
-        with_text-append row (shown row env) pair.key pair.value absent ∙ ap (λ es. row ++ es) (sym (with_text-shown row env pair.key pair.value absent))
+        with_text-append row (visible row env) pair.key pair.value absent ∙ ap (λ es. row ++ es) (sym (with_text-visible row env pair.key pair.value absent))
 
 all_pairs : (lists : List Text) (row env : Environment) (pairs : List KeyValue) → HasTextsAlone row
-    → by_pairs.filled lists (row ++ shown row env) pairs ≡ row ++ shown row (by_pairs.filled lists env pairs)
+    → by_pairs.filled lists (row ++ visible row env) pairs ≡ row ++ visible row (by_pairs.filled lists env pairs)
 all_pairs lists row env [] alone = refl
 all_pairs lists row env (pair ∷ pairs) alone =
     ap (λ es. by_pairs.filled lists es pairs) (one_pair row env (is_list lists pair.key) pair alone) ∙ all_pairs lists row (fill_one lists env pair) pairs alone
 
 pub entries_are : (lists : List Text) (cells : List NamedCell) (pairs : List KeyValue)
-    → by_pairs.filled lists (row_of cells) pairs ≡ row_of cells ++ shown (row_of cells) (asked lists pairs)
+    → by_pairs.filled lists (row_of cells) pairs ≡ row_of cells ++ visible (row_of cells) (requested lists pairs)
 entries_are lists cells pairs =
     ap (λ es. by_pairs.filled lists es pairs) (sym (append-nil (row_of cells))) ∙ all_pairs lists (row_of cells) [] pairs (row_has_texts cells)
 
 pub look_up_is : (lists : List Text) (cells : List NamedCell) (pairs : List KeyValue) (name : Text)
     → look_up (by_pairs.filled lists (row_of cells) pairs) name
-    ≡ (if is_there (row_of cells) name then look_up (row_of cells) name else look_up (asked lists pairs) name)
+    ≡ (if is_there (row_of cells) name then look_up (row_of cells) name else look_up (requested lists pairs) name)
 look_up_is lists cells pairs name = ap (λ es. look_up es name) (entries_are lists cells pairs) ∙ by_row (is_there (row_of cells) name) refl
   where
     by_row : (b : Bool) → is_there (row_of cells) name ≡ b
-        → look_up (row_of cells ++ shown (row_of cells) (asked lists pairs)) name
-        ≡ (if b then look_up (row_of cells) name else look_up (asked lists pairs) name)
-    by_row true there = look_up-front (row_of cells) (shown (row_of cells) (asked lists pairs)) name there
+        → look_up (row_of cells ++ visible (row_of cells) (requested lists pairs)) name
+        ≡ (if b then look_up (row_of cells) name else look_up (requested lists pairs) name)
+    by_row true there = look_up-front (row_of cells) (visible (row_of cells) (requested lists pairs)) name there
     by_row false absent =
-        look_up-append (row_of cells) (shown (row_of cells) (asked lists pairs)) name absent ∙ look_up-shown (row_of cells) (asked lists pairs) name absent
+        look_up-append (row_of cells) (visible (row_of cells) (requested lists pairs)) name absent
+        ∙ look_up-visible (row_of cells) (requested lists pairs) name absent
 
 -- ---- sums
 
 pub bytes_are : (lists : List Text) (cells : List NamedCell) (pairs : List KeyValue)
-    → byte_count (by_pairs.filled lists (row_of cells) pairs) + byte_count (hidden (row_of cells) (asked lists pairs))
-    ≡ byte_count (row_of cells) + byte_count (asked lists pairs)
+    → byte_count (by_pairs.filled lists (row_of cells) pairs) + byte_count (hidden (row_of cells) (requested lists pairs))
+    ≡ byte_count (row_of cells) + byte_count (requested lists pairs)
 bytes_are lists cells pairs =
     let row = row_of cells in
-    let env = asked lists pairs in
-    let all : byte_count (by_pairs.filled lists row pairs) ≡ byte_count (row ++ shown row env) = ap byte_count (entries_are lists cells pairs) in
-    let parts : byte_count (row ++ shown row env) ≡ byte_count row + byte_count (shown row env) =
-    sum_by-append (λ (e : Entry). meaning_bytes e.meaning) row (shown row env) in
-    let both : byte_count (hidden row env) + byte_count (shown row env) ≡ byte_count env =
-    sum_by-filter_both (is_hidden row) (is_shown row) (λ x. refl) (λ (e : Entry). meaning_bytes e.meaning) env in
+    let env = requested lists pairs in
+    let all : byte_count (by_pairs.filled lists row pairs) ≡ byte_count (row ++ visible row env) = ap byte_count (entries_are lists cells pairs) in
+    let parts : byte_count (row ++ visible row env) ≡ byte_count row + byte_count (visible row env) =
+    sum_by-append (λ (e : Entry). meaning_bytes e.meaning) row (visible row env) in
+    let both : byte_count (hidden row env) + byte_count (visible row env) ≡ byte_count env =
+    sum_by-filter_both (is_hidden row) (is_visible row) (λ x. refl) (λ (e : Entry). meaning_bytes e.meaning) env in
     omega (arith, all, parts, both)
 
 pub members_are : (lists : List Text) (cells : List NamedCell) (pairs : List KeyValue)
-    → member_count (by_pairs.filled lists (row_of cells) pairs) + member_count (hidden (row_of cells) (asked lists pairs)) ≡ member_count (asked lists pairs)
+    → member_count (by_pairs.filled lists (row_of cells) pairs) + member_count (hidden (row_of cells) (requested lists pairs))
+    ≡ member_count (requested lists pairs)
 members_are lists cells pairs =
     let row = row_of cells in
-    let env = asked lists pairs in
-    let all : member_count (by_pairs.filled lists row pairs) ≡ member_count (row ++ shown row env) = ap member_count (entries_are lists cells pairs) in
-    let parts : member_count (row ++ shown row env) ≡ member_count row + member_count (shown row env) =
-    sum_by-append (λ (e : Entry). meaning_members e.meaning) row (shown row env) in
-    let both : member_count (hidden row env) + member_count (shown row env) ≡ member_count env =
-    sum_by-filter_both (is_hidden row) (is_shown row) (λ x. refl) (λ (e : Entry). meaning_members e.meaning) env in
+    let env = requested lists pairs in
+    let all : member_count (by_pairs.filled lists row pairs) ≡ member_count (row ++ visible row env) = ap member_count (entries_are lists cells pairs) in
+    let parts : member_count (row ++ visible row env) ≡ member_count row + member_count (visible row env) =
+    sum_by-append (λ (e : Entry). meaning_members e.meaning) row (visible row env) in
+    let both : member_count (hidden row env) + member_count (visible row env) ≡ member_count env =
+    sum_by-filter_both (is_hidden row) (is_visible row) (λ x. refl) (λ (e : Entry). meaning_members e.meaning) env in
     let none = members_of_texts row (row_has_texts cells) in
     omega (arith, all, parts, both, none)
 

@@ -11,7 +11,7 @@ use Rattle.environment_model.proofs.Environments.{with_text-new, with_text-known
 use Rattle.kev_read.specs.Filling.{fill_one}
 use Rattle.kbart_rows.specs.Cells.{NamedCell}
 use Rattle.kbart_rows.specs.Filling as by_cells
-use Rattle.row_laws.specs.Shadowing.{row_of, shown}
+use Rattle.row_laws.specs.Shadowing.{row_of, visible}
 
 -- ---- a row has only texts
 
@@ -101,26 +101,26 @@ with_text-append front back name t absent = by_test (is_there back name) refl
 pub same_name : (row : Environment) (a b : Text) → bytes_eq a b ≡ true → is_there row a ≡ is_there row b
 same_name row a b same = ap (is_there row) ((bytes_eq-Decides a b).0 same)
 
-pub shown-hidden : (row : Environment) (e : Entry) (env : Environment) → is_there row e.name ≡ true → shown row (e ∷ env) ≡ shown row env
-shown-hidden row e env there = rw there refl
+pub visible-hidden : (row : Environment) (e : Entry) (env : Environment) → is_there row e.name ≡ true → visible row (e ∷ env) ≡ visible row env
+visible-hidden row e env there = rw there refl
 
-pub shown-seen : (row : Environment) (e : Entry) (env : Environment) → is_there row e.name ≡ false → shown row (e ∷ env) ≡ e ∷ shown row env
-shown-seen row e env absent = rw absent refl
+pub visible-seen : (row : Environment) (e : Entry) (env : Environment) → is_there row e.name ≡ false → visible row (e ∷ env) ≡ e ∷ visible row env
+visible-seen row e env absent = rw absent refl
 
-pub look_up-shown : (row env : Environment) (name : Text) → is_there row name ≡ false → look_up (shown row env) name ≡ look_up env name
-look_up-shown row [] name absent = refl
-look_up-shown row (e ∷ env) name absent = by_row (is_there row e.name) refl (look_up-shown row env name absent)
+pub look_up-visible : (row env : Environment) (name : Text) → is_there row name ≡ false → look_up (visible row env) name ≡ look_up env name
+look_up-visible row [] name absent = refl
+look_up-visible row (e ∷ env) name absent = by_row (is_there row e.name) refl (look_up-visible row env name absent)
   where
-    by_row : (b : Bool) → is_there row e.name ≡ b → look_up (shown row env) name ≡ look_up env name
-        → look_up (shown row (e ∷ env)) name ≡ look_up (e ∷ env) name
+    by_row : (b : Bool) → is_there row e.name ≡ b → look_up (visible row env) name ≡ look_up env name
+        → look_up (visible row (e ∷ env)) name ≡ look_up (e ∷ env) name
     by_row true there after =
-        ap (λ es. look_up es name) (shown-hidden row e env there) ∙ after ∙ sym (look_up-other e env name (differs (bytes_eq e.name name) refl))
+        ap (λ es. look_up es name) (visible-hidden row e env there) ∙ after ∙ sym (look_up-other e env name (differs (bytes_eq e.name name) refl))
       where
         differs : (b : Bool) → bytes_eq e.name name ≡ b → b ≡ false
         differs true same = let is = same_name row e.name name same in absurd (cc)
         differs false other = refl
-    by_row false seen after = ap (λ es. look_up es name) (shown-seen row e env seen) ∙ by_name (bytes_eq e.name name) refl
+    by_row false seen after = ap (λ es. look_up es name) (visible-seen row e env seen) ∙ by_name (bytes_eq e.name name) refl
       where
-        by_name : (b : Bool) → bytes_eq e.name name ≡ b → look_up (e ∷ shown row env) name ≡ look_up (e ∷ env) name
-        by_name true same = look_up-same e (shown row env) name same ∙ sym (look_up-same e env name same)
-        by_name false other = look_up-other e (shown row env) name other ∙ after ∙ sym (look_up-other e env name other)
+        by_name : (b : Bool) → bytes_eq e.name name ≡ b → look_up (e ∷ visible row env) name ≡ look_up (e ∷ env) name
+        by_name true same = look_up-same e (visible row env) name same ∙ sym (look_up-same e env name same)
+        by_name false other = look_up-other e (visible row env) name other ∙ after ∙ sym (look_up-other e env name other)

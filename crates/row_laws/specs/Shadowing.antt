@@ -13,20 +13,20 @@ abbrev pub row_of : List NamedCell → Environment
 row_of cells = by_cells.filled [] cells
 
 -- the entries of the request without a row, if these lists are declared
-abbrev pub asked : List Text → List KeyValue → Environment
-asked lists pairs = by_pairs.filled lists [] pairs
+abbrev pub requested : List Text → List KeyValue → Environment
+requested lists pairs = by_pairs.filled lists [] pairs
 
 -- ---- what a row hides
 
 abbrev pub is_hidden : Environment → Entry → Bool
 is_hidden row e = is_there row e.name
 
-abbrev pub is_shown : Environment → Entry → Bool
-is_shown row e = not (is_there row e.name)
+abbrev pub is_visible : Environment → Entry → Bool
+is_visible row e = not (is_there row e.name)
 
 -- the entries whose names the row does not have, and those whose names it has
-abbrev pub shown : Environment → Environment → Environment
-shown row env = filter (is_shown row) env
+abbrev pub visible : Environment → Environment → Environment
+visible row env = filter (is_visible row) env
 
 abbrev pub hidden : Environment → Environment → Environment
 hidden row env = filter (is_hidden row) env
@@ -44,12 +44,12 @@ first_bytes [] = 0
 first_bytes (v ∷ vs) = length v
 
 -- the bytes that the request has under a key: those of all values of a list, and otherwise those of the first value
-abbrev pub asked_bytes : List Text → List KeyValue → Text → ℕ
-asked_bytes lists pairs key = if is_list lists key then sum_by length (all_of pairs key) else first_bytes (all_of pairs key)
+abbrev pub requested_bytes : List Text → List KeyValue → Text → ℕ
+requested_bytes lists pairs key = if is_list lists key then sum_by length (all_of pairs key) else first_bytes (all_of pairs key)
 
 -- the members that the request has under a key
-abbrev pub asked_members : List Text → List KeyValue → Text → ℕ
-asked_members lists pairs key = if is_list lists key then length (all_of pairs key) else 0
+abbrev pub requested_members : List Text → List KeyValue → Text → ℕ
+requested_members lists pairs key = if is_list lists key then length (all_of pairs key) else 0
 
 -- ---- what a row hides, column by column
 
@@ -60,8 +60,8 @@ has_cell header cells column = is_first header column && is_some (defined (get_o
 -- the bytes and the members of the request that the cell of the column hides
 abbrev pub hidden_bytes_at : Row → Row → List Text → List KeyValue → ℕ → ℕ
 hidden_bytes_at header cells lists pairs column =
-    if has_cell header cells column then asked_bytes lists pairs (get_or header column []) else 0
+    if has_cell header cells column then requested_bytes lists pairs (get_or header column []) else 0
 
 abbrev pub hidden_members_at : Row → Row → List Text → List KeyValue → ℕ → ℕ
 hidden_members_at header cells lists pairs column =
-    if has_cell header cells column then asked_members lists pairs (get_or header column []) else 0
+    if has_cell header cells column then requested_members lists pairs (get_or header column []) else 0

@@ -6,7 +6,7 @@ use Rattle.std.specs.Prelude.{◌==◌}
 use Rattle.std.specs.Option.{option_map_or}
 use Rattle.kev_read.specs.Pairs.{KeyValue, all_of}
 use Rattle.kbart_rows.specs.Cells.{Row, column_of, is_first}
-use Rattle.row_laws.specs.Shadowing.{asked_bytes, asked_members}
+use Rattle.row_laws.specs.Shadowing.{requested_bytes, requested_members}
 use Rattle.row_scope.specs.Private.Kept.{hidden_key, hidden_keys}
 use Rattle.row_scope.specs.declared.hidden.HiddenKey.{HiddenKey}
 
@@ -26,8 +26,8 @@ module _ (header : Row) (lists : List Text) (pairs : List KeyValue) (apart : (na
       the_key : HiddenKey
       the_key = record {
         column = column;
-        bytes = asked_bytes lists pairs (get_or header column []);
-        members = asked_members lists pairs (get_or header column []);
+        bytes = requested_bytes lists pairs (get_or header column []);
+        members = requested_members lists pairs (get_or header column []);
       }
 
       by_column : (found : Option ℕ) → column_of header (get_or header column []) ≡ found → hidden_key header lists pairs column ≡ None

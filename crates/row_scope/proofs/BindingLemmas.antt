@@ -25,8 +25,8 @@ no_members (Some (Single u)) t is = refl
 no_members (Some (Several us)) t is = absurd (cc)
 
 -- what a row over a request has under a name: the row's cell, or else what the request has
-module _ (values : EnvValue) (line : Text) (row asked full : Environment) (header cells : Row) (name : Text)
-    (shadow : look_up full name ≡ (if is_there row name then look_up row name else look_up asked name))
+module _ (values : EnvValue) (line : Text) (row requested full : Environment) (header cells : Row) (name : Text)
+    (shadow : look_up full name ≡ (if is_there row name then look_up row name else look_up requested name))
     (by_name : text_of row name ≡ cell_of header cells name) (there : is_there row name ≡ is_some (cell_of header cells name)) where
   -- the cell is this piece of the line
   pub bound_by_row : (start len : ℕ) → start + len ≤ length line → cell_of header cells name ≡ defined (piece_at line (start, len)) → 0 < len
@@ -35,7 +35,7 @@ module _ (values : EnvValue) (line : Text) (row asked full : Environment) (heade
       let t = piece_at line (start, len) in
       let found : cell_of header cells name ≡ Some t = cell ∙ defined_text t (subst (λ n. 0 < n) (sym (piece_length line (start, len) within)) some) in
       let here : is_there row name ≡ true = there ∙ ap is_some found in
-      let same : look_up full name ≡ look_up row name = shadow ∙ ap (λ b. if b then look_up row name else look_up asked name) here in
+      let same : look_up full name ≡ look_up row name = shadow ∙ ap (λ b. if b then look_up row name else look_up requested name) here in
       let is : text_of row name ≡ Some t = by_name ∙ found in
       let long = length-append values.buffer line in (
         record {
@@ -45,10 +45,10 @@ module _ (values : EnvValue) (line : Text) (row asked full : Environment) (heade
         ap members_in same ∙ no_members (look_up row name) t is,
       )
 
-  pub not_hidden : cell_of header cells name ≡ None → look_up full name ≡ look_up asked name
-  not_hidden nothing = shadow ∙ ap (λ b. if b then look_up row name else look_up asked name) (there ∙ ap is_some nothing)
+  pub not_hidden : cell_of header cells name ≡ None → look_up full name ≡ look_up requested name
+  not_hidden nothing = shadow ∙ ap (λ b. if b then look_up row name else look_up requested name) (there ∙ ap is_some nothing)
 
-  pub bound_by_request : All (IsWithin values) values.spans → (b : Binding) → cell_of header cells name ≡ None → IsBound (laid_in values asked) name b
+  pub bound_by_request : All (IsWithin values) values.spans → (b : Binding) → cell_of header cells name ≡ None → IsBound (laid_in values requested) name b
       → IsBound (laid_over values line full) name b
   bound_by_request inside binding.Nothing nothing h =
       let same = not_hidden nothing in

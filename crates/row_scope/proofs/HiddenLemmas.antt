@@ -13,7 +13,7 @@ use Rattle.text_model.specs.Texts.{Text}
 use Rattle.environment_model.specs.Lists.{is_list}
 use Rattle.kev_read.specs.Pairs.{KeyValue, all_of}
 use Rattle.kbart_rows.specs.Cells.{Row, defined, is_first}
-use Rattle.row_laws.specs.Shadowing.{first_bytes, asked_bytes, asked_members, hidden_bytes_at, hidden_members_at}
+use Rattle.row_laws.specs.Shadowing.{first_bytes, requested_bytes, requested_members, hidden_bytes_at, hidden_members_at}
 use Rattle.row_scope.specs.Private.Kept.{hidden_key, hidden_keys}
 use Rattle.row_scope.specs.declared.hidden.HiddenKey.{HiddenKey}
 
@@ -64,7 +64,7 @@ module _ {Y : Type 0} (f : ℕ → Option Y) (column : Y → ℕ) (own : (n : �
 own_column : (header : Row) (lists : List Text) (pairs : List KeyValue) (n : ℕ) (key : HiddenKey) → hidden_key header lists pairs n ≡ Some key → key.column ≡ n
 own_column header lists pairs n key is =
     let name = get_or header n [] in
-    let made : HiddenKey = record { column = n; bytes = asked_bytes lists pairs name; members = asked_members lists pairs name } in
+    let made : HiddenKey = record { column = n; bytes = requested_bytes lists pairs name; members = requested_members lists pairs name } in
     ap (λ (k : HiddenKey). k.column) (sym (cond_some (is_first header n && nat_lt 0 (length (all_of pairs name))) made key is).1)
 
 pub keys_rise : (header : Row) (lists : List Text) (pairs : List KeyValue) → IsNonDecreasingBy (λ key. key.column) (hidden_keys header lists pairs)
@@ -101,12 +101,12 @@ nothing_either_way true = refl
 nothing_either_way false = refl
 
 module _ (header cells : Row) (lists : List Text) (pairs : List KeyValue) where
-  no_bytes : (key : Text) → nat_lt 0 (length (all_of pairs key)) ≡ false → asked_bytes lists pairs key ≡ 0
+  no_bytes : (key : Text) → nat_lt 0 (length (all_of pairs key)) ≡ false → requested_bytes lists pairs key ≡ 0
   no_bytes key none =
       ap (λ values. if is_list lists key then sum_by length values else first_bytes values) (no_values (all_of pairs key) none)
       ∙ nothing_either_way (is_list lists key)
 
-  no_members : (key : Text) → nat_lt 0 (length (all_of pairs key)) ≡ false → asked_members lists pairs key ≡ 0
+  no_members : (key : Text) → nat_lt 0 (length (all_of pairs key)) ≡ false → requested_members lists pairs key ≡ 0
   no_members key none =
       ap (λ values. if is_list lists key then length values else 0) (no_values (all_of pairs key) none) ∙ nothing_either_way (is_list lists key)
 
@@ -116,7 +116,8 @@ module _ (header cells : Row) (lists : List Text) (pairs : List KeyValue) where
   bytes_of_column : (n : ℕ) → option_map_or (bytes_under cells) (hidden_key header lists pairs n) 0 ≡ hidden_bytes_at header cells lists pairs n
   bytes_of_column n =
       let name = get_or header n [] in
-      by_first (is_first header n) (nat_lt 0 (length (all_of pairs name))) (asked_bytes lists pairs name) (asked_members lists pairs name) (no_bytes name)
+      by_first (is_first header n) (nat_lt 0 (length (all_of pairs name))) (requested_bytes lists pairs name) (requested_members lists pairs name)
+      (no_bytes name)
     where
       by_first : (first some : Bool) (bytes members : ℕ) → (some ≡ false → bytes ≡ 0)
           → option_map_or (bytes_under cells) (if (first && some) then Some (kept n bytes members) else None) 0
@@ -129,7 +130,8 @@ module _ (header cells : Row) (lists : List Text) (pairs : List KeyValue) where
   members_of_column : (n : ℕ) → option_map_or (members_under cells) (hidden_key header lists pairs n) 0 ≡ hidden_members_at header cells lists pairs n
   members_of_column n =
       let name = get_or header n [] in
-      by_first (is_first header n) (nat_lt 0 (length (all_of pairs name))) (asked_bytes lists pairs name) (asked_members lists pairs name) (no_members name)
+      by_first (is_first header n) (nat_lt 0 (length (all_of pairs name))) (requested_bytes lists pairs name) (requested_members lists pairs name)
+      (no_members name)
     where
       by_first : (first some : Bool) (bytes members : ℕ) → (some ≡ false → members ≡ 0)
           → option_map_or (members_under cells) (if (first && some) then Some (kept n bytes members) else None) 0

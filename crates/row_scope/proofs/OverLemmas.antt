@@ -14,7 +14,7 @@ use Rattle.target_vars.specs.EnvValue.{IsWithin, piece_at}
 use Rattle.kev_read.specs.Filling as by_pairs
 use Rattle.kbart_rows.specs.Cells.{cell_in, cell_of, column_of, defined, named_cells}
 use Rattle.kbart_rows.specs.Lines.{IsCellAt, cells_in}
-use Rattle.row_laws.specs.Shadowing.{asked, row_of}
+use Rattle.row_laws.specs.Shadowing.{requested, row_of}
 use Rattle.row_scope.specs.Bindings.{AreBound, IsBound, laid_in, laid_over}
 use Rattle.row_scope.specs.NameColumns.{AreColumns, IsNameColumn}
 use Rattle.row_scope.specs.RowEnvironments.{lists_of, names_of}
@@ -59,7 +59,7 @@ abbrev pub of_row : TargetRequestValue → Text → Environment
 of_row t line = row_of (named_cells t.table.header (cells_in line))
 
 abbrev pub of_request : TargetRequestValue → Environment
-of_request t = asked (lists_of t.code) t.request.pairs
+of_request t = requested (lists_of t.code) t.request.pairs
 
 abbrev pub of_both : TargetRequestValue → Text → Environment
 of_both t line = by_pairs.filled (lists_of t.code) (of_row t line) t.request.pairs

@@ -11,16 +11,16 @@ use Rattle.environment_model.specs.Environment.{Environment, Entry, byte_count, 
 use Rattle.environment_model.specs.Lists.{is_list, standard_lists}
 use Rattle.code_model.specs.Code.{Code}
 use Rattle.machine_model.specs.Operands.{name_at}
-use Rattle.row_laws.specs.Shadowing.{hidden, is_hidden, is_shown}
+use Rattle.row_laws.specs.Shadowing.{hidden, is_hidden, is_visible}
 use Rattle.row_scope.specs.NameColumns.{names_at}
 
 -- ---- a row hides at most everything
 
 pub hidden_bytes_le : (row env : Environment) → byte_count (hidden row env) ≤ byte_count env
-hidden_bytes_le row env = omega (arith, sum_by-filter_both (is_hidden row) (is_shown row) (λ e. refl) (λ (e : Entry). meaning_bytes e.meaning) env)
+hidden_bytes_le row env = omega (arith, sum_by-filter_both (is_hidden row) (is_visible row) (λ e. refl) (λ (e : Entry). meaning_bytes e.meaning) env)
 
 pub hidden_members_le : (row env : Environment) → member_count (hidden row env) ≤ member_count env
-hidden_members_le row env = omega (arith, sum_by-filter_both (is_hidden row) (is_shown row) (λ e. refl) (λ (e : Entry). meaning_members e.meaning) env)
+hidden_members_le row env = omega (arith, sum_by-filter_both (is_hidden row) (is_visible row) (λ e. refl) (λ (e : Entry). meaning_members e.meaning) env)
 
 -- ---- one more list
 

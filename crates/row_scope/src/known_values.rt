@@ -3,7 +3,7 @@
 ghost use Rattle.std.specs.Prelude.{◌≡◌, IfOk, List};
 ghost use Rattle.text_model.specs.Texts.{Text};
 ghost use Rattle.environment_model.specs.Lists as lists;
-ghost use Rattle.row_laws.specs.Shadowing.{asked};
+ghost use Rattle.row_laws.specs.Shadowing.{requested};
 ghost use Rattle.row_scope.specs.Bindings.{IsBound, laid_in};
 ghost use Rattle.row_scope.specs.RequestValues.{AreValues, AreValuesAt};
 
@@ -65,7 +65,7 @@ impl<'a> KnownValues<'a> {
     /// What a name is bound to in the request without a row, as a list or as a text.
     pub(crate) fn binding(&mut self, number: usize, name: &'a str, is_list: bool) -> Binding
         ensures bound { (declared : List Text) → is_list ≡ lists.is_list declared name.now
-            → IsBound (laid_in self.old.values (asked declared self.old.pairs)) name.now result }
+            → IsBound (laid_in self.old.values (requested declared self.old.pairs)) name.now result }
         ensures same { self.new ≡ self.old }
     {
         let (first, count) = self.values_of(number, name);

@@ -1,6 +1,6 @@
 //! A code over a table: which columns have its names, and which of its names are lists.
 
-ghost use Rattle.std.specs.Prelude.{◌≡◌, ◌<◌, [], All, IfOk, length};
+ghost use Rattle.std.specs.Prelude.{◌≡◌, ◌<◌, All, IfOk, length};
 ghost use Rattle.environment_model.specs.Lists as spec;
 ghost use Rattle.row_scope.specs.RowEnvironments.{lists_of};
 ghost use Rattle.row_scope.specs.NameColumns.{AreColumns, AreMarked, AreNameColumns, AreOwnLists, names_at};

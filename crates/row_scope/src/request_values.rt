@@ -7,7 +7,7 @@ ghost use Rattle.environment_model.specs.Environment.{byte_count, member_count};
 ghost use Rattle.environment_model.specs.Lists as lists;
 ghost use Rattle.target_vars.specs.EnvValue.{IsWithin, piece_at};
 ghost use Rattle.target_vars.specs.declared.env.TheConstants.{MAX_BYTES, MAX_MEMBERS};
-ghost use Rattle.row_laws.specs.Shadowing.{asked};
+ghost use Rattle.row_laws.specs.Shadowing.{requested};
 ghost use Rattle.row_scope.specs.Bindings.{IsBound, laid_in};
 ghost use Rattle.row_scope.specs.RequestValues.{AreValues, IsApart, AreValuesAt, bytes_of_key, members_of_key};
 ghost use Rattle.kev_read.specs.Pairs.{all_of};
@@ -84,8 +84,8 @@ impl<'a> RequestValues<'a> {
 
     /// E and M of the request if no list is declared: the bytes of all texts and members, and the number of members.
     pub(crate) fn sums(&self) -> (usize, usize)
-        ensures bytes { result.0 ≡ byte_count (asked [] self.now.pairs) }
-        ensures members { result.1 ≡ member_count (asked [] self.now.pairs) }
+        ensures bytes { result.0 ≡ byte_count (requested [] self.now.pairs) }
+        ensures members { result.1 ≡ member_count (requested [] self.now.pairs) }
         ensures known { AreValues self.now }
     {
         (self.bytes, self.members)
@@ -131,7 +131,7 @@ impl<'a> RequestValues<'a> {
         requires { first + count ≤ length self.now.values.spans }
         ensures { (name : Text) (declared : List Text) → AreValuesAt self.now name first count
             → is_list ≡ lists.is_list declared name
-            → IsBound (laid_in self.now.values (asked declared self.now.pairs)) name result }
+            → IsBound (laid_in self.now.values (requested declared self.now.pairs)) name result }
     {
         requests_by_keys();
         if count == 0 {
@@ -200,8 +200,8 @@ fn ends_of(alloc: Global, values: &KeyValues) -> Result<Vec<u64>, AllocError>
 
 /// E and M of a request if no list is declared.
 fn sums_without_lists(request: &Request) -> (usize, usize)
-    ensures bytes { result.0 ≡ byte_count (asked [] request.now.pairs) }
-    ensures members { result.1 ≡ member_count (asked [] request.now.pairs) }
+    ensures bytes { result.0 ≡ byte_count (requested [] request.now.pairs) }
+    ensures members { result.1 ≡ member_count (requested [] request.now.pairs) }
 {
     sums_by_values();
     request.sums()

@@ -5,7 +5,7 @@ ghost use Rattle.environment_model.specs.Environment.{byte_count, member_count};
 ghost use Rattle.kbart_rows.specs.Lines.{cells_in};
 ghost use Rattle.kbart_rows.specs.Cells.{named_cells};
 ghost use Rattle.kev_read.specs.Filling as by_pairs;
-ghost use Rattle.row_laws.specs.Shadowing.{asked, hidden, row_of};
+ghost use Rattle.row_laws.specs.Shadowing.{requested, hidden, row_of};
 ghost use Rattle.row_scope.specs.RowEnvironments.{environment_of_row, lists_of, names_of};
 ghost use Rattle.row_scope.specs.Bindings.{AreBound, laid_in, laid_over};
 ghost use Rattle.row_scope.specs.RequestValues.{IsApartFrom};
@@ -136,10 +136,10 @@ impl<'a> TargetRequest<'a> {
         requires { length line.now ≤ 65537 }
         ensures bytes { result.0
             ≡ byte_count (hidden (row_of (named_cells self.now.table.header (cells_in line.now)))
-            (asked (lists_of self.now.code) self.now.request.pairs)) }
+            (requested (lists_of self.now.code) self.now.request.pairs)) }
         ensures members { result.1
             ≡ member_count (hidden (row_of (named_cells self.now.table.header (cells_in line.now)))
-            (asked (lists_of self.now.code) self.now.request.pairs)) }
+            (requested (lists_of self.now.code) self.now.request.pairs)) }
     {
         hidden_by_columns();
         requests_are_small();
@@ -167,7 +167,7 @@ fn bindings_of<'a>(
     requires marks { AreMarked code.now names.now.marks.items }
     requires numbers { length names.now.numbers.items ≡ length code.now.names }
     ensures ok { IfOk result
-        (λ bindings. AreBound (laid_in known.old.values (asked (lists_of code.now) known.old.pairs))
+        (λ bindings. AreBound (laid_in known.old.values (requested (lists_of code.now) known.old.pairs))
         (names_of code.now) bindings.items) }
     ensures same { known.new ≡ known.old }
 {
@@ -182,8 +182,8 @@ fn bindings_of<'a>(
 /// E and M of a request in which the lists of a code are declared.
 fn sums_with_lists(code: &Code, lists: &[usize], request: &RequestValues) -> (usize, usize)
     requires { AreOwnLists code.now lists.now }
-    ensures bytes { result.0 ≡ byte_count (asked (lists_of code.now) request.now.pairs) }
-    ensures members { result.1 ≡ member_count (asked (lists_of code.now) request.now.pairs) }
+    ensures bytes { result.0 ≡ byte_count (requested (lists_of code.now) request.now.pairs) }
+    ensures members { result.1 ≡ member_count (requested (lists_of code.now) request.now.pairs) }
 {
     one_more_list();
     same_lists();

@@ -35,7 +35,7 @@ next_option arguments (option ∷ name ∷ rest) after so_far begins same =
     let whole : arguments ≡ (so_far.0 ++ option ∷ name ∷ []) ++ rest = so_far.2 ∙ sym (append_assoc so_far.0 (option ∷ name ∷ []) rest) in (
       so_far.0 ++ option ∷ name ∷ [],
       so_far.1 ++ name.now ∷ [],
-      whole ∙ ap (λ behind. (so_far.0 ++ option ∷ name ∷ []) ++ behind) (sym same),
+      whole ∙ ap (λ following. (so_far.0 ++ option ∷ name ∷ []) ++ following) (sym same),
       more,
     )
 

@@ -7,7 +7,7 @@ use Rattle.std.proofs.lemmas.List.{append-nil}
 use Rattle.text_model.specs.Texts.{Text}
 use Rattle.kbart_rows.specs.Identifiers.{first_from}
 use Rattle.rule_explanation.specs.Rows.{up_to_first}
-use Rattle.rule_explanation.specs.Writing.{IsBegun}
+use Rattle.rule_explanation.specs.Writing.{IsWrittenInPart}
 use Rattle.kbart_rows.proofs.RowOrder.{Rise, all_from_start, first_and_rest, none_from}
 
 module _ (text : ℕ × ℕ → Text) (test : ℕ → Bool) (rows : List ℕ) where
@@ -76,8 +76,8 @@ all_done old now whole rest p is =
     let same : whole ≡ p.done = p.in_order ∙ ap (λ x. p.done ++ x) is ∙ append-nil p.done in
     let P : Text → Type 0 = λ t. Appends old now t in subst P (sym same) p.written
 
-pub begun : (old now : Option (List ℕ)) (whole rest : Text) → Progress old now whole rest → IsBegun old now whole
-begun old now whole rest p = record { done = p.done; rest = rest; in_order = p.in_order; written = p.written }
+pub in_part : (old now : Option (List ℕ)) (whole rest : Text) → Progress old now whole rest → IsWrittenInPart old now whole
+in_part old now whole rest p = record { done = p.done; rest = rest; in_order = p.in_order; written = p.written }
 
 -- ---- a row that is found and written
 
@@ -127,8 +127,8 @@ module _ {W : Type 0} (contents : W → Option (List ℕ)) (text : ℕ × ℕ �
       )
 
   -- a row that is not written
-  pub begun_rows : (place from : ℕ) (old now : W) → Written contents text test rows place from old now
-      → IsBegun (contents old) (contents now) (flat_map text (enumerate_from 1 (up_to_first test rows)))
-  begun_rows place from old now so_far =
-      let P : Text → Type 0 = λ whole. IsBegun (contents old) (contents now) whole in
-      subst P (all_left text test rows) (begun (contents old) (contents now) _ _ so_far.text_left)
+  pub rows_in_part : (place from : ℕ) (old now : W) → Written contents text test rows place from old now
+      → IsWrittenInPart (contents old) (contents now) (flat_map text (enumerate_from 1 (up_to_first test rows)))
+  rows_in_part place from old now so_far =
+      let P : Text → Type 0 = λ whole. IsWrittenInPart (contents old) (contents now) whole in
+      subst P (all_left text test rows) (in_part (contents old) (contents now) _ _ so_far.text_left)

@@ -4,7 +4,7 @@ use Rattle.std.specs.Io.KnownBytes.{Appends}
 use Rattle.text_model.specs.Texts.{Text}
 
 -- the writer's bytes, if they are known, have grown by the beginning of the text
-pub record IsBegun (old new : Option (List ℕ)) (whole : Text) : Type 0 where
+pub record IsWrittenInPart (old new : Option (List ℕ)) (whole : Text) : Type 0 where
   pub done : Text
   pub rest : Text
   pub in_order : whole ≡ done ++ rest

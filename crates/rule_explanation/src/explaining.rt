@@ -14,7 +14,7 @@ ghost use Rattle.rule_parser.specs.Names.{each_once};
 ghost use Rattle.rule_explanation.specs.Explanation.{explanation, row_text, tried_row_text};
 ghost use Rattle.rule_explanation.specs.Failing.{numbered};
 ghost use Rattle.rule_explanation.specs.Rows.{environment_of_row, gives_web_link, has_web_link, tried_rows};
-ghost use Rattle.rule_explanation.specs.Writing.{IsBegun};
+ghost use Rattle.rule_explanation.specs.Writing.{IsWrittenInPart};
 ghost use Rattle.rule_explanation.specs.declared.error.ExplainError.TheVariants.{NoMemory, Output};
 
 use crate::error::ExplainError;
@@ -44,7 +44,7 @@ pub fn explain<W: Write>(
     ensures found { IfOk result (λ found. found ≡ has_web_link rules.now table.now request.now.pairs) }
     ensures printed { OnOk result (Appends (W.contents output.old) (W.contents output.new)
         (explanation rules.now table.now request.now.pairs)) }
-    ensures begun { IfErr result (λ e. e ≡ NoMemory → IsBegun (W.contents output.old) (W.contents output.new)
+    ensures in_part { IfErr result (λ e. e ≡ NoMemory → IsWrittenInPart (W.contents output.old) (W.contents output.new)
         (explanation rules.now table.now request.now.pairs)) }
 {
     let ids = Ids::of(alloc, request)?;
@@ -71,7 +71,7 @@ fn explain_rows<W: Write>(
     ensures printed { OnOk result (Appends (W.contents output.old) (W.contents output.new)
         (flat_map (tried_row_text rules.now table.now request.now.pairs)
         (numbered (tried_rows rules.now table.now request.now.pairs)))) }
-    ensures begun { IfErr result (λ e. e ≡ NoMemory → IsBegun (W.contents output.old) (W.contents output.new)
+    ensures in_part { IfErr result (λ e. e ≡ NoMemory → IsWrittenInPart (W.contents output.old) (W.contents output.new)
         (flat_map (tried_row_text rules.now table.now request.now.pairs)
         (numbered (tried_rows rules.now table.now request.now.pairs)))) }
 {

@@ -6,7 +6,7 @@ use Rattle.environment_model.specs.Environment.{look_up}
 use Rattle.kev_read.specs.Pairs.{KeyValue}
 use Rattle.uri_grammar.specs.declared.parts.Op.TheVariants as operator
 use Rattle.uri_grammar.specs.declared.parts.Part.{Part}
-use Rattle.uri_grammar.specs.declared.parts.Part.TheVariants.{Literal, Expression}
+use Rattle.uri_grammar.specs.declared.parts.Part.TheVariants.{Literal}
 use Rattle.kbart_rows.specs.Cells.{Holdings}
 use Rattle.kbart_rows.specs.declared.keys.Keys.{Keys}
 use Rattle.rule_lint.specs.declared.place.Place.TheVariants as place
@@ -75,9 +75,9 @@ longer : (keys : Keys) → hosts keys 0 extended (x_is (codes ".evil") ∷ x_is 
 unfolding look_up written_u is_unreserved
 longer keys = refl
 
-begun_by_request : (keys : Keys) → hosts keys 0 second_slash (x_is (codes "evil") ∷ []) ≡ [] ∷ codes "evil" ∷ []
+started_by_request : (keys : Keys) → hosts keys 0 second_slash (x_is (codes "evil") ∷ []) ≡ [] ∷ codes "evil" ∷ []
 unfolding look_up written_u is_unreserved
-begun_by_request keys = refl
+started_by_request keys = refl
 
 -- a cell that one row lacks: the request has it there
 filled_by_request : (keys : Keys) → map (λ (row : ℕ). host_on_row (rules_of [] []) (table keys) by_note row other_title) (0 ∷ 1 ∷ [])

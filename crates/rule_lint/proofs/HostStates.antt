@@ -3,7 +3,7 @@ use Rattle.std.proofs.Common.{◌≡◌, ℕ, ◌==◌, Bool, true, false, not, 
 use Rattle.std.specs.List.{list_any}
 use Rattle.std.proofs.lemmas.Bool.{both_ways, and_parts}
 use Rattle.text_model.specs.Texts.{Text}
-use Rattle.rule_lint.specs.Host.{slash, ends_host, after_slashes, begins_with_host, has_whole_host, is_host_begun, is_host_fixed}
+use Rattle.rule_lint.specs.Host.{slash, ends_host, after_slashes, begins_with_host, has_whole_host, has_host_started, is_host_fixed}
 
 -- `//` is still to come, and no slash is last, or one is; `//` is last; the host has begun; it has ended
 pub data State : Type 0 where
@@ -165,14 +165,14 @@ leads (b ∷ c ∷ t) = two (b == slash) (ends_host b) (c == slash) (ends_host c
     two true ends false ends_too h = h
     two false ends is_too ends_too h = h
 
-begun_by : (after : Option Text) (s : State) → LeadsTo after s → begins_with_host after ≡ true → IsReached Inside s
-begun_by None s h e = absurd (both_ways false refl e)
-begun_by (Some []) s h e = absurd (both_ways false refl e)
-begun_by (Some (b ∷ t)) s h e =
+started_by : (after : Option Text) (s : State) → LeadsTo after s → begins_with_host after ≡ true → IsReached Inside s
+started_by None s h e = absurd (both_ways false refl e)
+started_by (Some []) s h e = absurd (both_ways false refl e)
+started_by (Some (b ∷ t)) s h e =
     subst (IsReached Inside) (sym h) (inside_stays (after_byte Opened b) t (inside_next Opened (b == slash) (ends_host b) tt))
 
-pub begun_state : (t : Text) → is_host_begun t ≡ true → IsReached Inside (state_of t)
-begun_state t e = begun_by (after_slashes t) (state_of t) (leads t) e
+pub started_state : (t : Text) → has_host_started t ≡ true → IsReached Inside (state_of t)
+started_state t e = started_by (after_slashes t) (state_of t) (leads t) e
 
 -- a host that has begun ends at the first byte that can end it
 ended_by : (s : State) (t : Text) → IsReached Inside s → list_any ends_host t ≡ true → after_text s t ≡ Past

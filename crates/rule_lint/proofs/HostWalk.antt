@@ -18,13 +18,13 @@ use Rattle.uri_template.specs.Expansion.{Style, expansion, joined_by, led, part_
 use Rattle.kbart_rows.specs.Cells.{Holdings, Row}
 use Rattle.rule_parser.specs.Names.{each_once}
 use Rattle.rule_parser.specs.Rules.{RuleSet}
-use Rattle.rule_lint.specs.Host.{are_rows_own, begins_with_cell, cell_has_host, ends_host, host_names, host_of, is_host_begun, is_host_fixed, is_rows_own}
+use Rattle.rule_lint.specs.Host.{are_rows_own, begins_with_cell, cell_has_host, ends_host, host_names, host_of, has_host_started, is_host_fixed, is_rows_own}
 use Rattle.rule_lint.specs.Host.{is_specs_own}
 use Rattle.rule_lint.specs.Host.{known_text, leads_past_host, names_before_host_ends, names_of, open_among, open_names}
 use Rattle.rule_lint.specs.RowLinks.{IsBeginning}
 use Rattle.rule_lint.proofs.CellStates.{written_reached}
 use Rattle.rule_lint.proofs.HostEnds.{host_empty, host_ended, host_longer, host_past}
-use Rattle.rule_lint.proofs.HostStates.{Inside, IsReached, Outside, Past, State, after_append, after_text, begun_state, fixed_state, inside_reached, is_past}
+use Rattle.rule_lint.proofs.HostStates.{Inside, IsReached, Outside, Past, State, after_append, after_text, started_state, fixed_state, inside_reached, is_past}
 use Rattle.rule_lint.proofs.HostStates.{some_reached, state_of, text_reached}
 use Rattle.rule_lint.proofs.PieceLemmas.{HasByte, LedText, led_text, nothing_before}
 use Rattle.rule_lint.proofs.RowLooks.{RowLooks}
@@ -136,18 +136,18 @@ module _ (rules : RuleSet) (table : Holdings) (cells : Row) (look alone : LookUp
         (same_more (known_text rules table (Expression op specs)) more reached (later more))
 
     -- the row does not decide it, and it gives nothing or ends the host that has begun
-    open_kept : (op : Op) (specs : List Spec) → leads_past_host op ≡ true → is_host_begun before ≡ true
+    open_kept : (op : Op) (specs : List Spec) → leads_past_host op ≡ true → has_host_started before ≡ true
         → (after : List Text) → pieces look (style_of op) specs ≡ after → Kept [] []
         → IsKept (t ++ (part_text look (Expression op specs) ++ u)) (t ++ (part_text alone (Expression op specs) ++ v))
-    open_kept op specs ends begun [] e later =
+    open_kept op specs ends started [] e later =
         let style = style_of op in
         let nothing = nothing_before look alone style specs looks.more e in
         subst₂ (λ (x y : Text). IsKept (t ++ (x ++ u)) (t ++ (y ++ v))) (sym (ap (led style) e)) (sym (ap (led style) nothing))
         (same_more [] [] h later)
-    open_kept op specs ends begun (p ∷ ps) e later =
+    open_kept op specs ends started (p ∷ ps) e later =
         let style = style_of op in
         let first = first_is_end op ends in
-        let inside = inside_reached (state_of before) (state_of t) (begun_state before begun) h in
+        let inside = inside_reached (state_of before) (state_of t) (started_state before started) h in
         let gives : part_text look (Expression op specs) ≡ first.0 ∷ joined_by style.sep (p ∷ ps) =
         ap (led style) e ∙ ap (λ (x : Text). x ++ joined_by style.sep (p ∷ ps)) first.1 in
         subst (λ (x : Text). IsKept (t ++ (x ++ u)) (t ++ (part_text alone (Expression op specs) ++ v))) (sym gives)
@@ -159,8 +159,8 @@ module _ (rules : RuleSet) (table : Holdings) (cells : Row) (look alone : LookUp
     part_kept (Literal text) sound none later = same_more text text (text_reached (state_of before) (state_of t) text h) (later text)
     part_kept (Expression op specs) sound none later = by_own (are_rows_own rules table specs) refl
       where
-        past_open : (past : Bool) → (leads_past_host op && is_host_begun before) ≡ past → cond past [] (open_among rules table specs) ≡ []
-            → are_rows_own rules table specs ≡ false → (leads_past_host op && is_host_begun before) ≡ true
+        past_open : (past : Bool) → (leads_past_host op && has_host_started before) ≡ past → cond past [] (open_among rules table specs) ≡ []
+            → are_rows_own rules table specs ≡ false → (leads_past_host op && has_host_started before) ≡ true
         past_open true e none f = e
         past_open false e none f = absurd (open_is_some specs f none)
 
@@ -168,7 +168,7 @@ module _ (rules : RuleSet) (table : Holdings) (cells : Row) (look alone : LookUp
             → IsKept (t ++ (part_text look (Expression op specs) ++ u)) (t ++ (part_text alone (Expression op specs) ++ v))
         by_own true own = own_kept op specs sound.0 own later
         by_own false own =
-            let past = and_parts (leads_past_host op) (is_host_begun before) (past_open (leads_past_host op && is_host_begun before) refl none own) in
+            let past = and_parts (leads_past_host op) (has_host_started before) (past_open (leads_past_host op && has_host_started before) refl none own) in
             let unknown : known_text rules table (Expression op specs) ≡ [] = ap (λ (b : Bool). cond b ((style_of op).first ++ codes "x") []) own in
             open_kept op specs past.0 past.1 (pieces look (style_of op) specs) refl (subst (λ (k : Text). Kept k []) unknown (later []))
 
@@ -220,11 +220,11 @@ module _ (rules : RuleSet) (table : Holdings) (cells : Row) (look alone : LookUp
       (sym (given (look spec.name) (looks.same spec.name inner.0 ∙ cell.means))) (sym (given (alone spec.name) cell.means))
       (both_past text (expansion look parts) (expansion alone parts) past)
 
-  begun_kept : (parts : List Part) → begins_with_cell rules table parts ≡ true
+  started_kept : (parts : List Part) → begins_with_cell rules table parts ≡ true
       → ((name : Text) → list_all (cell_has_host table name) table.rows ≡ true → cell_has_host table name cells ≡ true)
       → IsKept (expansion look parts) (expansion alone parts)
-  begun_kept (Expression operator.Plus (spec ∷ []) ∷ parts) e at = cell_kept spec parts e at
-  begun_kept other e at = absurd (both_ways false refl e)
+  started_kept (Expression operator.Plus (spec ∷ []) ∷ parts) e at = cell_kept spec parts e at
+  started_kept other e at = absurd (both_ways false refl e)
 
   -- ---- a template
 
@@ -239,5 +239,5 @@ module _ (rules : RuleSet) (table : Holdings) (cells : Row) (look alone : LookUp
 
       by_beginning : (b : Bool) → begins_with_cell rules table parts ≡ b → cond b [] (each_once (names_before_host_ends rules table [] parts)) ≡ []
           → IsKept (expansion look parts) (expansion alone parts)
-      by_beginning true f e = begun_kept parts f at
+      by_beginning true f e = started_kept parts f at
       by_beginning false f e = walk [] [] parts sound tt (no_first (names_before_host_ends rules table [] parts) e)

@@ -1,23 +1,22 @@
 -- Each kind of line, and similar cases that are not reported, computed from the definitions.
-use Rattle.std.proofs.Common.{◌≡◌, ℕ, Bool, true, false, List, [], ◌∷◌, ◌++◌, Option, Some, None, map, refl, codes}
+use Rattle.std.proofs.Common.{◌≡◌, true, false, List, [], ◌∷◌, map, refl, codes}
 use Rattle.std.specs.Fmt.{digits}
 use Rattle.text_model.specs.Texts.{Text}
 use Rattle.text_model.specs.Number.{leading_number, value_from}
 use Rattle.uri_grammar.specs.declared.parts.Op.TheVariants as operator
 use Rattle.uri_grammar.specs.declared.parts.Part.{Part}
-use Rattle.uri_grammar.specs.declared.parts.Part.TheVariants.{Literal, Expression}
-use Rattle.kbart_rows.specs.Cells.{Row, Holdings}
+use Rattle.uri_grammar.specs.declared.parts.Part.TheVariants.{Literal}
+use Rattle.kbart_rows.specs.Cells.{Holdings}
 use Rattle.kbart_rows.specs.declared.keys.Keys.{Keys}
 use Rattle.rule_parser.specs.declared.rule.Bound.{Bound}
 use Rattle.rule_parser.specs.declared.rule.Bound.TheVariants as bound
 use Rattle.rule_parser.specs.declared.rule.Guard.{Guard}
 use Rattle.rule_parser.specs.declared.rule.Guard.TheVariants as guard
 use Rattle.rule_parser.specs.declared.rule.Rule.{Rule}
-use Rattle.rule_parser.specs.Rules.{RuleSet}
 use Rattle.rule_lint.specs.Names.{resembles, is_name, is_known}
 use Rattle.rule_lint.specs.Reach.{is_never_reached, never_holds}
 use Rattle.rule_lint.specs.WebLink.{is_never_web_link}
-use Rattle.rule_lint.specs.Host.{host_of, host_names, is_host_begun, is_host_fixed}
+use Rattle.rule_lint.specs.Host.{host_of, host_names, has_host_started, is_host_fixed}
 use Rattle.rule_lint.specs.Findings.{has_warning, lint_text}
 use Rattle.rule_lint.proofs.Examples.{variable, rule_of, rules_of, table_of}
 
@@ -96,9 +95,9 @@ hosts : map host_of (codes "http://e.org/a" ∷ codes "https://e.org" ∷ codes 
     ≡ codes "e.org" ∷ codes "e.org" ∷ [] ∷ codes "e.org" ∷ [] ∷ codes "e" ∷ []
 hosts = refl
 
-begun : map is_host_begun (codes "http://e" ∷ codes "http://" ∷ codes "http:/e" ∷ codes "http:///e" ∷ codes "http://?e" ∷ [])
+started : map has_host_started (codes "http://e" ∷ codes "http://" ∷ codes "http:/e" ∷ codes "http:///e" ∷ codes "http://?e" ∷ [])
     ≡ true ∷ false ∷ false ∷ false ∷ false ∷ []
-begun = refl
+started = refl
 
 fixed : map is_host_fixed (codes "http://e/" ∷ codes "http://e?" ∷ codes "http://e#" ∷ codes "http://e" ∷ codes "http:/e/" ∷ codes "http:///e/" ∷ [])
     ≡ true ∷ true ∷ true ∷ false ∷ false ∷ false ∷ []

@@ -10,7 +10,7 @@ use Rattle.environment_model.specs.Lists.{is_list}
 use Rattle.kev_read.specs.Pairs.{KeyValue}
 use Rattle.kev_read.specs.Filling.{filled}
 use Rattle.kbart_rows.specs.Cells.{Holdings, NamedCell, Row, cell_in, cell_of, column_of, defined, named_cells}
-use Rattle.row_laws.specs.Shadowing.{asked, row_of}
+use Rattle.row_laws.specs.Shadowing.{requested, row_of}
 use Rattle.rule_parser.specs.Rules.{RuleSet}
 use Rattle.rule_parser.specs.Meaning.{seen}
 use Rattle.rule_lint.specs.Names.{is_column}
@@ -24,7 +24,7 @@ pub record RowLaws : Type 0 where
   -- a cell hides the request's value of its name
   pub shadow : (lists : List Text) (cells : List NamedCell) (pairs : List KeyValue) (name : Text)
       → look_up (filled lists (row_of cells) pairs) name
-      ≡ (if is_there (row_of cells) name then look_up (row_of cells) name else look_up (asked lists pairs) name)
+      ≡ (if is_there (row_of cells) name then look_up (row_of cells) name else look_up (requested lists pairs) name)
   -- a row has the defined cell of a name
   pub cell : (header cells : Row) (name : Text) → text_of (row_of (named_cells header cells)) name ≡ cell_of header cells name
 
@@ -95,7 +95,7 @@ module _ (laws : RowLaws) (rules : RuleSet) (table : Holdings) (cells : Row) whe
       by_row : (b : Bool) → is_there entries name ≡ b → (look [] name ≡ None) ⊎ (look pairs name ≡ look [] name)
       by_row true there =
           inr (in_view pairs name (look_up entries name) (laws.shadow rules.lists (named_cells table.header cells) pairs name
-          ∙ ap (λ (b : Bool). if b then look_up entries name else look_up (asked rules.lists pairs) name) there))
+          ∙ ap (λ (b : Bool). if b then look_up entries name else look_up (requested rules.lists pairs) name) there))
       by_row false gone =
           inl (in_view [] name None (undefined (look_up entries name) gone) ∙ none_either_way (is_list rules.lists name))
 

@@ -52,8 +52,8 @@ has_whole_host (Some []) = false
 has_whole_host (Some (b ∷ t)) = not (ends_host b) && list_any ends_host t
 
 -- the host begins in the text
-abbrev pub is_host_begun : Text → Bool
-is_host_begun text = begins_with_host (after_slashes text)
+abbrev pub has_host_started : Text → Bool
+has_host_started text = begins_with_host (after_slashes text)
 
 -- the host begins and ends in the text
 abbrev pub is_host_fixed : Text → Bool
@@ -117,7 +117,7 @@ known_text rules table (Expression op specs) =
 abbrev pub open_names : RuleSet → Holdings → Text → Part → List Text
 open_names rules table before (Literal text) = []
 open_names rules table before (Expression op specs) =
-    if leads_past_host op && is_host_begun before then []
+    if leads_past_host op && has_host_started before then []
     else open_among rules table specs
 
 -- the names of the parts after this text, up to the part that ends the host

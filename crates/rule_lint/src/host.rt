@@ -8,7 +8,7 @@ ghost use Rattle.rule_lint.specs.Host.{cell_has_host as is_whole, begins_with_ce
 ghost use Rattle.rule_lint.specs.Host.{leads_past_host as leads_past, known_text, open_names, open_among};
 ghost use Rattle.rule_lint.specs.Host.{are_rows_own as all_rows_own, host_names as names_of_host};
 
-use crate::host_text::{is_host_begun, is_host_fixed};
+use crate::host_text::{has_host_started, is_host_fixed};
 use crate::target::Target;
 use crate::template_names::add_name;
 use kbart_rows::Table;
@@ -127,7 +127,7 @@ impl<'a> Target<'a> {
         match part {
             Part::Literal(_) => Ok(()),
             Part::Expression { op, specs } => {
-                if leads_past_host(*op) && is_host_begun(text.as_bytes()) {
+                if leads_past_host(*op) && has_host_started(text.as_bytes()) {
                     return Ok(());
                 }
                 self.add_open(names, specs.as_slice())

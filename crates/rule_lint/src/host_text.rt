@@ -4,7 +4,7 @@ ghost use Rattle.std.specs.Prelude.{◌≡◌, ◌&&◌, ◌==◌};
 ghost use Rattle.std.specs.List.{list_any};
 ghost use Rattle.std.specs.Option.{option_copied};
 ghost use Rattle.rule_lint.specs.Host.{slash, ends_host as is_end, after_slashes as after_two_slashes};
-ghost use Rattle.rule_lint.specs.Host.{is_host_begun as has_begun, is_host_fixed as has_ended};
+ghost use Rattle.rule_lint.specs.Host.{has_host_started as has_started, is_host_fixed as has_ended};
 
 fn ends_host(b: u8) -> bool
     ensures { result ≡ is_end b }
@@ -39,8 +39,8 @@ fn after_slashes(text: &[u8]) -> Option<&[u8]>
 }
 
 /// Whether the first `//` is followed by a byte that does not end the host.
-pub(crate) fn is_host_begun(text: &[u8]) -> bool
-    ensures { result ≡ has_begun text.now }
+pub(crate) fn has_host_started(text: &[u8]) -> bool
+    ensures { result ≡ has_started text.now }
 {
     match after_slashes(text) {
         Some([b, ..]) => !ends_host(*b),

@@ -50,7 +50,7 @@ table =
     record {
       header = codes "print_identifier" ∷ codes "site" ∷ codes "code" ∷ [];
       rows = (codes "1111-1111" ∷ codes "x" ∷ codes "a" ∷ []) ∷ (codes "1234-567X" ∷ [] ∷ []) ∷ (codes "1234-567X" ∷ codes "x" ∷ codes "b" ∷ []) ∷ [];
-      keys = record { begun = initial };
+      keys = record { hasher = initial };
     }
 
 abbrev alpha : RuleTarget

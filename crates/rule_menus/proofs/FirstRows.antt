@@ -20,8 +20,8 @@ module _ (f : ℕ → Resolution) (p : ℕ → Bool) (own : (row place : ℕ) (l
     pub links : f row ≡ Link row link
     pub first : (other : ℕ) → from ≤ other → other < from + n → p other ≡ true → is_link (f other) ≡ true → row ≤ other
 
-  abbrev tried : ℕ → ℕ → List Resolution
-  tried from n = map f (filter p (range_with_len from n))
+  abbrev attempts : ℕ → ℕ → List Resolution
+  attempts from n = map f (filter p (range_with_len from n))
 
   -- a row before them that is not tried, or has no link, changes nothing
   wider : (from n row : ℕ) (link : Text) → (p from ≡ true → is_link (f from) ≡ true → ⊥) → IsFirstFrom (from + 1) n row link → IsFirstFrom from (suc n) row link
@@ -49,18 +49,18 @@ module _ (f : ℕ → Resolution) (p : ℕ → Bool) (own : (row place : ℕ) (l
 
   -- the claim for the rows after the first one
   abbrev FirstIfChosen : ℕ → ℕ → ℕ → Text → Type 0
-  FirstIfChosen from n row link = (before : Resolution) → is_link before ≡ false → chosen before (tried from n) ≡ Link row link → IsFirstFrom from n row link
+  FirstIfChosen from n row link = (before : Resolution) → is_link before ≡ false → chosen before (attempts from n) ≡ Link row link → IsFirstFrom from n row link
 
   abbrev ChosenIfFirst : ℕ → ℕ → ℕ → Text → Type 0
-  ChosenIfFirst from n row link = (before : Resolution) → IsFirstFrom from n row link → chosen before (tried from n) ≡ Link row link
+  ChosenIfFirst from n row link = (before : Resolution) → IsFirstFrom from n row link → chosen before (attempts from n) ≡ Link row link
 
-  pub first_if_chosen : (n from : ℕ) (before : Resolution) (row : ℕ) (link : Text) → is_link before ≡ false → chosen before (tried from n) ≡ Link row link
+  pub first_if_chosen : (n from : ℕ) (before : Resolution) (row : ℕ) (link : Text) → is_link before ≡ false → chosen before (attempts from n) ≡ Link row link
       → IsFirstFrom from n row link
   first_if_chosen zero from before row link unlinked_before is = absurd (false≢true (sym unlinked_before ∙ ap is_link is))
   first_if_chosen (suc n) from before row link unlinked_before is = by_test (p from) refl is (λ last. first_if_chosen n (from + 1) last row link)
     where
       by_link : (b : Bool) → is_link (f from) ≡ b → p from ≡ true
-          → unwrap_or (cond b (Some (f from)) (find is_link (tried (from + 1) n))) (last_resolution (f from) (tried (from + 1) n)) ≡ Link row link
+          → unwrap_or (cond b (Some (f from)) (find is_link (attempts (from + 1) n))) (last_resolution (f from) (attempts (from + 1) n)) ≡ Link row link
           → FirstIfChosen (from + 1) n row link → IsFirstFrom from (suc n) row link
       by_link true linked passes is rest =
           let same : row ≡ from = own from row link is in
@@ -79,26 +79,27 @@ module _ (f : ℕ → Resolution) (p : ℕ → Bool) (own : (row place : ℕ) (l
       by_test true passes is rest = by_link (is_link (f from)) refl passes is rest
       by_test false fails is rest = wider from n row link (λ pass linked. false≢true (sym fails ∙ pass)) (rest before unlinked_before is)
 
-  pub chosen_if_first : (n from : ℕ) (before : Resolution) (row : ℕ) (link : Text) → IsFirstFrom from n row link → chosen before (tried from n) ≡ Link row link
+  pub chosen_if_first : (n from : ℕ) (before : Resolution) (row : ℕ) (link : Text) → IsFirstFrom from n row link
+      → chosen before (attempts from n) ≡ Link row link
   chosen_if_first zero from before row link h = absurd (omega (arith, h.after, h.there))
   chosen_if_first (suc n) from before row link h = by_test (p from) refl (λ last. chosen_if_first n (from + 1) last row link)
     where
       -- the row is after the first one, if it is not that one
-      behind : (row ≡ from → ⊥) → IsFirstFrom (from + 1) n row link
-      behind other =
+      following : (row ≡ from → ⊥) → IsFirstFrom (from + 1) n row link
+      following other =
           narrower from n row link
           (⊎_elim (λ lt. lt) (λ le. let same : row ≡ from = omega (arith, h.after) in absurd (other same)) (cases_lt from row)) h
 
       by_link : (b : Bool) → is_link (f from) ≡ b → p from ≡ true → ChosenIfFirst (from + 1) n row link
-          → unwrap_or (cond b (Some (f from)) (find is_link (tried (from + 1) n))) (last_resolution (f from) (tried (from + 1) n)) ≡ Link row link
+          → unwrap_or (cond b (Some (f from)) (find is_link (attempts (from + 1) n))) (last_resolution (f from) (attempts (from + 1) n)) ≡ Link row link
       by_link true linked passes rest =
           let le : row ≤ from = h.first from (omega arith) (omega arith) passes linked in
           let same : row ≡ from = omega (arith, h.after) in
           subst (λ k. f k ≡ Link row link) same h.links
       by_link false unlinked passes rest =
-          rest (f from) (behind (λ same. false≢true (sym unlinked ∙ ap (λ k. is_link (f k)) (sym same) ∙ ap is_link h.links)))
+          rest (f from) (following (λ same. false≢true (sym unlinked ∙ ap (λ k. is_link (f k)) (sym same) ∙ ap is_link h.links)))
 
       by_test : (b : Bool) → p from ≡ b → ChosenIfFirst (from + 1) n row link
           → chosen before (map f (if b then (from ∷ filter p (range_with_len (from + 1) n)) else filter p (range_with_len (from + 1) n))) ≡ Link row link
       by_test true passes rest = by_link (is_link (f from)) refl passes rest
-      by_test false fails rest = rest before (behind (λ same. false≢true (sym fails ∙ ap p (sym same) ∙ h.passes)))
+      by_test false fails rest = rest before (following (λ same. false≢true (sym fails ∙ ap p (sym same) ∙ h.passes)))

@@ -45,36 +45,36 @@ module _ (lines : List Text) where
   marks : (a b : Text) → last_line lines ≡ Some a → last_line lines ≡ Some b → get_or a 4 0 ≡ get_or b 4 0
   marks a b x y = ap (λ (line : Text). get_or line 4 0) (one_line a b x y)
 
-  abbrev IsSaid : (r other : Resolution) → Type 0
-  IsSaid r other = (resolution_text r ≡ resolution_text other) × ((name : Text) → link_under name r ≡ link_under name other)
+  abbrev IsSameText : (r other : Resolution) → Type 0
+  IsSameText r other = (resolution_text r ≡ resolution_text other) × ((name : Text) → link_under name r ≡ link_under name other)
 
-  one_said : (r other : Resolution) → EndAs lines r → EndAs lines other → IsSaid r other
-  one_said resolution.NoRow resolution.NoRow x y = (refl, λ name. refl)
-  one_said resolution.NoRow resolution.NoLink x y = absurd (omega (arith, marks _ _ x y))
-  one_said resolution.NoRow resolution.NotAWebLink x y = absurd (omega (arith, marks _ _ x y))
-  one_said resolution.NoRow (resolution.Link row link) x y = absurd (omega (arith, marks _ _ x y.2))
-  one_said resolution.NoLink resolution.NoRow x y = absurd (omega (arith, marks _ _ x y))
-  one_said resolution.NoLink resolution.NoLink x y = (refl, λ name. refl)
-  one_said resolution.NoLink resolution.NotAWebLink x y = absurd (omega (arith, marks _ _ x y))
-  one_said resolution.NoLink (resolution.Link row link) x y = absurd (omega (arith, marks _ _ x y.2))
-  one_said resolution.NotAWebLink resolution.NoRow x y = absurd (omega (arith, marks _ _ x y))
-  one_said resolution.NotAWebLink resolution.NoLink x y = absurd (omega (arith, marks _ _ x y))
-  one_said resolution.NotAWebLink resolution.NotAWebLink x y = (refl, λ name. refl)
-  one_said resolution.NotAWebLink (resolution.Link row link) x y = absurd (omega (arith, marks _ _ x y.2))
-  one_said (resolution.Link row link) resolution.NoRow x y = absurd (omega (arith, marks _ _ x.2 y))
-  one_said (resolution.Link row link) resolution.NoLink x y = absurd (omega (arith, marks _ _ x.2 y))
-  one_said (resolution.Link row link) resolution.NotAWebLink x y = absurd (omega (arith, marks _ _ x.2 y))
-  one_said (resolution.Link row link) (resolution.Link place text) x y =
+  one_text : (r other : Resolution) → EndAs lines r → EndAs lines other → IsSameText r other
+  one_text resolution.NoRow resolution.NoRow x y = (refl, λ name. refl)
+  one_text resolution.NoRow resolution.NoLink x y = absurd (omega (arith, marks _ _ x y))
+  one_text resolution.NoRow resolution.NotAWebLink x y = absurd (omega (arith, marks _ _ x y))
+  one_text resolution.NoRow (resolution.Link row link) x y = absurd (omega (arith, marks _ _ x y.2))
+  one_text resolution.NoLink resolution.NoRow x y = absurd (omega (arith, marks _ _ x y))
+  one_text resolution.NoLink resolution.NoLink x y = (refl, λ name. refl)
+  one_text resolution.NoLink resolution.NotAWebLink x y = absurd (omega (arith, marks _ _ x y))
+  one_text resolution.NoLink (resolution.Link row link) x y = absurd (omega (arith, marks _ _ x y.2))
+  one_text resolution.NotAWebLink resolution.NoRow x y = absurd (omega (arith, marks _ _ x y))
+  one_text resolution.NotAWebLink resolution.NoLink x y = absurd (omega (arith, marks _ _ x y))
+  one_text resolution.NotAWebLink resolution.NotAWebLink x y = (refl, λ name. refl)
+  one_text resolution.NotAWebLink (resolution.Link row link) x y = absurd (omega (arith, marks _ _ x y.2))
+  one_text (resolution.Link row link) resolution.NoRow x y = absurd (omega (arith, marks _ _ x.2 y))
+  one_text (resolution.Link row link) resolution.NoLink x y = absurd (omega (arith, marks _ _ x.2 y))
+  one_text (resolution.Link row link) resolution.NotAWebLink x y = absurd (omega (arith, marks _ _ x.2 y))
+  one_text (resolution.Link row link) (resolution.Link place text) x y =
       let number : decimal row ≡ decimal place = ap (drop 4) (same_Some (row_line row) (row_line place) (sym x.0 ∙ y.0)) in
       let link_is = same_link x.1 y.1 link text (one_line _ _ x.2 y.2) in (
         ap (λ t. codes "link " ++ t) number,
         λ name. ap (λ t. Some (record { name = name; link = t })) link_is,
       )
-  one_said (resolution.OverBudget bytes) other x y = absurd x
-  one_said r (resolution.OverBudget bytes) x y = absurd y
+  one_text (resolution.OverBudget bytes) other x y = absurd x
+  one_text r (resolution.OverBudget bytes) x y = absurd y
 
   pub same_report : (r other : Resolution) → EndAs lines r → EndAs lines other → resolution_text r ≡ resolution_text other
-  same_report r other x y = (one_said r other x y).0
+  same_report r other x y = (one_text r other x y).0
 
   pub same_named_link : (name : Text) (r other : Resolution) → EndAs lines r → EndAs lines other → link_under name r ≡ link_under name other
-  same_named_link name r other x y = (one_said r other x y).1 name
+  same_named_link name r other x y = (one_text r other x y).1 name

@@ -10,7 +10,7 @@ use Rattle.machine_model.specs.Runs.{HasOutcome, Outcome}
 use Rattle.kev_read.specs.Pairs.{KeyValue, first_of, all_of}
 use Rattle.kev_read.specs.Filling.{filled}
 use Rattle.kbart_rows.specs.Cells.{NamedCell, named_cells}
-use Rattle.row_laws.specs.Shadowing.{asked, row_of}
+use Rattle.row_laws.specs.Shadowing.{requested, row_of}
 use Rattle.row_scope.specs.RowEnvironments.{cells_of_row, lists_of}
 use Rattle.rule_parser.specs.Rules.{RuleSet, IsSound}
 use Rattle.rule_parser.specs.Meaning.{meaning}
@@ -30,12 +30,12 @@ pub record LawsBelow : Type 0 where
   -- a cell hides the request's value of its name
   pub shadow : (lists : List Text) (cells : List NamedCell) (pairs : List KeyValue) (name : Text)
       → look_up (filled lists (row_of cells) pairs) name
-      ≡ (if is_there (row_of cells) name then look_up (row_of cells) name else look_up (asked lists pairs) name)
+      ≡ (if is_there (row_of cells) name then look_up (row_of cells) name else look_up (requested lists pairs) name)
   -- a request has the first value of a key as a text, or all of them as a list
   pub texts : (lists : List Text) (pairs : List KeyValue) (key : Text)
-      → text_of (asked lists pairs) key ≡ (if is_list lists key then None else first_of pairs key)
+      → text_of (requested lists pairs) key ≡ (if is_list lists key then None else first_of pairs key)
   pub members : (lists : List Text) (pairs : List KeyValue) (key : Text)
-      → members_of (asked lists pairs) key ≡ (if is_list lists key then all_of pairs key else [])
+      → members_of (requested lists pairs) key ≡ (if is_list lists key then all_of pairs key else [])
   pub means : CodeMeansRules
   -- each name of their code has the kind that they declare
   pub declared : (rules : RuleSet) → IsSound rules → All (IsDeclared rules.lists) (code_of rules).names
@@ -49,15 +49,15 @@ module _ (laws : LawsBelow) where
 
     -- a result that depends on the request only through the kind of the name
     agrees : {X : Type 0} (read : Option Meaning → X) (by_kind : Bool → X) (name : Text)
-        → read (look_up (asked lists pairs) name) ≡ by_kind (is_list lists name)
-        → read (look_up (asked others pairs) name) ≡ by_kind (is_list others name)
+        → read (look_up (requested lists pairs) name) ≡ by_kind (is_list lists name)
+        → read (look_up (requested others pairs) name) ≡ by_kind (is_list others name)
         → is_list lists name ≡ is_list others name
         → read (look_up (filled lists entries pairs) name) ≡ read (look_up (filled others entries pairs) name)
     agrees read by_kind name here there same =
         ap read (laws.shadow lists cells pairs name) ∙ by_row (is_there entries name) ∙ ap read (sym (laws.shadow others cells pairs name))
       where
-        by_row : (b : Bool) → read (if b then look_up entries name else look_up (asked lists pairs) name)
-            ≡ read (if b then look_up entries name else look_up (asked others pairs) name)
+        by_row : (b : Bool) → read (if b then look_up entries name else look_up (requested lists pairs) name)
+            ≡ read (if b then look_up entries name else look_up (requested others pairs) name)
         by_row true = refl
         by_row false = here ∙ ap by_kind same ∙ sym there
 

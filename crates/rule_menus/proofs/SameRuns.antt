@@ -11,7 +11,8 @@ use Rattle.machine_model.specs.Operands.{has_right_operands, is_right, is_in_tab
 use Rattle.machine_model.specs.Values as value
 use Rattle.machine_model.specs.Values.{text_or_undefined}
 use Rattle.machine_model.specs.States.{Frame, State, Running, Ended, on, holding}
-use Rattle.machine_model.specs.Step.{Move, Goes, Does, halt, fail, jump, text, list, const, number, no_number, undefined, defined, empty, not_empty, no_member}
+use Rattle.machine_model.specs.Step.{Move, MovesTo, Does, halt, fail, jump, text, list}
+use Rattle.machine_model.specs.Step.{const, number, no_number, undefined, defined, empty, not_empty, no_member}
 use Rattle.machine_model.specs.Step.{a_member, equal, different, less, not_less, emit, put_text, cut_text, no_turn, enter, first_turn, later_turn, next_member}
 use Rattle.machine_model.specs.Step.{leave, count, Step}
 use Rattle.machine_model.specs.Runs.{After}
@@ -57,9 +58,9 @@ module _ (c : Code) (v w : Environment) (agree : AgreeOn c v w) where
   same_move s _ _ right fail = fail
   same_move s _ _ right (jump d) = jump d
   same_move s _ _ right (text a b) =
-      subst (λ o. Does c w s (instruction.Text a b) (Goes (on (holding a (text_or_undefined o) s)))) (sym (text_same a b right)) (text a b)
+      subst (λ o. Does c w s (instruction.Text a b) (MovesTo (on (holding a (text_or_undefined o) s)))) (sym (text_same a b right)) (text a b)
   same_move s _ _ right (list a b) =
-      subst (λ ts. Does c w s (instruction.List a b) (Goes (on (holding a (value.List ts) s)))) (sym (members_same a b right)) (list a b)
+      subst (λ ts. Does c w s (instruction.List a b) (MovesTo (on (holding a (value.List ts) s)))) (sym (members_same a b right)) (list a b)
   same_move s _ _ right (const a b) = const a b
   same_move s _ _ right (number a b d n t h k) = number a b d n t h k
   same_move s _ _ right (no_number a b d t h k) = no_number a b d t h k

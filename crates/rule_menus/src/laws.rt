@@ -33,7 +33,7 @@ ghost use Rattle.rule_menus.specs.CodeFiles.{IsCodeFileOf, AreReadFrom};
 ghost use Rattle.rule_menus.specs.Replies.{HasReply, page_by_rules};
 
 use code_file::laws::{code_has_one_file, file_has_one_code};
-use compiler_model::laws::{code_comes_to_what_rules_mean, compiled_code_is_accepted};
+use compiler_model::laws::{code_gives_what_rules_mean, compiled_code_is_accepted};
 use http_request::laws::one_route;
 use machine_laws::course_is_decided;
 use row_laws::{requests_by_keys, rows_shadow_requests};
@@ -57,7 +57,7 @@ pub fn menus_are_what_rules_mean()
         → html (menu_of (map coded targets) pairs) ≡ html (menu_by_rules targets pairs) }
 {
     unused_lists_change_no_link();
-    code_comes_to_what_rules_mean();
+    code_gives_what_rules_mean();
     course_is_decided();
 }
 
@@ -106,7 +106,7 @@ pub fn unused_lists_change_no_link()
         → meaning target.rules (environment_by_code target pairs row)
         ≡ meaning target.rules (environment_by_rules target pairs row) }
 {
-    code_comes_to_what_rules_mean();
+    code_gives_what_rules_mean();
     compiled_code_is_accepted();
     rows_shadow_requests();
     requests_by_keys();

@@ -72,9 +72,9 @@ escaped_plain_text (b ∷ bs) h = escaped_plain b bs h.0 ∙ ap (λ t. b ∷ t) 
 not_both : (b d : ℕ) → is_special b ≡ false → b ≡ d → is_special d ≡ true → ⊥
 not_both b d p e s = both_ways (is_special b) p (ap is_special e ∙ s)
 
-rest_behind_bytes : (d b : ℕ) (t s more : Text) → (escaped t ≡ escaped s ++ more → (u : Text) × (escaped u ≡ more)) → escaped (d ∷ t) ≡ escaped (b ∷ s) ++ more
+rest_after_bytes : (d b : ℕ) (t s more : Text) → (escaped t ≡ escaped s ++ more → (u : Text) × (escaped u ≡ more)) → escaped (d ∷ t) ≡ escaped (b ∷ s) ++ more
     → (u : Text) × (escaped u ≡ more)
-rest_behind_bytes d b t s more next e =
+rest_after_bytes d b t s more next e =
     elim (cases_Bool (is_special b)) [
       | inl x ↦ elim (cases_Bool (is_special d)) [
         | inl y ↦ next (same_parts _ _ _ _ (same_parts _ _ _ _ (sym (escaped_special d t y) ∙ e ∙ ap (λ v. v ++ more) (escaped_special b s x))).1).1
@@ -98,7 +98,7 @@ escaped_rest [] (b ∷ s) more e =
       | inl x ↦ absurd (not_empty _ _ (e ∙ ap (λ t. t ++ more) (escaped_special b s x)))
       | inr x ↦ absurd (not_empty _ _ (e ∙ ap (λ t. t ++ more) (escaped_plain b s x)))
     ]
-escaped_rest (d ∷ t) (b ∷ s) more e = rest_behind_bytes d b t s more (escaped_rest t s more) e
+escaped_rest (d ∷ t) (b ∷ s) more e = rest_after_bytes d b t s more (escaped_rest t s more) e
 
 backslash_is_no_quote : (s t : Text) → 92 ∷ s ≡ 34 ∷ t → ⊥
 backslash_is_no_quote s t e = cc
@@ -183,8 +183,8 @@ pub not_escaped : (whole t rest next : Text) (c : ℕ) (waits : Bool) → (is_sp
 not_escaped whole t rest next c true s n w r u e =
     let plain : is_special c ≡ false = elim (cases_Bool (is_special c)) [ inl y ↦ absurd (s y) | inr y ↦ y ] in
     let tail = escaped_rest u t (92 ∷ rest) (sym e ∙ w) in
-    let behind = after_backslash tail.0 rest tail.1 in
-    plain_first (encode_utf8 c) next (plain_bytes c plain) (encode_is_not_empty c) (behind.0, behind.1, sym r ∙ behind.2, behind.3)
+    let following = after_backslash tail.0 rest tail.1 in
+    plain_first (encode_utf8 c) next (plain_bytes c plain) (encode_is_not_empty c) (following.0, following.1, sym r ∙ following.2, following.3)
 not_escaped whole t rest next c false s n w r u e =
     let x : is_special c ≡ true = elim (cases_Bool (is_special c)) [ inl y ↦ y | inr y ↦ absurd (s y) ] in
     let quote : c ≡ 34 = elim (special_is c x) [ inl y ↦ y | inr y ↦ absurd (n y) ] in
@@ -199,8 +199,8 @@ not_escaped_at_end whole t (b ∷ rest) waits x l w u e = absurd (omega (arith, 
 not_escaped_at_end whole t [] false x l w u e = cc
 not_escaped_at_end whole t [] true x l w u e =
     let tail = escaped_rest u t (92 ∷ []) (sym e ∙ w) in
-    let behind = after_backslash tail.0 [] tail.1 in
-    not_empty behind.0 behind.1 behind.2
+    let following = after_backslash tail.0 [] tail.1 in
+    not_empty following.0 following.1 following.2
 
 -- ---- a test whether two Booleans are equal
 

@@ -12,7 +12,7 @@ use Rattle.rule_parser.specs.Statements.{Statement, Begin, line_of, statements}
 use Rattle.rule_parser.specs.Grammar.{significant, IsRuleText}
 use Rattle.rule_parser.specs.Faults.{RulesSoFar, AreSoundSoFar, statements_so_far, IsLineFault, EndsRule, IsRefused}
 use Rattle.rule_parser.proofs.LineNumbers.{line_number, IsNumberedFault, line_fault, open_rule as open_fault, numbered_fault}
-use Rattle.rule_parser.proofs.LawLemmas.{OneTree, Follows, so_far_same, goes_on}
+use Rattle.rule_parser.proofs.LawLemmas.{OneTree, Follows, so_far_same, continues}
 use Rattle.rule_parser.proofs.TokenLemmas.{same_parts}
 use Rattle.rule_parser.proofs.LineLaws.{statement_same, HasNext, compare}
 use Rattle.rule_parser.proofs.FaultLaws.{IsBadText, NoFault, OneFault, bad_text, bad_text_same, begin_is_not_faulty, complete, complete_is_sound}
@@ -23,7 +23,7 @@ extends_not : OneTree → NoFault → (b c : RulesSoFar) (line : Text) (k : Rule
     → IsLineFault b line k
     → HasNext (statements_so_far b) (statements_so_far c) (line ∷ rest) → ⊥
 extends_not tree none b c line k rest s t fault n =
-    let next = goes_on tree b c n.next n.more s t n.goes_on in
+    let next = continues tree b c n.next n.more s t n.continues in
     faulty_is_no_next tree none b line k n.next next.0 fault n.is_statement (same_parts line (line_of n.next) rest n.rest n.spelled).0 next.1
 
 nothing_next : (ss ts : List Statement) → HasNext ss ts [] → ⊥
@@ -39,7 +39,7 @@ open_not_extended : OneTree → (whole : RuleSet) (guards : List Guard) (c : Rul
 open_not_extended tree whole guards c [] s t r n = nothing_next (statements_so_far (record { whole = whole; guards = Some guards })) (statements_so_far c) n
 open_not_extended tree whole guards c (line ∷ rest) s t r n =
     let b : RulesSoFar = record { whole = whole; guards = Some guards } in
-    let next = goes_on tree b c n.next n.more s t n.goes_on in
+    let next = continues tree b c n.next n.more s t n.continues in
     let begin : n.next ≡ Begin = statement_same n.next Begin n.is_statement tt (sym (same_parts line (line_of n.next) rest n.rest n.spelled).0 ∙ r) in
     no_begin (subst (λ x. Follows b x next.0) begin next.1).0
   where
@@ -114,20 +114,20 @@ rules_have_no_fault tree none ls rules k at s e (open_fault l whole guards rest 
 -- a faulty line, and a rule without its link, cannot both be the first fault
 line_and_open : OneTree → NoFault → (ls : List Text) (b : RulesSoFar) (line : Text) (rest : List Text) (k : RuleErrorKind) (whole : RuleSet)
     (guards : List Guard)
-    (behind : List Text) → AreSoundSoFar b → significant ls ≡ map line_of (statements_so_far b) ++ line ∷ rest → IsLineFault b line k
+    (following : List Text) → AreSoundSoFar b → significant ls ≡ map line_of (statements_so_far b) ++ line ∷ rest → IsLineFault b line k
     → AreSoundSoFar (open_rule whole guards)
-    → significant ls ≡ map line_of (statements_so_far (open_rule whole guards)) ++ behind → EndsRule behind → ⊥
-line_and_open tree none ls b line rest k whole guards behind s e fault t f r =
+    → significant ls ≡ map line_of (statements_so_far (open_rule whole guards)) ++ following → EndsRule following → ⊥
+line_and_open tree none ls b line rest k whole guards following s e fault t f r =
     by_comparison
-    (compare (statements_so_far b) (statements_so_far (open_rule whole guards)) (line ∷ rest) behind (so_far_are_statements b s)
+    (compare (statements_so_far b) (statements_so_far (open_rule whole guards)) (line ∷ rest) following (so_far_are_statements b s)
     (so_far_are_statements (open_rule whole guards) t) (sym e ∙ f))
   where
-    by_comparison : ((statements_so_far b ≡ statements_so_far (open_rule whole guards)) × (line ∷ rest ≡ behind))
+    by_comparison : ((statements_so_far b ≡ statements_so_far (open_rule whole guards)) × (line ∷ rest ≡ following))
         ⊎ (HasNext (statements_so_far b) (statements_so_far (open_rule whole guards)) (line ∷ rest)
-        ⊎ HasNext (statements_so_far (open_rule whole guards)) (statements_so_far b) behind) → ⊥
+        ⊎ HasNext (statements_so_far (open_rule whole guards)) (statements_so_far b) following) → ⊥
     by_comparison (inl p) = begin_is_not_faulty b line k fault (subst EndsRule (sym p.1) r)
     by_comparison (inr (inl n)) = extends_not tree none b (open_rule whole guards) line k rest s t fault n
-    by_comparison (inr (inr n)) = open_not_extended tree whole guards b behind t s r n
+    by_comparison (inr (inr n)) = open_not_extended tree whole guards b following t s r n
 
 -- a faulty line, and another first fault of the same lines, are the same
 line_fault_same : OneTree → NoFault → OneFault → (ls : List Text) (b : RulesSoFar) (line : Text) (rest : List Text) (k : RuleErrorKind) (other : RuleErrorKind)

@@ -94,12 +94,12 @@ special_more b t s (None, n) = (
 
 no_special : (b : ℕ) (t : Text) → is_special b ≡ false → (v : Text) → 92 ∷ b ∷ t ≡ escaped v → ⊥
 no_special b t p v e =
-    let behind = after_backslash v (b ∷ t) (sym e) in
-    let first : b ≡ behind.0 = cc (behind.2) in
-    both_ways (is_special b) p (ap is_special first ∙ behind.3)
+    let following = after_backslash v (b ∷ t) (sym e) in
+    let first : b ≡ following.0 = cc (following.2) in
+    both_ways (is_special b) p (ap is_special first ∙ following.3)
 
 no_end : (v : Text) → 92 ∷ [] ≡ escaped v → ⊥
-no_end v e = let behind = after_backslash v [] (sym e) in let none : [] ≡ behind.0 ∷ behind.1 = behind.2 in cc
+no_end v e = let following = after_backslash v [] (sym e) in let none : [] ≡ following.0 ∷ following.1 = following.2 in cc
 
 escaped_choice : (text : Text) → (read : Option Text) × ReadsEscaped text read
 escaped_choice [] = (Some [], refl)
@@ -116,8 +116,8 @@ escaped_choice (b ∷ c ∷ text) = by_case (cases_Bool (is_special b)) (escaped
     by_case : (is_special b ≡ true) ⊎ (is_special b ≡ false) → (read : Option Text) × ReadsEscaped (c ∷ text) read → (read : Option Text)
         × ReadsEscaped text read
         → (read : Option Text) × ReadsEscaped (b ∷ c ∷ text) read
-    by_case (inr p) behind more = plain_more b (c ∷ text) p behind
-    by_case (inl s) behind more =
+    by_case (inr p) following more = plain_more b (c ∷ text) p following
+    by_case (inl s) following more =
         elim (special_is b s) [
           | inl quote ↦ (None, λ v e. not_quote v (c ∷ text) (sym e ∙ ap (λ x. x ∷ c ∷ text) quote))
           | inr backslash ↦ subst (λ x. (read : Option Text) × ReadsEscaped (x ∷ c ∷ text) read) (sym backslash)

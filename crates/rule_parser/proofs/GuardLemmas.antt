@@ -66,7 +66,7 @@ pub no_bounds_without_high : (t l rest u : Text) → t ≡ l ++ 32 ∷ rest → 
     → (low high : Bound) → AreBounds low high → t ≡ bounds_text low high → ⊥
 no_bounds_without_high t l rest u s r w h low high b e =
     let whole : l ++ 32 ∷ rest ≡ bounds_text low high = cc in
-    let behind : rest ≡ codes "to " ++ bound_text high = (bounds_tokens low high l rest w b.0 whole).1 in
+    let following : rest ≡ codes "to " ++ bound_text high = (bounds_tokens low high l rest w b.0 whole).1 in
     h high b.1 (cc)
 
 pub bounds_read : (t l rest u : Text) (low high : Bound) → t ≡ l ++ 32 ∷ rest → rest ≡ codes "to " ++ u → ReadsBound l (Some low) → ReadsBound u (Some high)

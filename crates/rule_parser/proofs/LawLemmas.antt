@@ -144,9 +144,9 @@ so_far_same one b c s t e =
     runs_same one no_rules (statements_so_far c) b c (subst (λ ss. Runs no_rules ss b) e (so_far_runs b s)) (so_far_runs c t)
 
 -- a statement after those of the rules so far continues them
-pub goes_on : OneTree → (b c : RulesSoFar) (s : Statement) (more : List Statement) → AreSoundSoFar b → AreSoundSoFar c
+pub continues : OneTree → (b c : RulesSoFar) (s : Statement) (more : List Statement) → AreSoundSoFar b → AreSoundSoFar c
     → statements_so_far c ≡ statements_so_far b ++ s ∷ more → (d : RulesSoFar) × Follows b s d
-goes_on one b c s more p q e =
+continues one b c s more p q e =
     let split = runs_split no_rules (statements_so_far b) (s ∷ more) c (subst (λ ss. Runs no_rules ss c) e (so_far_runs c q)) in
     let same : split.0 ≡ b = runs_same one no_rules (statements_so_far b) split.0 b split.1 (so_far_runs b p) in
     (split.2.0, subst (λ x. Follows x s split.2.0) same split.2.1)

@@ -24,7 +24,7 @@ use Rattle.rule_parser.specs.declared.rules.TheConstants.{MAX_BYTES}
 use Rattle.rule_parser.specs.Grammar.{is_significant, significant, IsRuleText}
 use Rattle.rule_parser.specs.Faults.{RulesSoFar, AreSoundSoFar, statements_so_far, takes_lists, IsLineFault, no_statement, out_of_order, bad_template}
 use Rattle.rule_parser.specs.Faults.{mismatched_guard, mismatched_link, IsFirstFault, IsRefused}
-use Rattle.rule_parser.specs.Private.Progress.{GoesOn, no_rules}
+use Rattle.rule_parser.specs.Private.Progress.{Continues, no_rules}
 use Rattle.rule_parser.specs.Private.Reading.{ReadsGuard}
 use Rattle.rule_parser.proofs.LineNumbers.{line_number, line_fault, open_rule, first_fault}
 use Rattle.rule_parser.proofs.ReaderLemmas.{stage, begins, declares, guards_more, links, no_list, no_when, no_other}
@@ -122,43 +122,45 @@ statement_choice line =
 -- ---- one more line
 
 -- the line continues the rules so far, or is faulty, or begins a rule in another one
-abbrev Goes : RulesSoFar → Text → Type 0
-Goes b line = ((new : RulesSoFar) × GoesOn b new line) ⊎ ((k : RuleErrorKind) × IsLineFault b line k) ⊎ ((line ≡ line_of Begin) × (is_some b.guards ≡ true))
+abbrev Proceeds : RulesSoFar → Text → Type 0
+Proceeds b line = ((new : RulesSoFar) × Continues b new line) ⊎ ((k : RuleErrorKind) × IsLineFault b line k)
+    ⊎ ((line ≡ line_of Begin) × (is_some b.guards ≡ true))
 
-faulty : (b : RulesSoFar) (line : Text) (k : RuleErrorKind) → IsLineFault b line k → Goes b line
+faulty : (b : RulesSoFar) (line : Text) (k : RuleErrorKind) → IsLineFault b line k → Proceeds b line
 faulty b line k f = inr (inl (k, f))
 
-goes : (b new : RulesSoFar) (line : Text) → GoesOn b new line → Goes b line
-goes b new line g = inl (new, g)
+proceeds : (b new : RulesSoFar) (line : Text) → Continues b new line → Proceeds b line
+proceeds b new line g = inl (new, g)
 
 declared_choice : (lists : List Text) (rules : List Rule) (o : Option (List Guard)) (name : Text) → IsName name → AreSoundSoFar (stage lists rules o)
-    → (takes_lists (stage lists rules o) ≡ true) ⊎ (takes_lists (stage lists rules o) ≡ false) → Goes (stage lists rules o) (line_of (Declare name))
+    → (takes_lists (stage lists rules o) ≡ true) ⊎ (takes_lists (stage lists rules o) ≡ false) → Proceeds (stage lists rules o) (line_of (Declare name))
 declared_choice lists rules o name n s (inr f) = faulty (stage lists rules o) _ _ (out_of_order (stage lists rules o) (Declare name) n f)
-declared_choice lists rules None name n s (inl t) = goes (stage lists rules None) _ _ (declares lists rules None [] name t n s)
+declared_choice lists rules None name n s (inl t) = proceeds (stage lists rules None) _ _ (declares lists rules None [] name t n s)
 declared_choice lists rules (Some gs) name n s (inl t) = absurd (cc)
 
 begin_choice : (lists : List Text) (rules : List Rule) (o : Option (List Guard)) → AreSoundSoFar (stage lists rules o)
-    → Goes (stage lists rules o) (line_of Begin)
-begin_choice lists rules None s = goes (stage lists rules None) _ _ (begins lists rules None [] refl s)
+    → Proceeds (stage lists rules o) (line_of Begin)
+begin_choice lists rules None s = proceeds (stage lists rules None) _ _ (begins lists rules None [] refl s)
 begin_choice lists rules (Some gs) s = inr (inr (refl, refl))
 
 guarded_choice : (lists : List Text) (rules : List Rule) (o : Option (List Guard)) (g : Guard) → IsGuard g → AreSoundSoFar (stage lists rules o)
-    → (guard_fits lists g ≡ true) ⊎ (guard_fits lists g ≡ false) → Goes (stage lists rules o) (line_of (When g))
+    → (guard_fits lists g ≡ true) ⊎ (guard_fits lists g ≡ false) → Proceeds (stage lists rules o) (line_of (When g))
 guarded_choice lists rules None g h s f = faulty (stage lists rules None) _ _ (out_of_order (stage lists rules None) (When g) h refl)
 guarded_choice lists rules (Some gs) g h s (inl t) =
-    goes (stage lists rules (Some gs)) _ _ (guards_more lists rules (Some 0) gs g refl (record { tokens = h; kinds = t }) s)
+    proceeds (stage lists rules (Some gs)) _ _ (guards_more lists rules (Some 0) gs g refl (record { tokens = h; kinds = t }) s)
 guarded_choice lists rules (Some gs) g h s (inr f) = faulty (stage lists rules (Some gs)) _ _ (mismatched_guard (stage lists rules (Some gs)) g refl h f)
 
 tree_choice : (lists : List Text) (rules : List Rule) (gs : List Guard) (text : Text) (parts : List Part) → IsTemplate text parts
     → AreSoundSoFar (stage lists rules (Some gs)) → (parts_fit lists parts ≡ true) ⊎ (parts_fit lists parts ≡ false)
-    → Goes (stage lists rules (Some gs)) (line_of (Link text))
+    → Proceeds (stage lists rules (Some gs)) (line_of (Link text))
 tree_choice lists rules gs text parts t s (inl f) =
-    goes (stage lists rules (Some gs)) _ _ (links lists rules (Some 0) (record { guards = gs; template = record { text = text; parts = parts } }) refl t f s)
+    proceeds (stage lists rules (Some gs)) _ _
+    (links lists rules (Some 0) (record { guards = gs; template = record { text = text; parts = parts } }) refl t f s)
 tree_choice lists rules gs text parts t s (inr f) =
     faulty (stage lists rules (Some gs)) _ _ (mismatched_link (stage lists rules (Some gs)) text parts refl t f)
 
 link_choice : TreeOrFault → (lists : List Text) (rules : List Rule) (o : Option (List Guard)) (text : Text) → IsUtf8 text → AreSoundSoFar (stage lists rules o)
-    → Goes (stage lists rules o) (line_of (Link text))
+    → Proceeds (stage lists rules o) (line_of (Link text))
 link_choice tree lists rules None text u s = faulty (stage lists rules None) _ _ (out_of_order (stage lists rules None) (Link text) tt refl)
 link_choice tree lists rules (Some gs) text u s =
     elim (tree text u) [
@@ -166,17 +168,18 @@ link_choice tree lists rules (Some gs) text u s =
       | inr f ↦ faulty (stage lists rules (Some gs)) _ _ (bad_template (stage lists rules (Some gs)) text f.0 f.1 refl f.2)
     ]
 
-statement_goes : TreeOrFault → (b : RulesSoFar) (s : Statement) → IsStatement s → IsUtf8 (line_of s) → AreSoundSoFar b → Goes b (line_of s)
-statement_goes tree b (Declare name) k u s = declared_choice b.whole.lists b.whole.rules b.guards name k s (cases_Bool (takes_lists b))
-statement_goes tree b Begin k u s = begin_choice b.whole.lists b.whole.rules b.guards s
-statement_goes tree b (When g) k u s = guarded_choice b.whole.lists b.whole.rules b.guards g k s (cases_Bool (guard_fits b.whole.lists g))
-statement_goes tree b (Link text) k u s = link_choice tree b.whole.lists b.whole.rules b.guards text (ascii_parts (codes "link") text 32 (omega arith) u).1 s
+statement_continues : TreeOrFault → (b : RulesSoFar) (s : Statement) → IsStatement s → IsUtf8 (line_of s) → AreSoundSoFar b → Proceeds b (line_of s)
+statement_continues tree b (Declare name) k u s = declared_choice b.whole.lists b.whole.rules b.guards name k s (cases_Bool (takes_lists b))
+statement_continues tree b Begin k u s = begin_choice b.whole.lists b.whole.rules b.guards s
+statement_continues tree b (When g) k u s = guarded_choice b.whole.lists b.whole.rules b.guards g k s (cases_Bool (guard_fits b.whole.lists g))
+statement_continues tree b (Link text) k u s =
+    link_choice tree b.whole.lists b.whole.rules b.guards text (ascii_parts (codes "link") text 32 (omega arith) u).1 s
 
-line_choice : TreeOrFault → (b : RulesSoFar) (line : Text) → IsUtf8 line → AreSoundSoFar b → Goes b line
+line_choice : TreeOrFault → (b : RulesSoFar) (line : Text) → IsUtf8 line → AreSoundSoFar b → Proceeds b line
 line_choice tree b line u s =
     elim (statement_choice line) [
       | inr n ↦ faulty b line kind.BadLine (no_statement b line n)
-      | inl p ↦ subst (Goes b) (sym p.2) (statement_goes tree b p.0 p.1 (subst IsUtf8 p.2 u) s)
+      | inl p ↦ subst (Proceeds b) (sym p.2) (statement_continues tree b p.0 p.1 (subst IsUtf8 p.2 u) s)
     ]
 
 -- ---- all lines
@@ -198,7 +201,7 @@ rule_in_rule ls whole None line rest o b s e = absurd (cc)
 rule_in_rule ls whole (Some gs) line rest o b s e =
     inr (kind.NoLink, line_number ls (length (statements whole)), first_fault ls _ _ (open_rule ls whole gs (line ∷ rest) s e b))
 
-one_more : (ls : List Text) (b new : RulesSoFar) (line : Text) (rest : List Text) → GoesOn b new line → significant ls ≡ map line_of (statements_so_far b)
+one_more : (ls : List Text) (b new : RulesSoFar) (line : Text) (rest : List Text) → Continues b new line → significant ls ≡ map line_of (statements_so_far b)
     ++ line ∷ rest
     → significant ls ≡ map line_of (statements_so_far new) ++ rest
 one_more ls b new line rest g e =
@@ -211,7 +214,7 @@ lines_choice : TreeOrFault → (ls rest : List Text) (b : RulesSoFar) → AllByR
 lines_choice tree ls [] b u s e = at_end ls b.whole b.guards s e
 lines_choice tree ls (line ∷ rest) b u s e = by_case (line_choice tree b line u.0 s) (λ new. lines_choice tree ls rest new u.1)
   where
-    by_case : Goes b line → ((new : RulesSoFar) → AreSoundSoFar new → significant ls ≡ map line_of (statements_so_far new) ++ rest → HasRulesOrFault ls)
+    by_case : Proceeds b line → ((new : RulesSoFar) → AreSoundSoFar new → significant ls ≡ map line_of (statements_so_far new) ++ rest → HasRulesOrFault ls)
         → HasRulesOrFault ls
     by_case (inl g) next = next g.0 g.1.sound (one_more ls b g.0 line rest g.1 e)
     by_case (inr (inl f)) next = inr (f.0, line_number ls (length (statements_so_far b)), first_fault ls _ _ (line_fault ls b line rest f.0 s e f.1))

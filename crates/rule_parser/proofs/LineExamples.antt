@@ -75,15 +75,15 @@ refused : (text : Text) (k : RuleErrorKind) (number : ℕ) → nat_le (length te
     → IsFirstFault (lines text) k number → IsRefused text k number
 refused text k number t u f = inr (inr (text_of text t, IsUtf8-from_ascii text (is_ascii_text text u), f))
 
-rule_begun : AreSoundSoFar (record { whole = record { lists = []; rules = [] }; guards = Some [] })
-rule_begun = record { whole = no_rules_are_sound; guards = All-nil (IsSoundGuard []) }
+rule_started : AreSoundSoFar (record { whole = record { lists = []; rules = [] }; guards = Some [] })
+rule_started = record { whole = no_rules_are_sound; guards = All-nil (IsSoundGuard []) }
 
 -- a rule has no link when the next one begins; comments count in the numbers of lines
 no_link : IsRefused (codes "#\nrule\n\nrule") kind.NoLink 2
 no_link =
     refused _ _ _ refl refl (inr (record {
       before = codes "#" ∷ [];
-      behind = [] ∷ codes "rule" ∷ [];
+      following = [] ∷ codes "rule" ∷ [];
       rules = record { lists = []; rules = [] };
       guards = [];
       rest = codes "rule" ∷ [];
@@ -92,7 +92,7 @@ no_link =
       spelled = refl;
       guarded = refl;
       ends = refl;
-      sound = rule_begun;
+      sound = rule_started;
       no_link = refl;
     }))
 
@@ -102,12 +102,12 @@ authors_as_a_text =
     refused _ _ _ refl refl (inl (record {
       before = codes "rule" ∷ [];
       line = codes "when rft.au is \"x\"";
-      behind = codes "link http://e.org/" ∷ [];
-      begun = record { whole = record { lists = []; rules = [] }; guards = Some [] };
+      following = codes "link http://e.org/" ∷ [];
+      started = record { whole = record { lists = []; rules = [] }; guards = Some [] };
       whole = refl;
       counted = refl;
       spelled = refl;
-      sound = rule_begun;
+      sound = rule_started;
       is_no_comment = refl;
       faulty = mismatched_guard _ (guard.Same (codes "rft.au") (codes "x")) refl (name_from (codes "rft.au") refl refl) refl;
     }))
@@ -118,12 +118,12 @@ text_counted =
     refused _ _ _ refl refl (inl (record {
       before = codes "rule" ∷ [];
       line = codes "when x counts 1 to 2";
-      behind = codes "link http://e.org/" ∷ [];
-      begun = record { whole = record { lists = []; rules = [] }; guards = Some [] };
+      following = codes "link http://e.org/" ∷ [];
+      started = record { whole = record { lists = []; rules = [] }; guards = Some [] };
       whole = refl;
       counted = refl;
       spelled = refl;
-      sound = rule_begun;
+      sound = rule_started;
       is_no_comment = refl;
       faulty =
           mismatched_guard _ (guard.Counts (codes "x") (bound.Digits (codes "1")) (bound.Digits (codes "2"))) refl
@@ -136,8 +136,8 @@ guard_alone =
     refused _ _ _ refl refl (inl (record {
       before = [];
       line = codes "when has x";
-      behind = [];
-      begun = record { whole = record { lists = []; rules = [] }; guards = None };
+      following = [];
+      started = record { whole = record { lists = []; rules = [] }; guards = None };
       whole = refl;
       counted = refl;
       spelled = refl;
@@ -158,8 +158,8 @@ semicolon =
     refused _ _ _ refl refl (inl (record {
       before = [];
       line = codes ";";
-      behind = codes "rule" ∷ codes "link a" ∷ [];
-      begun = record { whole = record { lists = []; rules = [] }; guards = None };
+      following = codes "rule" ∷ codes "link a" ∷ [];
+      started = record { whole = record { lists = []; rules = [] }; guards = None };
       whole = refl;
       counted = refl;
       spelled = refl;

@@ -151,27 +151,27 @@ pub record HasNext (ss longer : List Statement) (lines : List Text) : Type 0 whe
   pub next : Statement
   pub more : List Statement
   pub rest : List Text
-  pub goes_on : longer ≡ ss ++ next ∷ more
+  pub continues : longer ≡ ss ++ next ∷ more
   pub is_statement : IsStatement next
   pub spelled : lines ≡ line_of next ∷ rest
 
 cons_next : (x : Statement) (ss ts : List Statement) (lines : List Text) → HasNext ss ts lines → HasNext (x ∷ ss) (x ∷ ts) lines
 cons_next x ss ts lines h =
-    record { next = h.next; more = h.more; rest = h.rest; goes_on = ap (λ l. x ∷ l) h.goes_on; is_statement = h.is_statement; spelled = h.spelled }
+    record { next = h.next; more = h.more; rest = h.rest; continues = ap (λ l. x ∷ l) h.continues; is_statement = h.is_statement; spelled = h.spelled }
 
 -- Of two lists of statements at the beginning of the same lines, one is the beginning of the other.
-pub compare : (ss ts : List Statement) (rest behind : List Text) → AreStatements ss → AreStatements ts → map line_of ss ++ rest ≡ map line_of ts ++ behind
-    → ((ss ≡ ts) × (rest ≡ behind)) ⊎ (HasNext ss ts rest ⊎ HasNext ts ss behind)
-compare [] [] rest behind a b e = inl (refl, e)
-compare [] (t ∷ ts) rest behind a b e =
-    inr (inl (record { next = t; more = ts; rest = map line_of ts ++ behind; goes_on = refl; is_statement = b.0; spelled = e }))
-compare (s ∷ ss) [] rest behind a b e =
-    inr (inr (record { next = s; more = ss; rest = map line_of ss ++ rest; goes_on = refl; is_statement = a.0; spelled = sym e }))
-compare (s ∷ ss) (t ∷ ts) rest behind a b e =
-    with_head (statement_same s t a.0 b.0 (same_parts _ _ _ _ e).0) (compare ss ts rest behind a.1 b.1 (same_parts _ _ _ _ e).1)
+pub compare : (ss ts : List Statement) (rest following : List Text) → AreStatements ss → AreStatements ts → map line_of ss ++ rest ≡ map line_of ts ++ following
+    → ((ss ≡ ts) × (rest ≡ following)) ⊎ (HasNext ss ts rest ⊎ HasNext ts ss following)
+compare [] [] rest following a b e = inl (refl, e)
+compare [] (t ∷ ts) rest following a b e =
+    inr (inl (record { next = t; more = ts; rest = map line_of ts ++ following; continues = refl; is_statement = b.0; spelled = e }))
+compare (s ∷ ss) [] rest following a b e =
+    inr (inr (record { next = s; more = ss; rest = map line_of ss ++ rest; continues = refl; is_statement = a.0; spelled = sym e }))
+compare (s ∷ ss) (t ∷ ts) rest following a b e =
+    with_head (statement_same s t a.0 b.0 (same_parts _ _ _ _ e).0) (compare ss ts rest following a.1 b.1 (same_parts _ _ _ _ e).1)
   where
-    with_head : s ≡ t → ((ss ≡ ts) × (rest ≡ behind)) ⊎ (HasNext ss ts rest ⊎ HasNext ts ss behind)
-        → ((s ∷ ss ≡ t ∷ ts) × (rest ≡ behind)) ⊎ (HasNext (s ∷ ss) (t ∷ ts) rest ⊎ HasNext (t ∷ ts) (s ∷ ss) behind)
+    with_head : s ≡ t → ((ss ≡ ts) × (rest ≡ following)) ⊎ (HasNext ss ts rest ⊎ HasNext ts ss following)
+        → ((s ∷ ss ≡ t ∷ ts) × (rest ≡ following)) ⊎ (HasNext (s ∷ ss) (t ∷ ts) rest ⊎ HasNext (t ∷ ts) (s ∷ ss) following)
     with_head f (inl p) = inl (ap (λ x. x ∷ ss) f ∙ ap (λ l. t ∷ l) p.0, p.1)
     with_head f (inr (inl p)) = inr (inl (subst (λ x. HasNext (x ∷ ss) (t ∷ ts) rest) (sym f) (cons_next t ss ts rest p)))
-    with_head f (inr (inr p)) = inr (inr (subst (λ x. HasNext (t ∷ ts) (x ∷ ss) behind) (sym f) (cons_next t ts ss behind p)))
+    with_head f (inr (inr p)) = inr (inr (subst (λ x. HasNext (t ∷ ts) (x ∷ ss) following) (sym f) (cons_next t ts ss following p)))

@@ -18,7 +18,7 @@ use Rattle.std.specs.Str.Lines.{lines}
 use Rattle.rule_parser.specs.declared.rules.TheConstants.{MAX_BYTES}
 use Rattle.rule_parser.specs.Grammar.{is_significant, significant, IsRuleText}
 use Rattle.rule_parser.specs.Faults.{AreSoundSoFar, statements_so_far, statements_of_guards, IsFirstFault, EndsRule, IsRefused}
-use Rattle.rule_parser.specs.Private.Progress.{so_far_of, no_rules, GoesOn, IsNumbered, KeepsLine, IsStepFault}
+use Rattle.rule_parser.specs.Private.Progress.{so_far_of, no_rules, Continues, IsNumbered, KeepsLine, IsStepFault}
 use Rattle.rule_parser.proofs.LineNumbers.{significant-append, one_significant, line_number, split_at, significant_around, number_is, line_fault, open_rule}
 use Rattle.rule_parser.proofs.LineNumbers.{first_fault}
 use Rattle.rule_parser.proofs.ReaderLemmas.{guards_from}
@@ -35,13 +35,13 @@ pub no_rules_are_sound : AreSoundSoFar no_rules
 no_rules_are_sound = record { whole = record { names = All-nil IsName; rules = All-nil (IsSoundRule []) }; guards = tt }
 
 pub line_read : (ls : List Text) (i : ℕ) (reader new : Reader) (line : Text) → AreRead ls i reader → i < length ls → get_or ls i line ≡ line
-    → is_significant line ≡ true → GoesOn (so_far_of reader) (so_far_of new) line → KeepsLine reader new (i + 1) → AreRead ls (i + 1) new
-line_read ls i reader new line r h e x goes keeps = record {
+    → is_significant line ≡ true → Continues (so_far_of reader) (so_far_of new) line → KeepsLine reader new (i + 1) → AreRead ls (i + 1) new
+line_read ls i reader new line r h e x proceeds keeps = record {
   spelled =
       ap significant (take_more ls i line h ∙ ap (λ y. take i ls ++ y ∷ []) e) ∙ significant_around _ (take i ls) [] line refl x
-      ∙ ap (λ l. l ++ line ∷ []) r.spelled ∙ ap (λ y. map line_of (statements_so_far (so_far_of reader)) ++ y ∷ []) goes.spelled
-      ∙ sym (map-append line_of (statements_so_far (so_far_of reader)) (goes.statement ∷ [])) ∙ sym (ap (map line_of) goes.longer);
-  sound = goes.sound;
+      ∙ ap (λ l. l ++ line ∷ []) r.spelled ∙ ap (λ y. map line_of (statements_so_far (so_far_of reader)) ++ y ∷ []) proceeds.spelled
+      ∙ sym (map-append line_of (statements_so_far (so_far_of reader)) (proceeds.statement ∷ [])) ∙ sym (ap (map line_of) proceeds.longer);
+  sound = proceeds.sound;
   numbered = keeps (line_number ls) (number_is ls i (statements_so_far (so_far_of reader)) line h e x r.spelled) r.numbered;
 }
 

@@ -57,19 +57,19 @@ significant_around ls front rest line e h =
     ∙ ap (λ l. significant front ++ l) (ap (λ (y : Bool). if y then (line ∷ significant rest) else significant rest) h)
 
 -- the number of a line after those of these statements
-number_behind : (ls front behind : List Text) (line : Text) (ss : List Statement) → ls ≡ front ++ line ∷ behind → is_significant line ≡ true
+number_after : (ls front following : List Text) (line : Text) (ss : List Statement) → ls ≡ front ++ line ∷ following → is_significant line ≡ true
     → significant front ≡ map line_of ss → line_number ls (length ss) ≡ length front + 1
-number_behind ls front behind line ss e h s =
+number_after ls front following line ss e h s =
     let count : length (significant front) ≡ length ss = ap length s ∙ length-map ss line_of in
-    ap (λ (l : List Text). line_number l (length ss)) e ∙ sym (ap (λ (k : ℕ). line_number (front ++ line ∷ behind) k) count)
-    ∙ number_at 1 front behind line h ∙ omega arith
+    ap (λ (l : List Text). line_number l (length ss)) e ∙ sym (ap (λ (k : ℕ). line_number (front ++ line ∷ following) k) count)
+    ∙ number_at 1 front following line h ∙ omega arith
 
 -- the number of the line after those that were read
 pub number_is : (ls : List Text) (i : ℕ) (ss : List Statement) (line : Text) → i < length ls → get_or ls i line ≡ line → is_significant line ≡ true
     → significant (take i ls) ≡ map line_of ss → line_number ls (length ss) ≡ i + 1
 number_is ls i ss line h e x s =
     let split = split_at ls i line h e in
-    number_behind ls (take i ls) split.0 line ss split.1 x s ∙ ap (λ n. n + 1) (length_take i ls h)
+    number_after ls (take i ls) split.0 line ss split.1 x s ∙ ap (λ n. n + 1) (length_take i ls h)
   where
     length_take : (n : ℕ) (xs : List Text) → n < length xs → length (take n xs) ≡ n
     length_take n xs l = simp length-take (omega arith)
@@ -77,49 +77,49 @@ number_is ls i ss line h e x s =
 -- ---- first faults, by the numbers of their statements
 
 pub data IsNumberedFault : List Text → RuleErrorKind → ℕ → Type 0 where
-  line_fault : (ls : List Text) (begun : RulesSoFar) (line : Text) (rest : List Text) (k : RuleErrorKind) → AreSoundSoFar begun
-      → significant ls ≡ map line_of (statements_so_far begun) ++ line ∷ rest → IsLineFault begun line k
-      → IsNumberedFault ls k (line_number ls (length (statements_so_far begun)))
+  line_fault : (ls : List Text) (started : RulesSoFar) (line : Text) (rest : List Text) (k : RuleErrorKind) → AreSoundSoFar started
+      → significant ls ≡ map line_of (statements_so_far started) ++ line ∷ rest → IsLineFault started line k
+      → IsNumberedFault ls k (line_number ls (length (statements_so_far started)))
   open_rule : (ls : List Text) (whole : RuleSet) (guards : List Guard) (rest : List Text) → AreSoundSoFar (record { whole = whole; guards = Some guards })
       → significant ls ≡ map line_of (statements whole ++ statements_of_guards (Some guards)) ++ rest → EndsRule rest
       → IsNumberedFault ls kind.NoLink (line_number ls (length (statements whole)))
 
 pub numbered_fault : (ls : List Text) (k : RuleErrorKind) (at : ℕ) → IsFirstFault ls k at → IsNumberedFault ls k at
 numbered_fault ls k at (inl f) =
-    subst (IsNumberedFault ls k) (number_behind ls f.before f.behind f.line (statements_so_far f.begun) f.whole f.is_no_comment f.spelled ∙ sym f.counted)
-    (line_fault ls f.begun f.line (significant f.behind) k f.sound
-    (significant_around ls f.before f.behind f.line f.whole f.is_no_comment ∙ ap (λ l. l ++ f.line ∷ significant f.behind) f.spelled) f.faulty)
+    subst (IsNumberedFault ls k) (number_after ls f.before f.following f.line (statements_so_far f.started) f.whole f.is_no_comment f.spelled ∙ sym f.counted)
+    (line_fault ls f.started f.line (significant f.following) k f.sound
+    (significant_around ls f.before f.following f.line f.whole f.is_no_comment ∙ ap (λ l. l ++ f.line ∷ significant f.following) f.spelled) f.faulty)
 numbered_fault ls k at (inr f) =
     subst (λ x. IsNumberedFault ls x at) (sym f.no_link)
-    (subst (IsNumberedFault ls kind.NoLink) (number_behind ls f.before f.behind (line_of Begin) (statements f.rules) f.whole refl f.spelled ∙ sym f.counted)
+    (subst (IsNumberedFault ls kind.NoLink) (number_after ls f.before f.following (line_of Begin) (statements f.rules) f.whole refl f.spelled ∙ sym f.counted)
     (open_rule ls f.rules f.guards f.rest f.sound spelled f.ends))
   where
     spelled : significant ls ≡ map line_of (statements f.rules ++ statements_of_guards (Some f.guards)) ++ f.rest
     spelled =
-        significant_around ls f.before f.behind (line_of Begin) f.whole refl ∙ ap (λ l. l ++ line_of Begin ∷ significant f.behind) f.spelled
+        significant_around ls f.before f.following (line_of Begin) f.whole refl ∙ ap (λ l. l ++ line_of Begin ∷ significant f.following) f.spelled
         ∙ ap (λ l. map line_of (statements f.rules) ++ line_of Begin ∷ l) f.guarded
         ∙ sym (append_assoc (map line_of (statements f.rules)) (map line_of (statements_of_guards (Some f.guards))) f.rest)
         ∙ ap (λ l. l ++ f.rest) (sym (map-append line_of (statements f.rules) (statements_of_guards (Some f.guards))))
 
 -- a significant line, with the lines before and after it
-record SplitsAt (ls before : List Text) (line : Text) (behind : List Text) : Type 0 where
+record SplitsAt (ls before : List Text) (line : Text) (following : List Text) : Type 0 where
   front : List Text
   back : List Text
   whole : ls ≡ front ++ line ∷ back
   before_it : significant front ≡ before
-  behind_it : significant back ≡ behind
+  after_it : significant back ≡ following
   is_no_comment : is_significant line ≡ true
 
-splits_at : (ls before : List Text) (line : Text) (behind : List Text) → significant ls ≡ before ++ line ∷ behind → SplitsAt ls before line behind
-splits_at [] [] line behind e = absurd (let never : [] ≡ line ∷ behind = e in cc)
-splits_at [] (x ∷ before) line behind e = absurd (let never : [] ≡ x ∷ before ++ line ∷ behind = e in cc)
-splits_at (l ∷ ls) before line behind e = by_case (is_significant l) refl before e (λ front. splits_at ls front line behind)
+splits_at : (ls before : List Text) (line : Text) (following : List Text) → significant ls ≡ before ++ line ∷ following → SplitsAt ls before line following
+splits_at [] [] line following e = absurd (let never : [] ≡ line ∷ following = e in cc)
+splits_at [] (x ∷ before) line following e = absurd (let never : [] ≡ x ∷ before ++ line ∷ following = e in cc)
+splits_at (l ∷ ls) before line following e = by_case (is_significant l) refl before e (λ front. splits_at ls front line following)
   where
-    by_case : (b : Bool) → is_significant l ≡ b → (front : List Text) → (if b then (l ∷ significant ls) else significant ls) ≡ front ++ line ∷ behind
-        → ((xs : List Text) → significant ls ≡ xs ++ line ∷ behind → SplitsAt ls xs line behind) → SplitsAt (l ∷ ls) front line behind
+    by_case : (b : Bool) → is_significant l ≡ b → (front : List Text) → (if b then (l ∷ significant ls) else significant ls) ≡ front ++ line ∷ following
+        → ((xs : List Text) → significant ls ≡ xs ++ line ∷ following → SplitsAt ls xs line following) → SplitsAt (l ∷ ls) front line following
     by_case true h [] f next =
         let same : l ≡ line = cc in
-        record { front = []; back = ls; whole = ap (λ x. x ∷ ls) same; before_it = refl; behind_it = cc; is_no_comment = sym (ap is_significant same) ∙ h }
+        record { front = []; back = ls; whole = ap (λ x. x ∷ ls) same; before_it = refl; after_it = cc; is_no_comment = sym (ap is_significant same) ∙ h }
     by_case true h (x ∷ front) f next =
         let more = next front (cc) in
         let same : l ≡ x = cc in
@@ -129,7 +129,7 @@ splits_at (l ∷ ls) before line behind e = by_case (is_significant l) refl befo
           whole = ap (λ t. l ∷ t) more.whole;
           before_it = ap (λ (b : Bool). if b then (l ∷ significant more.front) else significant more.front) h ∙ ap (λ t. l ∷ t) more.before_it
               ∙ ap (λ y. y ∷ front) same;
-          behind_it = more.behind_it;
+          after_it = more.after_it;
           is_no_comment = more.is_no_comment;
         }
     by_case false h front f next =
@@ -139,7 +139,7 @@ splits_at (l ∷ ls) before line behind e = by_case (is_significant l) refl befo
           back = more.back;
           whole = ap (λ t. l ∷ t) more.whole;
           before_it = ap (λ (b : Bool). if b then (l ∷ significant more.front) else significant more.front) h ∙ more.before_it;
-          behind_it = more.behind_it;
+          after_it = more.after_it;
           is_no_comment = more.is_no_comment;
         }
 
@@ -149,10 +149,10 @@ first_fault ls k at (line_fault l b line rest k' s e f) =
     inl (record {
       before = split.front;
       line = line;
-      behind = split.back;
-      begun = b;
+      following = split.back;
+      started = b;
       whole = split.whole;
-      counted = number_behind l split.front split.back line (statements_so_far b) split.whole split.is_no_comment split.before_it;
+      counted = number_after l split.front split.back line (statements_so_far b) split.whole split.is_no_comment split.before_it;
       spelled = split.before_it;
       sound = s;
       is_no_comment = split.is_no_comment;
@@ -165,14 +165,14 @@ first_fault ls k at (open_rule l whole guards rest s e r) =
     let split = splits_at l (map line_of (statements whole)) (line_of Begin) (map line_of (map When guards) ++ rest) around in
     inr (record {
       before = split.front;
-      behind = split.back;
+      following = split.back;
       rules = whole;
       guards = guards;
       rest = rest;
       whole = split.whole;
-      counted = number_behind l split.front split.back (line_of Begin) (statements whole) split.whole refl split.before_it;
+      counted = number_after l split.front split.back (line_of Begin) (statements whole) split.whole refl split.before_it;
       spelled = split.before_it;
-      guarded = split.behind_it;
+      guarded = split.after_it;
       ends = r;
       sound = s;
       no_link = refl;

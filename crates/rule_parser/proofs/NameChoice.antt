@@ -17,12 +17,12 @@ pub data Stage : Type 0 where
   OneDigit : Stage
   Lost : Stage
 
-abbrev pub begun_by : ℕ → Stage
-begun_by b = if is_name_character b then Named else (if b == 37 then TwoDigits else Lost)
+abbrev pub started_by : ℕ → Stage
+started_by b = if is_name_character b then Named else (if b == 37 then TwoDigits else Lost)
 
 abbrev pub step : Stage → ℕ → Stage
-step Named b = if b == 46 then Wanting else begun_by b
-step Wanting b = begun_by b
+step Named b = if b == 46 then Wanting else started_by b
+step Wanting b = started_by b
 step TwoDigits b = if is_hexadecimal b then OneDigit else Lost
 step OneDigit b = if is_hexadecimal b then Named else Lost
 step Lost b = Lost
@@ -32,48 +32,48 @@ after stage text = fold step stage text
 
 -- ---- bytes that were accepted are the beginning of a name
 
-abbrev Stands : Stage → Text → Type 0
-Stands Named front = IsVarname front
-Stands Wanting front = (v : Text) → IsVarchar v → IsVarname (front ++ v)
-Stands TwoDigits front = (high low : ℕ) → is_hexadecimal high ≡ true → is_hexadecimal low ≡ true → IsVarname (front ++ high ∷ low ∷ [])
-Stands OneDigit front = (low : ℕ) → is_hexadecimal low ≡ true → IsVarname (front ++ low ∷ [])
-Stands Lost front = Unit {0}
+abbrev IsAtStage : Stage → Text → Type 0
+IsAtStage Named front = IsVarname front
+IsAtStage Wanting front = (v : Text) → IsVarchar v → IsVarname (front ++ v)
+IsAtStage TwoDigits front = (high low : ℕ) → is_hexadecimal high ≡ true → is_hexadecimal low ≡ true → IsVarname (front ++ high ∷ low ∷ [])
+IsAtStage OneDigit front = (low : ℕ) → is_hexadecimal low ≡ true → IsVarname (front ++ low ∷ [])
+IsAtStage Lost front = Unit {0}
 
-varchar_stands : (front : Text) → Stands Wanting front → (b : ℕ) → Stands (begun_by b) (front ++ b ∷ [])
-varchar_stands front w b = by_case (is_name_character b) (b == 37) refl refl
+varchar_at_stage : (front : Text) → IsAtStage Wanting front → (b : ℕ) → IsAtStage (started_by b) (front ++ b ∷ [])
+varchar_at_stage front w b = by_case (is_name_character b) (b == 37) refl refl
   where
-    by_case : (x y : Bool) → is_name_character b ≡ x → (b == 37) ≡ y → Stands (if x then Named else (if y then TwoDigits else Lost)) (front ++ b ∷ [])
+    by_case : (x y : Bool) → is_name_character b ≡ x → (b == 37) ≡ y → IsAtStage (if x then Named else (if y then TwoDigits else Lost)) (front ++ b ∷ [])
     by_case true y e f = w (b ∷ []) (character_varchar b e)
     by_case false true e f = λ high low h l.
         subst IsVarname (sym (append_assoc front (b ∷ []) (high ∷ low ∷ [])))
         (w (b ∷ high ∷ low ∷ []) (triplet_varchar b high low (and_from _ _ f (and_from _ _ h l))))
     by_case false false e f = tt
 
-step_stands : (stage : Stage) (front : Text) → Stands stage front → (b : ℕ) → Stands (step stage b) (front ++ b ∷ [])
-step_stands Named front h b = by_case (b == 46) refl
+step_at_stage : (stage : Stage) (front : Text) → IsAtStage stage front → (b : ℕ) → IsAtStage (step stage b) (front ++ b ∷ [])
+step_at_stage Named front h b = by_case (b == 46) refl
   where
-    by_case : (x : Bool) → (b == 46) ≡ x → Stands (if x then Wanting else begun_by b) (front ++ b ∷ [])
+    by_case : (x : Bool) → (b == 46) ≡ x → IsAtStage (if x then Wanting else started_by b) (front ++ b ∷ [])
     by_case true e = λ v k.
         subst IsVarname (sym (append_assoc front (b ∷ []) v)) (subst (λ c. IsVarname (front ++ c ∷ v)) (sym (eqb-true b 46 e)) (dotted_varchar front v h k))
-    by_case false e = varchar_stands front (λ v k. next_varchar front v h k) b
-step_stands Wanting front h b = varchar_stands front h b
-step_stands TwoDigits front h b = by_case (is_hexadecimal b) refl
+    by_case false e = varchar_at_stage front (λ v k. next_varchar front v h k) b
+step_at_stage Wanting front h b = varchar_at_stage front h b
+step_at_stage TwoDigits front h b = by_case (is_hexadecimal b) refl
   where
-    by_case : (x : Bool) → is_hexadecimal b ≡ x → Stands (if x then OneDigit else Lost) (front ++ b ∷ [])
+    by_case : (x : Bool) → is_hexadecimal b ≡ x → IsAtStage (if x then OneDigit else Lost) (front ++ b ∷ [])
     by_case true e = λ low l. subst IsVarname (sym (append_assoc front (b ∷ []) (low ∷ []))) (h b low e l)
     by_case false e = tt
-step_stands OneDigit front h b = by_case (is_hexadecimal b) refl
+step_at_stage OneDigit front h b = by_case (is_hexadecimal b) refl
   where
-    by_case : (x : Bool) → is_hexadecimal b ≡ x → Stands (if x then Named else Lost) (front ++ b ∷ [])
+    by_case : (x : Bool) → is_hexadecimal b ≡ x → IsAtStage (if x then Named else Lost) (front ++ b ∷ [])
     by_case true e = h b e
     by_case false e = tt
-step_stands Lost front h b = tt
+step_at_stage Lost front h b = tt
 
-text_stands : (text front : Text) (stage : Stage) → Stands stage front → Stands (after stage text) (front ++ text)
-text_stands [] front stage h = subst (Stands stage) (sym (append-nil front)) h
-text_stands (b ∷ text) front stage h =
-    subst (Stands (after (step stage b) text)) (append_assoc front (b ∷ []) text)
-    (text_stands text (front ++ b ∷ []) (step stage b) (step_stands stage front h b))
+text_at_stage : (text front : Text) (stage : Stage) → IsAtStage stage front → IsAtStage (after stage text) (front ++ text)
+text_at_stage [] front stage h = subst (IsAtStage stage) (sym (append-nil front)) h
+text_at_stage (b ∷ text) front stage h =
+    subst (IsAtStage (after (step stage b) text)) (append_assoc front (b ∷ []) text)
+    (text_at_stage text (front ++ b ∷ []) (step stage b) (step_at_stage stage front h b))
 
 abbrev pub is_named : Stage → Bool
 is_named Named = true
@@ -81,9 +81,9 @@ is_named stage = false
 
 -- a name by computation
 pub name_from : (text : Text) → is_named (after Wanting text) ≡ true → nat_le (length text) 255 ≡ true → IsName text
-name_from text e l = (by_stage (after Wanting text) (text_stands text [] Wanting (λ v h. first_varchar v h)) e, leb-true (length text) 255 l)
+name_from text e l = (by_stage (after Wanting text) (text_at_stage text [] Wanting (λ v h. first_varchar v h)) e, leb-true (length text) 255 l)
   where
-    by_stage : (stage : Stage) → Stands stage text → is_named stage ≡ true → IsVarname text
+    by_stage : (stage : Stage) → IsAtStage stage text → is_named stage ≡ true → IsVarname text
     by_stage Named h f = h
     by_stage stage h f = absurd (let never : false ≡ true = f in cc)
 
@@ -94,23 +94,23 @@ varchar_is_gone_through v (character_varchar c h) = ap (λ x. if x then Named el
 varchar_is_gone_through v (triplet_varchar c high low h) =
     let first : ((c == 37) ≡ true) × ((is_hexadecimal high && is_hexadecimal low) ≡ true) = and_parts _ _ h in
     let digits : (is_hexadecimal high ≡ true) × (is_hexadecimal low ≡ true) = and_parts _ _ first.1 in
-    ap (λ b. after (begun_by b) (high ∷ low ∷ [])) (eqb-true c 37 first.0) ∙ ap (λ x. step (if x then OneDigit else Lost) low) digits.0
+    ap (λ b. after (started_by b) (high ∷ low ∷ [])) (eqb-true c 37 first.0) ∙ ap (λ x. step (if x then OneDigit else Lost) low) digits.0
     ∙ ap (λ x. if x then Named else Lost) digits.1
 
 -- a varchar does not begin with a dot
-varchar_goes_on : (v : Text) → IsVarchar v → after Named v ≡ after Wanting v
-varchar_goes_on v (character_varchar c h) = ap (λ x. if x then Wanting else begun_by c) no_dot
+varchar_continues : (v : Text) → IsVarchar v → after Named v ≡ after Wanting v
+varchar_continues v (character_varchar c h) = ap (λ x. if x then Wanting else started_by c) no_dot
   where
     no_dot : (c == 46) ≡ false
     no_dot = elim (cases_Bool (c == 46)) [ inl e ↦ absurd (both_ways (is_name_character c) (ap is_name_character (eqb-true c 46 e)) h) | inr e ↦ e ]
-varchar_goes_on v (triplet_varchar c high low h) =
+varchar_continues v (triplet_varchar c high low h) =
     let first : ((c == 37) ≡ true) × ((is_hexadecimal high && is_hexadecimal low) ≡ true) = and_parts _ _ h in
-    ap (λ b. after (step Named b) (high ∷ low ∷ [])) (eqb-true c 37 first.0) ∙ sym (ap (λ b. after (begun_by b) (high ∷ low ∷ [])) (eqb-true c 37 first.0))
+    ap (λ b. after (step Named b) (high ∷ low ∷ [])) (eqb-true c 37 first.0) ∙ sym (ap (λ b. after (started_by b) (high ∷ low ∷ [])) (eqb-true c 37 first.0))
 
 name_is_gone_through : (name : Text) → IsVarname name → after Wanting name ≡ Named
 name_is_gone_through name (first_varchar v h) = varchar_is_gone_through v h
 name_is_gone_through name (next_varchar m v h k) =
-    fold-append step Wanting m v ∙ ap (λ s. after s v) (name_is_gone_through m h) ∙ varchar_goes_on v k ∙ varchar_is_gone_through v k
+    fold-append step Wanting m v ∙ ap (λ s. after s v) (name_is_gone_through m h) ∙ varchar_continues v k ∙ varchar_is_gone_through v k
 name_is_gone_through name (dotted_varchar m v h k) =
     fold-append step Wanting m (46 ∷ v) ∙ ap (λ s. after s (46 ∷ v)) (name_is_gone_through m h) ∙ varchar_is_gone_through v k
 
@@ -125,7 +125,7 @@ name_choice text =
     elim (stage_choice (after Wanting text)) [
       | inl e ↦ elim (cases_lt 255 (length text)) [
         | inl long ↦ inr (λ h. omega (arith, long, h.1))
-        | inr short ↦ inl (subst (λ s. Stands s text) e (text_stands text [] Wanting (λ v h. first_varchar v h)), short)
+        | inr short ↦ inl (subst (λ s. IsAtStage s text) e (text_at_stage text [] Wanting (λ v h. first_varchar v h)), short)
       ]
       | inr n ↦ inr (λ h. n (name_is_gone_through text h.0))
     ]

@@ -23,7 +23,7 @@ use Rattle.rule_parser.specs.declared.rule.Rule.{Rule}
 use Rattle.rule_parser.specs.Rules.{IsSoundGuard, IsSoundRule, guard_fits, parts_fit}
 use Rattle.rule_parser.specs.Statements.{Statement, Declare, Begin, When, Link, IsStatement, line_of, guard_text}
 use Rattle.rule_parser.specs.Faults.{RulesSoFar, AreSoundSoFar, IsLineFault, no_statement, out_of_order, bad_template, mismatched_guard, takes_lists}
-use Rattle.rule_parser.specs.Private.Progress.{GoesOn, IsStepFault, so_far_of}
+use Rattle.rule_parser.specs.Private.Progress.{Continues, IsStepFault, so_far_of}
 use Rattle.rule_parser.specs.Private.Reading.{ReadsGuard}
 use Rattle.rule_parser.proofs.WholeGuards.{guard_choice}
 use Rattle.rule_parser.proofs.TokenLemmas.{same_tails, other_heads}
@@ -37,14 +37,14 @@ guards_from line guards = option_map (λ l. guards) line
 
 pub begins : (lists : List Text) (rules : List Rule) (line : Option ℕ) (old : List Guard) → line ≡ None
     → AreSoundSoFar (stage lists rules (guards_from line old))
-    → GoesOn (stage lists rules (guards_from line old)) (stage lists rules (Some [])) (line_of Begin)
+    → Continues (stage lists rules (guards_from line old)) (stage lists rules (Some [])) (line_of Begin)
 begins lists rules None old e s =
     record { statement = Begin; spelled = refl; longer = rw append-nil refl; sound = record { whole = s.whole; guards = All-nil (IsSoundGuard lists) } }
 begins lists rules (Some l) old e s = absurd (cc)
 
 pub declares : (lists : List Text) (rules : List Rule) (line : Option ℕ) (guards : List Guard) (name : Text)
     → takes_lists (stage lists rules (guards_from line guards)) ≡ true → IsName name → AreSoundSoFar (stage lists rules (guards_from line guards))
-    → GoesOn (stage lists rules (guards_from line guards)) (stage (lists ++ name ∷ []) rules (guards_from line guards)) (line_of (Declare name))
+    → Continues (stage lists rules (guards_from line guards)) (stage (lists ++ name ∷ []) rules (guards_from line guards)) (line_of (Declare name))
 declares lists [] None guards name e n s = record {
   statement = Declare name;
   spelled = refl;
@@ -57,7 +57,7 @@ declares lists rules (Some l) guards name e n s = absurd (cc)
 pub guards_more : (lists : List Text) (rules : List Rule) (line : Option ℕ) (guards : List Guard) (g : Guard) → is_some (guards_from line guards) ≡ true
     → IsSoundGuard lists g
     → AreSoundSoFar (stage lists rules (guards_from line guards))
-    → GoesOn (stage lists rules (guards_from line guards)) (stage lists rules (guards_from line (guards ++ g ∷ []))) (line_of (When g))
+    → Continues (stage lists rules (guards_from line guards)) (stage lists rules (guards_from line (guards ++ g ∷ []))) (line_of (When g))
 guards_more lists rules None guards g e h s = absurd (cc)
 guards_more lists rules (Some l) guards g e h s = record {
   statement = When g;
@@ -69,7 +69,7 @@ guards_more lists rules (Some l) guards g e h s = record {
 pub links : (lists : List Text) (rules : List Rule) (line : Option ℕ) (rule : Rule) → is_some (guards_from line rule.guards) ≡ true
     → IsTemplate rule.template.text rule.template.parts
     → parts_fit lists rule.template.parts ≡ true → AreSoundSoFar (stage lists rules (guards_from line rule.guards))
-    → GoesOn (stage lists rules (guards_from line rule.guards)) (stage lists (rules ++ rule ∷ []) None) (line_of (Link rule.template.text))
+    → Continues (stage lists rules (guards_from line rule.guards)) (stage lists (rules ++ rule ∷ []) None) (line_of (Link rule.template.text))
 links lists rules None rule e t k s = absurd (cc)
 links lists rules (Some l) rule e t k s = record {
   statement = Link rule.template.text;
@@ -115,24 +115,25 @@ pub line_faulty : (r : Reader) (number : ℕ) (line : Text) (e : RuleError) (k :
 line_faulty r number line e k s h =
     inr (inl (subst (IsLineFault (so_far_of r) line) (sym (ap (λ (x : RuleError). x.kind) s)) h, ap (λ (x : RuleError). x.line) s))
 
-pub list_out_of_order : (begun : RulesSoFar) (name : Text) → IsName name → takes_lists begun ≡ false → IsLineFault begun (codes "list " ++ name) kind.BadLine
-list_out_of_order begun name n o = out_of_order begun (Declare name) n o
+pub list_out_of_order : (started : RulesSoFar) (name : Text) → IsName name → takes_lists started ≡ false
+    → IsLineFault started (codes "list " ++ name) kind.BadLine
+list_out_of_order started name n o = out_of_order started (Declare name) n o
 
-pub when_out_of_order : (begun : RulesSoFar) (tokens : Text) → is_some begun.guards ≡ false → IsLineFault begun (codes "when " ++ tokens) kind.BadLine
-when_out_of_order begun tokens o = by_reading (guard_choice tokens)
+pub when_out_of_order : (started : RulesSoFar) (tokens : Text) → is_some started.guards ≡ false → IsLineFault started (codes "when " ++ tokens) kind.BadLine
+when_out_of_order started tokens o = by_reading (guard_choice tokens)
   where
-    by_reading : (read : Option Guard) × ReadsGuard tokens read → IsLineFault begun (codes "when " ++ tokens) kind.BadLine
-    by_reading (None, n) = no_statement begun (codes "when " ++ tokens) (no_when tokens n)
-    by_reading (Some g, h) = subst (λ (w : Text). IsLineFault begun (codes "when " ++ w) kind.BadLine) (sym h.1) (out_of_order begun (When g) h.0 o)
+    by_reading : (read : Option Guard) × ReadsGuard tokens read → IsLineFault started (codes "when " ++ tokens) kind.BadLine
+    by_reading (None, n) = no_statement started (codes "when " ++ tokens) (no_when tokens n)
+    by_reading (Some g, h) = subst (λ (w : Text). IsLineFault started (codes "when " ++ w) kind.BadLine) (sym h.1) (out_of_order started (When g) h.0 o)
 
-pub guard_mismatched : (begun : RulesSoFar) (tokens : Text) (g : Guard) → ReadsGuard tokens (Some g) → is_some begun.guards ≡ true
-    → guard_fits begun.whole.lists g ≡ false
-    → IsLineFault begun (codes "when " ++ tokens) kind.KindMismatch
-guard_mismatched begun tokens g h o k =
-    subst (λ (w : Text). IsLineFault begun (codes "when " ++ w) kind.KindMismatch) (sym h.1) (mismatched_guard begun g o h.0 k)
+pub guard_mismatched : (started : RulesSoFar) (tokens : Text) (g : Guard) → ReadsGuard tokens (Some g) → is_some started.guards ≡ true
+    → guard_fits started.whole.lists g ≡ false
+    → IsLineFault started (codes "when " ++ tokens) kind.KindMismatch
+guard_mismatched started tokens g h o k =
+    subst (λ (w : Text). IsLineFault started (codes "when " ++ w) kind.KindMismatch) (sym h.1) (mismatched_guard started g o h.0 k)
 
-pub link_out_of_order : (begun : RulesSoFar) (text : Text) → is_some begun.guards ≡ false → IsLineFault begun (codes "link " ++ text) kind.BadLine
-link_out_of_order begun text o = out_of_order begun (Link text) tt o
+pub link_out_of_order : (started : RulesSoFar) (text : Text) → is_some started.guards ≡ false → IsLineFault started (codes "link " ++ text) kind.BadLine
+link_out_of_order started text o = out_of_order started (Link text) tt o
 
 no_memory_or_not : (k : TemplateErrorKind) → (k ≡ template_kind.NoMemory) ⊎ (k ≢ template_kind.NoMemory)
 no_memory_or_not template_kind.NoMemory = inl refl

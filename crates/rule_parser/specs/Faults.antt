@@ -25,39 +25,39 @@ statements_of_guards None = []
 statements_of_guards (Some guards) = Begin ∷ map When guards
 
 abbrev pub statements_so_far : RulesSoFar → List Statement
-statements_so_far begun = statements begun.whole ++ statements_of_guards begun.guards
+statements_so_far started = statements started.whole ++ statements_of_guards started.guards
 
 abbrev pub AreSoundGuards : List Text → Option (List Guard) → Type 0
 AreSoundGuards lists None = Unit {0}
 AreSoundGuards lists (Some guards) = All (IsSoundGuard lists) guards
 
-pub record AreSoundSoFar (begun : RulesSoFar) : Type 0 where
-  pub whole : IsSound begun.whole
-  pub guards : AreSoundGuards begun.whole.lists begun.guards
+pub record AreSoundSoFar (started : RulesSoFar) : Type 0 where
+  pub whole : IsSound started.whole
+  pub guards : AreSoundGuards started.whole.lists started.guards
 
 -- ---- a line that cannot continue
 
 -- lists come before all rules
 abbrev pub takes_lists : RulesSoFar → Bool
-takes_lists begun = is_none begun.guards && length begun.whole.rules == 0
+takes_lists started = is_none started.guards && length started.whole.rules == 0
 
 -- guards and a link belong in a rule; a rule line that comes too early means that the rule before it has no link
 abbrev pub is_in_order : RulesSoFar → Statement → Bool
-is_in_order begun (Declare name) = takes_lists begun
-is_in_order begun Begin = true
-is_in_order begun (When g) = is_some begun.guards
-is_in_order begun (Link text) = is_some begun.guards
+is_in_order started (Declare name) = takes_lists started
+is_in_order started Begin = true
+is_in_order started (When g) = is_some started.guards
+is_in_order started (Link text) = is_some started.guards
 
 -- what is wrong with a line
 pub data IsLineFault : RulesSoFar → Text → RuleErrorKind → Type 0 where
-  no_statement : (begun : RulesSoFar) (line : Text) → ((s : Statement) → IsStatement s → line ≡ line_of s → ⊥) → IsLineFault begun line kind.BadLine
-  out_of_order : (begun : RulesSoFar) (s : Statement) → IsStatement s → is_in_order begun s ≡ false → IsLineFault begun (line_of s) kind.BadLine
-  bad_template : (begun : RulesSoFar) (text : Text) (k : TemplateErrorKind) (at : ℕ) → is_in_order begun (Link text) ≡ true → IsRefusedTemplate text k at
-      → IsLineFault begun (line_of (Link text)) (kind.Template k)
-  mismatched_guard : (begun : RulesSoFar) (g : Guard) → is_in_order begun (When g) ≡ true → IsGuard g → guard_fits begun.whole.lists g ≡ false
-      → IsLineFault begun (line_of (When g)) kind.KindMismatch
-  mismatched_link : (begun : RulesSoFar) (text : Text) (parts : List Part) → is_in_order begun (Link text) ≡ true → IsTemplate text parts
-      → parts_fit begun.whole.lists parts ≡ false → IsLineFault begun (line_of (Link text)) kind.KindMismatch
+  no_statement : (started : RulesSoFar) (line : Text) → ((s : Statement) → IsStatement s → line ≡ line_of s → ⊥) → IsLineFault started line kind.BadLine
+  out_of_order : (started : RulesSoFar) (s : Statement) → IsStatement s → is_in_order started s ≡ false → IsLineFault started (line_of s) kind.BadLine
+  bad_template : (started : RulesSoFar) (text : Text) (k : TemplateErrorKind) (at : ℕ) → is_in_order started (Link text) ≡ true → IsRefusedTemplate text k at
+      → IsLineFault started (line_of (Link text)) (kind.Template k)
+  mismatched_guard : (started : RulesSoFar) (g : Guard) → is_in_order started (When g) ≡ true → IsGuard g → guard_fits started.whole.lists g ≡ false
+      → IsLineFault started (line_of (When g)) kind.KindMismatch
+  mismatched_link : (started : RulesSoFar) (text : Text) (parts : List Part) → is_in_order started (Link text) ≡ true → IsTemplate text parts
+      → parts_fit started.whole.lists parts ≡ false → IsLineFault started (line_of (Link text)) kind.KindMismatch
 
 -- ---- the first fault
 
@@ -65,14 +65,14 @@ pub data IsLineFault : RulesSoFar → Text → RuleErrorKind → Type 0 where
 pub record StopsAtLine (ls : List Text) (k : RuleErrorKind) (number : ℕ) : Type 0 where
   pub before : List Text
   pub line : Text
-  pub behind : List Text
-  pub begun : RulesSoFar
-  pub whole : ls ≡ before ++ line ∷ behind
+  pub following : List Text
+  pub started : RulesSoFar
+  pub whole : ls ≡ before ++ line ∷ following
   pub counted : number ≡ length before + 1
-  pub spelled : significant before ≡ map line_of (statements_so_far begun)
-  pub sound : AreSoundSoFar begun
+  pub spelled : significant before ≡ map line_of (statements_so_far started)
+  pub sound : AreSoundSoFar started
   pub is_no_comment : is_significant line ≡ true
-  pub faulty : IsLineFault begun line k
+  pub faulty : IsLineFault started line k
 
 -- the next rule begins, or no more lines follow
 abbrev pub EndsRule : List Text → Type 0
@@ -82,14 +82,14 @@ EndsRule (line ∷ ls) = line ≡ line_of Begin
 -- a rule that ends without a link; the number is that of the line of the rule
 pub record LacksLink (ls : List Text) (k : RuleErrorKind) (number : ℕ) : Type 0 where
   pub before : List Text
-  pub behind : List Text
+  pub following : List Text
   pub rules : RuleSet
   pub guards : List Guard
   pub rest : List Text
-  pub whole : ls ≡ before ++ line_of Begin ∷ behind
+  pub whole : ls ≡ before ++ line_of Begin ∷ following
   pub counted : number ≡ length before + 1
   pub spelled : significant before ≡ map line_of (statements rules)
-  pub guarded : significant behind ≡ map line_of (map When guards) ++ rest
+  pub guarded : significant following ≡ map line_of (map When guards) ++ rest
   pub ends : EndsRule rest
   pub sound : AreSoundSoFar (record { whole = rules; guards = Some guards })
   pub no_link : k ≡ kind.NoLink

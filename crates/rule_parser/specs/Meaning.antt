@@ -31,8 +31,8 @@ is_given (Some []) = false
 is_given (Some (b ∷ text)) = true
 
 abbrev pub is_text : Text → Option Text → Bool
-is_text wanted None = false
-is_text wanted (Some text) = bytes_eq text wanted
+is_text expected None = false
+is_text expected (Some text) = bytes_eq text expected
 
 -- the number that a bound denotes, or none if the bound is open
 abbrev pub bound_number : LookUp → Bound → Option ℕ

@@ -7,9 +7,9 @@ ghost use Rattle.std.specs.Option.{option_and_then};
 ghost use Rattle.environment_model.specs.Environment.{text_in, is_among};
 ghost use Rattle.text_model.specs.Number.{leading_number as number_of};
 ghost use Rattle.target_vars.specs.Members.{members_left};
-ghost use Rattle.rule_parser.specs.Meaning.{is_defined as stands_for_something, is_given as is_not_empty, is_text};
+ghost use Rattle.rule_parser.specs.Meaning.{is_defined as denotes_something, is_given as is_not_empty, is_text};
 ghost use Rattle.rule_parser.specs.Meaning.{bound_number as number_of_bound, is_at_least, is_at_most};
-ghost use Rattle.rule_parser.specs.Meaning.{is_within as lies_within, guard_holds as is_held};
+ghost use Rattle.rule_parser.specs.Meaning.{is_within as is_within_bounds, guard_holds as is_held};
 
 use crate::rule::{Bound, Guard};
 use target_vars::Members;
@@ -46,7 +46,7 @@ pub fn holds<V: Variables>(variables: &V, guard: &Guard) -> bool
 
 // A list without members is undefined.
 fn is_defined<V: Variables>(variables: &V, name: &str) -> bool
-    ensures { result ≡ stands_for_something (V.look variables.now name.now) }
+    ensures { result ≡ denotes_something (V.look variables.now name.now) }
 {
     variables.text(name).is_some() || !variables.list(name).is_empty()
 }
@@ -60,32 +60,32 @@ fn is_given<V: Variables>(variables: &V, name: &str) -> bool
     }
 }
 
-fn is_same<V: Variables>(variables: &V, name: &str, wanted: &str) -> bool
-    ensures { result ≡ is_text wanted.now (text_in (V.look variables.now name.now)) }
+fn is_same<V: Variables>(variables: &V, name: &str, expected: &str) -> bool
+    ensures { result ≡ is_text expected.now (text_in (V.look variables.now name.now)) }
 {
     match variables.text(name) {
-        Some(text) => text == wanted,
+        Some(text) => text == expected,
         None => false,
     }
 }
 
-fn has_member(members: &Members, wanted: &str) -> bool
-    ensures { result ≡ is_among wanted.now (members_left members.now) }
+fn has_member(members: &Members, expected: &str) -> bool
+    ensures { result ≡ is_among expected.now (members_left members.now) }
 {
     for i in 0..members.len() {
-        if is_member(members, i, wanted) {
+        if is_member(members, i, expected) {
             return true;
         }
     }
     false
 }
 
-fn is_member(members: &Members, i: usize, wanted: &str) -> bool
+fn is_member(members: &Members, i: usize, expected: &str) -> bool
     requires { i < length (members_left members.now) }
-    ensures { result ≡ bytes_eq (slice_index_or (members_left members.now) i []) wanted.now }
+    ensures { result ≡ bytes_eq (slice_index_or (members_left members.now) i []) expected.now }
 {
     match members.get(i) {
-        Some(member) => member == wanted,
+        Some(member) => member == expected,
         None => false,
     }
 }
@@ -108,7 +108,7 @@ fn bound_number<V: Variables>(variables: &V, bound: &Bound) -> Option<u32>
 }
 
 fn is_within<V: Variables>(variables: &V, low: &Bound, high: &Bound, n: usize) -> bool
-    ensures { result ≡ lies_within (number_of_bound (V.look variables.now) low.now)
+    ensures { result ≡ is_within_bounds (number_of_bound (V.look variables.now) low.now)
         (number_of_bound (V.look variables.now) high.now) n }
 {
     reaches(bound_number(variables, low), n) && stays_below(bound_number(variables, high), n)

@@ -2,7 +2,7 @@
 
 ghost use Rattle.std.specs.Prelude.{◌≡◌, IfOk};
 ghost use Rattle.environment_model.specs.Environment.{is_among as is_one_of};
-ghost use Rattle.environment_model.specs.Lists.{is_list as stands_for_list};
+ghost use Rattle.environment_model.specs.Lists.{is_list as denotes_list};
 
 use std::alloc::{AllocError, Global};
 use target_vars::{AUTHORS, IDENTIFIERS};
@@ -17,7 +17,7 @@ pub(crate) fn is_among(names: &[Text], name: &str) -> bool
 
 /// Whether the name denotes a list, if these are declared.
 pub(crate) fn is_list(declared: &[Text], name: &str) -> bool
-    ensures { result ≡ stands_for_list declared.now name.now }
+    ensures { result ≡ denotes_list declared.now name.now }
 {
     name == AUTHORS || name == IDENTIFIERS || is_among(declared, name)
 }

@@ -5,7 +5,7 @@ ghost use Rattle.uri_grammar.specs.Names.{IsName};
 ghost use Rattle.rule_parser.specs.declared.error.TheConstants.{NO_MEMORY};
 ghost use Rattle.rule_parser.specs.Faults.{AreSoundSoFar, takes_lists as lists_may_come};
 ghost use Rattle.rule_parser.specs.Statements.{Begin, line_of};
-ghost use Rattle.rule_parser.specs.Private.Progress.{so_far_of, GoesOn, KeepsLine, IsStepFault, no_rules};
+ghost use Rattle.rule_parser.specs.Private.Progress.{so_far_of, Continues, KeepsLine, IsStepFault, no_rules};
 
 use crate::error::{RuleError, RuleErrorKind};
 use crate::guard::guard;
@@ -43,7 +43,7 @@ impl Reader {
     /// Reads one more line, which is neither empty nor a comment.
     pub(crate) fn read(&mut self, alloc: Global, number: usize, line: &str) -> Result<(), RuleError>
         requires { AreSoundSoFar (so_far_of self.old) }
-        ensures ok { OnOk result (GoesOn (so_far_of self.old) (so_far_of self.new) line.now) }
+        ensures ok { OnOk result (Continues (so_far_of self.old) (so_far_of self.new) line.now) }
         ensures line { OnOk result (KeepsLine self.old self.new number) }
         ensures err { IfErr result (IsStepFault self.old number line.now) }
     {
@@ -64,7 +64,7 @@ impl Reader {
 
     fn begin(&mut self, alloc: Global, number: usize) -> Result<(), RuleError>
         requires { AreSoundSoFar (so_far_of self.old) }
-        ensures ok { OnOk result (GoesOn (so_far_of self.old) (so_far_of self.new) (line_of Begin)) }
+        ensures ok { OnOk result (Continues (so_far_of self.old) (so_far_of self.new) (line_of Begin)) }
         ensures line { OnOk result (KeepsLine self.old self.new number) }
         ensures err { IfErr result (λ e. (e.kind ≡ RuleErrorKind.NoLink) × (self.old.rule_line ≡ Some e.line)) }
     {
@@ -90,7 +90,7 @@ impl Reader {
 
     fn declare(&mut self, alloc: Global, number: usize, name: &str) -> Result<(), RuleError>
         requires { AreSoundSoFar (so_far_of self.old) }
-        ensures ok { OnOk result (GoesOn (so_far_of self.old) (so_far_of self.new) (codes "list " ++ name.now)) }
+        ensures ok { OnOk result (Continues (so_far_of self.old) (so_far_of self.new) (codes "list " ++ name.now)) }
         ensures line { OnOk result (KeepsLine self.old self.new number) }
         ensures err { IfErr result (IsStepFault self.old number (codes "list " ++ name.now)) }
         ensures no_memory { result ≡ Err NO_MEMORY → IsName name.now × (lists_may_come (so_far_of self.old) ≡ true) }
@@ -107,7 +107,7 @@ impl Reader {
 
     fn add_guard(&mut self, alloc: Global, number: usize, tokens: &str) -> Result<(), RuleError>
         requires { AreSoundSoFar (so_far_of self.old) }
-        ensures ok { OnOk result (GoesOn (so_far_of self.old) (so_far_of self.new) (codes "when " ++ tokens.now)) }
+        ensures ok { OnOk result (Continues (so_far_of self.old) (so_far_of self.new) (codes "when " ++ tokens.now)) }
         ensures line { OnOk result (KeepsLine self.old self.new number) }
         ensures err { IfErr result (IsStepFault self.old number (codes "when " ++ tokens.now)) }
         ensures no_memory { result ≡ Err NO_MEMORY → is_some (so_far_of self.old).guards ≡ true }
@@ -127,7 +127,7 @@ impl Reader {
 
     fn add_link(&mut self, alloc: Global, number: usize, text: &str) -> Result<(), RuleError>
         requires { AreSoundSoFar (so_far_of self.old) }
-        ensures ok { OnOk result (GoesOn (so_far_of self.old) (so_far_of self.new) (codes "link " ++ text.now)) }
+        ensures ok { OnOk result (Continues (so_far_of self.old) (so_far_of self.new) (codes "link " ++ text.now)) }
         ensures line { OnOk result (KeepsLine self.old self.new number) }
         ensures err { IfErr result (IsStepFault self.old number (codes "link " ++ text.now)) }
         ensures no_memory { result ≡ Err NO_MEMORY → is_some (so_far_of self.old).guards ≡ true }

@@ -3,7 +3,7 @@
 ghost use Rattle.std.specs.Prelude.{◌≡◌, ◌<◌, ◌≤◌, ◌↔◌, ◌⊎◌, map, length, IsUtf8, Err, IfOk, IfErr};
 ghost use Rattle.rule_parser.specs.Grammar.{IsRuleText};
 ghost use Rattle.rule_parser.specs.Faults.{IsRefused};
-ghost use Rattle.environment_model.specs.Lists.{is_list as stands_for_list, list_names};
+ghost use Rattle.environment_model.specs.Lists.{is_list as denotes_list, list_names};
 ghost use Rattle.rule_parser.specs.Names.{each_once};
 ghost use Rattle.rule_parser.specs.declared.guard.TheConstants.{MAX_DIGITS};
 ghost use Rattle.rule_parser.specs.Rules.{IsSound};
@@ -99,7 +99,7 @@ impl Rules {
 
     /// Whether the name is one of [`Rules::lists`].
     pub fn is_list(&self, name: &str) -> bool
-        ensures { result ≡ stands_for_list self.now.lists name.now }
+        ensures { result ≡ denotes_list self.now.lists name.now }
     {
         is_list(&self.lists, name)
     }

@@ -46,9 +46,9 @@ fn over_triplets(alloc: Global, text: &str) -> Result<String, Fail> {
 
 #[test]
 fn names_are_not_decoded(rt: HostRuntime) -> Result<(), Fail> {
-    for &(text, wanted) in TRIPLETS {
+    for &(text, expected) in TRIPLETS {
         let expanded = over_triplets(rt.alloc(), text)?;
-        assert!(rt; expanded.as_str() == wanted, "{text}");
+        assert!(rt; expanded.as_str() == expected, "{text}");
     }
     Ok(())
 }

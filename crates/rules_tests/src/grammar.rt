@@ -7,19 +7,19 @@ use uri_grammar::{
     Op, Part, Spec, Specs, Template, TemplateError, TemplateErrorKind, Text, is_name,
 };
 
-fn has_literal(template: &Template, part: usize, wanted: &str) -> bool {
+fn has_literal(template: &Template, part: usize, expected: &str) -> bool {
     match template.parts().get(part) {
-        Some(Part::Literal(text)) => text.as_str() == wanted,
+        Some(Part::Literal(text)) => text.as_str() == expected,
         _ => false,
     }
 }
 
 /// The template has this text, this number of parts, and this literal.
 fn is_split(template: &Template, case: &(&str, usize, usize, &str)) -> bool {
-    let &(text, parts, part, wanted) = case;
+    let &(text, parts, part, expected) = case;
     template.text() == text
         && template.parts().len() == parts
-        && has_literal(template, part, wanted)
+        && has_literal(template, part, expected)
 }
 
 fn splits(alloc: Global, case: &(&str, usize, usize, &str)) -> Result<bool, TemplateError> {

@@ -59,8 +59,8 @@ const CUT: &[(&str, usize, &str, &str)] = &[
     ("%C3%A9", 1, "%", "%C3"),
 ];
 
-fn cuts(text: &str, n: usize, by_triplets: bool, wanted: &str) -> bool {
-    cut(text.as_bytes(), n, by_triplets) == wanted.as_bytes()
+fn cuts(text: &str, n: usize, by_triplets: bool, expected: &str) -> bool {
+    cut(text.as_bytes(), n, by_triplets) == expected.as_bytes()
 }
 
 #[test]

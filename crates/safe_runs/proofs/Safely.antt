@@ -39,7 +39,7 @@ module _ (once : EndsOnce) (c : Code) (e : EnvValue) (safe : IsSafe c) where
   ends_with : (k : ℕ) (t : Text) → After c e.entries k (Ended (end.Link t)) → EndsSafely c e (run.Link t)
   ends_with k t after = record {
     steps = k;
-    comes = after;
+    ending = after;
     in_time = in_time k (end.Link t, after);
     printed = λ n s. safe.bounded e.entries n s;
     bounded = λ u same. subst (λ x. length x ≤ most_bytes c e) (link_is t u same) (safe.bounded e.entries k (Ended (end.Link t)) after);
@@ -50,7 +50,7 @@ module _ (once : EndsOnce) (c : Code) (e : EnvValue) (safe : IsSafe c) where
   ends_safely (Link link) h = ends_with h.0 _ h.1
   ends_safely NoLink h = record {
     steps = h.0;
-    comes = h.1;
+    ending = h.1;
     in_time = in_time h.0 (end.NoLink, h.1);
     printed = λ n s. safe.bounded e.entries n s;
     bounded = λ u same. absurd (cc);

@@ -4,7 +4,7 @@ use Rattle.text_model.specs.Texts.{Text}
 use Rattle.text_model.specs.UriText.{IsUriText}
 use Rattle.code_model.specs.Code.{Code}
 use Rattle.machine_model.specs.States.{State}
-use Rattle.machine_model.specs.Runs.{Outcome, Link, After, ComesTo}
+use Rattle.machine_model.specs.Runs.{Outcome, Link, After, EndsWith}
 use Rattle.machine_model.specs.Safe.{output_of}
 use Rattle.target_vars.specs.EnvValue.{EnvValue}
 use Rattle.code_file.specs.Grammar.{IsCodeFile}
@@ -32,7 +32,7 @@ pub record IsAcceptedFile (bytes : Text) (c : Code) : Type 0 where
 pub record EndsSafely (c : Code) (e : EnvValue) (o : Outcome) : Type 0 where
   -- the machine ends with this outcome, after this number of steps
   pub steps : ℕ
-  pub comes : ComesTo c e.entries steps o
+  pub ending : EndsWith c e.entries steps o
   -- the steps are within the budget of the code
   pub in_time : steps ≤ most_steps c e
   -- at every moment the output has at most the bytes of the budget, even in a run that gives no link

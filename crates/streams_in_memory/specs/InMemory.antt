@@ -1,13 +1,13 @@
 -- The state of streams over memory.
 use Rattle.std.specs.Prelude.{ℕ, ◌-◌, ◌==◌, List, Option, Some, None, if◌then◌else◌}
-use Rattle.http_streams.specs.Streams.{Heard, Said}
+use Rattle.http_streams.specs.Streams.{InputState, OutputState}
 use Rattle.http_streams.specs.declared.tally.Tally.{Tally}
 
 -- what is known about an input with these bytes left to read and these calls counted, and about an output with these bytes written
-abbrev pub input_with : List ℕ → Tally → Option ℕ → Heard
+abbrev pub input_with : List ℕ → Tally → Option ℕ → InputState
 input_with left tally wait = record { left = Some left; taken = tally.moved; failures = tally.failures; wait = wait }
 
-abbrev pub output_with : List ℕ → Tally → Option ℕ → Said
+abbrev pub output_with : List ℕ → Tally → Option ℕ → OutputState
 output_with written tally wait = record { written = Some written; sent = tally.moved; failures = tally.failures; wait = wait }
 
 -- the counts of a stream that has had no calls
@@ -41,16 +41,16 @@ pub record PieceOutValue : Type 0 where
 -- ---- what is known about them
 
 -- a tape is both an input and an output
-abbrev pub tape_as_input : TapeValue → Heard
+abbrev pub tape_as_input : TapeValue → InputState
 tape_as_input tape = input_with tape.left tape.reads None
 
-abbrev pub tape_as_output : TapeValue → Said
+abbrev pub tape_as_output : TapeValue → OutputState
 tape_as_output tape = output_with tape.written tape.writes None
 
-abbrev pub pieces_as_input : PieceInValue → Heard
+abbrev pub pieces_as_input : PieceInValue → InputState
 pieces_as_input stream = input_with stream.left stream.tally stream.wait
 
-abbrev pub pieces_as_output : PieceOutValue → Said
+abbrev pub pieces_as_output : PieceOutValue → OutputState
 pieces_as_output stream = output_with stream.written stream.tally stream.wait
 
 -- ---- calls that fail

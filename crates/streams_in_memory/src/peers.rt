@@ -1,8 +1,7 @@
 //! A listener over memory.
 
-ghost use Rattle.std.specs.Prelude.{◌≡◌, ◌++◌, ◌∷◌, [], ℕ, IfOk, IfSome, OnErr, OnOk, slice_get};
+ghost use Rattle.std.specs.Prelude.{◌≡◌, ◌++◌, ◌∷◌, [], OnOk, slice_get};
 ghost use Rattle.std.specs.Option.{option_copied};
-ghost use Rattle.std.specs.Duration.{as_nanos};
 ghost use Rattle.streams_in_memory.specs.Accepting.{Gives, Keeps};
 
 use crate::pieces::{PieceIn, PieceOut};

@@ -3,7 +3,7 @@
 
 ghost use Rattle.std.specs.Prelude.{◌≡◌, ◌<◌, ◌≤◌, ◌↔◌, [], None, Some, IfOk, IsErr, OnErr, length, min, take};
 ghost use Rattle.std.specs.Duration.{as_nanos};
-ghost use Rattle.http_streams.specs.Streams.{Hears, IsAtEnd, Says, after_failed_read, after_failed_write};
+ghost use Rattle.http_streams.specs.Streams.{Receives, IsAtEnd, Sends, after_failed_read, after_failed_write};
 ghost use Rattle.streams_in_memory.specs.InMemory.{after_call, pieces_as_input, no_calls, pieces_as_output};
 
 use crate::fault::{call, copy_front};
@@ -93,14 +93,14 @@ impl PieceIn {
 }
 
 impl Input for PieceIn {
-    ghost heard = { pieces_as_input };
+    ghost input_state = { pieces_as_input };
 
     // As many bytes as are left, fit into the room and are allowed by the piece.
     fn read(&mut self, room: &mut [u8]) -> Result<usize, Failed>
         requires { 0 < length room.old }
         ensures within { IfOk result (λ n. n ≤ length room.new) }
         ensures read { IfOk result
-            (λ n. Hears (pieces_as_input self.old) (take n room.new) n (pieces_as_input self.new)) }
+            (λ n. Receives (pieces_as_input self.old) (take n room.new) n (pieces_as_input self.new)) }
         ensures end { IfOk result (λ n. n ≡ 0 → IsAtEnd (Some self.old.left)) }
         ensures failed { OnErr result (pieces_as_input self.new ≡ after_failed_read (pieces_as_input self.old)) }
 
@@ -212,13 +212,13 @@ impl PieceOut {
 }
 
 impl Output for PieceOut {
-    ghost said = { pieces_as_output };
+    ghost output_state = { pieces_as_output };
 
     fn write(&mut self, bytes: &[u8]) -> Result<usize, Failed>
         ensures within { IfOk result (λ n. n ≤ length bytes.now) }
         ensures some { IfOk result (λ n. 0 < length bytes.now → 0 < n) }
         ensures written { IfOk result
-            (λ n. Says (pieces_as_output self.old) (take n bytes.now) n (pieces_as_output self.new)) }
+            (λ n. Sends (pieces_as_output self.old) (take n bytes.now) n (pieces_as_output self.new)) }
         ensures failed { OnErr result (pieces_as_output self.new ≡ after_failed_write (pieces_as_output self.old)) }
 
         ensures count { IfOk result (λ n. n ≡ min self.old.piece (length bytes.now)) }

@@ -1,7 +1,7 @@
 //! A stream over memory.
 
 ghost use Rattle.std.specs.Prelude.{◌≡◌, ◌<◌, ◌≤◌, [], Some, IfOk, OnErr, length, min, take};
-ghost use Rattle.http_streams.specs.Streams.{Hears, IsAtEnd, Says, after_failed_read, after_failed_write};
+ghost use Rattle.http_streams.specs.Streams.{Receives, IsAtEnd, Sends, after_failed_read, after_failed_write};
 ghost use Rattle.streams_in_memory.specs.InMemory.{tape_as_input, no_calls, tape_as_output};
 
 use crate::fault::copy_front;
@@ -63,13 +63,14 @@ impl Input for Tape {
     ghost use Rattle.std.specs.Prelude.{Ok};
     ghost use Rattle.streams_in_memory.specs.InMemory.{tape_as_input};
 
-    ghost heard = { tape_as_input };
+    ghost input_state = { tape_as_input };
 
     // As many bytes as are left and fit into the room.
     fn read(&mut self, room: &mut [u8]) -> Result<usize, Failed>
         requires { 0 < length room.old }
         ensures within { IfOk result (λ n. n ≤ length room.new) }
-        ensures read { IfOk result (λ n. Hears (tape_as_input self.old) (take n room.new) n (tape_as_input self.new)) }
+        ensures read { IfOk result (λ n. Receives (tape_as_input self.old) (take n room.new) n
+            (tape_as_input self.new)) }
         ensures end { IfOk result (λ n. n ≡ 0 → IsAtEnd (Some self.old.left)) }
         ensures failed { OnErr result (tape_as_input self.new ≡ after_failed_read (tape_as_input self.old)) }
 
@@ -87,14 +88,14 @@ impl Input for Tape {
 impl Output for Tape {
     ghost use Rattle.streams_in_memory.specs.InMemory.{tape_as_output};
 
-    ghost said = { tape_as_output };
+    ghost output_state = { tape_as_output };
 
     // All of the bytes.
     fn write(&mut self, bytes: &[u8]) -> Result<usize, Failed>
         ensures within { IfOk result (λ n. n ≤ length bytes.now) }
         ensures some { IfOk result (λ n. 0 < length bytes.now → 0 < n) }
         ensures written { IfOk result
-            (λ n. Says (tape_as_output self.old) (take n bytes.now) n (tape_as_output self.new)) }
+            (λ n. Sends (tape_as_output self.old) (take n bytes.now) n (tape_as_output self.new)) }
         ensures failed { OnErr result (tape_as_output self.new ≡ after_failed_write (tape_as_output self.old)) }
 
         ensures all { IfOk result (λ n. n ≡ length bytes.now) }

@@ -38,10 +38,10 @@ past_found (suc left) cell rest is =
     let never : false ≡ true = ap (λ b. b && not (is_empty cell)) (sym no) ∙ is in
     absurd (false≢true never)
 
-pub past_goes_on : (left : ℕ) (cell : Text) (rest : Row) → (left == 0 && not (is_empty cell)) ≡ false
+pub past_continues : (left : ℕ) (cell : Text) (rest : Row) → (left == 0 && not (is_empty cell)) ≡ false
     → any_text (drop left (cell ∷ rest)) ≡ any_text (drop (left - 1) rest)
-past_goes_on zero cell rest is = ap (λ b. b || any_text rest) is
-past_goes_on (suc left) cell rest is =
+past_continues zero cell rest is = ap (λ b. b || any_text rest) is
+past_continues (suc left) cell rest is =
     let one : left ≡ suc left - 1 = omega arith in
     ap (λ n. any_text (drop n rest)) one
 

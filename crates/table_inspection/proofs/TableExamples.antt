@@ -15,7 +15,7 @@ use Rattle.table_inspection.specs.Inspection.{counts, inspection_text, has_warni
 use Rattle.table_inspection.proofs.OnLiterals.{on_literals}
 
 abbrev table : Row → List Row → Holdings
-table header rows = record { header = header; rows = rows; keys = record { begun = initial } }
+table header rows = record { header = header; rows = rows; keys = record { hasher = initial } }
 
 abbrev line : Text → Text
 line text = text ++ 10 ∷ []

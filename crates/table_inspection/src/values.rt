@@ -1,6 +1,6 @@
 //! What is found in the columns of dates and links, and in the length of rows.
 
-ghost use Rattle.std.specs.Prelude.{◌≡◌, ◌++◌, ◌<◌, ◌≤◌, ◌+◌, List, OnOk};
+ghost use Rattle.std.specs.Prelude.{◌++◌, ◌<◌, ◌≤◌, ◌+◌, List, OnOk};
 ghost use Rattle.std.specs.Option.{option_copied};
 ghost use Rattle.table_inspection.specs.Cells as spec;
 ghost use Rattle.table_inspection.specs.Inspection.{findings_in_values};

@@ -1,5 +1,4 @@
 -- The error of a table that is rejected is that of the file at its path.
-use Rattle.std.proofs.Common.{◌≡◌}
 use Rattle.std.specs.Prelude.{◌≢◌}
 use Rattle.text_model.specs.Texts.{Text}
 use Rattle.files.specs.Found.{Found, Absent, Gives}

@@ -1,6 +1,6 @@
 //! Tables that a command reads.
 
-ghost use Rattle.std.specs.Prelude.{IfOk, IfErr, OnOk};
+ghost use Rattle.std.specs.Prelude.{IfOk, IfErr};
 ghost use Rattle.files.specs.Changes.{Unchanged};
 ghost use Rattle.files.specs.Failures.{HasFailed};
 ghost use Rattle.files.specs.declared.call.FileCall.TheVariants.{Read};

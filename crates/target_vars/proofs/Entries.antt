@@ -92,8 +92,8 @@ is_there-entries b m i (n ∷ ns) (p ∷ ps) name long =
   where
     by_cases : (r : Bool) → bytes_eq n name ≡ r → is_there (entries_from b m (suc i) ns ps) name ≡ is_among name ns
         → is_there (entry b (m i) n p ∷ entries_from b m (suc i) ns ps) name ≡ is_among name (n ∷ ns)
-    by_cases true same behind = ap is_some (look_up-same (entry b (m i) n p) (entries_from b m (suc i) ns ps) name same) ∙ rw same refl
-    by_cases false other behind = ap is_some (look_up-other (entry b (m i) n p) (entries_from b m (suc i) ns ps) name other) ∙ behind ∙ rw other refl
+    by_cases true same following = ap is_some (look_up-same (entry b (m i) n p) (entries_from b m (suc i) ns ps) name same) ∙ rw same refl
+    by_cases false other following = ap is_some (look_up-other (entry b (m i) n p) (entries_from b m (suc i) ns ps) name other) ∙ following ∙ rw other refl
 
 -- a name of a later entry is not that of the first
 not_in_front : (e : Entry) (env : Environment) (name : Text) → EachNameOnce (e ∷ env) → is_there env name ≡ true → bytes_eq e.name name ≡ false
@@ -119,11 +119,11 @@ look_up-at b m i (n ∷ ns) (q ∷ ps) name (suc k) p once named placed =
     let e = entry b (m i) n q in
     let env = entries_from b m (suc i) ns ps in
     let once' : EachNameOnce (e ∷ env) = subst EachNameOnce (entries_from-cons b m i n ns q ps) once in
-    let behind = look_up-at b m (suc i) ns ps name k p once'.1 named placed in
+    let following = look_up-at b m (suc i) ns ps name k p once'.1 named placed in
     let next : suc i + k ≡ i + suc k = omega arith in
     ap (λ es. look_up es name) (entries_from-cons b m i n ns q ps)
-    ∙ look_up-other e env name (not_in_front e env name once' (ap is_some behind))
-    ∙ behind
+    ∙ look_up-other e env name (not_in_front e env name once' (ap is_some following))
+    ∙ following
     ∙ ap (λ j. Some (meaning_in b (m j) p)) next
 
 -- ---- one more member

@@ -5,7 +5,7 @@ use Rattle.std.specs.Prelude.{MatchResult}
 use Rattle.std.proofs.lemmas.Option.{slice_get-get_or, slice_get_within}
 use Rattle.text_model.specs.Texts.{Text}
 use Rattle.environment_model.specs.Environment.{is_there, is_among, text_in, byte_count, member_count}
-use Rattle.target_vars.specs.EnvValue.{EnvValue, stands_for_text}
+use Rattle.target_vars.specs.EnvValue.{EnvValue, denotes_text}
 use Rattle.target_vars.specs.Private.NamesValue.{IsGap}
 use Rattle.target_vars.specs.Layout.{at, is_one, laid_spans, meaning_in, members_in, IsLaid, IsPutLast}
 use Rattle.target_vars.specs.declared.env.Env.TheInside.{Inside}
@@ -54,10 +54,10 @@ abbrev pub IsFound : Inside → Text → Result ℕ ℕ → Type 0
 IsFound r name found = MatchResult found (λ k. slice_get r.names.listed k ≡ Some name) (IsGap r.names name)
 
 pub decided : (r : Inside) (v : EnvValue) (name : Text) (found : Result ℕ ℕ) (text : Bool) → IsHeld r → held r ≡ v → IsFound r name found
-    → Says r.places.items found text → stands_for_text v.entries name ≡ text
+    → Says r.places.items found text → denotes_text v.entries name ≡ text
 decided r v name (Ok k) text laid is named says =
     let p = found_place r name k laid named in
-    ap (λ (x : EnvValue). stands_for_text x.entries name) (sym is)
+    ap (λ (x : EnvValue). denotes_text x.entries name) (sym is)
     ∙ ap (λ o. is_some (text_in o)) (look_up-laid (string_bytes r.buffer) r.spans.items r.names.listed r.places.items name k p.0 laid named p.1)
     ∙ by_place p.0
     ∙ sym (says p.0 p.1)
@@ -66,7 +66,7 @@ decided r v name (Ok k) text laid is named says =
     by_place (One part) = refl
     by_place Many = refl
 decided r v name (Err gap) text laid is named says =
-    ap (λ (x : EnvValue). stands_for_text x.entries name) (sym is)
+    ap (λ (x : EnvValue). denotes_text x.entries name) (sym is)
     ∙ ap (λ o. is_some (text_in o)) (look_up-lacking (string_bytes r.buffer) r.spans.items r.names.listed r.places.items name laid named.lacks)
     ∙ sym says
 

@@ -28,8 +28,8 @@ before P xs i within all k d below =
     let size = length-take-le i xs within in
     subst P (sym (get_or-take i xs k d (omega arith))) (all k d (omega arith) (omega arith))
 
-behind : {X : Type 0} (P : X → Type 0) (xs : List X) (i : ℕ) → AllWithin P xs i (length xs) → All P (drop i xs)
-behind P xs i all k d below =
+following : {X : Type 0} (P : X → Type 0) (xs : List X) (i : ℕ) → AllWithin P xs i (length xs) → All P (drop i xs)
+following P xs i all k d below =
     let size = length-drop i xs in
     subst P (sym (get_or-drop i xs k d)) (all (i + k) d (omega arith) (omega arith))
 
@@ -65,14 +65,14 @@ run_is xs n first count in_first order firsts in_count counts =
     let ys = drop first xs in
     let below : All (λ s. p s ≡ false) (take first xs) = All-weaker (λ s. ltb s.list n ≡ true) (λ s. p s ≡ false) (λ s h. lower s n (ltb-true s.list n h))
     (take first xs) (before (λ s. ltb s.list n ≡ true) xs first in_first firsts.0) in
-    let from = behind (λ s. ltb s.list n ≡ false) xs first firsts.1 in
+    let from = following (λ s. ltb s.list n ≡ false) xs first firsts.1 in
     let sized = length-take-le count ys in_count in
     let at_least : (k : ℕ) (d : Span) → k < length (take count ys) → ltb (get_or (take count ys) k d).list n
     ≡ false = λ k d lt. subst (λ (x : Span). ltb x.list n ≡ false) (sym (get_or-take count ys k d (omega arith))) (from k d (omega arith)) in
     let upto = before (λ s. leb s.list n ≡ true) ys count in_count counts.0 in
     let own : All (λ s. p s ≡ true) (take count ys) = λ k d lt. both (get_or (take count ys) k d) n (at_least k d lt) (upto k d lt) in
     let above : All (λ s. p s ≡ false) (drop count ys) = All-weaker (λ s. leb s.list n ≡ false) (λ s. p s ≡ false) (λ s h. higher s n (leb-false s.list n h))
-    (drop count ys) (behind (λ s. leb s.list n ≡ false) ys count counts.1) in
+    (drop count ys) (following (λ s. leb s.list n ≡ false) ys count counts.1) in
     record {
       within = omega arith;
       is = sym (ap (filter p) (sym (take-append-drop first xs)) ∙ filter-append p (take first xs) ys
@@ -91,7 +91,7 @@ put_last_is xs s place within order parted =
     let back = drop place xs in
     let above : All (λ x. (x.list == n) ≡ false) back =
     All-weaker (λ x. leb x.list n ≡ false) (λ x. (x.list == n) ≡ false) (λ x h. higher x n (leb-false x.list n h)) back
-    (behind (λ x. leb x.list n ≡ false) xs place parted.1) in
+    (following (λ x. leb x.list n ≡ false) xs place parted.1) in
     let whole = λ (m : ℕ). sym (filter-append (λ (x : Span). x.list == m) front back) ∙ ap (λ ys. spans_of ys m) (take-append-drop place xs) in
     record {
       place = place;

@@ -17,8 +17,8 @@ EachNameOnce [] = Unit {0}
 EachNameOnce (e ∷ env) = (is_there env e.name ≡ false) × EachNameOnce env
 
 -- the name is defined, and denotes a text
-abbrev pub stands_for_text : Environment → Text → Bool
-stands_for_text env name = is_some (text_of env name)
+abbrev pub denotes_text : Environment → Text → Bool
+denotes_text env name = is_some (text_of env name)
 
 -- ---- where texts and members are
 

@@ -5,7 +5,7 @@ ghost use Rattle.std.specs.Prelude.{IfOk, IfSome, IsTrue, MatchOption, insert, i
 ghost use Rattle.std.specs.Option.{option_copied};
 ghost use Rattle.environment_model.specs.Environment.{is_there, text_of, members_of, byte_count, member_count};
 ghost use Rattle.environment_model.specs.Environment.{with_text, with_member};
-ghost use Rattle.target_vars.specs.EnvValue.{EachNameOnce, stands_for_text, IsWithin, IsTextAt, AreMembersAt};
+ghost use Rattle.target_vars.specs.EnvValue.{EachNameOnce, denotes_text, IsWithin, IsTextAt, AreMembersAt};
 ghost use Rattle.target_vars.specs.EnvValue.{IsInOrder};
 ghost use Rattle.target_vars.specs.Layout.{IsTextPart};
 ghost use Rattle.target_vars.specs.Members.{members_left};
@@ -110,12 +110,12 @@ impl Env {
     /// `TooLarge` if all texts and members would have more than [`MAX_BYTES`] bytes, or all lists more than
     /// [`MAX_MEMBERS`] members; `NoMemory` if an allocation failed. After an error nothing has changed.
     pub fn add_member(&mut self, name: &str, text: &str) -> Result<bool, VarsError>
-        ensures answer { IfOk result (λ is_added. is_added ≡ not (stands_for_text self.old.entries name.now)) }
+        ensures answer { IfOk result (λ is_added. is_added ≡ not (denotes_text self.old.entries name.now)) }
         ensures ok { OnOk result (self.new.entries ≡ with_member self.old.entries name.now text.now) }
-        ensures known { stands_for_text self.old.entries name.now ≡ true → (result ≡ Ok false)
+        ensures known { denotes_text self.old.entries name.now ≡ true → (result ≡ Ok false)
             × (self.new.entries ≡ self.old.entries) }
         ensures too_large { (result ≡ Err VarsError.TooLarge)
-            ↔ ((stands_for_text self.old.entries name.now ≡ false)
+            ↔ ((denotes_text self.old.entries name.now ≡ false)
             × ((MAX_BYTES < byte_count self.old.entries + length text.now)
             ⊎ (MAX_MEMBERS < member_count self.old.entries + 1))) }
         ensures err { OnErr result (self.new.entries ≡ self.old.entries) }

@@ -92,9 +92,9 @@ second_digits_in_names = refl
 names_go_on : filter (λ c. not (next_len (c ∷ codes "aa") == 0)) ascii ≡ codes "%.0123456789ABCDEFGHIJKLMNOPQRSTUVWXYZ_abcdefghijklmnopqrstuvwxyz"
 names_go_on = refl
 
-names_go_on_behind_a_dot : filter (λ c. not (next_len (46 ∷ c ∷ codes "aa") == 0)) ascii
+names_continue_after_a_dot : filter (λ c. not (next_len (46 ∷ c ∷ codes "aa") == 0)) ascii
     ≡ codes "%0123456789ABCDEFGHIJKLMNOPQRSTUVWXYZ_abcdefghijklmnopqrstuvwxyz"
-names_go_on_behind_a_dot = refl
+names_continue_after_a_dot = refl
 
 -- no name has a character beyond ASCII
 no_names_past_ascii : list_any (λ c. not (varchar_len (c ∷ codes "aa") == 0 && next_len (c ∷ codes "aa") == 0)) (ends_of_ranges ++ beside_ranges) ≡ false

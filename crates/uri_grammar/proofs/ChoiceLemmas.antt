@@ -153,14 +153,14 @@ last_or_fault list lacks =
     (spec_or_fault list)
 
 -- a comma after a list, as the rest after its first piece
-comma_behind : (list piece rest : List ℕ) → list ≡ piece ++ comma ∷ rest → list ++ comma ∷ [] ≡ piece ++ comma ∷ (rest ++ comma ∷ [])
-comma_behind list piece rest e = ap (λ (t : List ℕ). t ++ comma ∷ []) e ∙ append_assoc piece (comma ∷ rest) (comma ∷ [])
+comma_after : (list piece rest : List ℕ) → list ≡ piece ++ comma ∷ rest → list ++ comma ∷ [] ≡ piece ++ comma ∷ (rest ++ comma ∷ [])
+comma_after list piece rest e = ap (λ (t : List ℕ). t ++ comma ∷ []) e ∙ append_assoc piece (comma ∷ rest) (comma ∷ [])
 
 first_or_fault : (list piece rest : List ℕ) → list ≡ piece ++ comma ∷ rest → Lacks comma piece → SpecsOrFault rest → SpecsOrFault list
 first_or_fault list piece rest e lacks more =
     ⊎_elim
     (λ s. ⊎_elim
-    (λ ss. inl (s.0 ∷ ss.0, (rest ++ comma ∷ [], record { piece = piece; whole = comma_behind list piece rest e; lacks = lacks; is_spec = s.1 }, ss.1)))
+    (λ ss. inl (s.0 ∷ ss.0, (rest ++ comma ∷ [], record { piece = piece; whole = comma_after list piece rest e; lacks = lacks; is_spec = s.1 }, ss.1)))
     (λ f.
     let l = f.2 in
     inr (
@@ -172,7 +172,7 @@ first_or_fault list piece rest e lacks more =
         piece = l.piece;
         after = l.after;
         distance = l.distance;
-        whole = comma_behind list piece rest e
+        whole = comma_after list piece rest e
             ∙ (ap (λ (t : List ℕ). piece ++ comma ∷ t) l.whole ∙ sym (append_assoc piece (comma ∷ l.front) (l.piece ++ comma ∷ l.after)));
         spelled = (l.front, record { piece = piece; whole = refl; lacks = lacks; is_spec = s.1 }, l.spelled);
         lacks = l.lacks;
@@ -181,7 +181,7 @@ first_or_fault list piece rest e lacks more =
       },
     ))
     more)
-    (λ f. inr (f.0, f.1, first_fault list piece (rest ++ comma ∷ []) f.0 f.1 (comma_behind list piece rest e) lacks f.2))
+    (λ f. inr (f.0, f.1, first_fault list piece (rest ++ comma ∷ []) f.0 f.1 (comma_after list piece rest e) lacks f.2))
     (spec_or_fault piece)
 
 pub specs_or_fault : (n : ℕ) (list : List ℕ) → length list < n → SpecsOrFault list

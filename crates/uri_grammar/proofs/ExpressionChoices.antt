@@ -23,7 +23,7 @@ use Rattle.uri_grammar.specs.Faults.{IsBodyFault, reserved_operator, bad_list, I
 use Rattle.uri_grammar.specs.Texts.{IsTemplate, IsRefused}
 use Rattle.uri_grammar.specs.Private.Reading.{begins_with_brace, operator_of, IsExpression, EndsWithNoLiteral}
 use Rattle.uri_grammar.proofs.ExpressionLemmas.{operator_of-HasOperator}
-use Rattle.uri_grammar.proofs.TemplateLemmas.{IsPartFault-literal, Spells-literal, Spells-expression, EndsWithNoLiteral-expression, brace_behind}
+use Rattle.uri_grammar.proofs.TemplateLemmas.{IsPartFault-literal, Spells-literal, Spells-expression, EndsWithNoLiteral-expression, brace_after}
 use Rattle.uri_grammar.proofs.ChoiceLemmas.{lacks_or_cut, longest_literals, none_or_some, specs_or_fault}
 
 body_or_fault : (body : List ℕ) → ((o : Op) × (ss : List Spec) × IsBody body o ss) ⊎ ((k : TemplateErrorKind) × (d : ℕ) × IsBodyFault body k d)
@@ -68,10 +68,10 @@ expression_or_fault cs some z =
     ⊎_elim
     (λ t.
     let inner = drop 1 cs in
-    let behind_brace = brace_behind cs t in
+    let after_brace = brace_after cs t in
     ⊎_elim
-    (λ lacks. inr (kind.Unclosed, 0, subst (λ (x : List ℕ). IsPartFault x kind.Unclosed 0) (sym behind_brace) (unclosed inner lacks)))
-    (λ cut. closed_or_fault cs cut.0 cut.1 (behind_brace ∙ ap (λ (x : List ℕ). open_brace ∷ x) cut.2) cut.3)
+    (λ lacks. inr (kind.Unclosed, 0, subst (λ (x : List ℕ). IsPartFault x kind.Unclosed 0) (sym after_brace) (unclosed inner lacks)))
+    (λ cut. closed_or_fault cs cut.0 cut.1 (after_brace ∙ ap (λ (x : List ℕ). open_brace ∷ x) cut.2) cut.3)
     (lacks_or_cut close_brace inner))
     (λ f. inr (kind.BadLiteral, 0, IsPartFault-literal cs some z f))
     (cases_Bool (begins_with_brace cs))
@@ -111,16 +111,16 @@ parts_or_fault (suc n) front (c ∷ cs) parts l s ends =
     (expression_or_fault (c ∷ cs) (omega arith) z))
     (λ some.
     let run = longest_literals (c ∷ cs) in
-    let raw : 0 < length run.0 = begun run.0 run.1 (c ∷ cs) run.2 run.4 some in
+    let raw : 0 < length run.0 = started run.0 run.1 (c ∷ cs) run.2 run.4 some in
     let shorter : length run.1 < n = omega (arith, ap length run.2, length-append run.0 run.1, raw, l) in
     let more = parts_or_fault n (front ++ run.0) run.1 (parts ++ Literal (written_ur (encode_utf8_all run.0)) ∷ []) shorter
     (Spells-literal front run.0 parts s (ends some) raw run.3) (λ m. absurd (omega (arith, m, run.4))) in
     subst PartsOrFault (append_assoc front run.0 run.1 ∙ ap (λ (t : List ℕ). front ++ t) (sym run.2)) more)
     (none_or_some (literal_item_len (c ∷ cs)))
   where
-    begun : (raw after cs : List ℕ) → cs ≡ raw ++ after → literal_item_len after ≡ 0 → 0 < literal_item_len cs → 0 < length raw
-    begun [] after cs e z some = absurd (omega (arith, ap literal_item_len e, z, some))
-    begun (x ∷ raw) after cs e z some = omega arith
+    started : (raw after cs : List ℕ) → cs ≡ raw ++ after → literal_item_len after ≡ 0 → 0 < literal_item_len cs → 0 < length raw
+    started [] after cs e z some = absurd (omega (arith, ap literal_item_len e, z, some))
+    started (x ∷ raw) after cs e z some = omega arith
 
 short_text_or_fault : (text : Text) → IsUtf8 text → length text ≤ MAX_BYTES → ((parts : List Part) × IsTemplate text parts)
     ⊎ ((k : TemplateErrorKind) × (at : ℕ) × IsRefused text k at)

@@ -95,8 +95,8 @@ cut_and_explode =
     refused (codes "{a:3*}") kind.BadModifier 2 refl refl
     (simple_list (codes "a:3*") kind.BadModifier 1 (omega arith) refl refl refl refl (modified_a (codes ":3*") refl refl refl))
 
-no_spec_behind_the_comma : IsRefused (codes "{a,}") kind.BadName 3
-no_spec_behind_the_comma =
+no_spec_after_the_comma : IsRefused (codes "{a,}") kind.BadName 3
+no_spec_after_the_comma =
     refused (codes "{a,}") kind.BadName 3 refl refl (listed (codes "a,") kind.BadName 2 (omega arith) (lacks close_brace (codes "a,") refl)
     (bad_list (codes "a,") operator.Simple (codes "a,") kind.BadName 2 (no_operator (codes "a,") refl refl) (record {
       front = codes "a,";
@@ -125,8 +125,8 @@ reserved =
     refused (codes "{,a}") kind.ReservedOperator 1 refl refl (listed (codes ",a") kind.ReservedOperator 0 (omega arith) (lacks close_brace (codes ",a") refl)
     (reserved_operator (codes ",a") refl))
 
-nothing_behind_the_operator : IsRefused (codes "{.}") kind.BadName 2
-nothing_behind_the_operator =
+nothing_after_the_operator : IsRefused (codes "{.}") kind.BadName 2
+nothing_after_the_operator =
     refused (codes "{.}") kind.BadName 2 refl refl (listed (codes ".") kind.BadName 1 (omega arith) (lacks close_brace (codes ".") refl)
     (bad_list (codes ".") operator.Dot [] kind.BadName 0
     (record { whole = refl; not_reserved = refl; chosen = λ e. absurd (let never : ⊥ = cc in never) })
@@ -145,9 +145,9 @@ caret = refused (codes "^") kind.BadLiteral 0 refl refl
     (faulty (codes "^") kind.BadLiteral 0 (bad_literal 94 [] refl (λ e. false≢true (eq-eqb 94 open_brace e))))
 
 -- places count bytes: `é` has two
-behind_two_bytes : IsFirstFault (0xE9 ∷ codes "%4") kind.BadLiteral 2
+after_two_bytes : IsFirstFault (0xE9 ∷ codes "%4") kind.BadLiteral 2
 unfolding is_literal_character
-behind_two_bytes = record {
+after_two_bytes = record {
   front = 0xE9 ∷ [];
   parts = Literal (written_ur (encode_utf8_all (0xE9 ∷ []))) ∷ [];
   rest = codes "%4";

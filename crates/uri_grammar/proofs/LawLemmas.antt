@@ -36,22 +36,22 @@ fault_no_spec cs piece after k d e l f = record {
 }
 
 -- specs, and then a text that no spec begins, in only one way
-specs_same : (ss ts : List Spec) (front other rest behind : List ℕ) → SpellsSpecs front ss → SpellsSpecs other ts → NoSpec rest → NoSpec behind
-    → front ++ rest ≡ other ++ behind → (ss ≡ ts) × (front ≡ other) × (rest ≡ behind)
-specs_same [] [] front other rest behind h k n m e =
-    (refl, h ∙ sym k, ap (λ (t : List ℕ). t ++ rest) (sym h) ∙ (e ∙ ap (λ (t : List ℕ). t ++ behind) k))
-specs_same [] (t ∷ ts) front other rest behind h k n m e =
-    let b = spec_before other k.0 behind t k.1 in
-    absurd (n.never (k.0 ++ behind) t (subst (λ (x : List ℕ). BeginsWithSpec x t (k.0 ++ behind)) (sym e ∙ ap (λ (x : List ℕ). x ++ rest) h) b))
-specs_same (s ∷ ss) [] front other rest behind h k n m e =
+specs_same : (ss ts : List Spec) (front other rest following : List ℕ) → SpellsSpecs front ss → SpellsSpecs other ts → NoSpec rest → NoSpec following
+    → front ++ rest ≡ other ++ following → (ss ≡ ts) × (front ≡ other) × (rest ≡ following)
+specs_same [] [] front other rest following h k n m e =
+    (refl, h ∙ sym k, ap (λ (t : List ℕ). t ++ rest) (sym h) ∙ (e ∙ ap (λ (t : List ℕ). t ++ following) k))
+specs_same [] (t ∷ ts) front other rest following h k n m e =
+    let b = spec_before other k.0 following t k.1 in
+    absurd (n.never (k.0 ++ following) t (subst (λ (x : List ℕ). BeginsWithSpec x t (k.0 ++ following)) (sym e ∙ ap (λ (x : List ℕ). x ++ rest) h) b))
+specs_same (s ∷ ss) [] front other rest following h k n m e =
     let b = spec_before front h.0 rest s h.1 in
-    absurd (m.never (h.0 ++ rest) s (subst (λ (x : List ℕ). BeginsWithSpec x s (h.0 ++ rest)) (e ∙ ap (λ (x : List ℕ). x ++ behind) k) b))
-specs_same (s ∷ ss) (t ∷ ts) front other rest behind h k n m e =
+    absurd (m.never (h.0 ++ rest) s (subst (λ (x : List ℕ). BeginsWithSpec x s (h.0 ++ rest)) (e ∙ ap (λ (x : List ℕ). x ++ following) k) b))
+specs_same (s ∷ ss) (t ∷ ts) front other rest following h k n m e =
     let b = spec_before front h.0 rest s h.1 in
-    let d = spec_before other k.0 behind t k.1 in
-    let cut = split_same comma b.piece d.piece (h.0 ++ rest) (k.0 ++ behind) b.lacks d.lacks (sym b.whole ∙ (e ∙ d.whole)) in
+    let d = spec_before other k.0 following t k.1 in
+    let cut = split_same comma b.piece d.piece (h.0 ++ rest) (k.0 ++ following) b.lacks d.lacks (sym b.whole ∙ (e ∙ d.whole)) in
     let head : s ≡ t = spec_same d.piece s t (subst (λ (p : List ℕ). IsSpec p s) cut.0 b.is_spec) d.is_spec in
-    let tails = specs_same ss ts h.0 k.0 rest behind h.2 k.2 n m cut.1 in
+    let tails = specs_same ss ts h.0 k.0 rest following h.2 k.2 n m cut.1 in
     let specs : ss ≡ ts = tails.0 in
     let more : h.0 ≡ k.0 = tails.1 in
     (cc, h.1.whole ∙ (ap (λ (p : List ℕ). p ++ comma ∷ h.0) cut.0 ∙ (ap (λ (r : List ℕ). k.1.piece ++ comma ∷ r) more ∙ sym k.1.whole)), tails.2)

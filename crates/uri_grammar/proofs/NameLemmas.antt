@@ -87,18 +87,18 @@ length-varname name (next_varchar n v h k) = omega (arith, length-append n v, le
 length-varname name (dotted_varchar n v h k) = omega (arith, length-append n (46 ∷ v), length-varname n h)
 
 -- a text begins with at most one longest name
-pub longest_same : (cs name after other behind : List ℕ) → BeginsWithVarname cs name after → BeginsWithVarname cs other behind
-    → (name ≡ other) × (after ≡ behind)
-longest_same cs name after other behind h k =
-    let size : length name ≡ length other = omega (arith, h.longest other behind k.whole k.is_varname, k.longest name after h.whole h.is_varname) in
-    append_same name other after behind size (sym h.whole ∙ k.whole)
+pub longest_same : (cs name after other following : List ℕ) → BeginsWithVarname cs name after → BeginsWithVarname cs other following
+    → (name ≡ other) × (after ≡ following)
+longest_same cs name after other following h k =
+    let size : length name ≡ length other = omega (arith, h.longest other following k.whole k.is_varname, k.longest name after h.whole h.is_varname) in
+    append_same name other after following size (sym h.whole ∙ k.whole)
 
 -- a name that cannot continue is the longest
 pub ended_varname : (cs name after : List ℕ) → cs ≡ name ++ after → IsVarname name → next_len after ≡ 0 → BeginsWithVarname cs name after
 ended_varname cs name after e h ends = record {
   whole = e;
   is_varname = h;
-  longest = λ other behind f k. run_longest next_len name other after behind (IsVarname-run name h) (IsVarname-run other k) (sym e ∙ f) ends;
+  longest = λ other following f k. run_longest next_len name other after following (IsVarname-run name h) (IsVarname-run other k) (sym e ∙ f) ends;
 }
 
 -- ---- how a name grows

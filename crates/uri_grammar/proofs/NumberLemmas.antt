@@ -90,9 +90,9 @@ too_large ds i n d h inside is l =
 
 pub all_read : (ds : List ℕ) (i n : ℕ) → HasRead ds i n → length ds ≤ i → begins_above_zero ds ≡ true → number_of ds ≡ Some n
 unfolding tests value_from
-all_read ds i n h ended begun =
+all_read ds i n h ended started =
     let none = drop_of_length-le ds ended in
     let digits : list_all is_ascii_digit ds ≡ true = h.digits ∙ ap (list_all is_ascii_digit) none in
     let value : value_from 0 ds ≡ n = h.value_is ∙ ap (value_from n) none in
     let small : nat_le (value_from 0 ds) MAX_PREFIX ≡ true = le-leb (value_from 0 ds) MAX_PREFIX (omega (arith, value, h.small)) in
-    cond-true (is_max_length ds) _ _ (max_length-tests ds ∙ and_from _ _ begun (and_from _ _ digits small)) ∙ ap (λ (x : ℕ). Some x) value
+    cond-true (is_max_length ds) _ _ (max_length-tests ds ∙ and_from _ _ started (and_from _ _ digits small)) ∙ ap (λ (x : ℕ). Some x) value

@@ -35,8 +35,8 @@ nothing_no_part = record { no_literal = refl; no_expression = λ rest o specs h.
 first_same : (x y : ℕ) (xs ys : List ℕ) → x ∷ xs ≡ y ∷ ys → x ≡ y
 first_same x y xs ys e = cc
 
-behind_brace : (xs ys : List ℕ) → open_brace ∷ xs ≡ open_brace ∷ ys → xs ≡ ys
-behind_brace xs ys e = cc
+after_brace : (xs ys : List ℕ) → open_brace ∷ xs ≡ open_brace ∷ ys → xs ≡ ys
+after_brace xs ys e = cc
 
 fault_no_part : (cs : List ℕ) (k : TemplateErrorKind) (d : ℕ) → IsPartFault cs k d → NoPart cs
 fault_no_part cs k d (bad_literal c xs l b) = record {
@@ -45,19 +45,19 @@ fault_no_part cs k d (bad_literal c xs l b) = record {
 }
 fault_no_part cs k d (unclosed xs lack) = record {
   no_literal = literal_item_len-brace xs;
-  no_expression = λ rest o specs h. lacks_split close_brace xs h.body rest lack (behind_brace xs (h.body ++ close_brace ∷ rest) h.whole);
+  no_expression = λ rest o specs h. lacks_split close_brace xs h.body rest lack (after_brace xs (h.body ++ close_brace ∷ rest) h.whole);
 }
 fault_no_part cs k d (empty_expression more) = record {
   no_literal = literal_item_len-brace (close_brace ∷ more);
   no_expression = λ rest o specs h. no_empty_body h.body o specs
       (sym (split_same close_brace [] h.body more rest (All-nil (λ x. x ≢ close_brace)) h.lacks
-      (behind_brace (close_brace ∷ more) (h.body ++ close_brace ∷ rest) h.whole)).0) h.is_body;
+      (after_brace (close_brace ∷ more) (h.body ++ close_brace ∷ rest) h.whole)).0) h.is_body;
 }
 fault_no_part cs k d (bad_expression xs more k' d' l lack f) = record {
   no_literal = literal_item_len-brace (xs ++ close_brace ∷ more);
   no_expression = λ rest o specs h. body_no_fault h.body o specs k d' h.is_body
       (subst (λ (t : List ℕ). IsBodyFault t k d')
-      (split_same close_brace xs h.body more rest lack h.lacks (behind_brace (xs ++ close_brace ∷ more) (h.body ++ close_brace ∷ rest) h.whole)).0 f);
+      (split_same close_brace xs h.body more rest lack h.lacks (after_brace (xs ++ close_brace ∷ more) (h.body ++ close_brace ∷ rest) h.whole)).0 f);
 }
 
 length-fault : (cs : List ℕ) (k : TemplateErrorKind) (d : ℕ) → IsPartFault cs k d → 0 < length cs
@@ -78,25 +78,25 @@ part_one_fault cs ds k l d e w (bad_literal c xs p b) (bad_expression ys more l'
 part_one_fault cs ds k l d e w (unclosed xs lack) (bad_literal c ys p b) = absurd (b (first_same c open_brace ys xs (sym w)))
 part_one_fault cs ds k l d e w (unclosed xs lack) (unclosed ys other) = (refl, refl)
 part_one_fault cs ds k l d e w (unclosed xs lack) (empty_expression more) =
-    absurd (lacks_split close_brace xs [] more lack (behind_brace xs (close_brace ∷ more) w))
+    absurd (lacks_split close_brace xs [] more lack (after_brace xs (close_brace ∷ more) w))
 part_one_fault cs ds k l d e w (unclosed xs lack) (bad_expression ys more l' e' q other g) =
-    absurd (lacks_split close_brace xs ys more lack (behind_brace xs (ys ++ close_brace ∷ more) w))
+    absurd (lacks_split close_brace xs ys more lack (after_brace xs (ys ++ close_brace ∷ more) w))
 part_one_fault cs ds k l d e w (empty_expression more) (bad_literal c ys p b) = absurd (b (first_same c open_brace ys (close_brace ∷ more) (sym w)))
 part_one_fault cs ds k l d e w (empty_expression more) (unclosed ys other) =
-    absurd (lacks_split close_brace ys [] more other (behind_brace ys (close_brace ∷ more) (sym w)))
+    absurd (lacks_split close_brace ys [] more other (after_brace ys (close_brace ∷ more) (sym w)))
 part_one_fault cs ds k l d e w (empty_expression more) (empty_expression rest) = (refl, refl)
 part_one_fault cs ds k l d e w (empty_expression more) (bad_expression ys rest l' e' q other g) =
     absurd (not_nothing ys q
-    (split_same close_brace [] ys more rest (All-nil (λ x. x ≢ close_brace)) other (behind_brace (close_brace ∷ more) (ys ++ close_brace ∷ rest) w)).0)
+    (split_same close_brace [] ys more rest (All-nil (λ x. x ≢ close_brace)) other (after_brace (close_brace ∷ more) (ys ++ close_brace ∷ rest) w)).0)
 part_one_fault cs ds k l d e w (bad_expression xs more k' d' p lack f) (bad_literal c ys q b) =
     absurd (b (first_same c open_brace ys (xs ++ close_brace ∷ more) (sym w)))
 part_one_fault cs ds k l d e w (bad_expression xs more k' d' p lack f) (unclosed ys other) =
-    absurd (lacks_split close_brace ys xs more other (behind_brace ys (xs ++ close_brace ∷ more) (sym w)))
+    absurd (lacks_split close_brace ys xs more other (after_brace ys (xs ++ close_brace ∷ more) (sym w)))
 part_one_fault cs ds k l d e w (bad_expression xs more k' d' p lack f) (empty_expression rest) =
     absurd (not_nothing xs p
-    (split_same close_brace [] xs rest more (All-nil (λ x. x ≢ close_brace)) lack (behind_brace (close_brace ∷ rest) (xs ++ close_brace ∷ more) (sym w))).0)
+    (split_same close_brace [] xs rest more (All-nil (λ x. x ≢ close_brace)) lack (after_brace (close_brace ∷ rest) (xs ++ close_brace ∷ more) (sym w))).0)
 part_one_fault cs ds k l d e w (bad_expression xs more k' d' p lack f) (bad_expression ys rest l' e' q other g) =
-    let cut = split_same close_brace xs ys more rest lack other (behind_brace (xs ++ close_brace ∷ more) (ys ++ close_brace ∷ rest) w) in
+    let cut = split_same close_brace xs ys more rest lack other (after_brace (xs ++ close_brace ∷ more) (ys ++ close_brace ∷ rest) w) in
     let faults = body_one_fault ys k l d' e' (subst (λ (t : List ℕ). IsBodyFault t k d') cut.0 f) g in
     (faults.0, ap (λ (n : ℕ). 1 + n) faults.1)
 
@@ -116,46 +116,46 @@ no_literal_at_brace : (cs : List ℕ) (o : Op) (specs : List Spec) (rest : List 
 no_literal_at_brace cs o specs rest h = ap literal_item_len h.whole ∙ literal_item_len-brace (h.body ++ close_brace ∷ rest)
 
 -- parts, and then a text that no part begins, in only one way
-spelled_same : (ps qs : List Part) (front other rest behind : List ℕ) → Spells front ps → Spells other qs → NoPart rest → NoPart behind
-    → front ++ rest ≡ other ++ behind → (ps ≡ qs) × (front ≡ other) × (rest ≡ behind)
-spelled_same [] [] front other rest behind s t k m e =
-    (refl, s ∙ sym t, ap (λ (x : List ℕ). x ++ rest) (sym s) ∙ (e ∙ ap (λ (x : List ℕ). x ++ behind) t))
-spelled_same [] (Literal w ∷ qs) front other rest behind s t k m e =
-    absurd (no_literal_here (other ++ behind) w (t.0 ++ behind) (literals_before other w t.0 behind t.1)
+spelled_same : (ps qs : List Part) (front other rest following : List ℕ) → Spells front ps → Spells other qs → NoPart rest → NoPart following
+    → front ++ rest ≡ other ++ following → (ps ≡ qs) × (front ≡ other) × (rest ≡ following)
+spelled_same [] [] front other rest following s t k m e =
+    (refl, s ∙ sym t, ap (λ (x : List ℕ). x ++ rest) (sym s) ∙ (e ∙ ap (λ (x : List ℕ). x ++ following) t))
+spelled_same [] (Literal w ∷ qs) front other rest following s t k m e =
+    absurd (no_literal_here (other ++ following) w (t.0 ++ following) (literals_before other w t.0 following t.1)
     (ap literal_item_len (sym e ∙ ap (λ (x : List ℕ). x ++ rest) s) ∙ k.no_literal))
-spelled_same [] (Expression o specs ∷ qs) front other rest behind s t k m e =
-    absurd (k.no_expression (t.0 ++ behind) o specs
-    (subst (λ (x : List ℕ). BeginsWithExpression x o specs (t.0 ++ behind)) (sym e ∙ ap (λ (x : List ℕ). x ++ rest) s)
-    (expression_before other o specs t.0 behind t.1)))
-spelled_same (Literal w ∷ ps) [] front other rest behind s t k m e =
+spelled_same [] (Expression o specs ∷ qs) front other rest following s t k m e =
+    absurd (k.no_expression (t.0 ++ following) o specs
+    (subst (λ (x : List ℕ). BeginsWithExpression x o specs (t.0 ++ following)) (sym e ∙ ap (λ (x : List ℕ). x ++ rest) s)
+    (expression_before other o specs t.0 following t.1)))
+spelled_same (Literal w ∷ ps) [] front other rest following s t k m e =
     absurd (no_literal_here (front ++ rest) w (s.0 ++ rest) (literals_before front w s.0 rest s.1)
-    (ap literal_item_len (e ∙ ap (λ (x : List ℕ). x ++ behind) t) ∙ m.no_literal))
-spelled_same (Expression o specs ∷ ps) [] front other rest behind s t k m e =
+    (ap literal_item_len (e ∙ ap (λ (x : List ℕ). x ++ following) t) ∙ m.no_literal))
+spelled_same (Expression o specs ∷ ps) [] front other rest following s t k m e =
     absurd (m.no_expression (s.0 ++ rest) o specs
-    (subst (λ (x : List ℕ). BeginsWithExpression x o specs (s.0 ++ rest)) (e ∙ ap (λ (x : List ℕ). x ++ behind) t)
+    (subst (λ (x : List ℕ). BeginsWithExpression x o specs (s.0 ++ rest)) (e ∙ ap (λ (x : List ℕ). x ++ following) t)
     (expression_before front o specs s.0 rest s.1)))
-spelled_same (Literal w ∷ ps) (Literal v ∷ qs) front other rest behind s t k m e =
+spelled_same (Literal w ∷ ps) (Literal v ∷ qs) front other rest following s t k m e =
     let b = literals_before front w s.0 rest s.1 in
-    let d = literals_before other v t.0 behind t.1 in
-    let heads = run_same literal_item_len b.raw d.raw (s.0 ++ rest) (t.0 ++ behind) (AreLiterals-run b.raw b.are_literals)
-    (AreLiterals-run d.raw d.are_literals) (sym b.whole ∙ (e ∙ d.whole)) (spelled_front ps s.0 rest s.3 s.2 k) (spelled_front qs t.0 behind t.3 t.2 m) in
-    let tails = spelled_same ps qs s.0 t.0 rest behind s.3 t.3 k m heads.1 in
+    let d = literals_before other v t.0 following t.1 in
+    let heads = run_same literal_item_len b.raw d.raw (s.0 ++ rest) (t.0 ++ following) (AreLiterals-run b.raw b.are_literals)
+    (AreLiterals-run d.raw d.are_literals) (sym b.whole ∙ (e ∙ d.whole)) (spelled_front ps s.0 rest s.3 s.2 k) (spelled_front qs t.0 following t.3 t.2 m) in
+    let tails = spelled_same ps qs s.0 t.0 rest following s.3 t.3 k m heads.1 in
     let written : w ≡ v = b.is_written ∙ (ap (λ (x : List ℕ). written_ur (encode_utf8_all x)) heads.0 ∙ sym d.is_written) in
     let parts : ps ≡ qs = tails.0 in
     (cc, s.1.whole ∙ (ap (λ (x : List ℕ). x ++ s.0) heads.0 ∙ (ap (λ (x : List ℕ). t.1.raw ++ x) tails.1 ∙ sym t.1.whole)), tails.2)
-spelled_same (Literal w ∷ ps) (Expression o specs ∷ qs) front other rest behind s t k m e =
+spelled_same (Literal w ∷ ps) (Expression o specs ∷ qs) front other rest following s t k m e =
     absurd (no_literal_here (front ++ rest) w (s.0 ++ rest) (literals_before front w s.0 rest s.1)
-    (ap literal_item_len e ∙ no_literal_at_brace (other ++ behind) o specs (t.0 ++ behind) (expression_before other o specs t.0 behind t.1)))
-spelled_same (Expression o specs ∷ ps) (Literal w ∷ qs) front other rest behind s t k m e =
-    absurd (no_literal_here (other ++ behind) w (t.0 ++ behind) (literals_before other w t.0 behind t.1)
+    (ap literal_item_len e ∙ no_literal_at_brace (other ++ following) o specs (t.0 ++ following) (expression_before other o specs t.0 following t.1)))
+spelled_same (Expression o specs ∷ ps) (Literal w ∷ qs) front other rest following s t k m e =
+    absurd (no_literal_here (other ++ following) w (t.0 ++ following) (literals_before other w t.0 following t.1)
     (ap literal_item_len (sym e) ∙ no_literal_at_brace (front ++ rest) o specs (s.0 ++ rest) (expression_before front o specs s.0 rest s.1)))
-spelled_same (Expression o specs ∷ ps) (Expression p others ∷ qs) front other rest behind s t k m e =
+spelled_same (Expression o specs ∷ ps) (Expression p others ∷ qs) front other rest following s t k m e =
     let b = expression_before front o specs s.0 rest s.1 in
-    let d = expression_before other p others t.0 behind t.1 in
-    let cut = split_same close_brace b.body d.body (s.0 ++ rest) (t.0 ++ behind) b.lacks d.lacks
-    (behind_brace (b.body ++ close_brace ∷ (s.0 ++ rest)) (d.body ++ close_brace ∷ (t.0 ++ behind)) (sym b.whole ∙ (e ∙ d.whole))) in
+    let d = expression_before other p others t.0 following t.1 in
+    let cut = split_same close_brace b.body d.body (s.0 ++ rest) (t.0 ++ following) b.lacks d.lacks
+    (after_brace (b.body ++ close_brace ∷ (s.0 ++ rest)) (d.body ++ close_brace ∷ (t.0 ++ following)) (sym b.whole ∙ (e ∙ d.whole))) in
     let bodies = body_same d.body o p specs others (subst (λ (x : List ℕ). IsBody x o specs) cut.0 b.is_body) d.is_body in
-    let tails = spelled_same ps qs s.0 t.0 rest behind s.2 t.2 k m cut.1 in
+    let tails = spelled_same ps qs s.0 t.0 rest following s.2 t.2 k m cut.1 in
     let first : o ≡ p = bodies.0 in
     let second : specs ≡ others = bodies.1 in
     let parts : ps ≡ qs = tails.0 in (

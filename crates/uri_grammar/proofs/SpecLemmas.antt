@@ -114,23 +114,25 @@ modifier_of-none cs e n explode h = some_none (n, explode) (sym (e ∙ modifier_
 pub no_name : (cs : List ℕ) → varchar_len cs ≡ 0 → (name after : List ℕ) → IsNamed cs name after → ⊥
 no_name cs z name after h = omega (arith, z, ap varchar_len h.begins.whole, varchar_len-varname name after h.begins.is_varname)
 
-pub long_name : (cs name after : List ℕ) → BeginsWithVarname cs name after → MAX_NAME_BYTES < length name → (other behind : List ℕ) → IsNamed cs other behind
+pub long_name : (cs name after : List ℕ) → BeginsWithVarname cs name after → MAX_NAME_BYTES < length name → (other following : List ℕ)
+    → IsNamed cs other following
     → ⊥
-long_name cs name after h l other behind k =
+long_name cs name after h l other following k =
     let short : length other ≤ MAX_NAME_BYTES = k.short in
-    omega (arith, short, l, ap length (longest_same cs name after other behind h k.begins).0)
+    omega (arith, short, l, ap length (longest_same cs name after other following h k.begins).0)
 
-pub bad_follower : (cs name after : List ℕ) → BeginsWithVarname cs name after → 0 < length after → begins_with_modifier after ≡ false → (other behind : List ℕ)
-    → IsNamed cs other behind → ⊥
-bad_follower cs name after h l b other behind k =
-    let same : after ≡ behind = (longest_same cs name after other behind h k.begins).1 in
+pub bad_follower : (cs name after : List ℕ) → BeginsWithVarname cs name after → 0 < length after → begins_with_modifier after ≡ false
+    → (other following : List ℕ)
+    → IsNamed cs other following → ⊥
+bad_follower cs name after h l b other following k =
+    let same : after ≡ following = (longest_same cs name after other following h k.begins).1 in
     ⊎_elim
-    (λ (nil : behind ≡ []). omega (arith, l, ap length (same ∙ nil)))
-    (λ (begins : begins_with_modifier behind ≡ true). false≢true (sym b ∙ (ap begins_with_modifier same ∙ begins)))
+    (λ (nil : following ≡ []). omega (arith, l, ap length (same ∙ nil)))
+    (λ (begins : begins_with_modifier following ≡ true). false≢true (sym b ∙ (ap begins_with_modifier same ∙ begins)))
     k.follows
 
-named_same : (cs name after other behind : List ℕ) → IsNamed cs name after → IsNamed cs other behind → (name ≡ other) × (after ≡ behind)
-named_same cs name after other behind h k = longest_same cs name after other behind h.begins k.begins
+named_same : (cs name after other following : List ℕ) → IsNamed cs name after → IsNamed cs other following → (name ≡ other) × (after ≡ following)
+named_same cs name after other following h k = longest_same cs name after other following h.begins k.begins
 
 -- ---- specs
 
@@ -153,16 +155,16 @@ spec_same cs s t h k =
 -- a text with a fault is not a spec
 pub spec_no_fault : (cs : List ℕ) (spec : Spec) (k : TemplateErrorKind) (d : ℕ) → IsSpec cs spec → IsSpecFault cs k d → ⊥
 spec_no_fault cs spec k d h (bad_name xs never) = never spec.name h.after (spec_named cs spec h)
-spec_no_fault cs spec k d h (bad_modifier xs other behind is never) =
-    let same = named_same cs spec.name h.after other behind (spec_named cs spec h) is in
+spec_no_fault cs spec k d h (bad_modifier xs other following is never) =
+    let same = named_same cs spec.name h.after other following (spec_named cs spec h) is in
     never spec.cut spec.explode (subst (λ (t : List ℕ). IsModifier t spec.cut spec.explode) same.1 h.modified)
 
 pub spec_one_fault : (cs : List ℕ) (k l : TemplateErrorKind) (d e : ℕ) → IsSpecFault cs k d → IsSpecFault cs l e → (k ≡ l) × (d ≡ e)
 spec_one_fault cs k l d e (bad_name xs never) (bad_name ys other) = (refl, refl)
 spec_one_fault cs k l d e (bad_name xs never) (bad_modifier ys name after is other) = absurd (never name after is)
 spec_one_fault cs k l d e (bad_modifier xs name after is other) (bad_name ys never) = absurd (never name after is)
-spec_one_fault cs k l d e (bad_modifier xs name after is other) (bad_modifier ys next behind are never) =
-    (refl, ap length (named_same cs name after next behind is are).0)
+spec_one_fault cs k l d e (bad_modifier xs name after is other) (bad_modifier ys next following are never) =
+    (refl, ap length (named_same cs name after next following is are).0)
 
 -- ---- lists of specs
 
@@ -196,9 +198,9 @@ piece_cut rest end l h =
     let whole : rest ≡ take end rest ++ comma ∷ drop (end + 1) rest = sym (take-append-drop end rest) ∙ ap (λ (t : List ℕ). take end rest ++ t) back in
     (drop (end + 1) rest ++ comma ∷ [], ap (λ (t : List ℕ). t ++ comma ∷ []) whole ∙ append_assoc (take end rest) (comma ∷ drop (end + 1) rest) (comma ∷ []))
 
-behind : (list rest : List ℕ) (done len : ℕ) → done ≤ length list → rest ≡ drop done list → (x : List ℕ) → rest ++ comma ∷ [] ≡ take len rest ++ comma ∷ x
+following : (list rest : List ℕ) (done len : ℕ) → done ≤ length list → rest ≡ drop done list → (x : List ℕ) → rest ++ comma ∷ [] ≡ take len rest ++ comma ∷ x
     → drop done (list ++ comma ∷ []) ≡ take len rest ++ comma ∷ x
-behind list rest done len w r x e = drop-append-le done list (comma ∷ []) w ∙ (ap (λ (t : List ℕ). t ++ comma ∷ []) (sym r) ∙ e)
+following list rest done len w r x e = drop-append-le done list (comma ∷ []) w ∙ (ap (λ (t : List ℕ). t ++ comma ∷ []) (sym r) ∙ e)
 
 -- one more piece that is a spec
 pub specs_step : (list rest piece : List ℕ) (done len : ℕ) (ss : List Spec) (s : Spec) → done ≤ length list → rest ≡ drop done list → piece ≡ take len rest
@@ -210,7 +212,7 @@ specs_step list rest piece done len ss s w r p within lacks cut is h =
     ap (λ (n : ℕ). take (n + 1) (take len rest ++ comma ∷ cut.0)) (sym size) ∙ take-append-add (take len rest) (comma ∷ cut.0) 1 in
     let all : take (done + (len + 1)) (list ++ comma ∷ []) ≡ take done (list ++ comma ∷ []) ++ (take len rest ++ comma ∷ []) =
     take-add done (len + 1) (list ++ comma ∷ []) ∙ ap (λ (t : List ℕ). take done (list ++ comma ∷ []) ++ t)
-    (ap (λ (t : List ℕ). take (len + 1) t) (behind list rest done len w r cut.0 cut.1) ∙ front) in
+    (ap (λ (t : List ℕ). take (len + 1) t) (following list rest done len w r cut.0 cut.1) ∙ front) in
     subst (λ (t : List ℕ). SpellsSpecs t (ss ++ s ∷ [])) (sym all)
     (SpellsSpecs-more ss (take done (list ++ comma ∷ [])) (take len rest) s h lacks (subst (λ (t : List ℕ). IsSpec t s) p is))
 
@@ -221,7 +223,8 @@ pub specs_fault : (list rest piece : List ℕ) (done len : ℕ) (ss : List Spec)
 specs_fault list rest piece done len ss e w r p lacks cut h f =
     let size : length (take done (list ++ comma ∷ [])) ≡ done = length-take-le done (list ++ comma ∷ []) (omega (arith, length-append list (comma ∷ []), w)) in
     let whole : list ++ comma ∷ [] ≡ take done (list ++ comma ∷ []) ++ (take len rest ++ comma ∷ cut.0) =
-    sym (take-append-drop done (list ++ comma ∷ [])) ∙ ap (λ (t : List ℕ). take done (list ++ comma ∷ []) ++ t) (behind list rest done len w r cut.0 cut.1) in
+    sym (take-append-drop done (list ++ comma ∷ []))
+    ∙ ap (λ (t : List ℕ). take done (list ++ comma ∷ []) ++ t) (following list rest done len w r cut.0 cut.1) in
     ⊎_elim
     (λ m. inl (ap (λ (x : TemplateError). moved x done) m))
     (λ g.

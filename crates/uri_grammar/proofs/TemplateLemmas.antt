@@ -152,9 +152,9 @@ IsPartFault-body cs inner end e b is l pos h lacks f =
     (bad_expression (take end inner) (drop (end + 1) inner) e.kind e.at some lacks g))))
     f
 
-pub brace_behind : (cs : List ℕ) → begins_with_brace cs ≡ true → cs ≡ open_brace ∷ drop 1 cs
-brace_behind [] b = cc
-brace_behind (c ∷ cs) b = ap (λ (x : ℕ). x ∷ cs) (eqb-true c open_brace b)
+pub brace_after : (cs : List ℕ) → begins_with_brace cs ≡ true → cs ≡ open_brace ∷ drop 1 cs
+brace_after [] b = cc
+brace_after (c ∷ cs) b = ap (λ (x : ℕ). x ∷ cs) (eqb-true c open_brace b)
 
 pub IsPartFault-literal : (cs : List ℕ) → 0 < length cs → literal_item_len cs ≡ 0 → begins_with_brace cs ≡ false → IsPartFault cs kind.BadLiteral 0
 IsPartFault-literal [] l z b = absurd (omega arith)
@@ -162,7 +162,7 @@ IsPartFault-literal (c ∷ cs) l z b = bad_literal c cs (no_length-literal (c �
 
 pub IsPartFault-unclosed : (cs inner : List ℕ) → begins_with_brace cs ≡ true → inner ≡ drop 1 cs → Lacks close_brace inner → IsPartFault cs kind.Unclosed 0
 IsPartFault-unclosed cs inner b is l =
-    subst (λ (t : List ℕ). IsPartFault t kind.Unclosed 0) (sym (brace_behind cs b ∙ ap (λ (t : List ℕ). open_brace ∷ t) (sym is))) (unclosed inner l)
+    subst (λ (t : List ℕ). IsPartFault t kind.Unclosed 0) (sym (brace_after cs b ∙ ap (λ (t : List ℕ). open_brace ∷ t) (sym is))) (unclosed inner l)
 
 pub IsPartFault-empty : (cs inner : List ℕ) (end : ℕ) → begins_with_brace cs ≡ true → inner ≡ drop 1 cs → end < length inner → get_or inner end 0 ≡ close_brace
     → end ≡ 0 → IsPartFault cs kind.EmptyExpression 0

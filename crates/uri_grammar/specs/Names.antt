@@ -28,4 +28,4 @@ IsName text = IsVarname text × (length text ≤ MAX_NAME_BYTES)
 pub record BeginsWithVarname (cs name after : List ℕ) : Type 0 where
   pub whole : cs ≡ name ++ after
   pub is_varname : IsVarname name
-  pub longest : (other behind : List ℕ) → cs ≡ other ++ behind → IsVarname other → length other ≤ length name
+  pub longest : (other following : List ℕ) → cs ≡ other ++ following → IsVarname other → length other ≤ length name

@@ -12,8 +12,8 @@ undefined-pieces : (look : LookUp) (style : Style) (specs : List Spec) → All (
 undefined-pieces look style [] h = refl
 undefined-pieces look style (spec ∷ specs) h =
     let here = All-head (λ (s : Spec). look s.name ≡ None) spec specs h in
-    let behind = All-tail (λ (s : Spec). look s.name ≡ None) spec specs h in
-    ap (λ m. cons_option (piece style spec m) (pieces look style specs)) here ∙ undefined-pieces look style specs behind
+    let following = All-tail (λ (s : Spec). look s.name ≡ None) spec specs h in
+    ap (λ m. cons_option (piece style spec m) (pieces look style specs)) here ∙ undefined-pieces look style specs following
 
 pub undefined-led : (look : LookUp) (op : Op) (specs : List Spec) → All (λ spec. look spec.name ≡ None) specs
     → led (style_of op) (pieces look (style_of op) specs) ≡ []

@@ -118,9 +118,9 @@ unfolding AreUriTexts
 pieces-uri look style [] s h = tt
 pieces-uri look style (spec ∷ specs) s h =
     let here = All-head IsSoundSpec spec specs h in
-    let behind = All-tail IsSoundSpec spec specs h in
+    let following = All-tail IsSoundSpec spec specs h in
     cons_option-uri (piece style spec (look spec.name)) (pieces look style specs) (piece-uri style spec (look spec.name) s here.uri_text)
-    (pieces-uri look style specs s behind)
+    (pieces-uri look style specs s following)
 
 led-uri : (style : Style) (ps : List Text) → HasUriTexts style → AreUriTexts ps → IsUriText (led style ps)
 led-uri style [] s h = nothing
@@ -136,5 +136,5 @@ pub expansion-uri : (look : LookUp) (parts : List Part) → All IsSoundPart part
 expansion-uri look [] h = nothing
 expansion-uri look (part ∷ parts) h =
     let here = All-head IsSoundPart part parts h in
-    let behind = All-tail IsSoundPart part parts h in
-    IsUriText-append (part_text look part) (expansion look parts) (part_text-uri look part here) (expansion-uri look parts behind)
+    let following = All-tail IsSoundPart part parts h in
+    IsUriText-append (part_text look part) (expansion look parts) (part_text-uri look part here) (expansion-uri look parts following)

@@ -17,8 +17,8 @@ pub fn expansion_is_uri_text()
 
 /// The expansion of joined parts is the joined expansions: no part depends on its neighbours.
 pub fn expansions_join()
-    ensures { (look : LookUp) (parts behind : List Part)
-        → expansion look (parts ++ behind) ≡ expansion look parts ++ expansion look behind }
+    ensures { (look : LookUp) (parts following : List Part)
+        → expansion look (parts ++ following) ≡ expansion look parts ++ expansion look following }
 {}
 
 /// An expression none of whose variables is defined gives nothing (RFC 6570, section 3.2.1).

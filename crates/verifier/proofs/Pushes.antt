@@ -10,7 +10,7 @@ use Rattle.machine_model.specs.Kinds.{any_kinds, kind_join, edge}
 use Rattle.machine_model.specs.Typable.{Table}
 use Rattle.verifier.specs.declared.row.Row.{Row}
 use Rattle.verifier.specs.Private.Rows.{kinds_of, table_of}
-use Rattle.verifier.specs.Private.Walks.{Follows, IsSameBefore, IsClosedBefore, IsBelowClosed, GoesOn, Rises, row_rises, place_rises}
+use Rattle.verifier.specs.Private.Walks.{Follows, IsSameBefore, IsClosedBefore, IsBelowClosed, Continues, Rises, row_rises, place_rises}
 use Rattle.verifier.proofs.KindRises.{row_rises_few, table_rises_set}
 use Rattle.verifier.proofs.Rowed.{Arrives, follows_one, arrives_first, arrives_joined, table_here, table_other}
 
@@ -19,7 +19,7 @@ module _ (rows : List (Option Row)) (to : ℕ) (row : Row) where
   written_same n le q lt = let ne : q ≢ to = omega arith in table_other rows to row q ne
 
   pub written_on : (next n : ℕ) → to < length rows → row_rises row.kinds < place_rises (get_or rows to None) → n ≤ next
-      → GoesOn next n rows (set rows to (Some row))
+      → Continues next n rows (set rows to (Some row))
   written_on next n lt less le = record {
     long = length-set rows to (Some row);
     on = le;
@@ -72,7 +72,7 @@ risen false olds news e h = absurd (cc)
 pub same_both : (n m : ℕ) (t u v : Table) → m ≤ n → IsSameBefore n t u → IsSameBefore m u v → IsSameBefore m t v
 same_both n m t u v le a b q lt = b q lt ∙ a q (omega arith)
 
-pub on_both : (from next to : ℕ) (t u v : List (Option Row)) → GoesOn from next t u → GoesOn next to u v → GoesOn from to t v
+pub on_both : (from next to : ℕ) (t u v : List (Option Row)) → Continues from next t u → Continues next to u v → Continues from to t v
 on_both from next to t u v a b = record {
   long = b.long ∙ a.long;
   on = omega (arith, a.on, b.on);

@@ -6,7 +6,7 @@ ghost use Rattle.std.specs.List.{AllByRecursion};
 ghost use Rattle.machine_model.specs.Form.{HasGoodForm};
 ghost use Rattle.machine_model.specs.Typable.{IsLeast};
 ghost use Rattle.verifier.specs.Private.Rows.{table_of, edge_of, one_or_none};
-ghost use Rattle.verifier.specs.Private.Walks.{Follows, IsSameBefore, GoesOn, IsClosedBefore, IsBelowClosed};
+ghost use Rattle.verifier.specs.Private.Walks.{Follows, IsSameBefore, Continues, IsClosedBefore, IsBelowClosed};
 ghost use Rattle.verifier.specs.Private.Walks.{ContinuesAt, IsReturn};
 
 use crate::edges::{Edge, edges};
@@ -27,7 +27,7 @@ fn push(table: &mut [Option<Row>], edge: Edge, next: usize) -> usize
     requires { edge.to < length table.old }
     ensures follows { Follows (edge_of edge ∷ []) (table_of table.old) (table_of table.new) }
     ensures same { IsSameBefore result (table_of table.old) (table_of table.new) }
-    ensures on { GoesOn next result table.old table.new }
+    ensures on { Continues next result table.old table.new }
     ensures at { ContinuesAt next (edge_of edge ∷ []) result }
 {
     let Some(mut row) = table[edge.to] else {
@@ -46,7 +46,7 @@ fn follow(table: &mut [Option<Row>], edge: Option<Edge>, next: usize) -> usize
     requires { AllByRecursion (λ e. e.to < length table.old) (one_or_none edge_of edge) }
     ensures follows { Follows (one_or_none edge_of edge) (table_of table.old) (table_of table.new) }
     ensures same { IsSameBefore result (table_of table.old) (table_of table.new) }
-    ensures on { GoesOn next result table.old table.new }
+    ensures on { Continues next result table.old table.new }
     ensures at { ContinuesAt next (one_or_none edge_of edge) result }
 {
     match edge {
@@ -65,7 +65,7 @@ fn step(layout: &Layout, table: &mut [Option<Row>], place: usize) -> usize
     requires below { IsBelowClosed layout.now.code.now (table_of table.old) }
     ensures closed { IsClosedBefore layout.now.code.now result (table_of table.new) }
     ensures below { IsBelowClosed layout.now.code.now (table_of table.new) }
-    ensures on { GoesOn (place + 1) result table.old table.new }
+    ensures on { Continues (place + 1) result table.old table.new }
     ensures at { (result ≡ place + 1) ⊎ IsReturn layout.now.code.now place result }
 {
     let Some(row) = table[place] else {

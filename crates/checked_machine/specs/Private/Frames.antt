@@ -27,7 +27,7 @@ frame_of s = record { place = s.place; registers = registers_of s.registers; loo
 abbrev pub move_in : state.Frame → Move → step.Move
 move_in s move.Link = step.Ends (state.Link s.output)
 move_in s move.NoLink = step.Ends state.NoLink
-move_in s (move.Goes d) = step.Goes (state.at d s)
+move_in s (move.MovesTo d) = step.MovesTo (state.at d s)
 move_in s (move.Returns d) = step.Returns (state.at d s)
 
 abbrev pub moves : state.Frame → Option Move → Option step.Move

@@ -39,9 +39,9 @@ const COUNTED: &str = "LIST r0 n1, EACH r1 r0 5, PUT r1 u, COUNT r1 r0, NEXT, HA
 
 #[test]
 fn bounds_steps_and_bytes(rt: HostRuntime) -> Result<(), Fail> {
-    for (text, members, bytes, wanted) in BOUNDS {
-        let came = bounds_of(rt.alloc(), text, members, bytes)?;
-        assert_eq!(rt; came.as_str(), wanted, "{text}");
+    for (text, members, bytes, expected) in BOUNDS {
+        let result = bounds_of(rt.alloc(), text, members, bytes)?;
+        assert_eq!(rt; result.as_str(), expected, "{text}");
     }
     Ok(())
 }

@@ -1,7 +1,7 @@
 //! Code files, rules and rule files, run by one call.
 
 use super::tables::{LIST_FILE, OPTIONAL, VARIABLES};
-use super::{Entry, environment, file, shown};
+use super::{Entry, environment, file, outcome_text};
 use end_to_end::{run_file, run_rule_file, run_rules};
 use rule_parser::Rules;
 use std::alloc::Global;
@@ -10,10 +10,10 @@ use std::test::Fail;
 /// `x` is a text that is longer than a query may be.
 const LONG: &[Entry] = &[(false, "x", "a", 400_000)];
 
-fn came_of_file(alloc: Global, file: &[u8], entries: &[Entry]) -> Result<String, Fail> {
+fn result_of_file(alloc: Global, file: &[u8], entries: &[Entry]) -> Result<String, Fail> {
     let env = environment(alloc, entries)?;
     Ok(match run_file(alloc, file, &env) {
-        Ok(outcome) => shown(alloc, outcome)?,
+        Ok(outcome) => outcome_text(alloc, outcome)?,
         Err(error) => format!(in alloc; "{error}")?,
     })
 }
@@ -22,22 +22,22 @@ fn came_of_file(alloc: Global, file: &[u8], entries: &[Entry]) -> Result<String,
 fn runs_files(rt: HostRuntime) -> Result<(), Fail> {
     // Three bytes for each byte of the environment and of the longest comparison text, which has 10 bytes.
     let optional = file(rt.alloc(), b'2', OPTIONAL)?;
-    for (file, entries, wanted) in [
+    for (file, entries, expected) in [
         (LIST_FILE, VARIABLES, "link red,green,blue"),
         (&LIST_FILE[..67], VARIABLES, "Truncated at 67"),
         (optional.as_slice(), LONG, "over budget: 1200030"),
     ] {
-        let came = came_of_file(rt.alloc(), file, entries)?;
-        assert_eq!(rt; came.as_str(), wanted);
+        let result = result_of_file(rt.alloc(), file, entries)?;
+        assert_eq!(rt; result.as_str(), expected);
     }
     Ok(())
 }
 
-fn came_of_rules(alloc: Global, rules: &str, entries: &[Entry]) -> Result<String, Fail> {
+fn result_of_rules(alloc: Global, rules: &str, entries: &[Entry]) -> Result<String, Fail> {
     let rules = Rules::parse(alloc, rules.as_bytes())?;
     let env = environment(alloc, entries)?;
     Ok(match run_rules(alloc, &rules, &env) {
-        Ok(outcome) => shown(alloc, outcome)?,
+        Ok(outcome) => outcome_text(alloc, outcome)?,
         Err(error) => format!(in alloc; "{error}")?,
     })
 }
@@ -57,17 +57,17 @@ const RULES: [(&str, &[Entry], &str); 3] = [
 
 #[test]
 fn runs_rules(rt: HostRuntime) -> Result<(), Fail> {
-    for (rules, entries, wanted) in RULES {
-        let came = came_of_rules(rt.alloc(), rules, entries)?;
-        assert_eq!(rt; came.as_str(), wanted);
+    for (rules, entries, expected) in RULES {
+        let result = result_of_rules(rt.alloc(), rules, entries)?;
+        assert_eq!(rt; result.as_str(), expected);
     }
     Ok(())
 }
 
-fn came_of_rule_file(alloc: Global, file: &str, entries: &[Entry]) -> Result<String, Fail> {
+fn result_of_rule_file(alloc: Global, file: &str, entries: &[Entry]) -> Result<String, Fail> {
     let env = environment(alloc, entries)?;
     Ok(match run_rule_file(alloc, file.as_bytes(), &env) {
-        Ok(outcome) => shown(alloc, outcome)?,
+        Ok(outcome) => outcome_text(alloc, outcome)?,
         Err(error) => format!(in alloc; "{error}")?,
     })
 }
@@ -84,13 +84,13 @@ const FAULTS: [(&str, &str); 3] = [
 
 #[test]
 fn runs_rule_files(rt: HostRuntime) -> Result<(), Fail> {
-    for (file, entries, wanted) in RULES {
-        let came = came_of_rule_file(rt.alloc(), file, entries)?;
-        assert_eq!(rt; came.as_str(), wanted);
+    for (file, entries, expected) in RULES {
+        let result = result_of_rule_file(rt.alloc(), file, entries)?;
+        assert_eq!(rt; result.as_str(), expected);
     }
-    for (file, wanted) in FAULTS {
-        let came = came_of_rule_file(rt.alloc(), file, VARIABLES)?;
-        assert_eq!(rt; came.as_str(), wanted);
+    for (file, expected) in FAULTS {
+        let result = result_of_rule_file(rt.alloc(), file, VARIABLES)?;
+        assert_eq!(rt; result.as_str(), expected);
     }
     Ok(())
 }
@@ -109,12 +109,12 @@ fn rules_with_names(alloc: Global, names: usize) -> Result<String, Fail> {
 /// Code has at most 256 names, so these rules have no code. Their meaning is a link all the same.
 #[test]
 fn refuses_rules_over_a_limit(rt: HostRuntime) -> Result<(), Fail> {
-    for (names, wanted) in [(256, "link http://e.org/"), (257, "TooManyNames")] {
+    for (names, expected) in [(256, "link http://e.org/"), (257, "TooManyNames")] {
         let rules = rules_with_names(rt.alloc(), names)?;
-        let came = came_of_rule_file(rt.alloc(), &rules, VARIABLES)?;
-        assert_eq!(rt; came.as_str(), wanted);
-        let came = came_of_rules(rt.alloc(), &rules, VARIABLES)?;
-        assert_eq!(rt; came.as_str(), wanted);
+        let result = result_of_rule_file(rt.alloc(), &rules, VARIABLES)?;
+        assert_eq!(rt; result.as_str(), expected);
+        let result = result_of_rules(rt.alloc(), &rules, VARIABLES)?;
+        assert_eq!(rt; result.as_str(), expected);
     }
     Ok(())
 }

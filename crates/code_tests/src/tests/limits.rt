@@ -83,7 +83,7 @@ fn compiled(alloc: Global, rules: &str) -> Result<String, Fail> {
 #[test]
 fn codes_at_limits_are_accepted(rt: HostRuntime) -> Result<(), Fail> {
     let alloc = rt.alloc();
-    for (rules, wanted) in [
+    for (rules, expected) in [
         // 10 bytes, a name of 3, 1,023 literals of 7 and one of 4, and 8 for each instruction.
         (guarded(alloc, 2022, "")?, "1024 4095 39938"),
         // 10 bytes, eight literals of 3 bytes and 65,366 letters, and 8 for each instruction.
@@ -92,7 +92,7 @@ fn codes_at_limits_are_accepted(rt: HostRuntime) -> Result<(), Fail> {
         (named(alloc, 256)?, "3 1539 13869"),
     ] {
         let outcome = compiled(alloc, &rules)?;
-        assert_eq!(rt; outcome.as_str(), wanted);
+        assert_eq!(rt; outcome.as_str(), expected);
     }
     Ok(())
 }
@@ -100,7 +100,7 @@ fn codes_at_limits_are_accepted(rt: HostRuntime) -> Result<(), Fail> {
 #[test]
 fn first_limit_passed_is_named(rt: HostRuntime) -> Result<(), Fail> {
     let alloc = rt.alloc();
-    for (rules, wanted) in [
+    for (rules, expected) in [
         (guarded(alloc, 2023, "")?, "TooManyLiterals"),
         (guarded(alloc, 2022, "when has a\n")?, "TooManyInstructions"),
         (lettered(alloc, 8_177)?, "FileTooLong"),
@@ -108,7 +108,7 @@ fn first_limit_passed_is_named(rt: HostRuntime) -> Result<(), Fail> {
         (past_names_and_literals(alloc)?, "TooManyNames"),
     ] {
         let outcome = compiled(alloc, &rules)?;
-        assert_eq!(rt; outcome.as_str(), wanted);
+        assert_eq!(rt; outcome.as_str(), expected);
     }
     Ok(())
 }

@@ -3,7 +3,7 @@
 use super::tables::{
     BRANCHES, EFFECTS, FIRST, LIST_CODE, LIST_FILE, OPTIONAL, RULE, SECOND, STUCK, TEXTS, VARIABLES,
 };
-use super::{Entry, checked, environment, file, shown};
+use super::{Entry, checked, environment, file, outcome_text};
 use compiler::compile;
 use interpreter::{Run, prepare};
 use rule_parser::Rules;
@@ -27,25 +27,25 @@ fn ended(alloc: Global, code: &Verified, env: &Env, n: u64) -> Result<(String, u
     let mut run = prepare(alloc, code, env)?;
     take_turns(&mut run, n);
     let steps = run.steps();
-    Ok((shown(alloc, run.finish())?, steps))
+    Ok((outcome_text(alloc, run.finish())?, steps))
 }
 
 /// The outcome of the checked machine for the code of a file. If the code is accepted, its runs have the same outcome
 /// and the same number of steps, however long their turns are. The second value is this number, and 0 for other code.
-fn came<R: Abort + AllocGlobal>(rt: &R, file: &[u8], env: &Env) -> Result<(String, u64), Fail> {
-    let wanted = checked(rt.alloc(), file, env)?;
+fn result<R: Abort + AllocGlobal>(rt: &R, file: &[u8], env: &Env) -> Result<(String, u64), Fail> {
+    let expected = checked(rt.alloc(), file, env)?;
     let code = match load(rt.alloc(), file) {
         Ok(code) => code,
         Err(LoadError::NoMemory) => return Err(LoadError::NoMemory.into()),
-        Err(_) => return Ok((wanted, 0)),
+        Err(_) => return Ok((expected, 0)),
     };
     let (_, most) = ended(rt.alloc(), &code, env, u64::MAX)?;
     for n in [u64::MAX, 1, 3, 64] {
-        let (came, steps) = ended(rt.alloc(), &code, env, n)?;
-        assert_eq!(rt; came.as_str(), wanted.as_str());
+        let (result, steps) = ended(rt.alloc(), &code, env, n)?;
+        assert_eq!(rt; result.as_str(), expected.as_str());
         assert_eq!(rt; steps, most);
     }
-    Ok((wanted, most))
+    Ok((expected, most))
 }
 
 /// Versions, and codes with their outcomes.
@@ -63,11 +63,11 @@ fn each_instruction_does_what_it_says(rt: HostRuntime) -> Result<(), Fail> {
     let full = environment(rt.alloc(), VARIABLES)?;
     for (versions, cases) in CASES {
         for &version in versions {
-            for &(text, wanted) in cases {
+            for &(text, expected) in cases {
                 let file = file(rt.alloc(), version, text)?;
-                let (full_came, _) = came(&rt, &file, &full)?;
-                assert_eq!(rt; full_came.as_str(), wanted, "{text}");
-                came(&rt, &file, &none)?;
+                let (full_result, _) = result(&rt, &file, &full)?;
+                assert_eq!(rt; full_result.as_str(), expected, "{text}");
+                result(&rt, &file, &none)?;
             }
         }
     }
@@ -99,18 +99,18 @@ const COUNTS: &str = "LIST r0 n1, COUNT r1 r0, COUNT r63 r0, LESS r1 r63 5, HALT
 
 #[test]
 fn other_environments(rt: HostRuntime) -> Result<(), Fail> {
-    for (version, text, entries, wanted, steps) in OTHERS {
+    for (version, text, entries, expected, steps) in OTHERS {
         let file = file(rt.alloc(), version, text)?;
         let env = environment(rt.alloc(), entries)?;
-        let (came, taken) = came(&rt, &file, &env)?;
-        assert_eq!(rt; came.as_str(), wanted, "{text}");
+        let (result, taken) = result(&rt, &file, &env)?;
+        assert_eq!(rt; result.as_str(), expected, "{text}");
         assert_eq!(rt; taken, steps, "{text}");
     }
     Ok(())
 }
 
 /// The outcome of the code of rules, and its steps.
-fn came_of_rules(alloc: Global, rules: &str, env: &Env) -> Result<(String, u64), Fail> {
+fn result_of_rules(alloc: Global, rules: &str, env: &Env) -> Result<(String, u64), Fail> {
     let rules = Rules::parse(alloc, rules.as_bytes())?;
     let file = compile(alloc, &rules)?.write(alloc)?;
     let code = load(alloc, &file)?;
@@ -125,8 +125,8 @@ fn compiled_counts(rt: HostRuntime) -> Result<(), Fail> {
         rt.alloc(),
         &[(true, "rft.au", "A", 1), (true, "rft.au", "B", 1)],
     )?;
-    let (came, steps) = came_of_rules(rt.alloc(), rules, &env)?;
-    assert_eq!(rt; came.as_str(), "link http://e.org/A,B");
+    let (result, steps) = result_of_rules(rt.alloc(), rules, &env)?;
+    assert_eq!(rt; result.as_str(), "link http://e.org/A,B");
     assert_eq!(rt; steps, 19);
     Ok(())
 }
@@ -158,7 +158,7 @@ fn each_file_with_one_byte_changed(rt: HostRuntime) -> Result<(), Fail> {
 fn agrees<R: Abort + AllocGlobal>(rt: &R, file: &[u8], env: &Env) -> Result<(), Fail> {
     match load(rt.alloc(), file) {
         Ok(_) => {
-            came(rt, file, env)?;
+            result(rt, file, env)?;
             Ok(())
         }
         Err(LoadError::NoMemory) => Err(LoadError::NoMemory.into()),
@@ -178,8 +178,8 @@ fn long_links(rt: HostRuntime) -> Result<(), Fail> {
     for (text, entry, length, start) in LONG {
         let file = file(rt.alloc(), b'1', text)?;
         let env = environment(rt.alloc(), &[entry])?;
-        let came = checked(rt.alloc(), &file, &env)?;
-        let link = came.strip_prefix("link ").unwrap_or("");
+        let result = checked(rt.alloc(), &file, &env)?;
+        let link = result.strip_prefix("link ").unwrap_or("");
         assert_eq!(rt; link.len(), length);
         assert!(rt; link.starts_with(start));
     }

@@ -53,9 +53,9 @@ const FAULTS: [(usize, &str, usize, Option<CodeErrorKind>); 7] = [
 
 #[test]
 fn refuses_parts_that_spell_no_file(rt: HostRuntime) -> Result<(), Fail> {
-    for (letters, link, instrs, wanted) in FAULTS {
+    for (letters, link, instrs, expected) in FAULTS {
         let fault = fault(rt.alloc(), letters, link, instrs)?;
-        assert!(rt; fault == wanted, "{letters}, {link}, {instrs}");
+        assert!(rt; fault == expected, "{letters}, {link}, {instrs}");
     }
     Ok(())
 }

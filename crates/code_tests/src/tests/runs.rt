@@ -1,7 +1,7 @@
 //! The state of a run of accepted code after its turns.
 
 use super::tables::{LIST_CODE, OPTIONAL, TEXTS};
-use super::{Entry, environment, file, shown};
+use super::{Entry, environment, file, outcome_text};
 use interpreter::{Run, Step, prepare, step};
 use std::alloc::{AllocError, Global};
 use std::test::Fail;
@@ -66,11 +66,11 @@ const TURNS: [(&str, &[Entry], &[u64], &str); 4] = [
 
 #[test]
 fn takes_turns(rt: HostRuntime) -> Result<(), Fail> {
-    for (text, entries, turns, wanted) in TURNS {
+    for (text, entries, turns, expected) in TURNS {
         let code = load(rt.alloc(), &file(rt.alloc(), b'1', text)?)?;
         let env = environment(rt.alloc(), entries)?;
-        let came = standings(rt.alloc(), &code, &env, turns)?;
-        assert_eq!(rt; came.as_str(), wanted);
+        let result = standings(rt.alloc(), &code, &env, turns)?;
+        assert_eq!(rt; result.as_str(), expected);
     }
     Ok(())
 }
@@ -103,8 +103,8 @@ fn stepped(
 fn steps_on_its_words(rt: HostRuntime) -> Result<(), Fail> {
     let code = load(rt.alloc(), &file(rt.alloc(), b'1', LIST_CODE)?)?;
     let env = environment(rt.alloc(), COLOURS)?;
-    for (n, wanted) in [(5, (Step::More, Some(3))), (11, (Step::Link, Some(5)))] {
-        assert_eq!(rt; stepped(rt.alloc(), &code, &env, n)?, wanted);
+    for (n, expected) in [(5, (Step::More, Some(3))), (11, (Step::Link, Some(5)))] {
+        assert_eq!(rt; stepped(rt.alloc(), &code, &env, n)?, expected);
     }
     Ok(())
 }
@@ -133,8 +133,8 @@ fn both(alloc: Global, codes: (&Verified, &Verified), envs: (&Env, &Env)) -> Res
     let mut first = prepare(alloc, codes.0, envs.0)?;
     let mut second = prepare(alloc, codes.1, envs.1)?;
     let turns = turns_of_both(alloc, &mut first, &mut second)?;
-    let first = shown(alloc, first.finish())?;
-    let second = shown(alloc, second.finish())?;
+    let first = outcome_text(alloc, first.finish())?;
+    let second = outcome_text(alloc, second.finish())?;
     Ok(format!(in alloc; "{turns}{first}, {second}")?)
 }
 

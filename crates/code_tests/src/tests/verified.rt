@@ -31,13 +31,13 @@ fn reads_what_was_loaded(rt: HostRuntime) -> Result<(), Fail> {
     let verified = load(rt.alloc(), &file)?;
     assert!(rt; matches!(instruction_at(&verified, 1), Some(Put(0, 1))));
     assert_eq!(rt; verified.compared(), b"12a71234567890%41%4231".as_slice());
-    for (place, wanted) in [
+    for (place, expected) in [
         (0, None),
         (1, Some((0, 3))),
         (3, Some((3, 1))),
         (5, Some((14, 6))),
     ] {
-        assert_eq!(rt; compared_at(&verified, place), wanted);
+        assert_eq!(rt; compared_at(&verified, place), expected);
     }
     Ok(())
 }

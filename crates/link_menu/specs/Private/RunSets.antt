@@ -14,10 +14,10 @@ abbrev pub excess_of : Code × EnvValue → Option ℕ
 excess_of p = if is_over_budget p.0 p.1 then Some (most_bytes p.0 p.1) else None
 
 -- for each code, the bound by which it is over budget on its environment, or its run at the start
-pub record IsRunSetOf (pairs : List (Code × EnvValue)) (over_budget : List (Option ℕ)) (begun : List RunValue) : Type 0 where
+pub record IsRunSetOf (pairs : List (Code × EnvValue)) (over_budget : List (Option ℕ)) (initial : List RunValue) : Type 0 where
   pub excesses : over_budget ≡ map excess_of pairs
-  pub runs : begun ≡ runs_of pairs
-  pub fresh : AreFresh begun
+  pub runs : initial ≡ runs_of pairs
+  pub fresh : AreFresh initial
 
 -- what a run ends with
 abbrev pub outcome_in_the_end : RunValue → Outcome

@@ -23,23 +23,23 @@ use Rattle.link_menu.specs.RowsByRound.{steps_of_row}
 
 -- a request, a target, the matching row that is tried next, and the resolution so far
 pub record SearchValue : Type 0 where
-  pub asked : RequestValue
+  pub requested : RequestValue
   pub target : TargetValue
   pub next : Option ℕ
   pub resolution : Resolution
 
 -- if there is a next row, the table has it, and the request has been prepared for the target
 abbrev pub IsReady : RequestValue → TargetValue → Option TargetRequestValue → Option ℕ → Type 0
-IsReady asked target request next =
-    IfSome next (λ row. (row < length target.table.rows) × (request ≡ Some (record { code = target.code; table = target.table; request = asked })))
+IsReady requested target request next =
+    IfSome next (λ row. (row < length target.table.rows) × (request ≡ Some (record { code = target.code; table = target.table; request = requested })))
 
 -- no row has been tried
 abbrev pub started : RequestValue → TargetValue → SearchValue
-started asked target =
+started requested target =
     record {
-      asked = asked;
+      requested = requested;
       target = target;
-      next = first_from 0 (matching_rows_of target asked.pairs);
+      next = first_from 0 (matching_rows_of target requested.pairs);
       resolution = NoRow;
     }
 
@@ -55,17 +55,17 @@ abbrev pub code_next : SearchValue → Option Code
 code_next s = option_map (λ row. s.target.code) s.next
 
 abbrev pub env_next : SearchValue → Option Environment
-env_next s = option_map (λ row. row_environment s.target s.asked.pairs row) s.next
+env_next s = option_map (λ row. row_environment s.target s.requested.pairs row) s.next
 
 abbrev pub fate_next : SearchValue → Option Fate
-fate_next s = option_map (λ row. fate_of_row s.target s.asked.pairs row) s.next
+fate_next s = option_map (λ row. fate_of_row s.target s.requested.pairs row) s.next
 
 abbrev pub fates_next : List SearchValue → List Fate
 fates_next searches = filter_map fate_next searches
 
 -- the steps of the codes that are run
 abbrev pub ends_next : List SearchValue → List ℕ
-ends_next searches = filter_map (λ s. option_and_then (steps_of_row s.target s.asked.pairs) s.next) searches
+ends_next searches = filter_map (λ s. option_and_then (steps_of_row s.target s.requested.pairs) s.next) searches
 
 -- the row has each name of the code at the name's number
 abbrev pub IsNumbered : Code × RowValue → Type 0
@@ -84,7 +84,7 @@ pub record IsBatchOf (searches : List SearchValue) (batch : Batch) : Type 0 wher
 abbrev pub after_row : SearchValue → ℕ → Resolution → SearchValue
 after_row s row resolution =
     record s {
-      next = if is_link resolution then None else first_from (row + 1) (matching_rows_of s.target s.asked.pairs);
+      next = if is_link resolution then None else first_from (row + 1) (matching_rows_of s.target s.requested.pairs);
       resolution = resolution;
     }
 
@@ -97,7 +97,7 @@ after_fate s fate = after_fate_at s fate s.next
 
 abbrev pub after_row_at : SearchValue → Option ℕ → SearchValue
 after_row_at s None = s
-after_row_at s (Some row) = after_row s row (resolution_by row (fate_of_row s.target s.asked.pairs row))
+after_row_at s (Some row) = after_row s row (resolution_by row (fate_of_row s.target s.requested.pairs row))
 
 -- the next row has been tried
 abbrev pub after_next_row : SearchValue → SearchValue

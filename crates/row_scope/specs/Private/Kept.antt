@@ -7,7 +7,7 @@ use Rattle.target_vars.specs.EnvValue.{EnvValue, IsInOrder}
 use Rattle.target_vars.specs.declared.env.TheConstants.{MAX_BYTES, MAX_MEMBERS}
 use Rattle.kev_read.specs.Pairs.{KeyValue, all_of}
 use Rattle.kbart_rows.specs.Cells.{Row, is_first}
-use Rattle.row_laws.specs.Shadowing.{asked, asked_bytes, asked_members}
+use Rattle.row_laws.specs.Shadowing.{requested, requested_bytes, requested_members}
 use Rattle.row_scope.specs.RowEnvironments.{lists_of, names_of}
 use Rattle.row_scope.specs.Bindings.{AreBound, laid_in}
 use Rattle.row_scope.specs.RequestValues.{RequestValue, AreValues, AreValuesAt}
@@ -28,8 +28,8 @@ pub record AreEnds (spans : List (ℕ × ℕ)) (ends : List ℕ) : Type 0 where
 pub record IsRequest (request : RequestValue) (ends : List ℕ) (bytes members : ℕ) : Type 0 where
   pub values : AreValues request
   pub summed : AreEnds request.values.spans ends
-  pub all_bytes : bytes ≡ byte_count (asked [] request.pairs)
-  pub all_members : members ≡ member_count (asked [] request.pairs)
+  pub all_bytes : bytes ≡ byte_count (requested [] request.pairs)
+  pub all_members : members ≡ member_count (requested [] request.pairs)
 
 -- the values of each known name are at the spans that are stored
 abbrev pub AreKnown : RequestValue → List (Option KnownName) → Type 0
@@ -42,7 +42,7 @@ abbrev pub hidden_key : Row → List Text → List KeyValue → ℕ → Option H
 hidden_key header lists pairs column =
     let key = get_or header column [] in
     if (is_first header column && nat_lt 0 (length (all_of pairs key)))
-    then Some (record { column = column; bytes = asked_bytes lists pairs key; members = asked_members lists pairs key })
+    then Some (record { column = column; bytes = requested_bytes lists pairs key; members = requested_members lists pairs key })
     else None
 
 abbrev pub hidden_keys : Row → List Text → List KeyValue → List HiddenKey
@@ -51,9 +51,9 @@ hidden_keys header lists pairs = filter_map (hidden_key header lists pairs) (ran
 pub record IsTargetRequest (t : TargetRequestValue) (names : NameColumns) (bindings : List Binding) (bytes members : ℕ) (hidden : List HiddenKey) : Type 0 where
   pub values : AreValues t.request
   pub placed : AreNameColumns t.code t.table.header names
-  pub bound : AreBound (laid_in t.request.values (asked (lists_of t.code) t.request.pairs)) (names_of t.code) bindings
-  pub all_bytes : bytes ≡ byte_count (asked (lists_of t.code) t.request.pairs)
-  pub all_members : members ≡ member_count (asked (lists_of t.code) t.request.pairs)
+  pub bound : AreBound (laid_in t.request.values (requested (lists_of t.code) t.request.pairs)) (names_of t.code) bindings
+  pub all_bytes : bytes ≡ byte_count (requested (lists_of t.code) t.request.pairs)
+  pub all_members : members ≡ member_count (requested (lists_of t.code) t.request.pairs)
   pub keys : hidden ≡ hidden_keys t.table.header (lists_of t.code) t.request.pairs
 
 -- ---- a row

@@ -16,7 +16,7 @@ abbrev pub so_far_of : Reader → RulesSoFar
 so_far_of r = record { whole = record { lists = r.lists.items; rules = r.rules.items }; guards = option_map (λ line. r.guards.items) r.rule_line }
 
 -- one more line has been read, with one more statement
-pub record GoesOn (old new : RulesSoFar) (line : Text) : Type 0 where
+pub record Continues (old new : RulesSoFar) (line : Text) : Type 0 where
   pub statement : Statement
   pub spelled : line ≡ line_of statement
   pub longer : statements_so_far new ≡ statements_so_far old ++ statement ∷ []

@@ -64,7 +64,7 @@ abbrev pub IsBelowClosed : Code → Table → Type 0
 IsBelowClosed c t = (u : Table) → IsClosed c u → TableBelow t u
 
 -- where the walk continues: at a later place, or back at a place where kinds rose
-pub record GoesOn (from to : ℕ) (old new : List (Option Row)) : Type 0 where
+pub record Continues (from to : ℕ) (old new : List (Option Row)) : Type 0 where
   pub long : length new ≡ length old
   pub on : to ≤ from
   pub less : table_rises new ≤ table_rises old

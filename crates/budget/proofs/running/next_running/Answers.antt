@@ -1,5 +1,5 @@
 use Rattle.std.proofs.Common.{sym, ◌∙◌, arith}
-use Rattle.budget.proofs.Walk.{running_on, running_off, running_begun}
+use Rattle.budget.proofs.Walk.{running_on, running_off, running_opened}
 use Rattle.budget.proofs.running.next_running.Goals as goal
 
 pub overflow_add-place : goal.overflow_add-place
@@ -14,4 +14,4 @@ returns-in-Some-2 c =
     running_off c.args.code.now c.args.place c.in-Some.running (sym c.in-Some.is ∙ c.requires.running) c.if-place-running.false
 
 pub returns-in-None : goal.returns-in-None
-returns-in-None c = c.begun.ensures ∙ running_begun c.args.code.now c.args.place (sym c.in-None.is ∙ c.requires.running)
+returns-in-None c = c.opened.ensures ∙ running_opened c.args.code.now c.args.place (sym c.in-None.is ∙ c.requires.running)

@@ -3,7 +3,7 @@ use Rattle.machine_model.specs.States.{Running}
 use Rattle.machine_model.specs.Runs.{After, HasOutcome, Link, NoLink, Stuck}
 use Rattle.machine_model.specs.Next.{step_limit}
 use Rattle.checked_machine.specs.Private.Frames.{frame_of, stepped}
-use Rattle.checked_machine.proofs.Outcomes.{at_start, one_more, comes_to_link, comes_to_no_link, gets_stuck, is_stuck_last, the_only}
+use Rattle.checked_machine.proofs.Outcomes.{at_start, one_more, ends_with_link, ends_with_no_link, gets_stuck, is_stuck_last, the_only}
 use Rattle.checked_machine.proofs.run.run_checked.Goals as goal
 
 pub loop-steps-init : goal.loop-steps-init
@@ -20,13 +20,13 @@ pub returns-in-Link : goal.returns-in-Link
 returns-in-Link c =
     let t = string_bytes c.step.new.self.output in
     the_only c.course_is_decided.ensures.course c.args.code.now c.args.env.now.entries (Link t)
-    (comes_to_link c.step_is_decided.ensures c.args.code.now c.args.env.now.entries c.loop-steps._steps (frame_of c.loop-steps.frame) c.loop-steps.invariant t
+    (ends_with_link c.step_is_decided.ensures c.args.code.now c.args.env.now.entries c.loop-steps._steps (frame_of c.loop-steps.frame) c.loop-steps.invariant t
     (sym c.in_ok-step.ensures.next ∙ ap (stepped c.step.new.self) c.in-Link.is))
 
 pub returns-in-NoLink : goal.returns-in-NoLink
 returns-in-NoLink c =
     the_only c.course_is_decided.ensures.course c.args.code.now c.args.env.now.entries NoLink
-    (comes_to_no_link c.step_is_decided.ensures c.args.code.now c.args.env.now.entries c.loop-steps._steps (frame_of c.loop-steps.frame) c.loop-steps.invariant
+    (ends_with_no_link c.step_is_decided.ensures c.args.code.now c.args.env.now.entries c.loop-steps._steps (frame_of c.loop-steps.frame) c.loop-steps.invariant
     (sym c.in_ok-step.ensures.next ∙ ap (stepped c.step.new.self) c.in-NoLink.is))
 
 pub returns-in-Stuck : goal.returns-in-Stuck

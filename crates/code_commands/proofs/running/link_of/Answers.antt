@@ -1,7 +1,7 @@
 use Rattle.std.proofs.Common.{ap, ◌∙◌}
 use Rattle.std.proofs.lemmas.Result.{err_from_is_err_and}
 use Rattle.code_commands.specs.Run.{IsRequest, request_of}
-use Rattle.code_commands.proofs.RunLemmas.{is_run, not_begun}
+use Rattle.code_commands.proofs.RunLemmas.{is_run, not_started}
 use Rattle.code_commands.proofs.running.link_of.Goals as goal
 
 pub returns-in_err-link-clause-err : goal.returns-in_err-link-clause-err
@@ -12,7 +12,7 @@ returns-in_err-link-clause-err c =
     } in
     let made = err_from_is_err_and c.from_residual-in_err-link.result c.from_residual-in_err-link.ensures.1 in
     rw (made.1, made.2)
-    (not_begun c.args.query.now c.args.code.now c.in_ok-env.env c.run_verified.result c.in_err-link.field-0.0 request
+    (not_started c.args.query.now c.args.code.now c.in_ok-env.env c.run_verified.result c.in_err-link.field-0.0 request
     c.run_verified.ensures.over c.in_err-link.was)
 
 pub returns-in-Link-clause-ok : goal.returns-in-Link-clause-ok

@@ -1,4 +1,4 @@
-use Rattle.std.proofs.Common.{inl, inr, string_bytes}
+use Rattle.std.proofs.Common.{inr, string_bytes}
 use Rattle.std.proofs.lemmas.Result.{err_from_is_err_and}
 use Rattle.code_commands.proofs.running.run.Goals as goal
 

@@ -54,4 +54,4 @@ returns-clause-means c =
     let rules = c.args.rules.now in
     let sound = c.finish.ensures.sound in
     IfOk-weaker c.finish.result _ _ (λ code h v o. subst (λ (x : Code). HasOutcome x v o ↔ (answer (meaning rules v) ≡ o)) (sym h.0)
-    (c.code_comes_to_what_rules_mean.ensures rules sound v o)) c.finish.ensures.ok
+    (c.code_gives_what_rules_mean.ensures rules sound v o)) c.finish.ensures.ok

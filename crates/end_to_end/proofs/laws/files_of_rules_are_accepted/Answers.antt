@@ -24,4 +24,4 @@ returns-clause-accepted c = λ rules bytes sound file.
 pub returns-clause-means : goal.returns-clause-means
 returns-clause-means c = λ rules bytes read v o sound file spelled.
     read_means c.file_has_one_code.ensures bytes (code_of rules) read v o (answer (meaning rules v) ≡ o) file
-    (c.code_comes_to_what_rules_mean.ensures rules sound v o) spelled
+    (c.code_gives_what_rules_mean.ensures rules sound v o) spelled

@@ -1,13 +1,13 @@
 use Rattle.std.proofs.Common.{◌≡◌, ◌∙◌, arith, ap, sym, refl, List, ℕ, ◌+◌, ◌-◌, ◌++◌, take, drop, append_assoc}
 use Rattle.http_streams.specs.Closing.{is_closed}
-use Rattle.http_streams.proofs.StreamLemmas.{Hears-append, Hears-none, read-ended, take-read}
+use Rattle.http_streams.proofs.StreamLemmas.{Receives-append, Receives-none, read-ended, take-read}
 use Rattle.http_streams.proofs.read.fill.Goals as goal
 
 pub loop-filled-init : goal.loop-filled-init
 loop-filled-init g c = record {
   within = omega arith;
   room = refl;
-  read = Hears-none (g.I.Input.heard c.args.input.now);
+  read = Receives-none (g.I.Input.input_state c.args.input.now);
   progress = λ more. refl;
 }
 
@@ -19,13 +19,13 @@ loop-filled-preserved g c =
     let new = c.read_more.new.room in
     let part : List ℕ = take n (drop i new) in
     let front = take-read old new i n c.in_ok-n.ensures.kept in
-    let asked : i + n - i ≡ n = omega arith in
+    let requested : i + n - i ≡ n = omega arith in
     record {
       within = c.in_ok-n.ensures.within;
       room = omega arith;
-      read = rw front (Hears-append _ _ _ _ _ _ _ c.loop-filled.invariant.read c.in_ok-n.ensures.read);
+      read = rw front (Receives-append _ _ _ _ _ _ _ c.loop-filled.invariant.read c.in_ok-n.ensures.read);
       progress = λ more.
-          (rw asked at (c.after_all-progress.ensures more)) ∙ c.loop-filled.invariant.progress (part ++ more)
+          (rw requested at (c.after_all-progress.ensures more)) ∙ c.loop-filled.invariant.progress (part ++ more)
           ∙ ap is_closed (sym (append_assoc (take i old) part more) ∙ ap (λ x. x ++ more) (sym front));
     }
 

@@ -1,7 +1,7 @@
 use Rattle.std.proofs.Common.{◌≡◌, ◌≤◌, ◌-◌, ℕ, List, ◌++◌, length, take}
 use Rattle.http_streams.specs.Closing.{is_closed}
 use Rattle.http_streams.specs.Private.Progress.{closes_with}
-use Rattle.http_streams.specs.Streams.{Hears}
+use Rattle.http_streams.specs.Streams.{Receives}
 use Rattle.http_streams.proofs.read.fill.Given as goal
 
 -- the first bytes of the buffer were read, no read has failed, and the progress says which further bytes close the head
@@ -9,7 +9,7 @@ abbrev pub invariant-loop-filled : goal.invariant-loop-filled
 invariant-loop-filled g l = record {
   within : l.filled ≤ length l.room;
   room : length l.room ≡ length l.fn.room;
-  read : Hears (g.I.Input.heard l.fn.input) (take l.filled l.room) l.filled (g.I.Input.heard l.input);
+  read : Receives (g.I.Input.input_state l.fn.input) (take l.filled l.room) l.filled (g.I.Input.input_state l.input);
   progress : (more : List ℕ) → closes_with l.progress more ≡ is_closed (take l.filled l.room ++ more);
 }
 

@@ -1,12 +1,12 @@
 use Rattle.std.proofs.Common.{arith, length-drop}
 use Rattle.std.proofs.lemmas.List.{take_rest}
-use Rattle.http_streams.proofs.StreamLemmas.{Says-none, Says-take}
+use Rattle.http_streams.proofs.StreamLemmas.{Sends-none, Sends-take}
 use Rattle.http_streams.proofs.write.write_all.Goals as goal
 
 pub loop-sent-init : goal.loop-sent-init
 loop-sent-init g c = record {
   within = omega arith;
-  said = Says-none (g.O.Output.said c.args.output.now);
+  output_state = Sends-none (g.O.Output.output_state c.args.output.now);
 }
 
 pub loop-sent-preserved : goal.loop-sent-preserved
@@ -16,5 +16,5 @@ loop-sent-preserved g c =
     let written = rw rest at c.in-Ok.ensures.written in
     record {
       within = omega (arith, within, length-drop c.loop-sent.sent c.args.bytes.now);
-      said = Says-take _ _ _ _ _ _ c.loop-sent.invariant.said written;
+      output_state = Sends-take _ _ _ _ _ _ c.loop-sent.invariant.output_state written;
     }

@@ -6,7 +6,7 @@ use Rattle.kbart_rows.specs.Cells.{Row, row_bytes}
 use Rattle.kbart_rows.specs.Reading.{IsLineFault}
 use Rattle.kbart_rows.specs.declared.read.TheConstants.{MAX_ROW_BYTES}
 use Rattle.kev_read.proofs.FillingLemmas.{IfErr_passed_on}
-use Rattle.kbart_rows.proofs.ReadingLines.{reading_starts, reading_goes_on, no_tab_in_last, line_refused}
+use Rattle.kbart_rows.proofs.ReadingLines.{reading_starts, reading_continues, no_tab_in_last, line_refused}
 use Rattle.kbart_rows.proofs.read.read_lines.Goals as goal
 
 pub loop-cells-init : goal.loop-cells-init
@@ -18,7 +18,7 @@ add_line-requires c =
     let read = rw c.if-branch.true at (c.in_ok-read_cells.ensures.read inv.0.trim inv.0.ready) in
     let cells = fields_of c.read_cells.new.cells in
     no_tab_in_last c.args.bytes.now c.loop-cells.lines cells c.read_cells.new.reader
-    (reading_goes_on c.args.bytes.now c.loop-cells.lines c.loop-cells.reader c.read_cells.new.reader cells inv.0 read.0 read.1)
+    (reading_continues c.args.bytes.now c.loop-cells.lines c.loop-cells.reader c.read_cells.new.reader cells inv.0 read.0 read.1)
 
 pub loop-cells-preserved : goal.loop-cells-preserved
 loop-cells-preserved c =
@@ -29,7 +29,7 @@ loop-cells-preserved c =
     let size = length_push lines cells in
     let few = c.in_ok-add_line.ensures.few in
     rw c.in_ok-add_line.ensures.added (
-      reading_goes_on c.args.bytes.now lines c.loop-cells.reader c.read_cells.new.reader cells inv.0 read.0 read.1,
+      reading_continues c.args.bytes.now lines c.loop-cells.reader c.read_cells.new.reader cells inv.0 read.0 read.1,
       All-push (λ (row : Row). row_bytes row ≤ MAX_ROW_BYTES) lines cells inv.1 c.in_ok-add_line.ensures.fits,
       omega (arith, size, few),
     )
@@ -40,7 +40,7 @@ returns-in_err-add_line-clause-refused c =
     let read = rw c.if-branch.true at (c.in_ok-read_cells.ensures.read inv.0.trim inv.0.ready) in
     let lines = c.loop-cells.lines in
     let cells = fields_of c.read_cells.new.cells in
-    let reading = reading_goes_on c.args.bytes.now lines c.loop-cells.reader c.read_cells.new.reader cells inv.0 read.0 read.1 in
+    let reading = reading_continues c.args.bytes.now lines c.loop-cells.reader c.read_cells.new.reader cells inv.0 read.0 read.1 in
     let e = c.in_err-add_line.field-0.0 in
     IfErr_passed_on (IsLineFault c.args.bytes.now) c.from_residual-in_err-add_line.result e c.from_residual-in_err-add_line.ensures.1
     (line_refused c.args.bytes.now lines cells c.read_cells.new.reader e reading inv.1 inv.2 c.in_err-add_line.ensures.refused)

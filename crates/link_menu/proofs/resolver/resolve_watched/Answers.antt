@@ -30,7 +30,7 @@ returns-in_err-searches-clause-err g c =
 pub begin_all-requires : goal.begin_all-requires
 begin_all-requires g c =
     let targets = c.targets.result.now in
-    let asked = c.in_ok-citation.citation in
+    let requested = c.in_ok-citation.citation in
     let among = subst (λ ts. AreAllAmong c.columns.result.now ts) (sym c.targets.ensures.value) c.columns.ensures in
     λ k d inside apart name has. c.in_ok-citation.ensures.apart apart name (among k d inside name has)
 
@@ -41,14 +41,14 @@ loop-searches-init g c =
     let laws = c.rows_are_tried_in_order.ensures in
     let rise = c.matching_rows_rise.ensures in
     let told = g.W.Watch.lists c.args.watch.now in
-    let asked = c.in_ok-citation.citation in
-    let same : asked.pairs ≡ pairs = c.in_ok-citation.ensures.pairs in
-    let begun : c.in_ok-searches.searches.items ≡ map (started asked) targets = cc (c.in_ok-searches.ensures, c.targets.ensures.value) in
+    let requested = c.in_ok-citation.citation in
+    let same : requested.pairs ≡ pairs = c.in_ok-citation.ensures.pairs in
+    let initial : c.in_ok-searches.searches.items ≡ map (started requested) targets = cc (c.in_ok-searches.ensures, c.targets.ensures.value) in
     record {
-      menu = ap (map entry_in_the_end) begun ∙ menu_at_start laws.start laws.no_more laws.link laws.no_link asked targets ∙ ap (menu_of targets) same;
+      menu = ap (map entry_in_the_end) initial ∙ menu_at_start laws.start laws.no_more laws.link laws.no_link requested targets ∙ ap (menu_of targets) same;
       rounds =
-          subst (λ searches. AfterRounds pairs targets searches told told) (sym begun)
-          (at_first rise.start rise.no_more rise.next pairs targets asked told same);
+          subst (λ searches. AfterRounds pairs targets searches told told) (sym initial)
+          (at_first rise.start rise.no_more rise.next pairs targets requested told same);
     }
 
 -- ---- a round
@@ -60,10 +60,10 @@ returns-in_err-try_next_rows-clause-err g c =
     let searches = c.loop-searches.searches.items in
     let told = g.W.Watch.lists c.args.watch.now in
     let before = g.W.Watch.lists c.loop-searches.watch in
-    let shown = g.W.Watch.lists c.try_next_rows.new.watch in
+    let observed = g.W.Watch.lists c.try_next_rows.new.watch in
     let opened : list_any is_open searches ≡ true = cc (c.is_any_open.ensures, c.deref.ensures.value, c.loop-searches-test.true) in
-    on_err c.from_residual-in_err-try_next_rows.result (HasSeenSome (step_lists_in_all_rounds targets pairs) told shown)
-    (part_of_round pairs targets searches told before c.loop-searches.invariant.rounds _ shown opened
+    on_err c.from_residual-in_err-try_next_rows.result (HasSeenSome (step_lists_in_all_rounds targets pairs) told observed)
+    (part_of_round pairs targets searches told before c.loop-searches.invariant.rounds _ observed opened
     (ap ends_next c.as_mut_slice.ensures.value) c.in_err-try_next_rows.ensures.err)
 
 pub loop-searches-smaller : goal.loop-searches-smaller
@@ -73,12 +73,12 @@ loop-searches-smaller g c =
     let rise = c.matching_rows_rise.ensures in
     let searches = c.loop-searches.searches in
     let told = g.W.Watch.lists c.args.watch.now in
-    let shown = g.W.Watch.lists c.loop-searches.watch in
+    let observed = g.W.Watch.lists c.loop-searches.watch in
     let slice = c.as_mut_slice.ensures in
     let back = all_written_back searches.items _ c.try_next_rows.new.searches searches.len slice.value slice.len c.in_ok-try_next_rows.ensures.ok in
     let opened : list_any is_open searches.items ≡ true = cc (c.is_any_open.ensures, c.deref.ensures.value, c.loop-searches-test.true) in
     subst (λ now. rounds_left now < rounds_left searches.items) (sym back)
-    (fewer_rounds rise.start rise.no_more rise.next pairs targets searches.items told shown c.loop-searches.invariant.rounds opened)
+    (fewer_rounds rise.start rise.no_more rise.next pairs targets searches.items told observed c.loop-searches.invariant.rounds opened)
 
 pub loop-searches-preserved : goal.loop-searches-preserved
 loop-searches-preserved g c =
@@ -90,7 +90,7 @@ loop-searches-preserved g c =
     let searches = c.loop-searches.searches in
     let told = g.W.Watch.lists c.args.watch.now in
     let before = g.W.Watch.lists c.loop-searches.watch in
-    let shown = g.W.Watch.lists c.try_next_rows.new.watch in
+    let observed = g.W.Watch.lists c.try_next_rows.new.watch in
     let slice = c.as_mut_slice.ensures in
     let round = c.in_ok-try_next_rows.ensures in
     let back = all_written_back searches.items _ c.try_next_rows.new.searches searches.len slice.value slice.len round.ok in
@@ -98,9 +98,9 @@ loop-searches-preserved g c =
     record {
       menu = ap (map entry_in_the_end) back ∙ menu_after_round laws.start laws.no_more laws.link laws.no_link searches.items ∙ inv.menu;
       rounds =
-          subst (λ now. AfterRounds pairs targets now told shown) (sym back)
-          (one_round rise.start rise.no_more rise.next pairs targets searches.items told before shown _ inv.rounds opened
-          (ap ends_next slice.value) round.shown);
+          subst (λ now. AfterRounds pairs targets now told observed) (sym back)
+          (one_round rise.start rise.no_more rise.next pairs targets searches.items told before observed _ inv.rounds opened
+          (ap ends_next slice.value) round.observed);
     }
 
 -- ---- after the last round
@@ -112,22 +112,22 @@ returns-clause-menu g c =
     let none : list_any is_open searches.items ≡ false = cc (c.is_any_open.ensures, c.deref.ensures.value, c.loop-searches-test.false) in
     subst (λ all. IfOk c.menu_so_far.result (λ menu. menu ≡ all)) (sym (menu_at_end searches.items none) ∙ c.loop-searches.invariant.menu) c.menu_so_far.ensures
 
-pub returns-clause-shown : goal.returns-clause-shown
-returns-clause-shown g c =
+pub returns-clause-observed : goal.returns-clause-observed
+returns-clause-observed g c =
     let pairs = c.args.request.now.pairs in
     let targets = c.args.registry.now in
     let searches = c.loop-searches.searches.items in
     let told = g.W.Watch.lists c.args.watch.now in
-    let shown = g.W.Watch.lists c.loop-searches.watch in
+    let observed = g.W.Watch.lists c.loop-searches.watch in
     let none : list_any is_open searches ≡ false = cc (c.is_any_open.ensures, c.deref.ensures.value, c.loop-searches-test.false) in
-    on_ok c.menu_so_far.result (HasSeenAll (step_lists_in_all_rounds targets pairs) told shown)
-    (all_rounds pairs targets searches told shown c.loop-searches.invariant.rounds none)
+    on_ok c.menu_so_far.result (HasSeenAll (step_lists_in_all_rounds targets pairs) told observed)
+    (all_rounds pairs targets searches told observed c.loop-searches.invariant.rounds none)
 
 pub returns-clause-err : goal.returns-clause-err
 returns-clause-err g c =
     let pairs = c.args.request.now.pairs in
     let targets = c.args.registry.now in
     let told = g.W.Watch.lists c.args.watch.now in
-    let shown = g.W.Watch.lists c.loop-searches.watch in
-    on_err c.menu_so_far.result (HasSeenSome (step_lists_in_all_rounds targets pairs) told shown)
-    (some_rounds pairs targets c.loop-searches.searches.items told shown c.loop-searches.invariant.rounds)
+    let observed = g.W.Watch.lists c.loop-searches.watch in
+    on_err c.menu_so_far.result (HasSeenSome (step_lists_in_all_rounds targets pairs) told observed)
+    (some_rounds pairs targets c.loop-searches.searches.items told observed c.loop-searches.invariant.rounds)

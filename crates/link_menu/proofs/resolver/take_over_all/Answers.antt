@@ -2,7 +2,7 @@ use Rattle.std.proofs.Common.{◌≡◌, ◌∷◌, ◌+◌, ap, ◌∙◌, sym,
 use Rattle.std.specs.Vec.Iter.{into_iter_items}
 use Rattle.std.specs.Prelude.{◌++◌}
 use Rattle.std.specs.Option.{option_to_list}
-use Rattle.link_menu.specs.Fates.{said}
+use Rattle.link_menu.specs.Fates.{fate_value}
 use Rattle.link_menu.specs.Private.Searches.{is_open}
 use Rattle.link_menu.proofs.BatchLemmas.{before_next, others_next, passed, taken}
 use Rattle.link_menu.proofs.resolver.take_over_all.Goals as goal
@@ -26,7 +26,7 @@ loop-search-preserved c =
           let are : into_iter_items c.loop-search.fates ≡ fate ∷ rest = w.next.ensures.items ∙ ap (λ first. option_to_list first ++ rest) w.unwrap.ensures in
           let took = taken old searches i new d (into_iter_items c.loop-search.fates) rest fate inside inv.others inv.fates are opened in
           record {
-            fates = ap (λ fates. map said (into_iter_items fates)) w.fates-is ∙ took.0;
+            fates = ap (λ fates. map fate_value (into_iter_items fates)) w.fates-is ∙ took.0;
             before = ap (take (i + 1)) w.searches-is ∙ before_next old searches i new d inside (w.take_over.ensures ∙ took.1) inv.before inv.others;
             others = ap (drop (i + 1)) w.searches-is ∙ others_next old searches i new inside inv.others;
           }
@@ -35,7 +35,7 @@ loop-search-preserved c =
           let closed : is_open same ≡ false = sym c.is_open.ensures ∙ w.if-is_open.false in
           let went = passed old searches i same d inside inv.others closed in
           record {
-            fates = ap (λ fates. map said (into_iter_items fates)) w.fates-is ∙ inv.fates ∙ went.0;
+            fates = ap (λ fates. map fate_value (into_iter_items fates)) w.fates-is ∙ inv.fates ∙ went.0;
             before = ap (take (i + 1)) w.searches-is ∙ before_next old searches i same d inside went.1 inv.before inv.others;
             others = ap (drop (i + 1)) w.searches-is ∙ others_next old searches i same inside inv.others;
           }

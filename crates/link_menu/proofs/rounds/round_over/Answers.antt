@@ -1,7 +1,7 @@
 use Rattle.std.proofs.Common.{◌≡◌, ap, sym, ◌∙◌, subst, map, length}
 use Rattle.std.specs.Prelude.{IfOk}
 use Rattle.std.specs.List.{zip}
-use Rattle.link_menu.specs.Fates.{said}
+use Rattle.link_menu.specs.Fates.{fate_value}
 use Rattle.link_menu.specs.Private.Rounds.{AreOfTheSame}
 use Rattle.link_menu.specs.StepLists.{HasSeenAll, HasSeenSome, step_lists_of}
 use Rattle.link_menu.proofs.FateLemmas.{fates_after_turns, runs_after_turns}
@@ -21,8 +21,8 @@ finish_all-requires g c =
     let new = c.turn_until_ended.new.runs in
     let same : AreOfTheSame run_set.runs.items new = cc (c.turn_until_ended.ensures.same, c.as_mut_slice.ensures.value) in
     let long = sym (ap length c.as_mut_slice.ensures.value) ∙ c.as_mut_slice.ensures.len in
-    let begun = c.in_ok-run_set.ensures in
-    runs_after_turns pairs run_set.over_budget.items run_set.runs.items new run_set.runs.len begun.excesses begun.runs long same
+    let initial = c.in_ok-run_set.ensures in
+    runs_after_turns pairs run_set.over_budget.items run_set.runs.items new run_set.runs.len initial.excesses initial.runs long same
 
 pub returns-clause-fates : goal.returns-clause-fates
 returns-clause-fates g c =
@@ -31,15 +31,15 @@ returns-clause-fates g c =
     let new = c.turn_until_ended.new.runs in
     let same : AreOfTheSame run_set.runs.items new = cc (c.turn_until_ended.ensures.same, c.as_mut_slice.ensures.value) in
     let long = sym (ap length c.as_mut_slice.ensures.value) ∙ c.as_mut_slice.ensures.len in
-    let begun = c.in_ok-run_set.ensures in
-    subst (λ all. IfOk c.finish_all.result (λ fates. map said fates.items ≡ all))
-    (fates_after_turns pairs run_set.over_budget.items run_set.runs.items new run_set.runs.len begun.excesses begun.runs long same)
+    let initial = c.in_ok-run_set.ensures in
+    subst (λ all. IfOk c.finish_all.result (λ fates. map fate_value fates.items ≡ all))
+    (fates_after_turns pairs run_set.over_budget.items run_set.runs.items new run_set.runs.len initial.excesses initial.runs long same)
     c.finish_all.ensures
 
 pub returns-clause-err : goal.returns-clause-err
 returns-clause-err g c =
     let lists = step_lists_of (zip (map (λ code. code.now) c.args.codes.now) (map g.E.Scope.environment c.args.envs.now)) in
     let told = g.W.Watch.lists c.args.watch.now in
-    let shown = g.W.Watch.lists c.turn_until_ended.new.watch in
-    let all : HasSeenAll lists told shown = cc (c.in_ok-turn_until_ended.ensures.ok, c.as_mut_slice.ensures.value, c.in_ok-run_set.ensures.runs) in
-    on_err c.finish_all.result (HasSeenSome lists told shown) (all_seen lists told shown all)
+    let observed = g.W.Watch.lists c.turn_until_ended.new.watch in
+    let all : HasSeenAll lists told observed = cc (c.in_ok-turn_until_ended.ensures.ok, c.as_mut_slice.ensures.value, c.in_ok-run_set.ensures.runs) in
+    on_err c.finish_all.result (HasSeenSome lists told observed) (all_seen lists told observed all)

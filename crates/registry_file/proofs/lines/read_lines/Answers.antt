@@ -1,7 +1,7 @@
 use Rattle.std.proofs.Common.{◌∙◌, refl, map, ◌∷◌, []}
 use Rattle.std.proofs.lemmas.List.{map-append}
 use Rattle.csv.specs.Records.{fields_of}
-use Rattle.kbart_rows.proofs.ReadingLines.{reading_starts, reading_goes_on, reading_ends}
+use Rattle.kbart_rows.proofs.ReadingLines.{reading_starts, reading_continues, reading_ends}
 use Rattle.registry_file.proofs.lines.read_lines.Goals as goal
 
 pub loop-record-init : goal.loop-record-init
@@ -17,7 +17,8 @@ loop-record-preserved c =
     let added = c.in_ok-push_line.ensures in
     let step = rw (c.in-Some.is, added.1) at ((c.next.ensures.steps inv.1 inv.0.trim).0 inv.0.ready) in
     rw (added.2, map-append fields_of c.loop-record.lines.items (added.0 ∷ [])) (
-      reading_goes_on _ (map fields_of c.loop-record.lines.items) c.loop-record.record-iterator.rdr c.next.new.self.rdr (fields_of added.0) inv.0 step.0 step.1,
+      reading_continues _ (map fields_of c.loop-record.lines.items) c.loop-record.record-iterator.rdr c.next.new.self.rdr (fields_of added.0)
+          inv.0 step.0 step.1,
       step.2,
     )
 

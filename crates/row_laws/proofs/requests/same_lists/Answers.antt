@@ -1,5 +1,5 @@
-use Rattle.row_laws.proofs.OneMoreList.{same_asked}
+use Rattle.row_laws.proofs.OneMoreList.{same_requested}
 use Rattle.row_laws.proofs.requests.same_lists.Goals as goal
 
 pub returns : goal.returns
-returns c = same_asked
+returns c = same_requested

@@ -7,7 +7,7 @@ use Rattle.text_model.specs.Texts.{Text}
 use Rattle.environment_model.specs.Lists.{is_list}
 use Rattle.code_model.specs.Code.{Name}
 use Rattle.machine_model.specs.Operands.{name_at, text_of_name}
-use Rattle.row_laws.specs.Shadowing.{asked}
+use Rattle.row_laws.specs.Shadowing.{requested}
 use Rattle.row_scope.specs.Bindings.{IsBound, laid_in}
 use Rattle.row_scope.specs.RequestValues.{RequestValue}
 use Rattle.row_scope.specs.RowEnvironments.{lists_of}
@@ -28,7 +28,7 @@ loop-name-preserved c =
     let code = c.args.code.now in
     let marks = c.args.names.now.marks.items in
     let lists = lists_of code in
-    let env = λ (request : RequestValue). laid_in request.values (asked lists request.pairs) in
+    let env = λ (request : RequestValue). laid_in request.values (requested lists request.pairs) in
     let known = c.args.known.now in
     let inv = c.loop-name.invariant in
     let so_far = c.loop-name.bindings.items in

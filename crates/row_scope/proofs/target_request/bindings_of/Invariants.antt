@@ -1,6 +1,6 @@
 use Rattle.std.proofs.Common.{◌≡◌, ℕ, Some, slice_get, length}
 use Rattle.text_model.specs.Texts.{Text}
-use Rattle.row_laws.specs.Shadowing.{asked}
+use Rattle.row_laws.specs.Shadowing.{requested}
 use Rattle.row_scope.specs.Bindings.{IsBound, laid_in}
 use Rattle.row_scope.specs.RowEnvironments.{lists_of, names_of}
 use Rattle.row_scope.specs.declared.binding.Binding.{Binding}
@@ -12,5 +12,5 @@ invariant-loop-name l = record {
   one_each : length l.bindings.items ≡ length l.yielded;
   same : l.known ≡ l.fn.known;
   bound : (i : ℕ) (name : Text) (b : Binding) → slice_get (names_of l.code) i ≡ Some name → slice_get l.bindings.items i ≡ Some b
-      → IsBound (laid_in l.fn.known.values (asked (lists_of l.code) l.fn.known.pairs)) name b;
+      → IsBound (laid_in l.fn.known.values (requested (lists_of l.code) l.fn.known.pairs)) name b;
 }

@@ -3,7 +3,7 @@ use Rattle.std.proofs.Common.{◌≡◌, ap, sym, ◌∙◌, subst, OnOk, IfErr}
 use Rattle.std.specs.Io.KnownBytes.{Appends}
 use Rattle.text_model.specs.Texts.{Text}
 use Rattle.kbart_rows.specs.Identifiers.{first_from, matching_rows}
-use Rattle.rule_explanation.specs.Writing.{IsBegun}
+use Rattle.rule_explanation.specs.Writing.{IsWrittenInPart}
 use Rattle.rule_explanation.specs.declared.error.ExplainError.{ExplainError}
 use Rattle.rule_explanation.specs.declared.error.ExplainError.TheVariants.{NoMemory}
 use Rattle.rule_explanation.proofs.WholeText.{no_link, no_text, some_text}
@@ -16,13 +16,13 @@ returns-in-Some-clause-printed g c =
     λ whole. OnOk c.explain_rows.result (Appends (g.W.Write.contents c.args.output.now) (g.W.Write.contents c.explain_rows.new.output) whole) in
     subst P (sym (some_text c.args.rules.now c.args.table.now c.args.request.now.pairs _ first)) c.explain_rows.ensures.printed
 
-pub returns-in-Some-clause-begun : goal.returns-in-Some-clause-begun
-returns-in-Some-clause-begun g c =
+pub returns-in-Some-clause-in_part : goal.returns-in-Some-clause-in_part
+returns-in-Some-clause-in_part g c =
     let first = ap (λ ids. first_from 0 (matching_rows c.args.table.now ids)) (sym c.in_ok-ids.ensures) ∙ sym c.in-Some.ensures.first in
     let P : Text → Type 0 =
     λ whole. IfErr c.explain_rows.result
-    (λ (e : ExplainError). e ≡ NoMemory → IsBegun (g.W.Write.contents c.args.output.now) (g.W.Write.contents c.explain_rows.new.output) whole) in
-    subst P (sym (some_text c.args.rules.now c.args.table.now c.args.request.now.pairs _ first)) c.explain_rows.ensures.begun
+    (λ (e : ExplainError). e ≡ NoMemory → IsWrittenInPart (g.W.Write.contents c.args.output.now) (g.W.Write.contents c.explain_rows.new.output) whole) in
+    subst P (sym (some_text c.args.rules.now c.args.table.now c.args.request.now.pairs _ first)) c.explain_rows.ensures.in_part
 
 pub returns-clause-found : goal.returns-clause-found
 returns-clause-found g c =

@@ -5,11 +5,11 @@ use Rattle.kbart_rows.specs.Identifiers.{first_from, ids_of, matching_rows}
 use Rattle.rule_explanation.specs.Explanation.{tried_row_text}
 use Rattle.rule_explanation.specs.Failing.{numbered}
 use Rattle.rule_explanation.specs.Rows.{gives_web_link, tried_rows}
-use Rattle.rule_explanation.specs.Writing.{IsBegun}
+use Rattle.rule_explanation.specs.Writing.{IsWrittenInPart}
 use Rattle.rule_explanation.specs.declared.error.ExplainError.{ExplainError}
 use Rattle.rule_explanation.specs.declared.error.ExplainError.TheVariants.{NoMemory}
 use Rattle.kbart_rows.proofs.RowOrder.{first_is_from, matching_rows_rise}
-use Rattle.rule_explanation.proofs.LeftRows.{begun_rows, last_row, next_row, no_row, started}
+use Rattle.rule_explanation.proofs.LeftRows.{rows_in_part, last_row, next_row, no_row, started}
 use Rattle.rule_explanation.proofs.WholeText.{any_error, none_there}
 use Rattle.rule_explanation.proofs.explaining.explain_rows.Goals as goal
 
@@ -21,16 +21,16 @@ loop-row-init g c =
     let test = gives_web_link c.args.rules.now c.args.table.now pairs in
     record { below = omega arith; written = started g.W.Write.contents text test rows c.args.output.now }
 
-pub returns-in_err-explained-clause-begun : goal.returns-in_err-explained-clause-begun
-returns-in_err-explained-clause-begun g c =
+pub returns-in_err-explained-clause-in_part : goal.returns-in_err-explained-clause-in_part
+returns-in_err-explained-clause-in_part g c =
     let pairs = c.args.request.now.pairs in
     let rows = matching_rows c.args.table.now (ids_of pairs) in
     let text = tried_row_text c.args.rules.now c.args.table.now pairs in
     let test = gives_web_link c.args.rules.now c.args.table.now pairs in
     any_error c.from_residual-in_err-explained.result
-    (λ (e : ExplainError). e ≡ NoMemory → IsBegun (g.W.Write.contents c.args.output.now) (g.W.Write.contents c.loop-row.output)
+    (λ (e : ExplainError). e ≡ NoMemory → IsWrittenInPart (g.W.Write.contents c.args.output.now) (g.W.Write.contents c.loop-row.output)
     (flat_map text (numbered (tried_rows c.args.rules.now c.args.table.now pairs))))
-    (λ e n. begun_rows g.W.Write.contents text test rows c.loop-row.place c.loop-row.from c.args.output.now c.loop-row.output c.loop-row.invariant.written)
+    (λ e n. rows_in_part g.W.Write.contents text test rows c.loop-row.place c.loop-row.from c.args.output.now c.loop-row.output c.loop-row.invariant.written)
 
 pub returns-then-explained-clause-found : goal.returns-then-explained-clause-found
 returns-then-explained-clause-found g c =

@@ -14,10 +14,10 @@ use Rattle.rule_explanation.proofs.rows.explain_row.Goals as goal
 
 pub returns-clause-text : goal.returns-clause-text
 returns-clause-text c =
-    let shown = ap (λ (look : LookUp). rule_lines look c.rules.result.now c.args.is_detailed) c.view-view.ensures in
+    let printed = ap (λ (look : LookUp). rule_lines look c.rules.result.now c.args.is_detailed) c.view-view.ensures in
     let ruled = ap (λ (rules : List Rule). rule_lines (seen c.args.rules.now c.args.env.now.entries) rules c.args.is_detailed) c.rules.ensures.rules in
     row_lines c.args.row _ _ _ c.in_ok-text.ensures.ok
-    (c.in_ok-has_web_link.ensures.bytes ∙ ap (λ (lines : Text). string_bytes c.in_ok-text.text ++ lines) (shown ∙ ruled))
+    (c.in_ok-has_web_link.ensures.bytes ∙ ap (λ (lines : Text). string_bytes c.in_ok-text.text ++ lines) (printed ∙ ruled))
 
 pub returns-clause-web : goal.returns-clause-web
 returns-clause-web c =

@@ -1,5 +1,5 @@
 -- The columns, one at a time.
-use Rattle.std.proofs.Common.{◌≡◌, ◌<◌, None, Some, take, sym, ap, ◌∙◌, arith}
+use Rattle.std.proofs.Common.{◌≡◌, None, Some, take, sym, ap, ◌∙◌, arith}
 use Rattle.std.specs.List.{find, filter, slice_get}
 use Rattle.std.proofs.lemmas.List.{take_all}
 use Rattle.std.proofs.lemmas.Option.{slice_get_within}

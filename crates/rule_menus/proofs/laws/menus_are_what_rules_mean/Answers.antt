@@ -5,7 +5,7 @@ use Rattle.rule_menus.proofs.laws.menus_are_what_rules_mean.Goals as goal
 
 pub returns-clause-resolution : goal.returns-clause-resolution
 returns-clause-resolution c =
-    same_resolution c.code_comes_to_what_rules_mean.ensures c.course_is_decided.ensures.outcome
+    same_resolution c.code_gives_what_rules_mean.ensures c.course_is_decided.ensures.outcome
     (λ target pairs row sound. c.unused_lists_change_no_link.ensures target pairs row sound)
 
 pub returns-clause-menu : goal.returns-clause-menu

@@ -7,7 +7,7 @@ returns c = λ target pairs row sound.
       shadow = c.rows_shadow_requests.ensures.look_up;
       texts = c.requests_by_keys.ensures.text;
       members = c.requests_by_keys.ensures.members;
-      means = c.code_comes_to_what_rules_mean.ensures;
+      means = c.code_gives_what_rules_mean.ensures;
       declared = c.compiled_code_is_accepted.ensures.declared;
     } in
     same_meaning laws target sound pairs row

@@ -4,7 +4,7 @@ use Rattle.std.specs.List.{slice_get}
 use Rattle.text_model.specs.Texts.{Text}
 use Rattle.kbart_rows.specs.Cells.{Row}
 use Rattle.kbart_rows.specs.Lines.{cells_in}
-use Rattle.table_inspection.proofs.CellLemmas.{any_text, left_at, none_left, past_found, past_goes_on}
+use Rattle.table_inspection.proofs.CellLemmas.{any_text, left_at, none_left, past_found, past_continues}
 use Rattle.table_inspection.proofs.row_line.has_text_past.Goals as goal
 
 pub returns-then-is_past : goal.returns-then-is_past
@@ -40,7 +40,7 @@ loop-cell-preserved c =
       line = c.in-Some.ensures.line ∙ inv.line;
       within = omega (arith, next, slice_get_within cells column c.in-Some.cell.now at);
       same = inv.same ∙ ap (λ (rest : Row). any_text (drop c.loop-cell.left rest)) left
-          ∙ past_goes_on c.loop-cell.left c.in-Some.cell.now (drop (column + 1) cells) (sym c.is_past.ensures ∙ c.if-is_past.false)
+          ∙ past_continues c.loop-cell.left c.in-Some.cell.now (drop (column + 1) cells) (sym c.is_past.ensures ∙ c.if-is_past.false)
           ∙ ap (λ (n : _). any_text (drop n (drop (column + 1) cells))) (sym c.saturating_sub-left.ensures)
           ∙ ap (λ (n : _). any_text (drop c.saturating_sub-left.result (drop n cells))) (sym next);
     }

@@ -16,10 +16,10 @@ returns c =
     let rest_is : rest ≡ drop first xs = take_all (length xs - first) (drop first xs) (omega arith) in
     let firsts = IsPartitionPoint-from_clause (λ (s : Span). ltb s.list n) xs first c.partition_point-first.ensures.partitioned
     (IsPartitionedBy-ltb (λ (s : Span). s.list) xs n c.requires) (λ a r q k. search rules) in
-    let behind = IsPartitionedBy-leb (λ (s : Span). s.list) (drop first xs) n (IsNonDecreasingBy-drop (λ (s : Span). s.list) first xs c.requires) in
+    let following = IsPartitionedBy-leb (λ (s : Span). s.list) (drop first xs) n (IsNonDecreasingBy-drop (λ (s : Span). s.list) first xs c.requires) in
     let counts : IsPartitionPoint (λ (s : Span). leb s.list n ≡ true) (λ (s : Span). leb s.list n ≡ false) rest count =
     IsPartitionPoint-from_clause (λ (s : Span). leb s.list n) rest count c.partition_point-count.ensures.partitioned
-    (subst (IsPartitionedBy (λ (s : Span). leb s.list n)) (sym rest_is) behind) (λ a r q k. search rules) in
+    (subst (IsPartitionedBy (λ (s : Span). leb s.list n)) (sym rest_is) following) (λ a r q k. search rules) in
     let in_rest : count ≤ length rest = c.partition_point-count.ensures.bound in
     run_is xs n first count c.partition_point-first.ensures.bound c.requires firsts (subst (λ ys. count ≤ length ys) rest_is in_rest)
     (subst (λ ys. IsPartitionPoint (λ (s : Span). leb s.list n ≡ true) (λ (s : Span). leb s.list n ≡ false) ys count) rest_is counts)

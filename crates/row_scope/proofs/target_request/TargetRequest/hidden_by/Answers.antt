@@ -9,7 +9,7 @@ use Rattle.environment_model.specs.Environment.{Environment, byte_count, member_
 use Rattle.kev_read.specs.Pairs.{value_bytes}
 use Rattle.kbart_rows.specs.Cells.{named_cells}
 use Rattle.kbart_rows.specs.Lines.{CursorValue, IsCellAt, cells_in}
-use Rattle.row_laws.specs.Shadowing.{asked, hidden, row_of, hidden_bytes_at, hidden_members_at}
+use Rattle.row_laws.specs.Shadowing.{requested, hidden, row_of, hidden_bytes_at, hidden_members_at}
 use Rattle.row_scope.specs.RequestValues.{AreValues}
 use Rattle.row_scope.specs.RowEnvironments.{lists_of}
 use Rattle.row_scope.specs.RowValue.{TargetRequestValue}
@@ -28,7 +28,7 @@ module _ (t : TargetRequestValue) (line : Text) where
   of_row = row_of (named_cells t.table.header (cells_in line))
 
   abbrev of_request : Environment
-  of_request = asked (lists_of t.code) t.request.pairs
+  of_request = requested (lists_of t.code) t.request.pairs
 
   abbrev all_keys : List HiddenKey
   all_keys = hidden_keys t.table.header (lists_of t.code) t.request.pairs
@@ -89,14 +89,14 @@ module _ (line : Text) (cursor : CursorValue) (key : HiddenKey) (start len : ℕ
   members_hidden : 0 < len → members_under (cells_in line) key ≡ key.members
   members_hidden some = ap (λ b. if b then key.members else 0) (is_hidden some)
 
-  is_shown : len ≡ 0 → hides (cells_in line) key ≡ false
-  is_shown none = ap is_some (cell_missing line key.column start len (subst (λ (text : Text). IsCellAt text key.column start len) same at) none)
+  is_visible : len ≡ 0 → hides (cells_in line) key ≡ false
+  is_visible none = ap is_some (cell_missing line key.column start len (subst (λ (text : Text). IsCellAt text key.column start len) same at) none)
 
-  bytes_shown : len ≡ 0 → bytes_under (cells_in line) key ≡ 0
-  bytes_shown none = ap (λ b. if b then key.bytes else 0) (is_shown none)
+  bytes_visible : len ≡ 0 → bytes_under (cells_in line) key ≡ 0
+  bytes_visible none = ap (λ b. if b then key.bytes else 0) (is_visible none)
 
-  members_shown : len ≡ 0 → members_under (cells_in line) key ≡ 0
-  members_shown none = ap (λ b. if b then key.members else 0) (is_shown none)
+  members_visible : len ≡ 0 → members_under (cells_in line) key ≡ 0
+  members_visible none = ap (λ b. if b then key.members else 0) (is_visible none)
 
 -- ---- the loop
 
@@ -189,7 +189,7 @@ loop-key-preserved c =
               w.bytes-is,
               inv.bytes,
               more_bytes,
-              bytes_shown line c.loop-key.cells key c.seek-len.result.0 c.seek-len.result.1 inv.line c.seek-len.ensures.place
+              bytes_visible line c.loop-key.cells key c.seek-len.result.0 c.seek-len.result.1 inv.line c.seek-len.ensures.place
                   (omega (arith, w.if-len-gt0.false)),
             )
       ];
@@ -208,7 +208,7 @@ loop-key-preserved c =
               w.members-is,
               inv.members,
               more_members,
-              members_shown line c.loop-key.cells key c.seek-len.result.0 c.seek-len.result.1 inv.line c.seek-len.ensures.place
+              members_visible line c.loop-key.cells key c.seek-len.result.0 c.seek-len.result.1 inv.line c.seek-len.ensures.place
                   (omega (arith, w.if-len-gt0.false)),
             )
       ];

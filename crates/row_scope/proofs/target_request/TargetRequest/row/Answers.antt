@@ -6,7 +6,7 @@ use Rattle.target_vars.specs.EnvValue.{IsInOrder, IsWithin}
 use Rattle.kev_read.specs.Filling as by_pairs
 use Rattle.kbart_rows.specs.Cells.{Row, cell_bytes, named_cells}
 use Rattle.kbart_rows.specs.Lines.{cells_in}
-use Rattle.row_laws.specs.Shadowing.{asked, hidden, row_of}
+use Rattle.row_laws.specs.Shadowing.{requested, hidden, row_of}
 use Rattle.row_scope.specs.Bindings.{AreBound, laid_over}
 use Rattle.row_scope.specs.RequestValues.{AreValues, RequestValue}
 use Rattle.row_scope.specs.RowEnvironments.{lists_of, names_of}
@@ -52,12 +52,12 @@ new-requires c =
     let cells : Row = get_or t.table.rows c.args.row [] in
     let same : cells_in line ≡ cells = c.line-line.ensures.cells ∙ ap (λ (v : TargetRequestValue). get_or v.table.rows c.args.row []) c.self.view_is in
     let named = named_cells t.table.header cells in
-    let hidden_in = λ (r : Row). hidden (row_of (named_cells t.table.header r)) (asked lists pairs) in
+    let hidden_in = λ (r : Row). hidden (row_of (named_cells t.table.header r)) (requested lists pairs) in
     let row_bytes : c.cell_bytes.result ≡ cell_bytes named =
     c.cell_bytes.ensures.value ∙ ap (λ (v : TargetRequestValue). cell_bytes (named_cells v.table.header (get_or v.table.rows c.args.row []))) c.self.view_is in
-    let hidden_bytes : c.hidden_by-hidden_bytes.result.0 ≡ byte_count (hidden (row_of named) (asked lists pairs)) =
+    let hidden_bytes : c.hidden_by-hidden_bytes.result.0 ≡ byte_count (hidden (row_of named) (requested lists pairs)) =
     c.hidden_by-hidden_bytes.ensures.bytes ∙ ap (λ (r : Row). byte_count (hidden_in r)) same in
-    let hidden_members : c.hidden_by-hidden_bytes.result.1 ≡ member_count (hidden (row_of named) (asked lists pairs)) =
+    let hidden_members : c.hidden_by-hidden_bytes.result.1 ≡ member_count (hidden (row_of named) (requested lists pairs)) =
     c.hidden_by-hidden_bytes.ensures.members ∙ ap (λ (r : Row). member_count (hidden_in r)) same in
     let bytes = c.sums_of_rows_over_requests.ensures.bytes lists named pairs in
     let members = c.sums_of_rows_over_requests.ensures.members lists named pairs in

@@ -2,7 +2,7 @@ use Rattle.std.proofs.Common.{rules, ◌≡◌, ◌++◌, true, false, not, leng
 use Rattle.std.proofs.lemmas.Str.{IsUtf8-string_bytes}
 use Rattle.environment_model.specs.Environment.{with_member}
 use Rattle.environment_model.proofs.Environments.{with_member-text}
-use Rattle.target_vars.specs.EnvValue.{EnvValue, stands_for_text}
+use Rattle.target_vars.specs.EnvValue.{EnvValue, denotes_text}
 use Rattle.target_vars.specs.Layout.{IsPutLast}
 use Rattle.target_vars.specs.declared.place.Span.{Span}
 use Rattle.target_vars.proofs.Additions.{add_is, laid_add}
@@ -14,7 +14,7 @@ pub returns-then-is_text-clause-answer : goal.returns-then-is_text-clause-answer
 returns-then-is_text-clause-answer c =
     let says : Says c.self.inside.places.items c.find-found.result c.is_text.result =
     subst (λ ps. Says ps c.find-found.result c.is_text.result) c.deref.ensures.value c.is_text.ensures in
-    let text : stands_for_text c.args.self.now.entries c.args.name.now ≡ true =
+    let text : denotes_text c.args.self.now.entries c.args.name.now ≡ true =
     decided c.self.inside c.args.self.now c.args.name.now c.find-found.result c.is_text.result c.self.invariant c.self.view_is c.find-found.ensures says
     ∙ c.if-is_text.true in
     ap not (sym text)
@@ -23,7 +23,7 @@ pub returns-then-is_text-clause-ok : goal.returns-then-is_text-clause-ok
 returns-then-is_text-clause-ok c =
     let says : Says c.self.inside.places.items c.find-found.result c.is_text.result =
     subst (λ ps. Says ps c.find-found.result c.is_text.result) c.deref.ensures.value c.is_text.ensures in
-    let text : stands_for_text c.args.self.now.entries c.args.name.now ≡ true =
+    let text : denotes_text c.args.self.now.entries c.args.name.now ≡ true =
     decided c.self.inside c.args.self.now c.args.name.now c.find-found.result c.is_text.result c.self.invariant c.self.view_is c.find-found.ensures says
     ∙ c.if-is_text.true in
     sym (with_member-text c.args.self.now.entries c.args.name.now c.args.text.now text)
@@ -32,7 +32,7 @@ pub returns-then-is_text-clause-too_large : goal.returns-then-is_text-clause-too
 returns-then-is_text-clause-too_large c =
     let says : Says c.self.inside.places.items c.find-found.result c.is_text.result =
     subst (λ ps. Says ps c.find-found.result c.is_text.result) c.deref.ensures.value c.is_text.ensures in
-    let text : stands_for_text c.args.self.now.entries c.args.name.now ≡ true =
+    let text : denotes_text c.args.self.now.entries c.args.name.now ≡ true =
     decided c.self.inside c.args.self.now c.args.name.now c.find-found.result c.is_text.result c.self.invariant c.self.view_is c.find-found.ensures says
     ∙ c.if-is_text.true in
     (λ is. absurd (cc), λ h. (let none = h.0 in absurd (cc)))
@@ -41,7 +41,7 @@ pub returns-then-is_too_long-clause-known : goal.returns-then-is_too_long-clause
 returns-then-is_too_long-clause-known c =
     let says : Says c.self.inside.places.items c.find-found.result c.is_text.result =
     subst (λ ps. Says ps c.find-found.result c.is_text.result) c.deref.ensures.value c.is_text.ensures in
-    let text : stands_for_text c.args.self.now.entries c.args.name.now ≡ false =
+    let text : denotes_text c.args.self.now.entries c.args.name.now ≡ false =
     decided c.self.inside c.args.self.now c.args.name.now c.find-found.result c.is_text.result c.self.invariant c.self.view_is c.find-found.ensures says
     ∙ c.if-is_text.false in
     λ there. absurd (cc)
@@ -50,7 +50,7 @@ pub returns-then-is_too_long-clause-too_large : goal.returns-then-is_too_long-cl
 returns-then-is_too_long-clause-too_large c =
     let says : Says c.self.inside.places.items c.find-found.result c.is_text.result =
     subst (λ ps. Says ps c.find-found.result c.is_text.result) c.deref.ensures.value c.is_text.ensures in
-    let text : stands_for_text c.args.self.now.entries c.args.name.now ≡ false =
+    let text : denotes_text c.args.self.now.entries c.args.name.now ≡ false =
     decided c.self.inside c.args.self.now c.args.name.now c.find-found.result c.is_text.result c.self.invariant c.self.view_is c.find-found.ensures says
     ∙ c.if-is_text.false in (
       λ is. (
@@ -67,7 +67,7 @@ pub returns-in_err-reserve-clause-known : goal.returns-in_err-reserve-clause-kno
 returns-in_err-reserve-clause-known c =
     let says : Says c.self.inside.places.items c.find-found.result c.is_text.result =
     subst (λ ps. Says ps c.find-found.result c.is_text.result) c.deref.ensures.value c.is_text.ensures in
-    let text : stands_for_text c.args.self.now.entries c.args.name.now ≡ false =
+    let text : denotes_text c.args.self.now.entries c.args.name.now ≡ false =
     decided c.self.inside c.args.self.now c.args.name.now c.find-found.result c.is_text.result c.self.invariant c.self.view_is c.find-found.ensures says
     ∙ c.if-is_text.false in
     λ there. absurd (cc)
@@ -76,7 +76,7 @@ pub returns-in_err-reserve-2-clause-known : goal.returns-in_err-reserve-2-clause
 returns-in_err-reserve-2-clause-known c =
     let says : Says c.self.inside.places.items c.find-found.result c.is_text.result =
     subst (λ ps. Says ps c.find-found.result c.is_text.result) c.deref.ensures.value c.is_text.ensures in
-    let text : stands_for_text c.args.self.now.entries c.args.name.now ≡ false =
+    let text : denotes_text c.args.self.now.entries c.args.name.now ≡ false =
     decided c.self.inside c.args.self.now c.args.name.now c.find-found.result c.is_text.result c.self.invariant c.self.view_is c.find-found.ensures says
     ∙ c.if-is_text.false in
     λ there. absurd (cc)
@@ -85,7 +85,7 @@ pub list_of-requires-clause-found : goal.list_of-requires-clause-found
 list_of-requires-clause-found c =
     let says : Says c.self.inside.places.items c.find-found.result c.is_text.result =
     subst (λ ps. Says ps c.find-found.result c.is_text.result) c.deref.ensures.value c.is_text.ensures in
-    let text : stands_for_text c.args.self.now.entries c.args.name.now ≡ false =
+    let text : denotes_text c.args.self.now.entries c.args.name.now ≡ false =
     decided c.self.inside c.args.self.now c.args.name.now c.find-found.result c.is_text.result c.self.invariant c.self.view_is c.find-found.ensures says
     ∙ c.if-is_text.false in
     found_list c.self.inside c.args.name.now c.find-found.result c.is_text.result c.self.invariant c.find-found.ensures says c.if-is_text.false
@@ -94,7 +94,7 @@ pub returns-in_err-list-clause-known : goal.returns-in_err-list-clause-known
 returns-in_err-list-clause-known c =
     let says : Says c.self.inside.places.items c.find-found.result c.is_text.result =
     subst (λ ps. Says ps c.find-found.result c.is_text.result) c.deref.ensures.value c.is_text.ensures in
-    let text : stands_for_text c.args.self.now.entries c.args.name.now ≡ false =
+    let text : denotes_text c.args.self.now.entries c.args.name.now ≡ false =
     decided c.self.inside c.args.self.now c.args.name.now c.find-found.result c.is_text.result c.self.invariant c.self.view_is c.find-found.ensures says
     ∙ c.if-is_text.false in
     λ there. absurd (cc)
@@ -118,7 +118,7 @@ pub returns-clause-answer : goal.returns-clause-answer
 returns-clause-answer c =
     let says : Says c.self.inside.places.items c.find-found.result c.is_text.result =
     subst (λ ps. Says ps c.find-found.result c.is_text.result) c.deref.ensures.value c.is_text.ensures in
-    let text : stands_for_text c.args.self.now.entries c.args.name.now ≡ false =
+    let text : denotes_text c.args.self.now.entries c.args.name.now ≡ false =
     decided c.self.inside c.args.self.now c.args.name.now c.find-found.result c.is_text.result c.self.invariant c.self.view_is c.find-found.ensures says
     ∙ c.if-is_text.false in
     ap not (sym text)
@@ -140,7 +140,7 @@ pub returns-clause-known : goal.returns-clause-known
 returns-clause-known c =
     let says : Says c.self.inside.places.items c.find-found.result c.is_text.result =
     subst (λ ps. Says ps c.find-found.result c.is_text.result) c.deref.ensures.value c.is_text.ensures in
-    let text : stands_for_text c.args.self.now.entries c.args.name.now ≡ false =
+    let text : denotes_text c.args.self.now.entries c.args.name.now ≡ false =
     decided c.self.inside c.args.self.now c.args.name.now c.find-found.result c.is_text.result c.self.invariant c.self.view_is c.find-found.ensures says
     ∙ c.if-is_text.false in
     λ there. absurd (cc)

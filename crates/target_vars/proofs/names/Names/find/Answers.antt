@@ -1,4 +1,4 @@
-use Rattle.std.proofs.Common.{rules, ◌≡◌, [], true, false, length, get_or, slice_get, Some, bytes_eq, sym, ap, ◌∙◌, subst, arith}
+use Rattle.std.proofs.Common.{◌≡◌, [], true, false, length, get_or, slice_get, Some, bytes_eq, sym, ap, ◌∙◌, subst, arith}
 use Rattle.target_vars.specs.Private.NamesValue.{NamesValue, Leads, IsGap}
 use Rattle.target_vars.proofs.NameForks.{found, gap_of}
 use Rattle.target_vars.proofs.names.Names.find.Goals as goal

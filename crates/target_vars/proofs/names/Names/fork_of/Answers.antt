@@ -1,4 +1,4 @@
-use Rattle.std.proofs.Common.{◌≡◌, ◌≤◌, length, slice_get, Some, ap, ◌∙◌, subst}
+use Rattle.std.proofs.Common.{◌≡◌, ◌≤◌, length, Some, ap, ◌∙◌, subst}
 use Rattle.target_vars.specs.Private.NamesValue.{NamesValue, branch_at}
 use Rattle.target_vars.specs.declared.names.forks.Branch.TheVariants.{Further, Ends}
 use Rattle.target_vars.proofs.NewForks.{first_separates, fork_read, each_fork, gap_branch, no_further, gap_known, another, between_separates}

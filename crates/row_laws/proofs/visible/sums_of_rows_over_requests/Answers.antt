@@ -1,5 +1,5 @@
 use Rattle.row_laws.proofs.ShadowedPairs.{bytes_are, members_are}
-use Rattle.row_laws.proofs.shown.sums_of_rows_over_requests.Goals as goal
+use Rattle.row_laws.proofs.visible.sums_of_rows_over_requests.Goals as goal
 
 pub returns-clause-bytes : goal.returns-clause-bytes
 returns-clause-bytes c = bytes_are

@@ -25,7 +25,7 @@ use Rattle.compiler_model.specs.Answer.{answer}
 use Rattle.compiler_model.proofs.Places.{Lie, finishes_after}
 use Rattle.compiler_model.proofs.Entries.{same_names, same_literals, among_firsts, at_index, among_itself}
 use Rattle.compiler_model.proofs.Formed.{TreesAreSound, AreFormed, rules_formed}
-use Rattle.compiler_model.proofs.Standing.{IsFormedLine, HasEntries, all_append, lines_formed, placed}
+use Rattle.compiler_model.proofs.Placement.{IsFormedLine, HasEntries, all_append, lines_formed, placed}
 use Rattle.compiler_model.proofs.RuleRuns.{RulesLie, end_of, rules_finish}
 
 pub all_front : {X : Type 0} (P : X → Type 0) (a b : List X) → AllByRecursion P (a ++ b) → AllByRecursion P a
@@ -161,8 +161,8 @@ module _ (trees : TreesAreSound) (rules : RuleSet) (sound : IsSound rules) where
       (lines_of_rules_formed (code_of rules).version rules.lists rules.rules code_formed)
       (all_have_entries (code_of rules) [] (all_lines rules) refl refl)
 
-  pub code_lies : RulesLie (code_of rules) rules.lists 0 rules.rules
-  code_lies =
+  pub code_placed : RulesLie (code_of rules) rules.lists 0 rules.rules
+  code_placed =
       rules_lie (code_of rules) rules.lists rules.rules 0 founded
       (instructions_stand (code_of rules) _ 0 (λ n. let e : 0 + n ≡ n = omega arith in ap (slice_get (code_of rules).instrs) e))
 
@@ -177,6 +177,6 @@ module _ (trees : TreesAreSound) (rules : RuleSet) (sound : IsSound rules) where
   pub code_means : (v : Environment) → HasOutcome (code_of rules) v (answer (meaning rules v))
   code_means v =
       let c = code_of rules in
-      let f = rules_finish c v rules.lists rules.rules sound.rules 0 (record { registers = start.registers; output = [] }) refl code_lies in
+      let f = rules_finish c v rules.lists rules.rules sound.rules 0 (record { registers = start.registers; output = [] }) refl code_placed in
       let done = finishes_after c v _ _ f 0 (started c v) in
       ended c v done.0 (meaning rules v) done.1

@@ -14,7 +14,7 @@ use Rattle.environment_model.proofs.OtherNames.{with_text-differs, with_member-d
 use Rattle.kev_read.specs.Pairs.{KeyValue, all_of, first_of}
 use Rattle.kev_read.specs.Filling as by_pairs
 use Rattle.kev_read.specs.Filling.{added, fill_one}
-use Rattle.row_laws.specs.Shadowing.{asked, found_in, first_bytes, asked_bytes, asked_members}
+use Rattle.row_laws.specs.Shadowing.{requested, found_in, first_bytes, requested_bytes, requested_members}
 
 -- what a name is bound to after more values
 abbrev pub grown : List Text → Bool → Option Meaning → Option Meaning
@@ -107,13 +107,13 @@ look_up-filled lists env (pair ∷ pairs) key = look_up-filled lists (fill_one l
         ap (grown (all_of pairs key) (is_list lists key)) (other_pair env (is_list lists pair.key) pair key differs)
         ∙ ap (λ vs. grown vs (is_list lists key) (look_up env key)) (sym (all_of-other pair pairs key differs))
 
-pub look_up-asked : (lists : List Text) (pairs : List KeyValue) (key : Text)
-    → look_up (asked lists pairs) key ≡ grown (all_of pairs key) (is_list lists key) None
-look_up-asked lists pairs key = look_up-filled lists [] pairs key ∙ ap (grown (all_of pairs key) (is_list lists key)) (look_up-empty key)
+pub look_up-requested : (lists : List Text) (pairs : List KeyValue) (key : Text)
+    → look_up (requested lists pairs) key ≡ grown (all_of pairs key) (is_list lists key) None
+look_up-requested lists pairs key = look_up-filled lists [] pairs key ∙ ap (grown (all_of pairs key) (is_list lists key)) (look_up-empty key)
 
-pub text_asked : (lists : List Text) (pairs : List KeyValue) (key : Text)
-    → text_of (asked lists pairs) key ≡ (if is_list lists key then None else first_of pairs key)
-text_asked lists pairs key = ap text_in (look_up-asked lists pairs key) ∙ by_values (all_of pairs key) (is_list lists key)
+pub text_requested : (lists : List Text) (pairs : List KeyValue) (key : Text)
+    → text_of (requested lists pairs) key ≡ (if is_list lists key then None else first_of pairs key)
+text_requested lists pairs key = ap text_in (look_up-requested lists pairs key) ∙ by_values (all_of pairs key) (is_list lists key)
   where
     by_values : (vs : List Text) (b : Bool) → text_in (grown vs b None) ≡ (if b then None else slice_get vs 0)
     by_values [] true = refl
@@ -121,9 +121,9 @@ text_asked lists pairs key = ap text_in (look_up-asked lists pairs key) ∙ by_v
     by_values (v ∷ vs) true = refl
     by_values (v ∷ vs) false = refl
 
-pub members_asked : (lists : List Text) (pairs : List KeyValue) (key : Text)
-    → members_of (asked lists pairs) key ≡ (if is_list lists key then all_of pairs key else [])
-members_asked lists pairs key = ap members_in (look_up-asked lists pairs key) ∙ by_values (all_of pairs key) (is_list lists key)
+pub members_requested : (lists : List Text) (pairs : List KeyValue) (key : Text)
+    → members_of (requested lists pairs) key ≡ (if is_list lists key then all_of pairs key else [])
+members_requested lists pairs key = ap members_in (look_up-requested lists pairs key) ∙ by_values (all_of pairs key) (is_list lists key)
   where
     by_values : (vs : List Text) (b : Bool) → members_in (grown vs b None) ≡ (if b then vs else [])
     by_values [] true = refl
@@ -133,9 +133,9 @@ members_asked lists pairs key = ap members_in (look_up-asked lists pairs key) �
 
 -- ---- how much is under a key
 
-pub bytes_asked : (lists : List Text) (pairs : List KeyValue) (key : Text)
-    → found_in meaning_bytes (look_up (asked lists pairs) key) ≡ asked_bytes lists pairs key
-bytes_asked lists pairs key = ap (found_in meaning_bytes) (look_up-asked lists pairs key) ∙ by_values (all_of pairs key) (is_list lists key)
+pub bytes_requested : (lists : List Text) (pairs : List KeyValue) (key : Text)
+    → found_in meaning_bytes (look_up (requested lists pairs) key) ≡ requested_bytes lists pairs key
+bytes_requested lists pairs key = ap (found_in meaning_bytes) (look_up-requested lists pairs key) ∙ by_values (all_of pairs key) (is_list lists key)
   where
     by_values : (vs : List Text) (b : Bool) → found_in meaning_bytes (grown vs b None) ≡ (if b then sum_by length vs else first_bytes vs)
     by_values [] true = refl
@@ -144,8 +144,8 @@ bytes_asked lists pairs key = ap (found_in meaning_bytes) (look_up-asked lists p
     by_values (v ∷ vs) false = refl
 
 pub members_counted : (lists : List Text) (pairs : List KeyValue) (key : Text)
-    → found_in meaning_members (look_up (asked lists pairs) key) ≡ asked_members lists pairs key
-members_counted lists pairs key = ap (found_in meaning_members) (look_up-asked lists pairs key) ∙ by_values (all_of pairs key) (is_list lists key)
+    → found_in meaning_members (look_up (requested lists pairs) key) ≡ requested_members lists pairs key
+members_counted lists pairs key = ap (found_in meaning_members) (look_up-requested lists pairs key) ∙ by_values (all_of pairs key) (is_list lists key)
   where
     by_values : (vs : List Text) (b : Bool) → found_in meaning_members (grown vs b None) ≡ (if b then length vs else 0)
     by_values [] true = refl

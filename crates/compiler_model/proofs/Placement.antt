@@ -95,10 +95,11 @@ module _ (c : Code) where
   text_meant Halts h = tt
   text_meant Fails h = tt
 
-  abbrev said : ℕ → ℕ → Line → Instruction
-  said away place line = line_instruction c.names c.literals away place line
+  abbrev instruction_at : ℕ → ℕ → Line → Instruction
+  instruction_at away place line = line_instruction c.names c.literals away place line
 
-  operands_right : (away place : ℕ) (line : Line) → IsFormedLine c.version line → HasEntries c line → has_right_operands c (said away place line) ≡ true
+  operands_right : (away place : ℕ) (line : Line) → IsFormedLine c.version line → HasEntries c line
+      → has_right_operands c (instruction_at away place line) ≡ true
   unfolding has_right_operands
   operands_right away place (Acts (LoadText a name)) f h = rw (register_right a f, within_table c.names _ _ h, h) refl
   operands_right away place (Acts (LoadList a name)) f h = rw (register_right a f, within_table c.names _ _ h, h) refl
@@ -120,8 +121,8 @@ module _ (c : Code) where
   operands_right away place Halts f h = refl
   operands_right away place Fails f h = refl
 
-  version_knows : (away place : ℕ) (line : Line) → IsFormedLine c.version line → reading c.version (spelling (said away place line))
-      ≡ Some (said away place line)
+  version_knows : (away place : ℕ) (line : Line) → IsFormedLine c.version line → reading c.version (spelling (instruction_at away place line))
+      ≡ Some (instruction_at away place line)
   unfolding reading
   version_knows away place (Acts (LoadText a name)) f = refl
   version_knows away place (Acts (LoadList a name)) f = refl
@@ -145,7 +146,7 @@ module _ (c : Code) where
 
   -- the instruction of a line is at its place
   pub placed : (away place : ℕ) (line : Line) → IsFormedLine c.version line → HasEntries c line
-      → slice_get c.instrs place ≡ Some (spelling (said away place line)) → IsPlaced c away place line
+      → slice_get c.instrs place ≡ Some (spelling (instruction_at away place line)) → IsPlaced c away place line
   placed away place line f h at = record {
     reads = record { spelled = at; known = version_knows away place line f; right = operands_right away place line f h };
     text = text_meant line h;

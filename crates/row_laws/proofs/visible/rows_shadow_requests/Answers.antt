@@ -1,5 +1,5 @@
 use Rattle.row_laws.proofs.ShadowedPairs.{entries_are, look_up_is}
-use Rattle.row_laws.proofs.shown.rows_shadow_requests.Goals as goal
+use Rattle.row_laws.proofs.visible.rows_shadow_requests.Goals as goal
 
 pub returns-clause-entries : goal.returns-clause-entries
 returns-clause-entries c = entries_are

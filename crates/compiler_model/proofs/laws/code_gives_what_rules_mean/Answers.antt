@@ -3,8 +3,8 @@ use Rattle.machine_model.specs.Runs.{HasOutcome}
 use Rattle.rule_parser.specs.Meaning.{meaning}
 use Rattle.compiler_model.specs.Compiled.{code_of}
 use Rattle.compiler_model.specs.Answer.{answer}
-use Rattle.compiler_model.proofs.CodeLies.{code_means}
-use Rattle.compiler_model.proofs.laws.code_comes_to_what_rules_mean.Goals as goal
+use Rattle.compiler_model.proofs.CodePlaces.{code_means}
+use Rattle.compiler_model.proofs.laws.code_gives_what_rules_mean.Goals as goal
 
 pub returns : goal.returns
 returns c = λ rules sound v o.
