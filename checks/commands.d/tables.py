@@ -216,6 +216,9 @@ TABLES = [
     (b"", "NoHeader"),
     (b"\n\r\n\r", "NoHeader"),
     (b"\xef\xbb\xbf\r\n", "NoHeader"),
+    # A line of one space is not blank, so it is a header.
+    (b" ", None),
+    (b"\n \n", None),
     (b"\xff", "NotUtf8"),
     (b"a\n\xe2\x82\n", "NotUtf8"),
     (b"\xed\xa0\x80", "NotUtf8"),

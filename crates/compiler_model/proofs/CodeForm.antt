@@ -21,10 +21,10 @@ use Rattle.compiler_model.specs.Blocks.{lines}
 use Rattle.compiler_model.specs.Shapes.{rule_block}
 use Rattle.compiler_model.specs.Tables.{is_same_literal, literal_used, firsts}
 use Rattle.compiler_model.specs.Compiled.{rule_lines, all_lines, rules_instructions, instructions_from, code_of}
-use Rattle.compiler_model.proofs.Places.{lie_both}
+use Rattle.compiler_model.proofs.Places.{placed_both}
 use Rattle.compiler_model.proofs.Formed.{TreesAreSound, AreFormed}
 use Rattle.compiler_model.proofs.Placement.{IsFormedLine}
-use Rattle.compiler_model.proofs.RuleRuns.{RulesLie}
+use Rattle.compiler_model.proofs.RuleRuns.{AreRulesPlaced}
 use Rattle.compiler_model.proofs.CodePlaces.{IsFounded, length-instructions_from, code_formed, founded, code_placed}
 use Rattle.compiler_model.proofs.Forming.{body_next, body_past}
 use Rattle.compiler_model.proofs.NoFaults.{HasNoFault, clean_one, clean_both, block_clean, last_good}
@@ -52,14 +52,14 @@ code_length rules = length-map _ spelling ∙ length-rules_instructions _ _ rule
 -- ---- form
 
 module _ (c : Code) (version : ℕ) (lists : List Text) where
-  rules_clean : (rules : List Rule) (place : ℕ) → AreFormed version lists rules → RulesLie c lists place rules → body_at c place ≡ None
+  rules_clean : (rules : List Rule) (place : ℕ) → AreFormed version lists rules → AreRulesPlaced c lists place rules → body_at c place ≡ None
       → place + length (flat_map (rule_lines lists) rules) + 1 ≡ length c.instrs → HasNoFault c place (length c.instrs)
   rules_clean [] place f h at eq = clean_one c place (length c.instrs) (omega (arith, eq)) (last_good c place instruction.Fail h refl)
   rules_clean (rule ∷ rules) place f h at eq =
       let block = rule_block lists rule in
       let last = place + length (lines block) in
       let away = place + length (rule_lines lists rule) in
-      let both = lie_both c away place (lines block) (Halts ∷ []) h.0 in
+      let both = placed_both c away place (lines block) (Halts ∷ []) h.0 in
       let next : last + 1 ≡ away = omega (arith, length-append (lines block) (Halts ∷ [])) in
       let whole : away + length (flat_map (rule_lines lists) rules) + 1 ≡ length c.instrs =
       omega (arith, eq, length-append (rule_lines lists rule) (flat_map (rule_lines lists) rules)) in

@@ -27,29 +27,29 @@ use Rattle.compiler_model.specs.declared.lines.Target.TheVariants.{Ahead}
 use Rattle.compiler_model.specs.declared.lines.Line.TheVariants.{Acts, Jumps, Turns}
 use Rattle.compiler_model.specs.Blocks.{Block, Nothing, Does, Then, Unless, Either, ForEach, LeaveIf, Leave, lines}
 use Rattle.compiler_model.specs.Compiled.{test_instruction}
-use Rattle.compiler_model.proofs.Places.{IsPlaced, Lie, lie_both}
+use Rattle.compiler_model.proofs.Places.{IsPlaced, ArePlaced, placed_both}
 use Rattle.compiler_model.proofs.Formed.{IsFormed}
 use Rattle.compiler_model.proofs.Forming.{Room, room_less, body_next, loop_body, body_begins, test_each, each_read, none_outside, body_past}
 use Rattle.compiler_model.proofs.NoFaults.{test_read}
 use Rattle.compiler_model.proofs.Typed.{MeetsAction, after_action, MeetsTest, after_test, Typed, rows, length-rows, below_any, exactly}
 
 -- kinds for places one after another
-abbrev pub RowsLie : Table → ℕ → List Kinds → Type 0
-RowsLie t place [] = Unit {0}
-RowsLie t place (ks ∷ rest) = (t place ≡ Some ks) × RowsLie t (place + 1) rest
+abbrev pub AreRowsPlaced : Table → ℕ → List Kinds → Type 0
+AreRowsPlaced t place [] = Unit {0}
+AreRowsPlaced t place (ks ∷ rest) = (t place ≡ Some ks) × AreRowsPlaced t (place + 1) rest
 
-pub rows_lie : (t : Table) (rs : List Kinds) (place : ℕ) → ((n : ℕ) → t (place + n) ≡ slice_get rs n) → RowsLie t place rs
-rows_lie t [] place h = tt
-rows_lie t (ks ∷ rs) place h =
+pub rows_placed : (t : Table) (rs : List Kinds) (place : ℕ) → ((n : ℕ) → t (place + n) ≡ slice_get rs n) → AreRowsPlaced t place rs
+rows_placed t [] place h = tt
+rows_placed t (ks ∷ rs) place h =
     let here : place + 0 ≡ place = omega arith in
-    (subst (λ n. t n ≡ Some ks) here (h 0), rows_lie t rs (place + 1) (λ n. let next : place + 1 + n ≡ place + suc n = omega arith in ap t next ∙ h (suc n)))
+    (subst (λ n. t n ≡ Some ks) here (h 0), rows_placed t rs (place + 1) (λ n. let next : place + 1 + n ≡ place + suc n = omega arith in ap t next ∙ h (suc n)))
 
-pub rows_both : (t : Table) (place : ℕ) (a b : List Kinds) → RowsLie t place (a ++ b) → RowsLie t place a × RowsLie t (place + length a) b
-rows_both t place [] b h = (tt, let e : place + 0 ≡ place = omega arith in subst (λ p. RowsLie t p b) (sym e) h)
+pub rows_both : (t : Table) (place : ℕ) (a b : List Kinds) → AreRowsPlaced t place (a ++ b) → AreRowsPlaced t place a × AreRowsPlaced t (place + length a) b
+rows_both t place [] b h = (tt, let e : place + 0 ≡ place = omega arith in subst (λ p. AreRowsPlaced t p b) (sym e) h)
 rows_both t place (x ∷ a) b h =
     let both = rows_both t (place + 1) a b h.1 in
     let e : place + 1 + length a ≡ place + length (x ∷ a) = omega arith in
-    ((h.0, both.0), subst (λ p. RowsLie t p b) e both.1)
+    ((h.0, both.0), subst (λ p. AreRowsPlaced t p b) e both.1)
 
 module _ (c : Code) (t : Table) where
   -- the kinds of an edge to a place are at or below those of the place
@@ -122,8 +122,10 @@ module _ (c : Code) (t : Table) where
   no_way : (b : Body) (away : ℕ) → TakesAll (Some b) away
   no_way b away e = absurd (cc)
 
-  pub block_fits : (b : Block) (version away p q : ℕ) (o : Option Body) → IsFormed version (is_in_body o) b → Lie c away p (lines b) → p + length (lines b) ≡ q
-      → q < length c.instrs → Room c o q → TakesAll o away → body_at c p ≡ o → (ks ms : Kinds) (y : Typed b ks ms) → RowsLie t p (rows b ks ms y) → Takes q ms
+  pub block_fits : (b : Block) (version away p q : ℕ) (o : Option Body) → IsFormed version (is_in_body o) b → ArePlaced c away p (lines b)
+      → p + length (lines b) ≡ q
+      → q < length c.instrs → Room c o q → TakesAll o away → body_at c p ≡ o → (ks ms : Kinds) (y : Typed b ks ms) → AreRowsPlaced t p (rows b ks ms y)
+      → Takes q ms
       → Fits p q ks
   block_fits Nothing version away p q o f h eq lt room m at ks ms y r k =
       let same : q ≡ p = omega (arith, eq) in
@@ -135,14 +137,14 @@ module _ (c : Code) (t : Table) where
       )
   block_fits (Then x z) version away p q o f h eq lt room m at ks ms y r k =
       let mid = p + length (lines x) in
-      let lie = lie_both c away p (lines x) (lines z) h in
+      let are_placed = placed_both c away p (lines x) (lines z) h in
       let eq2 : mid + length (lines z) ≡ q = omega (arith, eq, length-append (lines x) (lines z)) in
       let both = rows_both t p (rows x ks y.0 y.1) (rows z y.0 ms y.2) r in
-      let later = subst (λ n. RowsLie t (p + n) (rows z y.0 ms y.2)) (length-rows x ks y.0 y.1) both.1 in
+      let later = subst (λ n. AreRowsPlaced t (p + n) (rows z y.0 ms y.2)) (length-rows x ks y.0 y.1) both.1 in
       let room1 = room_less c o mid q (omega (arith, eq2)) room in
-      let middle = body_past c x version away p mid o f.0 lie.0 refl (omega (arith, eq2, lt)) room1 at in
-      let second = block_fits z version away mid q o f.1 lie.1 eq2 lt room m middle y.0 ms y.2 later k in
-      let first = block_fits x version away p mid o f.0 lie.0 refl (omega (arith, eq2, lt)) room1 m at ks y.0 y.1 both.0 second.1 in
+      let middle = body_past c x version away p mid o f.0 are_placed.0 refl (omega (arith, eq2, lt)) room1 at in
+      let second = block_fits z version away mid q o f.1 are_placed.1 eq2 lt room m middle y.0 ms y.2 later k in
+      let first = block_fits x version away p mid o f.0 are_placed.0 refl (omega (arith, eq2, lt)) room1 m at ks y.0 y.1 both.0 second.1 in
       (settled_both p mid q first.0 second.0, first.1)
   block_fits (Unless test x) version away p q o f h eq lt room m at ks ms y r k =
       let eq2 : p + 1 + length (lines x) ≡ q = omega (arith, eq) in
@@ -156,46 +158,46 @@ module _ (c : Code) (t : Table) where
       )
   block_fits (Either test x z) version away p q o f h eq lt room m at ks ms y r k =
       let mid = p + 1 + length (lines x) in
-      let lie = lie_both c away (p + 1) (lines x) (Jumps (Ahead (length (lines z) + 1)) ∷ lines z) h.1 in
+      let are_placed = placed_both c away (p + 1) (lines x) (Jumps (Ahead (length (lines z) + 1)) ∷ lines z) h.1 in
       let eq2 : mid + 1 + length (lines z) ≡ q = omega (arith, eq, length-append (lines x) (Jumps (Ahead (length (lines z) + 1)) ∷ lines z)) in
       let over : mid + (length (lines z) + 1) ≡ q = omega (arith, eq2) in
       let both = rows_both t (p + 1) (rows x (after_test test ks) ms y.1) (ms ∷ rows z ks ms y.2) r.1 in
-      let later = subst (λ n. RowsLie t (p + 1 + n) (ms ∷ rows z ks ms y.2)) (length-rows x (after_test test ks) ms y.1) both.1 in
+      let later = subst (λ n. AreRowsPlaced t (p + 1 + n) (ms ∷ rows z ks ms y.2)) (length-rows x (after_test test ks) ms y.1) both.1 in
       let room1 = room_less c o mid q (omega (arith, eq2)) room in
       let inner = body_next c p _ h.0.reads (test_each c test _) o at (room_less c o (p + 1) q (omega (arith, eq2)) room) in
-      let middle = body_past c x version away (p + 1) mid o f.1 lie.0 refl (omega (arith, eq2, lt)) room1 inner in
-      let other = body_next c mid _ lie.1.0.reads refl o middle (room_less c o (mid + 1) q (omega (arith, eq2)) room) in
-      let second = block_fits z version away (mid + 1) q o f.2 lie.1.1 eq2 lt room m other ks ms y.2 later.1 k in
-      let first = block_fits x version away (p + 1) mid o f.1 lie.0 refl (omega (arith, eq2, lt)) room1 m inner (after_test test ks) ms y.1 both.0
+      let middle = body_past c x version away (p + 1) mid o f.1 are_placed.0 refl (omega (arith, eq2, lt)) room1 inner in
+      let other = body_next c mid _ are_placed.1.0.reads refl o middle (room_less c o (mid + 1) q (omega (arith, eq2)) room) in
+      let second = block_fits z version away (mid + 1) q o f.2 are_placed.1.1 eq2 lt room m other ks ms y.2 later.1 k in
+      let first = block_fits x version away (p + 1) mid o f.1 are_placed.0 refl (omega (arith, eq2, lt)) room1 m inner (after_test test ks) ms y.1 both.0
       (takes_row mid ms later.0 ms (exactly ms)) in (
         settled_both p (p + 1) q
             (settled_one p (p + 1) refl (test_settled test p (mid + 1) ks (test_read c test _ away p (mid + 1) (omega arith) h.0) r.0 y.0 second.1 first.1))
             (settled_both (p + 1) mid q first.0
             (settled_both mid (mid + 1) q
             (settled_one mid (mid + 1) refl
-            (settled mid (instruction.Jump q) ms (Reads-reading_at c mid _ (subst (λ d. Reads c mid (instruction.Jump d)) over lie.1.0.reads)) later.0
+            (settled mid (instruction.Jump q) ms (Reads-reading_at c mid _ (subst (λ d. Reads c mid (instruction.Jump d)) over are_placed.1.0.reads)) later.0
             (k, tt) tt))
             second.0)),
         takes_row p ks r.0 ks (exactly ks),
       )
   block_fits (ForEach a b x) version away p q o f h eq lt room m at ks ms y r k =
       let last = p + 1 + length (lines x) in
-      let lie = lie_both c away (p + 1) (lines x) (Turns ∷ []) h.1 in
+      let are_placed = placed_both c away (p + 1) (lines x) (Turns ∷ []) h.1 in
       let eq2 : last + 1 ≡ q = omega (arith, eq, length-append (lines x) (Turns ∷ [])) in
       let none = none_outside c o f.0 in
       let here = each_read c away p last a b _ (omega arith) h.0 in
       let both = rows_both t (p + 1) (rows x y.0 y.1 y.3) (y.1 ∷ []) r.1 in
-      let later = subst (λ n. RowsLie t (p + 1 + n) (y.1 ∷ [])) (length-rows x y.0 y.1 y.3) both.1 in
-      let inner = body_begins c p last a b here lie.1.0.reads (omega arith) (omega (arith, eq2, lt)) (at ∙ none) in
-      let end = body_past c x version away (p + 1) last (Some (loop_body c p last a)) f.3 lie.0 refl (omega (arith, eq2, lt)) (omega arith) inner in
+      let later = subst (λ n. AreRowsPlaced t (p + 1 + n) (y.1 ∷ [])) (length-rows x y.0 y.1 y.3) both.1 in
+      let inner = body_begins c p last a b here are_placed.1.0.reads (omega arith) (omega (arith, eq2, lt)) (at ∙ none) in
+      let end = body_past c x version away (p + 1) last (Some (loop_body c p last a)) f.3 are_placed.0 refl (omega (arith, eq2, lt)) (omega arith) inner in
       let out : Takes (last + 1) ms = subst (λ n. Takes n ms) (sym eq2) k in
-      let turn = block_fits x version away (p + 1) last (Some (loop_body c p last a)) f.3 lie.0 refl (omega (arith, eq2, lt)) (omega arith)
+      let turn = block_fits x version away (p + 1) last (Some (loop_body c p last a)) f.3 are_placed.0 refl (omega (arith, eq2, lt)) (omega arith)
       (no_way (loop_body c p last a) away) inner y.0 y.1 y.3 both.0 (takes_row last y.1 later.0 y.1 (exactly y.1)) in (
         settled_both p (p + 1) q
             (settled_one p (p + 1) refl (settled p (instruction.Each a b (last + 1)) ks (Reads-reading_at c p _ here) r.0
             (takes_below (p + 1) (put ks a kind.Text) y.0 y.2.enters turn.1, (takes_below (last + 1) (put ks a kind.Any) ms y.2.skips out, tt)) (y.2.list, tt)))
             (settled_both (p + 1) last q turn.0
-            (settled_one last q eq2 (next_settled p last a y.1 lie.1.0.reads end later.0
+            (settled_one last q eq2 (next_settled p last a y.1 are_placed.1.0.reads end later.0
             (takes_below (p + 1) (put y.1 a kind.Text) y.0 y.2.returns turn.1) (takes_below (last + 1) (put y.1 a kind.Any) ms y.2.leaves out)))),
         takes_row p ks r.0 ks (exactly ks),
       )

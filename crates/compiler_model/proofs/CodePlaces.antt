@@ -22,11 +22,11 @@ use Rattle.compiler_model.specs.Shapes.{rule_block}
 use Rattle.compiler_model.specs.Tables.{name_entry, literal_entry, is_same_name, is_same_literal, name_used, literal_used, firsts, names_of, literals_of}
 use Rattle.compiler_model.specs.Compiled.{rule_lines, all_lines, instructions_from, rules_instructions, has_counts, code_of}
 use Rattle.compiler_model.specs.Answer.{answer}
-use Rattle.compiler_model.proofs.Places.{Lie, finishes_after}
+use Rattle.compiler_model.proofs.Places.{ArePlaced, finishes_after}
 use Rattle.compiler_model.proofs.Entries.{same_names, same_literals, among_firsts, at_index, among_itself}
 use Rattle.compiler_model.proofs.Formed.{TreesAreSound, AreFormed, rules_formed}
 use Rattle.compiler_model.proofs.Placement.{IsFormedLine, HasEntries, all_append, lines_formed, placed}
-use Rattle.compiler_model.proofs.RuleRuns.{RulesLie, end_of, rules_finish}
+use Rattle.compiler_model.proofs.RuleRuns.{AreRulesPlaced, end_of, rules_finish}
 
 pub all_front : {X : Type 0} (P : X → Type 0) (a b : List X) → AllByRecursion P (a ++ b) → AllByRecursion P a
 all_front P [] b h = tt
@@ -38,25 +38,25 @@ all_back P (x ∷ a) b h = all_back P a b h.1
 
 -- ---- instructions of a code from a place on
 
-abbrev pub Stand : Code → ℕ → List Instruction → Type 0
-Stand c place [] = Unit {0}
-Stand c place (i ∷ is) = (slice_get c.instrs place ≡ Some (spelling i)) × Stand c (place + 1) is
+abbrev pub AreStored : Code → ℕ → List Instruction → Type 0
+AreStored c place [] = Unit {0}
+AreStored c place (i ∷ is) = (slice_get c.instrs place ≡ Some (spelling i)) × AreStored c (place + 1) is
 
-pub instructions_stand : (c : Code) (is : List Instruction) (place : ℕ) → ((n : ℕ) → slice_get c.instrs (place + n) ≡ slice_get (map spelling is) n)
-    → Stand c place is
-instructions_stand c [] place h = tt
-instructions_stand c (i ∷ is) place h =
+pub instructions_stored : (c : Code) (is : List Instruction) (place : ℕ) → ((n : ℕ) → slice_get c.instrs (place + n) ≡ slice_get (map spelling is) n)
+    → AreStored c place is
+instructions_stored c [] place h = tt
+instructions_stored c (i ∷ is) place h =
     let here : place + 0 ≡ place = omega arith in (
       subst (λ n. slice_get c.instrs n ≡ Some (spelling i)) here (h 0),
-      instructions_stand c is (place + 1) (λ n. let next : place + 1 + n ≡ place + suc n = omega arith in ap (slice_get c.instrs) next ∙ h (suc n)),
+      instructions_stored c is (place + 1) (λ n. let next : place + 1 + n ≡ place + suc n = omega arith in ap (slice_get c.instrs) next ∙ h (suc n)),
     )
 
-pub stand_both : (c : Code) (place : ℕ) (a b : List Instruction) → Stand c place (a ++ b) → Stand c place a × Stand c (place + length a) b
-stand_both c place [] b h = (tt, let e : place + 0 ≡ place = omega arith in subst (λ p. Stand c p b) (sym e) h)
-stand_both c place (x ∷ a) b h =
-    let both = stand_both c (place + 1) a b h.1 in
+pub stored_both : (c : Code) (place : ℕ) (a b : List Instruction) → AreStored c place (a ++ b) → AreStored c place a × AreStored c (place + length a) b
+stored_both c place [] b h = (tt, let e : place + 0 ≡ place = omega arith in subst (λ p. AreStored c p b) (sym e) h)
+stored_both c place (x ∷ a) b h =
+    let both = stored_both c (place + 1) a b h.1 in
     let e : place + 1 + length a ≡ place + length (x ∷ a) = omega arith in
-    ((h.0, both.0), subst (λ p. Stand c p b) e both.1)
+    ((h.0, both.0), subst (λ p. AreStored c p b) e both.1)
 
 pub length-instructions_from : (names : List Name) (literals : List Literal) (away place : ℕ) (ls : List Line)
     → length (instructions_from names literals away place ls) ≡ length ls
@@ -69,21 +69,22 @@ module _ (c : Code) where
     pub formed : IsFormedLine c.version line
     pub entries : HasEntries c line
 
-  lines_lie : (away place : ℕ) (ls : List Line) → AllByRecursion IsFounded ls → Stand c place (instructions_from c.names c.literals away place ls)
-      → Lie c away place ls
-  lines_lie away place [] f h = tt
-  lines_lie away place (l ∷ ls) f h = (placed c away place l f.0.formed f.0.entries h.0, lines_lie away (place + 1) ls f.1 h.1)
+  lines_placed : (away place : ℕ) (ls : List Line) → AllByRecursion IsFounded ls → AreStored c place (instructions_from c.names c.literals away place ls)
+      → ArePlaced c away place ls
+  lines_placed away place [] f h = tt
+  lines_placed away place (l ∷ ls) f h = (placed c away place l f.0.formed f.0.entries h.0, lines_placed away (place + 1) ls f.1 h.1)
 
-  rules_lie : (lists : List Text) (rules : List Rule) (place : ℕ) → AllByRecursion IsFounded (flat_map (rule_lines lists) rules ++ Fails ∷ [])
-      → Stand c place (rules_instructions c.names c.literals lists place rules) → RulesLie c lists place rules
-  rules_lie lists [] place f h = (placed c place place Fails f.0.formed f.0.entries h.0).reads
-  rules_lie lists (rule ∷ rules) place f h =
+  rules_placed : (lists : List Text) (rules : List Rule) (place : ℕ) → AllByRecursion IsFounded (flat_map (rule_lines lists) rules ++ Fails ∷ [])
+      → AreStored c place (rules_instructions c.names c.literals lists place rules) → AreRulesPlaced c lists place rules
+  rules_placed lists [] place f h = (placed c place place Fails f.0.formed f.0.entries h.0).reads
+  rules_placed lists (rule ∷ rules) place f h =
       let ls = rule_lines lists rule in
       let away = place + length ls in
-      let both = stand_both c place (instructions_from c.names c.literals away place ls) (rules_instructions c.names c.literals lists away rules) h in
+      let both = stored_both c place (instructions_from c.names c.literals away place ls) (rules_instructions c.names c.literals lists away rules) h in
       let f2 = subst (AllByRecursion IsFounded) (append_assoc ls (flat_map (rule_lines lists) rules) (Fails ∷ [])) f in (
-        lines_lie away place ls (all_front IsFounded ls _ f2) both.0,
-        rules_lie lists rules away (all_back IsFounded ls _ f2) (subst (λ n. Stand c (place + n) (rules_instructions c.names c.literals lists away rules))
+        lines_placed away place ls (all_front IsFounded ls _ f2) both.0,
+        rules_placed lists rules away (all_back IsFounded ls _ f2)
+            (subst (λ n. AreStored c (place + n) (rules_instructions c.names c.literals lists away rules))
             (length-instructions_from c.names c.literals away place ls) both.1),
       )
 
@@ -161,10 +162,10 @@ module _ (trees : TreesAreSound) (rules : RuleSet) (sound : IsSound rules) where
       (lines_of_rules_formed (code_of rules).version rules.lists rules.rules code_formed)
       (all_have_entries (code_of rules) [] (all_lines rules) refl refl)
 
-  pub code_placed : RulesLie (code_of rules) rules.lists 0 rules.rules
+  pub code_placed : AreRulesPlaced (code_of rules) rules.lists 0 rules.rules
   code_placed =
-      rules_lie (code_of rules) rules.lists rules.rules 0 founded
-      (instructions_stand (code_of rules) _ 0 (λ n. let e : 0 + n ≡ n = omega arith in ap (slice_get (code_of rules).instrs) e))
+      rules_placed (code_of rules) rules.lists rules.rules 0 founded
+      (instructions_stored (code_of rules) _ 0 (λ n. let e : 0 + n ≡ n = omega arith in ap (slice_get (code_of rules).instrs) e))
 
   started : (c : Code) (v : Environment) → After c v 0 (Running start)
   unfolding After

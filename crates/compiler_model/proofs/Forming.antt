@@ -24,7 +24,7 @@ use Rattle.compiler_model.specs.declared.lines.Target.TheVariants.{Ahead}
 use Rattle.compiler_model.specs.declared.lines.Line.TheVariants.{Acts, Jumps, Begins, Turns}
 use Rattle.compiler_model.specs.Blocks.{Block, Nothing, Does, Then, Unless, Either, ForEach, LeaveIf, Leave, lines}
 use Rattle.compiler_model.specs.Compiled.{line_instruction, test_instruction}
-use Rattle.compiler_model.proofs.Places.{IsPlaced, Lie, lie_both}
+use Rattle.compiler_model.proofs.Places.{IsPlaced, ArePlaced, placed_both}
 use Rattle.compiler_model.proofs.Formed.{IsFormed}
 
 module _ (c : Code) where
@@ -145,7 +145,7 @@ module _ (c : Code) where
   none_outside (Some b) h = absurd (cc)
 
   -- after a block the body is the same as before it
-  pub body_past : (b : Block) (version away p q : ℕ) (o : Option Body) → IsFormed version (is_in_body o) b → Lie c away p (lines b)
+  pub body_past : (b : Block) (version away p q : ℕ) (o : Option Body) → IsFormed version (is_in_body o) b → ArePlaced c away p (lines b)
       → p + length (lines b) ≡ q → q < length c.instrs → Room o q → body_at c p ≡ o → body_at c q ≡ o
   body_past Nothing version away p q o f h eq lt room at = let e : q ≡ p = omega (arith, eq) in ap (body_at c) e ∙ at
   body_past (Does a) version away p q o f h eq lt room at =
@@ -153,7 +153,7 @@ module _ (c : Code) where
       ap (body_at c) e ∙ body_next p _ h.0.reads (action_each a away p) o at (room_less o (p + 1) q (omega (arith, eq)) room)
   body_past (Then x y) version away p q o f h eq lt room at =
       let mid = p + length (lines x) in
-      let both = lie_both c away p (lines x) (lines y) h in
+      let both = placed_both c away p (lines x) (lines y) h in
       let eq2 : mid + length (lines y) ≡ q = omega (arith, eq, length-append (lines x) (lines y)) in
       body_past y version away mid q o f.1 both.1 eq2 lt room
       (body_past x version away p mid o f.0 both.0 refl (omega (arith, eq2, lt)) (room_less o mid q (omega (arith, eq2)) room) at)
@@ -163,7 +163,7 @@ module _ (c : Code) where
       (body_next p _ h.0.reads (test_each t _) o at (room_less o (p + 1) q (omega (arith, eq2)) room))
   body_past (Either t x y) version away p q o f h eq lt room at =
       let mid = p + 1 + length (lines x) in
-      let both = lie_both c away (p + 1) (lines x) (Jumps (Ahead (length (lines y) + 1)) ∷ lines y) h.1 in
+      let both = placed_both c away (p + 1) (lines x) (Jumps (Ahead (length (lines y) + 1)) ∷ lines y) h.1 in
       let eq2 : mid + 1 + length (lines y) ≡ q = omega (arith, eq, length-append (lines x) (Jumps (Ahead (length (lines y) + 1)) ∷ lines y)) in
       let first = body_next p _ h.0.reads (test_each t _) o at (room_less o (p + 1) q (omega (arith, eq2)) room) in
       let second = body_past x version away (p + 1) mid o f.1 both.0 refl (omega (arith, eq2, lt)) (room_less o mid q (omega (arith, eq2)) room) first in
@@ -171,7 +171,7 @@ module _ (c : Code) where
       (body_next mid _ both.1.0.reads refl o second (room_less o (mid + 1) q (omega (arith, eq2)) room))
   body_past (ForEach a b x) version away p q o f h eq lt room at =
       let last = p + 1 + length (lines x) in
-      let both = lie_both c away (p + 1) (lines x) (Turns ∷ []) h.1 in
+      let both = placed_both c away (p + 1) (lines x) (Turns ∷ []) h.1 in
       let eq2 : last + 1 ≡ q = omega (arith, eq, length-append (lines x) (Turns ∷ [])) in
       let none = none_outside o f.0 in
       let inside = body_begins p last a b (each_read away p last a b _ (omega arith) h.0) both.1.0.reads (omega arith) (omega (arith, eq2, lt)) (at ∙ none) in

@@ -20,7 +20,7 @@ use Rattle.compiler_model.specs.declared.lines.Target.TheVariants.{Ahead}
 use Rattle.compiler_model.specs.declared.lines.Line.TheVariants.{Acts, Tests, Jumps, Turns}
 use Rattle.compiler_model.specs.Blocks.{Block, Nothing, Does, Then, Unless, Either, ForEach, LeaveIf, Leave, lines}
 use Rattle.compiler_model.specs.Compiled.{place_of, test_instruction}
-use Rattle.compiler_model.proofs.Places.{IsPlaced, Lie, lie_both}
+use Rattle.compiler_model.proofs.Places.{IsPlaced, ArePlaced, placed_both}
 use Rattle.compiler_model.proofs.Formed.{IsFormedAction, IsFormed}
 use Rattle.compiler_model.proofs.Forming.{Room, body_begins, body_past, body_next, each_read, loop_body, none_outside, passes_all, room_less, same_body}
 use Rattle.compiler_model.proofs.Forming.{test_each}
@@ -130,13 +130,13 @@ module _ (c : Code) where
   no_way : (b : Body) (q away : ℕ) → MayLeave (Some b) q away
   no_way b q away e = absurd (cc)
 
-  pub block_clean : (b : Block) (version away p q : ℕ) (o : Option Body) → IsFormed version (is_in_body o) b → Lie c away p (lines b)
+  pub block_clean : (b : Block) (version away p q : ℕ) (o : Option Body) → IsFormed version (is_in_body o) b → ArePlaced c away p (lines b)
       → p + length (lines b) ≡ q → q < length c.instrs → Room c o q → MayLeave o q away → body_at c p ≡ o → HasNoFault p q
   block_clean Nothing version away p q o f h eq lt room m at = λ x low high. absurd (omega (arith, low, high, eq))
   block_clean (Does a) version away p q o f h eq lt room m at = clean_one p q eq (action_good a version away p o f at (omega (arith, eq, lt)) h.0)
   block_clean (Then x y) version away p q o f h eq lt room m at =
       let mid = p + length (lines x) in
-      let both = lie_both c away p (lines x) (lines y) h in
+      let both = placed_both c away p (lines x) (lines y) h in
       let eq2 : mid + length (lines y) ≡ q = omega (arith, eq, length-append (lines x) (lines y)) in
       let middle = body_past c x version away p mid o f.0 both.0 refl (omega (arith, eq2, lt)) (room_less c o mid q (omega (arith, eq2)) room) at in
       clean_both p mid q
@@ -152,7 +152,7 @@ module _ (c : Code) where
       (block_clean x version away (p + 1) q o f.1 h.1 eq2 lt room m first)
   block_clean (Either t x y) version away p q o f h eq lt room m at =
       let mid = p + 1 + length (lines x) in
-      let both = lie_both c away (p + 1) (lines x) (Jumps (Ahead (length (lines y) + 1)) ∷ lines y) h.1 in
+      let both = placed_both c away (p + 1) (lines x) (Jumps (Ahead (length (lines y) + 1)) ∷ lines y) h.1 in
       let eq2 : mid + 1 + length (lines y) ≡ q = omega (arith, eq, length-append (lines x) (Jumps (Ahead (length (lines y) + 1)) ∷ lines y)) in
       let over : mid + (length (lines y) + 1) ≡ q = omega (arith, eq2) in
       let first = body_next c p _ h.0.reads (test_each c t _) o at (room_less c o (p + 1) q (omega (arith, eq2)) room) in
@@ -170,7 +170,7 @@ module _ (c : Code) where
       (block_clean y version away (mid + 1) q o f.2 both.1.1 eq2 lt room m third)))
   block_clean (ForEach a b x) version away p q o f h eq lt room m at =
       let last = p + 1 + length (lines x) in
-      let both = lie_both c away (p + 1) (lines x) (Turns ∷ []) h.1 in
+      let both = placed_both c away (p + 1) (lines x) (Turns ∷ []) h.1 in
       let eq2 : last + 1 ≡ q = omega (arith, eq, length-append (lines x) (Turns ∷ [])) in
       let none = none_outside c o f.0 in
       let here = each_read c away p last a b _ (omega arith) h.0 in

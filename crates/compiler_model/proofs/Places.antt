@@ -30,16 +30,17 @@ pub record IsPlaced (c : Code) (away place : ℕ) (line : Line) : Type 0 where
   pub text : HasText c line
 
 -- the code has the lines one after another from a place on
-abbrev pub Lie : Code → ℕ → ℕ → List Line → Type 0
-Lie c away place [] = Unit {0}
-Lie c away place (line ∷ rest) = IsPlaced c away place line × Lie c away (place + 1) rest
+abbrev pub ArePlaced : Code → ℕ → ℕ → List Line → Type 0
+ArePlaced c away place [] = Unit {0}
+ArePlaced c away place (line ∷ rest) = IsPlaced c away place line × ArePlaced c away (place + 1) rest
 
-pub lie_both : (c : Code) (away place : ℕ) (a b : List Line) → Lie c away place (a ++ b) → Lie c away place a × Lie c away (place + length a) b
-lie_both c away place [] b h = (tt, let e : place + 0 ≡ place = omega arith in subst (λ p. Lie c away p b) (sym e) h)
-lie_both c away place (x ∷ a) b h =
-    let both = lie_both c away (place + 1) a b h.1 in
+pub placed_both : (c : Code) (away place : ℕ) (a b : List Line) → ArePlaced c away place (a ++ b) → ArePlaced c away place a
+    × ArePlaced c away (place + length a) b
+placed_both c away place [] b h = (tt, let e : place + 0 ≡ place = omega arith in subst (λ p. ArePlaced c away p b) (sym e) h)
+placed_both c away place (x ∷ a) b h =
+    let both = placed_both c away (place + 1) a b h.1 in
     let e : place + 1 + length a ≡ place + length (x ∷ a) = omega arith in
-    ((h.0, both.0), subst (λ p. Lie c away p b) e both.1)
+    ((h.0, both.0), subst (λ p. ArePlaced c away p b) e both.1)
 
 -- the machine runs from a frame to an end
 pub data Finishes (c : Code) (v : Environment) (e : End) : Frame → Type 0 where

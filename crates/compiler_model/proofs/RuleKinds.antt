@@ -19,15 +19,15 @@ use Rattle.compiler_model.specs.declared.lines.Line.TheVariants.{Halts}
 use Rattle.compiler_model.specs.Blocks.{lines}
 use Rattle.compiler_model.specs.Shapes.{rule_block}
 use Rattle.compiler_model.specs.Compiled.{rule_lines, code_of}
-use Rattle.compiler_model.proofs.Places.{lie_both}
+use Rattle.compiler_model.proofs.Places.{placed_both}
 use Rattle.compiler_model.proofs.Formed.{TreesAreSound, AreFormed}
 use Rattle.compiler_model.proofs.Forming.{body_next, body_past}
-use Rattle.compiler_model.proofs.RuleRuns.{RulesLie}
+use Rattle.compiler_model.proofs.RuleRuns.{AreRulesPlaced}
 use Rattle.compiler_model.proofs.CodePlaces.{code_formed, code_placed}
 use Rattle.compiler_model.proofs.CodeForm.{code_length, no_body_first}
 use Rattle.compiler_model.proofs.Typed.{rows, length-rows, below_any}
 use Rattle.compiler_model.proofs.TypedExpressions.{rule_typed}
-use Rattle.compiler_model.proofs.CodeKinds.{IsSettled, RowsLie, Settled, block_fits, rows_both, rows_lie, settled, settled_both, settled_one}
+use Rattle.compiler_model.proofs.CodeKinds.{IsSettled, AreRowsPlaced, Settled, block_fits, rows_both, rows_placed, settled, settled_both, settled_one}
 
 -- the kinds at each place of rules: nothing is known where one begins, at HALT, and at FAIL
 rules_rows : List Text → List Rule → List Kinds
@@ -50,8 +50,8 @@ length-rules_rows lists (rule ∷ rules) =
     )
 
 module _ (c : Code) (t : Table) (version : ℕ) (lists : List Text) where
-  rules_settled : (rules : List Rule) (place : ℕ) → AreFormed version lists rules → RulesLie c lists place rules → body_at c place ≡ None
-      → place + length (flat_map (rule_lines lists) rules) + 1 ≡ length c.instrs → RowsLie t place (rules_rows lists rules)
+  rules_settled : (rules : List Rule) (place : ℕ) → AreFormed version lists rules → AreRulesPlaced c lists place rules → body_at c place ≡ None
+      → place + length (flat_map (rule_lines lists) rules) + 1 ≡ length c.instrs → AreRowsPlaced t place (rules_rows lists rules)
       → Settled c t place (length c.instrs) × Holds t (edge place any_kinds)
   unfolding rules_rows
   rules_settled [] place f h at eq r = (
@@ -62,21 +62,22 @@ module _ (c : Code) (t : Table) (version : ℕ) (lists : List Text) where
       let block = rule_block lists rule in
       let last = place + length (lines block) in
       let away = place + length (rule_lines lists rule) in
-      let lie = lie_both c away place (lines block) (Halts ∷ []) h.0 in
+      let are_placed = placed_both c away place (lines block) (Halts ∷ []) h.0 in
       let next : last + 1 ≡ away = omega (arith, length-append (lines block) (Halts ∷ [])) in
       let whole : away + length (flat_map (rule_lines lists) rules) + 1 ≡ length c.instrs =
       omega (arith, eq, length-append (rule_lines lists rule) (flat_map (rule_lines lists) rules)) in
       let both = rows_both t place (rows block any_kinds any_kinds (rule_typed lists rule)) (any_kinds ∷ rules_rows lists rules) r in
-      let later = subst (λ n. RowsLie t (place + n) (any_kinds ∷ rules_rows lists rules)) (length-rows block any_kinds any_kinds (rule_typed lists rule))
+      let later = subst (λ n. AreRowsPlaced t (place + n) (any_kinds ∷ rules_rows lists rules)) (length-rows block any_kinds any_kinds (rule_typed lists rule))
       both.1 in
-      let at_last = body_past c block version away place last None f.0 lie.0 refl (omega (arith, next, whole)) tt at in
-      let at_away : body_at c away ≡ None = subst (λ n. body_at c n ≡ None) next (body_next c last instruction.Halt lie.1.0.reads refl None at_last tt) in
-      let rest = rules_settled rules away f.1 h.1 at_away whole (subst (λ n. RowsLie t n (rules_rows lists rules)) next later.1) in
-      let first = block_fits c t block version away place last None f.0 lie.0 refl (omega (arith, next, whole)) tt (λ e. rest.1) at any_kinds any_kinds
+      let at_last = body_past c block version away place last None f.0 are_placed.0 refl (omega (arith, next, whole)) tt at in
+      let at_away : body_at c away ≡ None =
+      subst (λ n. body_at c n ≡ None) next (body_next c last instruction.Halt are_placed.1.0.reads refl None at_last tt) in
+      let rest = rules_settled rules away f.1 h.1 at_away whole (subst (λ n. AreRowsPlaced t n (rules_rows lists rules)) next later.1) in
+      let first = block_fits c t block version away place last None f.0 are_placed.0 refl (omega (arith, next, whole)) tt (λ e. rest.1) at any_kinds any_kinds
       (rule_typed lists rule) both.0 (any_kinds, later.0, below_any any_kinds) in (
         settled_both c t place last (length c.instrs) first.0
             (settled_both c t last away (length c.instrs)
-            (settled_one c t last away next (settled c t last instruction.Halt any_kinds (Reads-reading_at c last _ lie.1.0.reads) later.0 tt tt))
+            (settled_one c t last away next (settled c t last instruction.Halt any_kinds (Reads-reading_at c last _ are_placed.1.0.reads) later.0 tt tt))
             rest.0),
         first.1,
       )
@@ -92,7 +93,7 @@ module _ (trees : TreesAreSound) (rules : RuleSet) (sound : IsSound rules) where
       let c = code_of rules in
       rules_settled c table c.version rules.lists rules.rules 0 (code_formed trees rules sound) (code_placed trees rules sound) (no_body_first c)
       (omega (arith, code_length rules))
-      (rows_lie table (rules_rows rules.lists rules.rules) 0 (λ n. let e : 0 + n ≡ n = omega arith in ap table e))
+      (rows_placed table (rules_rows rules.lists rules.rules) 0 (λ n. let e : 0 + n ≡ n = omega arith in ap table e))
 
   settled_at : (place : ℕ) → IsSettled (code_of rules) table place
   unfolding table

@@ -23,17 +23,17 @@ use Rattle.compiler_model.specs.Blocks.{lines}
 use Rattle.compiler_model.specs.Shapes.{rule_block, parts_block}
 use Rattle.compiler_model.specs.Compiled.{rule_lines}
 use Rattle.compiler_model.proofs.Effects.{Store, Claim, Brings}
-use Rattle.compiler_model.proofs.Places.{Lie, lie_both, Finishes, at_place, at_end}
+use Rattle.compiler_model.proofs.Places.{ArePlaced, placed_both, Finishes, at_place, at_end}
 use Rattle.compiler_model.proofs.Simulation.{moves}
 use Rattle.compiler_model.proofs.SpecPieces.{parts_bring}
 use Rattle.compiler_model.proofs.Guards.{Settles}
 use Rattle.compiler_model.proofs.ListGuards.{guards_bring}
 
 -- the code has the lines of the rules from a place on, and FAIL after them
-abbrev pub RulesLie : Code → List Text → ℕ → List Rule → Type 0
-RulesLie c lists p [] = Reads c p instruction.Fail
-RulesLie c lists p (rule ∷ rules) =
-    Lie c (p + length (rule_lines lists rule)) p (rule_lines lists rule) × RulesLie c lists (p + length (rule_lines lists rule)) rules
+abbrev pub AreRulesPlaced : Code → List Text → ℕ → List Rule → Type 0
+AreRulesPlaced c lists p [] = Reads c p instruction.Fail
+AreRulesPlaced c lists p (rule ∷ rules) =
+    ArePlaced c (p + length (rule_lines lists rule)) p (rule_lines lists rule) × AreRulesPlaced c lists (p + length (rule_lines lists rule)) rules
 
 pub guards_fit : (lists : List Text) (gs : List Guard) → All (IsSoundGuard lists) gs → list_all (guard_fits lists) gs ≡ true
 guards_fit lists [] h = refl
@@ -63,13 +63,13 @@ module _ (c : Code) (v : Environment) (lists : List Text) where
 
   -- a rule ends with its link, or leads to the place after it
   rule_finishes : (rule : Rule) → IsSoundRule lists rule → (link : Option Text) (p : ℕ) (s : Store) → s.output ≡ []
-      → Lie c (p + length (rule_lines lists rule)) p (rule_lines lists rule) → (b : Bool) → guards_hold look rule ≡ b
+      → ArePlaced c (p + length (rule_lines lists rule)) p (rule_lines lists rule) → (b : Bool) → guards_hold look rule ≡ b
       → (b ≡ true → link ≡ Some (expansion look rule.template.parts))
       → (b ≡ false → (n : Store) → n.output ≡ [] → Answers link (p + length (rule_lines lists rule)) n) → Answers link p s
   rule_finishes rule sound link p s empty h b holds e rest =
       let away = p + length (rule_lines lists rule) in
       let last = p + length (lines (rule_block lists rule)) in
-      let both = lie_both c away p (lines (rule_block lists rule)) (Halts ∷ []) h in
+      let both = placed_both c away p (lines (rule_block lists rule)) (Halts ∷ []) h in
       let size : last + 1 ≡ away = omega (arith, length-append (lines (rule_block lists rule)) (Halts ∷ [])) in
       moves c v (end_of link) (rule_block lists rule) away p last None both.0 refl (omega (arith, size)) (λ x low high. tt) s
       (λ n. (b ≡ true) × (n.output ≡ expansion look rule.template.parts)) (λ n. (b ≡ false) × (n.output ≡ []))
@@ -88,7 +88,7 @@ module _ (c : Code) (v : Environment) (lists : List Text) where
           (λ m added. (refl, added ∙ ap (λ x. x ++ expansion look rule.template.parts) (same ∙ empty)))
       by_test false = λ n same. (refl, same ∙ empty)
 
-  pub rules_finish : (rules : List Rule) → All (IsSoundRule lists) rules → (p : ℕ) (s : Store) → s.output ≡ [] → RulesLie c lists p rules
+  pub rules_finish : (rules : List Rule) → All (IsSoundRule lists) rules → (p : ℕ) (s : Store) → s.output ≡ [] → AreRulesPlaced c lists p rules
       → Finishes c v (end_of (first_link rules)) (at_place p None s)
   rules_finish [] sound p s empty h = at_end c v NoLink (at_place p None s) instruction.Fail h step.fail
   rules_finish (rule ∷ rules) sound p s empty h =

@@ -26,7 +26,7 @@ use Rattle.compiler_model.specs.declared.lines.Line.TheVariants.{Acts, Tests, Ju
 use Rattle.compiler_model.specs.Blocks.{Block, Nothing, Does, Then, Unless, Either, ForEach, LeaveIf, Leave, lines}
 use Rattle.compiler_model.specs.Compiled.{mode_of, place_of}
 use Rattle.compiler_model.proofs.Effects.{Store, keeping, saying, Claim, Acted, Separated, Tested, InTurns, Brings}
-use Rattle.compiler_model.proofs.Places.{IsPlaced, Lie, lie_both, Finishes, at_place, onward, again, same_place}
+use Rattle.compiler_model.proofs.Places.{IsPlaced, ArePlaced, placed_both, Finishes, at_place, onward, again, same_place}
 
 writing_of-mode_of : (w : Writing) → writing_of (mode_of w) ≡ w
 writing_of-mode_of U = refl
@@ -162,14 +162,15 @@ module _ (c : Code) (v : Environment) (e : End) where
   none_of None h = refl
   none_of (Some l) h = absurd (cc)
 
-  pub moves : (b : Block) (away p q : ℕ) (l : Option Loop) → Lie c away p (lines b) → p + length (lines b) ≡ q → q ≤ away → Around l p q → MovesTo away p q l b
+  pub moves : (b : Block) (away p q : ℕ) (l : Option Loop) → ArePlaced c away p (lines b) → p + length (lines b) ≡ q → q ≤ away → Around l p q
+      → MovesTo away p q l b
   moves Nothing away p q l h eq le i s Q R b k m = same_place c v e p q l s (omega (arith, eq)) (k s b)
   moves (Does a) away p q l h eq le i s Q R b k m =
       let next : p + 1 ≡ q = eq in
       acts a away p l s Q h.0 (i (p + 1) (omega arith) (omega (arith, eq))) b (λ n x. same_place c v e (p + 1) q l n next (k n x))
   moves (Then x y) away p q l h eq le i s Q R b k m =
       let mid = p + length (lines x) in
-      let both = lie_both c away p (lines x) (lines y) h in
+      let both = placed_both c away p (lines x) (lines y) h in
       let eq2 : mid + length (lines y) ≡ q = omega (arith, eq, length-append (lines x) (lines y)) in
       moves x away p mid l both.0 refl (omega (arith, eq2, le)) (λ n low high. i n low (omega (arith, high, eq2))) s _ R b
       (λ n later. moves y away mid q l both.1 eq2 le (λ z low high. i z (omega (arith, low)) high) n Q R later k m) m
@@ -180,7 +181,7 @@ module _ (c : Code) (v : Environment) (e : End) where
       (λ n later. moves x away (p + 1) q l h.1 eq2 le (λ z low high. i z (omega (arith, low)) high) n Q R later k m)
   moves (Either t x y) away p q l h eq le i s Q R b k m =
       let mid = p + 1 + length (lines x) in
-      let both = lie_both c away (p + 1) (lines x) (Jumps (Ahead (length (lines y) + 1)) ∷ lines y) h.1 in
+      let both = placed_both c away (p + 1) (lines x) (Jumps (Ahead (length (lines y) + 1)) ∷ lines y) h.1 in
       let whole : p + 1 + length (lines x) + 1 + length (lines y) ≡ q =
       omega (arith, eq, length-append (lines x) (Jumps (Ahead (length (lines y) + 1)) ∷ lines y)) in
       let over : mid + (length (lines y) + 1) ≡ q = omega (arith, whole) in
@@ -196,7 +197,7 @@ module _ (c : Code) (v : Environment) (e : End) where
       (rw over (k o done))) m)
   moves (ForEach a x body) away p q l h eq le i s Q R b k m =
       let last = p + 1 + length (lines body) in
-      let both = lie_both c away (p + 1) (lines body) (Turns ∷ []) h.1 in
+      let both = placed_both c away (p + 1) (lines body) (Turns ∷ []) h.1 in
       let whole : last + 1 ≡ q = omega (arith, eq, length-append (lines body) (Turns ∷ [])) in
       let none = none_of l b.0 in
       rw none (each away p last a x _ (λ ts first n Claimed now rest. moves body away (p + 1) last (Some (loop_at p last a ts first)) both.0 refl

@@ -42,7 +42,7 @@ use target_vars::{Env, VarsError};
 ///   (`test_lines_and_cells`). A name may be empty (`reads_lines_and_cells` in the crate `holdings_tests`).
 /// - Quotes are plain characters, cells are not trimmed, and `#` does not begin a comment (`test_lines_and_cells`).
 /// - A line ends with LF, CR LF or CR. Blank lines are not rows; a line of tabs is a row (`test_lines_and_cells`), and
-///   a line of one space is not blank (`space_is_a_header` in `proofs/ReadingExamples.antt` of this crate).
+///   a line of one space is not blank (`test_faults`).
 /// - One byte order mark at the beginning is dropped (`test_lines_and_cells`).
 /// - An empty or missing cell is undefined. Cells beyond the columns of the header are ignored, but their bytes count
 ///   (`test_lines_and_cells`, `test_faults`).

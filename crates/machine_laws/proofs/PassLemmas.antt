@@ -134,14 +134,14 @@ module _ (c : Code) (form : HasGoodForm c) (u : Table) (closed : IsClosed c u) w
       subst (IsBelowAt 0) same (record { at = λ r le. listed_kinds (register_count c) any_kinds r any }, (any_kinds, closed.first, record { at = λ r. refl }))
   first_below (suc p) row e = absurd (none_there (length c.instrs - 1) p row e)
 
-  passes_lie : (n : ℕ) → AllRows IsBelowAt (passes c n)
+  passes_stay_below : (n : ℕ) → AllRows IsBelowAt (passes c n)
   unfolding passes
-  passes_lie zero = first_below
-  passes_lie (suc n) = pass_below (length c.instrs) (passes c n) (passes_lie n)
+  passes_stay_below zero = first_below
+  passes_stay_below (suc n) = pass_below (length c.instrs) (passes c n) (passes_stay_below n)
 
   -- the table that passes find is at or below every closed table
   pub passes_below : (n : ℕ) → TableBelow (table_in (passes c n)) u
-  passes_below n p ks known = by_row (row_at (passes c n) p) (passes_lie n p) known
+  passes_below n p ks known = by_row (row_at (passes c n) p) (passes_stay_below n p) known
     where
       by_row : (o : Option Row) → ((row : Row) → o ≡ Some row → IsBelowAt p row) → option_map kinds_in o ≡ Some ks → (ms : Kinds) × (u p ≡ Some ms)
           × IsBelow ks ms

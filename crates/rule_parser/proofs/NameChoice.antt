@@ -89,9 +89,9 @@ name_from text e l = (by_stage (after Wanting text) (text_at_stage text [] Wanti
 
 -- ---- a name is accepted
 
-varchar_is_gone_through : (v : Text) → IsVarchar v → after Wanting v ≡ Named
-varchar_is_gone_through v (character_varchar c h) = ap (λ x. if x then Named else (if c == 37 then TwoDigits else Lost)) h
-varchar_is_gone_through v (triplet_varchar c high low h) =
+varchar_ends_named : (v : Text) → IsVarchar v → after Wanting v ≡ Named
+varchar_ends_named v (character_varchar c h) = ap (λ x. if x then Named else (if c == 37 then TwoDigits else Lost)) h
+varchar_ends_named v (triplet_varchar c high low h) =
     let first : ((c == 37) ≡ true) × ((is_hexadecimal high && is_hexadecimal low) ≡ true) = and_parts _ _ h in
     let digits : (is_hexadecimal high ≡ true) × (is_hexadecimal low ≡ true) = and_parts _ _ first.1 in
     ap (λ b. after (started_by b) (high ∷ low ∷ [])) (eqb-true c 37 first.0) ∙ ap (λ x. step (if x then OneDigit else Lost) low) digits.0
@@ -107,12 +107,12 @@ varchar_continues v (triplet_varchar c high low h) =
     let first : ((c == 37) ≡ true) × ((is_hexadecimal high && is_hexadecimal low) ≡ true) = and_parts _ _ h in
     ap (λ b. after (step Named b) (high ∷ low ∷ [])) (eqb-true c 37 first.0) ∙ sym (ap (λ b. after (started_by b) (high ∷ low ∷ [])) (eqb-true c 37 first.0))
 
-name_is_gone_through : (name : Text) → IsVarname name → after Wanting name ≡ Named
-name_is_gone_through name (first_varchar v h) = varchar_is_gone_through v h
-name_is_gone_through name (next_varchar m v h k) =
-    fold-append step Wanting m v ∙ ap (λ s. after s v) (name_is_gone_through m h) ∙ varchar_continues v k ∙ varchar_is_gone_through v k
-name_is_gone_through name (dotted_varchar m v h k) =
-    fold-append step Wanting m (46 ∷ v) ∙ ap (λ s. after s (46 ∷ v)) (name_is_gone_through m h) ∙ varchar_is_gone_through v k
+name_ends_named : (name : Text) → IsVarname name → after Wanting name ≡ Named
+name_ends_named name (first_varchar v h) = varchar_ends_named v h
+name_ends_named name (next_varchar m v h k) =
+    fold-append step Wanting m v ∙ ap (λ s. after s v) (name_ends_named m h) ∙ varchar_continues v k ∙ varchar_ends_named v k
+name_ends_named name (dotted_varchar m v h k) =
+    fold-append step Wanting m (46 ∷ v) ∙ ap (λ s. after s (46 ∷ v)) (name_ends_named m h) ∙ varchar_ends_named v k
 
 -- ---- the choice
 
@@ -127,5 +127,5 @@ name_choice text =
         | inl long ↦ inr (λ h. omega (arith, long, h.1))
         | inr short ↦ inl (subst (λ s. IsAtStage s text) e (text_at_stage text [] Wanting (λ v h. first_varchar v h)), short)
       ]
-      | inr n ↦ inr (λ h. n (name_is_gone_through text h.0))
+      | inr n ↦ inr (λ h. n (name_ends_named text h.0))
     ]

@@ -10,7 +10,7 @@ use verifier::{Verified, load};
 
 /// Whether a run has ended after a turn, its steps, its place, the first two registers if it is in a loop, and its
 /// output.
-fn standing(alloc: Global, run: &Run<'_>, ended: bool) -> Result<String, AllocError> {
+fn standing_text(alloc: Global, run: &Run<'_>, ended: bool) -> Result<String, AllocError> {
     let steps = run.steps();
     let output = str::from_utf8(run.output()).unwrap_or("?");
     match run.words() {
@@ -34,7 +34,7 @@ fn standings(alloc: Global, code: &Verified, env: &Env, turns: &[u64]) -> Result
     let mut text = String::new(alloc);
     for &n in turns {
         let ended = run.advance(n);
-        text.push_str(&standing(alloc, &run, ended)?)?;
+        text.push_str(&standing_text(alloc, &run, ended)?)?;
     }
     Ok(text)
 }
