@@ -66,7 +66,8 @@ for (let i = 0; i < COUNT; i++) door.chosen(headers.NAME, offered);
 
 
 def test_speed(folder):
-    """The processor time in njs of a request, a usual one below 1 ms, one of 8 KB below 10 ms; of a header below 1 ms."""
+    """The processor time in njs of a request, a usual one below 1 ms, one of 8 KB below 10 ms; of a header below 1 ms.
+    The least of three times counts, since other programs on the machine make a time longer and never shorter."""
     def took(name, count):
         with open(f"{folder}/speed.js", "w") as file:
             file.write((SPEED if name in REQUESTS else LANGUAGES).replace("NAME", name).replace("COUNT", str(count)))
@@ -77,7 +78,8 @@ def test_speed(folder):
         return usage.ru_utime + usage.ru_stime
 
     for name, most in {**REQUESTS, **dict.fromkeys(("commas", "ranges", "hyphens", "spaces", "stars"), 1)}.items():
-        time_of_one = (took(name, 200) - took(name, 0)) * 1000 / 200
+        start, whole = (min(took(name, count) for _ in range(3)) for count in (0, 200))
+        time_of_one = (whole - start) * 1000 / 200
         expect(f"speed of {name}: {time_of_one:.2f} ms", time_of_one < most)
 
 
