@@ -46,7 +46,7 @@ table =
       rows =
           (codes "1234-567X" ∷ codes "http://e.org/a" ∷ codes "1990" ∷ codes "1995" ∷ [])
           ∷ (codes "1234-567X" ∷ codes "http://e.org/b" ∷ codes "2000" ∷ [] ∷ []) ∷ [];
-      keys = record { in_part = initial };
+      keys = record { hasher = initial };
     }
 
 abbrev request : Text → List KeyValue

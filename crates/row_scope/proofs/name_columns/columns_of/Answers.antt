@@ -17,7 +17,7 @@ loop-number-preserved c =
     let number = c.loop-number.number in
     let before = c.loop-number.columns.items in
     let within : number < length code.names = omega (arith, c.loop-number-test.true, ap length c.names-number-end.ensures) in
-    let text : c.as_str.result.now ≡ name_at code number = c.as_str.ensures.value ∙ ap (λ n. n.text) c.following-code.view_is
+    let text : c.as_str.result.now ≡ name_at code number = c.as_str.ensures.value ∙ ap (λ n. n.text) c.behind-code.view_is
     ∙ sym (named code number c.name.result.now c.name.ensures) in
     let found : c.column.result ≡ column_of header (name_at code number) = c.column.ensures.first ∙ ap (column_of header) text in
     elim c.match-column.branch [

@@ -47,7 +47,7 @@ loop-number-preserved c =
     let so_far = names_at code (take k numbers) in
     let more = names_at code (take (k + 1) numbers) in
     let named : c.as_str-name.result.now ≡ name =
-    c.as_str-name.ensures.value ∙ ap (λ (n : Name). n.text) c.following-code.view_is ∙ sym (ap text_of_name c.name.ensures) in
+    c.as_str-name.ensures.value ∙ ap (λ (n : Name). n.text) c.behind-code.view_is ∙ sym (ap text_of_name c.name.ensures) in
     let all_bytes : c.sums_of-all_bytes.result.0 ≡ sum_by length (all_of pairs name) =
     c.sums_of-all_bytes.ensures.bytes ∙ ap (λ (key : Text). sum_by length (all_of pairs key)) named in
     let all_members : c.sums_of-all_bytes.result.1 ≡ length (all_of pairs name) =
