@@ -3,5 +3,4 @@ pub mod Reach
 pub mod WebLink
 pub mod Host
 pub mod Findings
-pub mod RowLinks
 pub mod Private

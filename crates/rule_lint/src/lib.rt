@@ -5,7 +5,6 @@
 mod check;
 mod host;
 mod host_text;
-pub mod laws;
 mod lines;
 mod names;
 mod place;

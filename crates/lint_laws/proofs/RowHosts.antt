@@ -17,10 +17,10 @@ use Rattle.rule_lint.specs.declared.place.Place.{Place}
 use Rattle.rule_lint.specs.Host.{cell_has_host, host_names}
 use Rattle.rule_lint.specs.WebLink.{is_never_web_link}
 use Rattle.rule_lint.specs.Findings.{HostByRequest, NeverWebLink, in_host, in_names, names_in}
-use Rattle.rule_lint.specs.RowLinks.{IsBeginning, environment_of_cells, has_open_host, is_open_host, link_on_row}
-use Rattle.rule_lint.proofs.HostWalk.{IsKept, template_kept}
-use Rattle.rule_lint.proofs.RowLooks.{RowLaws, at_row, row_looks}
-use Rattle.rule_lint.proofs.WebLinkLemmas.{never_a_web_link}
+use Rattle.lint_laws.specs.RowLinks.{IsBeginning, environment_of_cells, has_open_host, is_open_host, link_on_row}
+use Rattle.lint_laws.proofs.HostWalk.{IsKept, template_kept}
+use Rattle.lint_laws.proofs.RowLooks.{RowLaws, at_row, row_looks}
+use Rattle.lint_laws.proofs.WebLinkLemmas.{never_a_web_link}
 
 -- a link that can be a web link, and of which no line says that a request can set the host, has no open names
 no_host_names : (rules : RuleSet) (table : Holdings) (at : Place) (parts : List Part) → has_open_host rules table at parts ≡ false

@@ -10,7 +10,7 @@ use Rattle.uri_grammar.specs.declared.parts.Part.TheVariants.{Literal}
 use Rattle.kbart_rows.specs.Cells.{Holdings}
 use Rattle.kbart_rows.specs.declared.keys.Keys.{Keys}
 use Rattle.rule_lint.specs.declared.place.Place.TheVariants as place
-use Rattle.rule_lint.specs.RowLinks.{has_open_host, host_of_row_alone, host_on_row, link_on_row}
+use Rattle.lint_laws.specs.RowLinks.{has_open_host, host_of_row_alone, host_on_row, link_on_row}
 use Rattle.rule_lint.proofs.Examples.{rules_of, table_of, variable}
 
 -- every row has an address, a title and a path; the second has no note

@@ -4,9 +4,9 @@ use Rattle.std.proofs.Common.{one-add, append-nil}
 use Rattle.std.specs.List.{before_first, prefix_len}
 use Rattle.text_model.specs.Texts.{Text}
 use Rattle.rule_lint.specs.Host.{slash, ends_host, after_slashes, host_after, host_of}
-use Rattle.rule_lint.specs.RowLinks.{IsBeginning}
-use Rattle.rule_lint.proofs.HostStates.{State, Outside, Slash, Opened, Inside, Past, LeadsTo, IsReached, after_byte, after_text, leads, next, past_stays}
-use Rattle.rule_lint.proofs.HostStates.{state_of}
+use Rattle.lint_laws.specs.RowLinks.{IsBeginning}
+use Rattle.lint_laws.proofs.HostStates.{State, Outside, Slash, Opened, Inside, Past, LeadsTo, IsReached, after_byte, after_text, leads, next, past_stays}
+use Rattle.lint_laws.proofs.HostStates.{state_of}
 
 -- ---- the first part of a text up to the byte that ends the host
 

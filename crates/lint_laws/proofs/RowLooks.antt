@@ -15,8 +15,8 @@ use Rattle.rule_parser.specs.Rules.{RuleSet}
 use Rattle.rule_parser.specs.Meaning.{seen}
 use Rattle.rule_lint.specs.Names.{is_column}
 use Rattle.rule_lint.specs.Host.{has_cell, is_rows_own}
-use Rattle.rule_lint.specs.RowLinks.{environment_of_cells}
-use Rattle.rule_lint.proofs.PieceLemmas.{Extends, HasByte}
+use Rattle.lint_laws.specs.RowLinks.{environment_of_cells}
+use Rattle.lint_laws.proofs.PieceLemmas.{Extends, HasByte}
 
 -- ---- what lower crates say
 

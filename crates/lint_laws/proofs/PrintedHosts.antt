@@ -13,8 +13,8 @@ use Rattle.rule_parser.specs.Meaning.{guards_hold}
 use Rattle.rule_lint.specs.declared.place.Place.TheVariants as place
 use Rattle.rule_lint.specs.Reach.{always_holds, is_never_reached}
 use Rattle.rule_lint.specs.Findings.{NeverReached, in_guards, in_link, in_rule}
-use Rattle.rule_lint.specs.RowLinks.{has_open_host, has_open_hosts, is_open_host}
-use Rattle.rule_lint.proofs.ReachLemmas.{unguarded}
+use Rattle.lint_laws.specs.RowLinks.{has_open_host, has_open_hosts, is_open_host}
+use Rattle.lint_laws.proofs.ReachLemmas.{unguarded}
 
 -- ---- an item that is found
 

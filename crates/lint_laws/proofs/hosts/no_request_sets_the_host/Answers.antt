@@ -2,11 +2,11 @@ use Rattle.std.proofs.Common.{◌+◌, [], get_or, length}
 use Rattle.environment_model.specs.Environment.{LookUp}
 use Rattle.rule_parser.specs.Meaning.{guards_hold, seen}
 use Rattle.rule_lint.specs.declared.place.Place.TheVariants as place
-use Rattle.rule_lint.proofs.PrintedHosts.{closed_link, found_first, sound_rule}
-use Rattle.rule_lint.proofs.RowHosts.{one_begins, template_hosts}
-use Rattle.rule_lint.proofs.RowLooks.{RowLaws}
-use Rattle.rule_lint.specs.RowLinks.{environment_of_cells, host_of_row_alone, host_on_row}
-use Rattle.rule_lint.proofs.laws.no_request_sets_the_host.Goals as goal
+use Rattle.lint_laws.proofs.PrintedHosts.{closed_link, found_first, sound_rule}
+use Rattle.lint_laws.proofs.RowHosts.{one_begins, template_hosts}
+use Rattle.lint_laws.proofs.RowLooks.{RowLaws}
+use Rattle.lint_laws.specs.RowLinks.{environment_of_cells, host_of_row_alone, host_on_row}
+use Rattle.lint_laws.proofs.hosts.no_request_sets_the_host.Goals as goal
 
 pub returns : goal.returns
 returns c =

@@ -21,13 +21,13 @@ use Rattle.rule_parser.specs.Rules.{RuleSet}
 use Rattle.rule_lint.specs.Host.{are_rows_own, begins_with_cell, cell_has_host, ends_host, host_names, host_of, has_host_started, is_host_fixed, is_rows_own}
 use Rattle.rule_lint.specs.Host.{is_specs_own}
 use Rattle.rule_lint.specs.Host.{known_text, leads_past_host, names_before_host_ends, names_of, open_among, open_names}
-use Rattle.rule_lint.specs.RowLinks.{IsBeginning}
-use Rattle.rule_lint.proofs.CellStates.{written_reached}
-use Rattle.rule_lint.proofs.HostEnds.{host_empty, host_ended, host_longer, host_past}
-use Rattle.rule_lint.proofs.HostStates.{Inside, IsReached, Outside, Past, State, after_append, after_text, started_state, fixed_state, inside_reached, is_past}
-use Rattle.rule_lint.proofs.HostStates.{some_reached, state_of, text_reached}
-use Rattle.rule_lint.proofs.PieceLemmas.{HasByte, LedText, led_text, nothing_before}
-use Rattle.rule_lint.proofs.RowLooks.{RowLooks}
+use Rattle.lint_laws.specs.RowLinks.{IsBeginning}
+use Rattle.lint_laws.proofs.CellStates.{written_reached}
+use Rattle.lint_laws.proofs.HostEnds.{host_empty, host_ended, host_longer, host_past}
+use Rattle.lint_laws.proofs.HostStates.{Inside, IsReached, Outside, Past, State, after_append, after_text, started_state, fixed_state, inside_reached, is_past}
+use Rattle.lint_laws.proofs.HostStates.{some_reached, state_of, text_reached}
+use Rattle.lint_laws.proofs.PieceLemmas.{HasByte, LedText, led_text, nothing_before}
+use Rattle.lint_laws.proofs.RowLooks.{RowLooks}
 
 -- ---- two links
 

@@ -1,46 +1,20 @@
-//! What follows from a finding. These functions have empty bodies; each contract is a theorem.
+//! What follows if no link has a host that a request can set.
 
-ghost use Rattle.std.specs.Prelude.{◌≡◌, ◌<◌, ◌⊎◌, ◌++◌, ◌∷◌, ℕ, List, [], Some, true, false, length};
+ghost use Rattle.std.specs.Prelude.{◌≡◌, ◌<◌, ◌⊎◌, ℕ, List, [], Some, true, false, length};
 ghost use Rattle.text_model.specs.Texts.{Text};
-ghost use Rattle.environment_model.specs.Environment.{Environment, LookUp};
 ghost use Rattle.kev_read.specs.Pairs.{KeyValue};
 ghost use Rattle.kbart_rows.specs.Cells.{Holdings};
 ghost use Rattle.uri_grammar.specs.declared.parts.Part.{Part};
 ghost use Rattle.uri_grammar.specs.Texts.{IsTemplate};
-ghost use Rattle.uri_template.specs.Expansion.{expansion};
 ghost use Rattle.menu.specs.WebLink.{is_web_link};
-ghost use Rattle.rule_parser.specs.declared.rule.Guard.{Guard};
 ghost use Rattle.rule_parser.specs.declared.rule.Rule.{Rule};
 ghost use Rattle.rule_parser.specs.Rules.{IsSound, RuleSet};
-ghost use Rattle.rule_parser.specs.Meaning.{guard_holds, meaning};
 ghost use Rattle.rule_lint.specs.declared.place.Place.{Place};
-ghost use Rattle.rule_lint.specs.Reach.{is_never_reached, never_holds};
-ghost use Rattle.rule_lint.specs.WebLink.{is_never_web_link};
-ghost use Rattle.rule_lint.specs.RowLinks.{IsBeginning, has_open_host, has_open_hosts};
-ghost use Rattle.rule_lint.specs.RowLinks.{host_of_row_alone, host_on_row, link_on_row, rule_on_row};
+ghost use Rattle.lint_laws.specs.RowLinks.{IsBeginning, has_open_host, has_open_hosts};
+ghost use Rattle.lint_laws.specs.RowLinks.{host_of_row_alone, host_on_row, link_on_row, rule_on_row};
 
 use row_laws::{rows_by_names, rows_shadow_requests};
 use uri_grammar::laws::trees_are_sound;
-
-/// A rule that is never reached is used in no environment: without it the rules mean the same.
-pub fn unreached_rules_change_nothing()
-    ensures { (lists : List Text) (before after : List Rule) (rule : Rule) (env : Environment)
-        → is_never_reached (before ++ rule ∷ after) (length before) ≡ true
-        → meaning (record { lists = lists; rules = before ++ rule ∷ after }) env
-        ≡ meaning (record { lists = lists; rules = before ++ after }) env }
-{}
-
-/// A guard that never holds fails whatever the variables are.
-pub fn guards_that_never_hold_fail()
-    ensures { (look : LookUp) (g : Guard) → never_holds g ≡ true → guard_holds look g ≡ false }
-{}
-
-/// The expansion of a template that never gives a web link is not a web link, whatever the variables are. So no menu
-/// shows it.
-pub fn no_web_link_is_expanded()
-    ensures { (look : LookUp) (parts : List Part) → is_never_web_link parts ≡ true
-        → is_web_link (expansion look parts) ≡ false }
-{}
 
 /// If `lint` does not say of a link that a request can set its host, the host of each web link that a row gives is a
 /// beginning of the host that it gives for a request without pairs, made of the template's own text and the row's

@@ -4,7 +4,7 @@ use Rattle.std.proofs.lemmas.Bool.{both_ways, false_from_ne_true, or_from}
 use Rattle.text_model.specs.Texts.{Text, is_unreserved, is_reserved, is_triplet, percent}
 use Rattle.text_model.specs.Writing.{hexadecimal_digit, is_unreserved_or_reserved, triplet_of, written_byte, written_ur}
 use Rattle.rule_lint.specs.Host.{ends_host, slash}
-use Rattle.rule_lint.proofs.HostStates.{IsReached, State, after_append, after_byte, after_text, next, some_reached, text_reached}
+use Rattle.lint_laws.proofs.HostStates.{IsReached, State, after_append, after_byte, after_text, next, some_reached, text_reached}
 
 -- a byte that is made a triplet is no byte that stays
 another_byte : (b c : ℕ) → is_unreserved_or_reserved c ≡ true → is_unreserved_or_reserved b ≡ false → (b == c) ≡ false

@@ -1,0 +1,11 @@
+pub mod ReachLemmas
+pub mod WebLinkLemmas
+pub mod HostStates
+pub mod HostEnds
+pub mod CellStates
+pub mod PieceLemmas
+pub mod RowLooks
+pub mod HostWalk
+pub mod RowHosts
+pub mod PrintedHosts
+mod HostExamples

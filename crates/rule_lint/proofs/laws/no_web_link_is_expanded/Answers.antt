@@ -1,5 +1,0 @@
-use Rattle.rule_lint.proofs.WebLinkLemmas.{never_a_web_link}
-use Rattle.rule_lint.proofs.laws.no_web_link_is_expanded.Goals as goal
-
-pub returns : goal.returns
-returns c = never_a_web_link
