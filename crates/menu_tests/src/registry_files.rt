@@ -113,7 +113,7 @@ fn compare<R: Abort + AllocGlobal>(
     expected: &str,
 ) -> Result<(), Fail> {
     let Err(fault) = read else {
-        return Ok(assert!(rt; expected.is_empty(), "{wanted}"));
+        return Ok(assert!(rt; expected.is_empty(), "{expected}"));
     };
     if matches!(&fault, RegistryError::NoMemory) {
         return Err(AllocError.into());

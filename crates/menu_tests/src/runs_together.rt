@@ -160,7 +160,7 @@ fn rounds(rt: HostRuntime) -> Result<(), Fail> {
     for (given, fates_text, expected) in ROUNDS {
         let mut recorder = Shown::new(rt.alloc());
         let fates = fates(rt.alloc(), given, &mut recorder)?;
-        assert!(rt; fates.as_str().starts_with(fates_text), "{said}");
+        assert!(rt; fates.as_str().starts_with(fates_text), "{fates_text}");
         assert_eq!(rt; lists(rt.alloc(), &recorder)?.as_str(), expected);
     }
     Blind.seen::<Env>(&[])?;
