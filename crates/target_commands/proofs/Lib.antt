@@ -1,1 +1,3 @@
-pub mod TableLemmas
+pub mod FaultLemmas
+pub mod PrintLemmas
+pub mod WriteLemmas

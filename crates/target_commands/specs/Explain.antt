@@ -1,5 +1,5 @@
 -- What `explain` prints, and why it prints nothing, or only a part.
-use Rattle.std.specs.Prelude.{◌≡◌, ◌⊎◌, ℕ, Bool, None}
+use Rattle.std.specs.Prelude.{◌≡◌, ◌⊎◌, ℕ, Bool, Option, None}
 use Rattle.text_model.specs.Texts.{Text}
 use Rattle.files.specs.Found.{Disk}
 use Rattle.files.specs.declared.call.FileCall.{FileCall}
@@ -9,6 +9,7 @@ use Rattle.kbart_rows.specs.Cells.{Holdings}
 use Rattle.rule_parser.specs.Rules.{RuleSet}
 use Rattle.rule_explanation.specs.Explanation.{explanation}
 use Rattle.rule_explanation.specs.Rows.{has_web_link}
+use Rattle.rule_explanation.specs.Writing.{IsWrittenInPart}
 use Rattle.command_base.specs.Faults.{IsQueryFault}
 use Rattle.target_commands.specs.Faults.{IsOutputFault, out_of_memory}
 use Rattle.target_commands.specs.Targets.{IsTarget, IsNoTarget}
@@ -25,6 +26,11 @@ IsQuery query (Base fault) = IsQueryFault query fault
 -- an allocation or the output failed, perhaps after a part was printed
 abbrev pub IsFailure : ReviewFault → Type 0
 IsFailure fault = (fault ≡ out_of_memory) ⊎ IsOutputFault fault
+
+-- the output is as it was, or it has the beginning of a text with the property
+abbrev pub PrintsInPart : {O : Type 0} → (O → Option Text) → O → O → (Text → Bool → Type 0) → Type 0
+PrintsInPart contents before after Told =
+    (after ≡ before) ⊎ ((text : Text) × (clean : Bool) × Told text clean × IsWrittenInPart (contents before) (contents after) text)
 
 -- the text says what the rules give on the rows of the table for the query, and whether one of them has a web link
 pub record Explains (rules : RuleSet) (table : Holdings) (query text : Text) (found : Bool) : Type 0 where
@@ -59,5 +65,5 @@ module _ {K : Type 0} (draws : K → ℕ → ℕ → K → Type 0) (disk : Disk)
 abbrev pub IsUnexplained : {F K : Type 0} → (F → FileCall → Text → F → Type 0) → (K → ℕ → ℕ → K → Type 0) → (K → K → Type 0) → Disk → K
     → Text → Text → Text → K → ReviewFault → Type 0
 IsUnexplained fails draws no_keys disk old rules_path table_path query new fault =
-    IsNoTarget fails disk rules_path table_path (no_keys old new) fault
+    IsNoTarget fails no_keys disk rules_path table_path old new fault
     ⊎ HasNoRequest draws disk old rules_path table_path query new fault

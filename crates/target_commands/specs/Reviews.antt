@@ -2,9 +2,7 @@
 use Rattle.std.specs.Prelude.{ℕ, Bool, not}
 use Rattle.text_model.specs.Texts.{Text}
 use Rattle.files.specs.Found.{Disk}
-use Rattle.files.specs.Failures.{HasFailed}
 use Rattle.files.specs.declared.call.FileCall.{FileCall}
-use Rattle.files.specs.declared.call.FileCall.TheVariants.{Read}
 use Rattle.target_commands.specs.Faults.{IsOutputFault}
 use Rattle.target_commands.specs.Tables.{IsNoTable}
 use Rattle.target_commands.specs.Targets.{IsNoTarget}
@@ -34,7 +32,7 @@ module _ {K : Type 0} (draws : K → ℕ → ℕ → K → Type 0) (disk : Disk)
 abbrev pub RefusesToReview : {F K : Type 0} → (F → FileCall → Text → F → Type 0) → (K → ℕ → ℕ → K → Type 0) → (K → K → Type 0) → Disk → K
     → Review → K → ReviewFault → Type 0
 RefusesToReview fails draws no_keys disk old (Inspect table) new fault =
-    IsNoTable (disk table.now) table.now (HasFailed fails Read table.now) (no_keys old new) fault
-RefusesToReview fails draws no_keys disk old (Lint rules table) new fault = IsNoTarget fails disk rules.now table.now (no_keys old new) fault
+    IsNoTable fails no_keys (disk table.now) table.now old new fault
+RefusesToReview fails draws no_keys disk old (Lint rules table) new fault = IsNoTarget fails no_keys disk rules.now table.now old new fault
 RefusesToReview fails draws no_keys disk old (Explain rules table query) new fault =
     IsUnexplained fails draws no_keys disk old rules.now table.now query.now new fault

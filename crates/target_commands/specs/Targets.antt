@@ -1,5 +1,5 @@
 -- The rules and the table of a target, at two paths.
-use Rattle.std.specs.Prelude.{◌⊎◌, ℕ}
+use Rattle.std.specs.Prelude.{◌≡◌, ◌⊎◌, ℕ}
 use Rattle.text_model.specs.Texts.{Text}
 use Rattle.files.specs.Found.{Found, Disk, OfFile}
 use Rattle.files.specs.Failures.{HasFailed}
@@ -31,14 +31,18 @@ OfRules P (Table e) = ⊥
 OfRules P Warning = ⊥
 OfRules P (Base fault) = ⊥
 
--- the rules are read, and the table cannot be read
-pub record HasNoTable (disk : Disk) (rules_path table_path : Text) (failed no_keys : Type 0) (fault : ReviewFault) : Type 0 where
-  pub rules : RuleSet
-  pub rule_file : HasRules (disk rules_path) rules
-  pub cause : IsNoTable (disk table_path) table_path failed no_keys fault
+module _ {F K : Type 0} (fails : F → FileCall → Text → F → Type 0) (no_keys : K → K → Type 0) (disk : Disk) (rules_path table_path : Text) (old new : K) where
+  -- the rules cannot be read, and no keys are drawn
+  pub record HasNoRules (fault : ReviewFault) : Type 0 where
+    pub cause : OfRules (IsUnread (disk rules_path) rules_path (HasFailed fails Read rules_path)) fault
+    pub undrawn : new ≡ old
 
--- the rules cannot be read, or else the table cannot be read
-abbrev pub IsNoTarget : {F : Type 0} → (F → FileCall → Text → F → Type 0) → Disk → Text → Text → Type 0 → ReviewFault → Type 0
-IsNoTarget fails disk rules_path table_path no_keys fault =
-    OfRules (IsUnread (disk rules_path) rules_path (HasFailed fails Read rules_path)) fault
-    ⊎ HasNoTable disk rules_path table_path (HasFailed fails Read table_path) no_keys fault
+  -- the rules are read, and the table cannot be read
+  pub record HasNoTable (fault : ReviewFault) : Type 0 where
+    pub rules : RuleSet
+    pub rule_file : HasRules (disk rules_path) rules
+    pub cause : IsNoTable fails no_keys (disk table_path) table_path old new fault
+
+  -- the rules cannot be read, or else the table cannot be read
+  abbrev pub IsNoTarget : ReviewFault → Type 0
+  IsNoTarget fault = HasNoRules fault ⊎ HasNoTable fault

@@ -7,7 +7,8 @@ ghost use Rattle.files.specs.Changes.{Unchanged};
 ghost use Rattle.kev_read.specs.Pairs.{pairs_of};
 ghost use Rattle.kev_read.specs.Refusal.{refusal};
 ghost use Rattle.target_commands.specs.Explain.{Explains, IsExplanation, IsFailure, IsQuery};
-ghost use Rattle.target_commands.specs.Explain.{IsUnexplained, StopsInPart};
+ghost use Rattle.target_commands.specs.Explain.{IsUnexplained, PrintsInPart, StopsInPart};
+ghost use Rattle.target_commands.specs.Faults.{out_of_memory};
 ghost use Rattle.target_commands.specs.declared.fault.ReviewFault.TheVariants.{Warning};
 
 use crate::fault::ReviewFault;
@@ -43,6 +44,8 @@ pub(crate) fn explain<'a, F: Files, K: KeySource, O: Write>(
         ⊎ ((text : Text)
         × IsExplanation K.draws (F.at files.old) keys.old rules.now table.now query.now keys.new text false
         × (fault ≡ Warning) × Appends (O.contents output.old) (O.contents output.new) text)) }
+    ensures in_part { IfErr result (λ fault. fault ≡ out_of_memory → PrintsInPart O.contents output.old output.new
+        (IsExplanation K.draws (F.at files.old) keys.old rules.now table.now query.now keys.new)) }
     ensures same { Unchanged (F.at files.old) (F.at files.new) }
 {
     let (rules, table) = read_target(alloc, files, keys, rules, table)?;
@@ -64,6 +67,8 @@ fn explain_query<'a, O: Write>(
         ⊎ ((refusal query.now ≡ None) × IsFailure fault)
         ⊎ ((text : Text) × Explains rules.now table.now query.now text false
         × (fault ≡ Warning) × Appends (O.contents output.old) (O.contents output.new) text)) }
+    ensures in_part { IfErr result (λ fault. fault ≡ out_of_memory → PrintsInPart O.contents output.old output.new
+        (Explains rules.now table.now query.now)) }
 {
     let request = request(alloc, query)?;
     match rule_explanation::explain(alloc, rules, table, &request, output) {

@@ -4,8 +4,6 @@ ghost use Rattle.std.specs.Prelude.{◌≡◌, ◌⊎◌, true, false, Bool, IfO
 ghost use Rattle.std.specs.Io.KnownBytes.{Appends};
 ghost use Rattle.text_model.specs.Texts.{Text};
 ghost use Rattle.files.specs.Changes.{Unchanged};
-ghost use Rattle.files.specs.Failures.{HasFailed};
-ghost use Rattle.files.specs.declared.call.FileCall.TheVariants.{Read};
 ghost use Rattle.target_commands.specs.Faults.{IsOutputFault};
 ghost use Rattle.target_commands.specs.Inspect.{IsInspection};
 ghost use Rattle.target_commands.specs.Tables.{IsNoTable};
@@ -32,8 +30,7 @@ pub(crate) fn inspect<'a, F: Files, K: KeySource, O: Write>(
         × IsInspection K.draws (F.at files.old) keys.old path.now keys.new text false
         × Appends (O.contents output.old) (O.contents output.new) text) }
     ensures not_clean { IfErr result (λ fault.
-        (IsNoTable (F.at files.old path.now) path.now (HasFailed F.fails Read path.now) (K.fails keys.old keys.new)
-        fault
+        (IsNoTable F.fails K.fails (F.at files.old path.now) path.now keys.old keys.new fault
         × (output.new ≡ output.old))
         ⊎ ((text : Text) × (warned : Bool)
         × IsInspection K.draws (F.at files.old) keys.old path.now keys.new text warned × IsOutputFault fault)
@@ -56,7 +53,7 @@ fn inspection<'a, F: Files, K: KeySource>(
         IsInspection K.draws (F.at files.old) keys.old path.now keys.new (string_bytes findings.text)
         findings.warned) }
     ensures err { IfErr result
-        (IsNoTable (F.at files.old path.now) path.now (HasFailed F.fails Read path.now) (K.fails keys.old keys.new)) }
+        (IsNoTable F.fails K.fails (F.at files.old path.now) path.now keys.old keys.new) }
     ensures same { Unchanged (F.at files.old) (F.at files.new) }
 {
     let table = read_table(alloc, files, keys, path)?;

@@ -31,7 +31,7 @@ pub(crate) fn lint<'a, F: Files, K: KeySource, O: Write>(
         × IsLint K.draws (F.at files.old) keys.old rules.now table.now keys.new text false
         × Appends (O.contents output.old) (O.contents output.new) text) }
     ensures not_clean { IfErr result (λ fault.
-        (IsNoTarget F.fails (F.at files.old) rules.now table.now (K.fails keys.old keys.new) fault
+        (IsNoTarget F.fails K.fails (F.at files.old) rules.now table.now keys.old keys.new fault
         × (output.new ≡ output.old))
         ⊎ ((text : Text) × (warned : Bool)
         × IsLint K.draws (F.at files.old) keys.old rules.now table.now keys.new text warned × IsOutputFault fault)
@@ -54,7 +54,7 @@ fn findings<'a, F: Files, K: KeySource>(
     ensures ok { IfOk result (λ findings. IsLint K.draws (F.at files.old) keys.old rules.now table.now keys.new
         (string_bytes findings.text) findings.warned) }
     ensures err { IfErr result
-        (IsNoTarget F.fails (F.at files.old) rules.now table.now (K.fails keys.old keys.new)) }
+        (IsNoTarget F.fails K.fails (F.at files.old) rules.now table.now keys.old keys.new) }
     ensures same { Unchanged (F.at files.old) (F.at files.new) }
 {
     let (rules, table) = read_target(alloc, files, keys, rules, table)?;

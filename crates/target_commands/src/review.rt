@@ -4,6 +4,8 @@ ghost use Rattle.std.specs.Prelude.{◌≡◌, ◌⊎◌, true, false, IfErr, On
 ghost use Rattle.std.specs.Io.KnownBytes.{Appends};
 ghost use Rattle.text_model.specs.Texts.{Text};
 ghost use Rattle.files.specs.Changes.{Unchanged};
+ghost use Rattle.target_commands.specs.Explain.{PrintsInPart};
+ghost use Rattle.target_commands.specs.Faults.{out_of_memory};
 ghost use Rattle.target_commands.specs.Reviews.{RefusesToReview, Reviews, StopsReview};
 ghost use Rattle.target_commands.specs.declared.fault.ReviewFault.TheVariants.{Warning};
 
@@ -53,6 +55,8 @@ pub fn print_review<'a, F: Files, K: KeySource, O: Write>(
         ⊎ StopsReview K.draws (F.at files.old) keys.old review.entry keys.new fault
         ⊎ ((text : Text) × Reviews K.draws (F.at files.old) keys.old review.entry keys.new text false
         × (fault ≡ Warning) × Appends (O.contents output.old) (O.contents output.new) text)) }
+    ensures in_part { IfErr result (λ fault. fault ≡ out_of_memory → PrintsInPart O.contents output.old output.new
+        (Reviews K.draws (F.at files.old) keys.old review.entry keys.new)) }
     ensures same { Unchanged (F.at files.old) (F.at files.new) }
 {
     match review {

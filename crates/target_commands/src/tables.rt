@@ -2,8 +2,6 @@
 
 ghost use Rattle.std.specs.Prelude.{IfOk, IfErr};
 ghost use Rattle.files.specs.Changes.{Unchanged};
-ghost use Rattle.files.specs.Failures.{HasFailed};
-ghost use Rattle.files.specs.declared.call.FileCall.TheVariants.{Read};
 ghost use Rattle.target_commands.specs.Tables.{IsTableAt, IsNoTable};
 
 use crate::fault::ReviewFault;
@@ -22,7 +20,7 @@ pub(crate) fn read_table<'a, F: Files, K: KeySource>(
 ) -> Result<Table, ReviewFault<'a>>
     ensures ok { IfOk result (IsTableAt K.draws (F.at files.old path.now) keys.old keys.new) }
     ensures err { IfErr result
-        (IsNoTable (F.at files.old path.now) path.now (HasFailed F.fails Read path.now) (K.fails keys.old keys.new)) }
+        (IsNoTable F.fails K.fails (F.at files.old path.now) path.now keys.old keys.new) }
     ensures same { Unchanged (F.at files.old) (F.at files.new) }
 {
     let Some(bytes) = read_file(alloc, files, path, MAX_TABLE_BYTES)? else {

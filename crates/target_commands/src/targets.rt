@@ -24,7 +24,7 @@ pub(crate) fn read_target<'a, F: Files, K: KeySource>(
     ensures ok { IfOk result (λ parts.
         IsTarget K.draws (F.at files.old) keys.old rules.now table.now keys.new parts.0 parts.1) }
     ensures err { IfErr result
-        (IsNoTarget F.fails (F.at files.old) rules.now table.now (K.fails keys.old keys.new)) }
+        (IsNoTarget F.fails K.fails (F.at files.old) rules.now table.now keys.old keys.new) }
     ensures same { Unchanged (F.at files.old) (F.at files.new) }
 {
     let rules = read_rules(alloc, files, rules)?;
