@@ -45,3 +45,7 @@ AreArgumentsOf arguments (Serve s) = AreArgumentsOfServe arguments s
 AreArgumentsOf arguments (OfReview review) = AreArgumentsOfReview arguments review
 AreArgumentsOf arguments Help = (arguments ≡ codes "--help" ∷ []) ⊎ (arguments ≡ codes "-h" ∷ []) ⊎ (arguments ≡ codes "help" ∷ [])
 AreArgumentsOf arguments Version = arguments ≡ codes "--version" ∷ []
+
+-- they are the arguments of no command
+abbrev pub AreNoArguments : List Text → Type 0
+AreNoArguments arguments = (command : Command) → AreArgumentsOf arguments command → ⊥

@@ -80,3 +80,26 @@ Leaves fails old new (Serve service) = Unchanged old new
 Leaves fails old new (Review review) = Unchanged old new
 Leaves fails old new Help = Unchanged old new
 Leaves fails old new Version = Unchanged old new
+
+-- ---- the commands by subject
+
+abbrev pub IsOnRules : Command → Type 0
+IsOnRules (Expand e) = Unit {0}
+IsOnRules (Link rules query) = Unit {0}
+IsOnRules (Compile rules code) = Unit {0}
+IsOnRules command = ⊥
+
+abbrev pub IsOnCode : Command → Type 0
+IsOnCode (Verify code) = Unit {0}
+IsOnCode (Show code) = Unit {0}
+IsOnCode (Upgrade source target) = Unit {0}
+IsOnCode (Run code query) = Unit {0}
+IsOnCode command = ⊥
+
+-- `Does` and `Fails` where there are no keys: only `resolve` draws some
+
+abbrev pub DoesWithoutKeys : Disk → Disk → Command → Text → Type 0
+DoesWithoutKeys old new command text = Does {K = Unit {0}} (λ _ _ _ _. ⊥) old tt new tt command text
+
+abbrev pub FailsWithoutKeys : {F : Type 0} → (F → Disk) → (F → FileCall → Text → F → Type 0) → F → F → Command → Fault → Type 0
+FailsWithoutKeys at fails old new command fault = Fails {K = Unit {0}} at fails (λ _ _ _ _. ⊥) (λ _ _. ⊥) old tt new tt command fault

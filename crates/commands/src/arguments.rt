@@ -1,8 +1,8 @@
 //! The program's arguments: the command that they name.
 
-ghost use Rattle.std.specs.Prelude.{IfNone, IfSome};
+ghost use Rattle.std.specs.Prelude.{◌≢◌, [], ◌∷◌, codes, IfNone, IfSome};
 ghost use Rattle.text_model.specs.Texts.{texts_of};
-ghost use Rattle.commands.specs.Arguments.{AreArgumentsOf};
+ghost use Rattle.commands.specs.Arguments.{AreArgumentsOf, AreNoArguments};
 ghost use Rattle.commands.specs.declared.arguments.Command.{Command};
 
 use menu_commands::Service;
@@ -44,26 +44,107 @@ pub fn parse<'a>(arguments: &'a [&'a str]) -> Option<Command<'a>>
     ensures none { IfNone result ((command : Command) → ¬ (AreArgumentsOf (texts_of arguments.now) command)) }
 {
     match arguments {
+        [] => None,
         ["expand", rest @ ..] => Some(Command::Expand(expand_arguments(rest)?)),
-        ["link", rules, query] => Some(Command::Link { rules, query }),
-        ["compile", rules, code] => Some(Command::Compile { rules, code }),
-        ["verify", code] => Some(Command::Verify { code }),
-        ["show", code] => Some(Command::Show { code }),
-        ["upgrade", old, new] => Some(Command::Upgrade { old, new }),
-        ["run", code, query] => Some(Command::Run { code, query }),
-        ["resolve", registry, query] => Some(Command::Resolve { registry, query }),
-        ["serve", registry, port, count] => Some(Command::Serve(Service::parse(
-            registry, port, count,
-        )?)),
-        ["inspect", table] => Some(Command::Review(Review::Inspect { table })),
-        ["lint", rules, table] => Some(Command::Review(Review::Lint { rules, table })),
-        ["explain", rules, table, query] => Some(Command::Review(Review::Explain {
-            rules,
-            table,
-            query,
+        [name, rest @ ..] => other_command(name, rest),
+    }
+}
+
+/// The command of this name, except `expand`, with these arguments.
+fn other_command<'a>(name: &str, rest: &'a [&'a str]) -> Option<Command<'a>>
+    requires { name.now ≢ codes "expand" }
+    ensures some { IfSome result (AreArgumentsOf (name.now ∷ texts_of rest.now)) }
+    ensures none { IfNone result (AreNoArguments (name.now ∷ texts_of rest.now)) }
+{
+    match rest {
+        [] => of_no_argument(name),
+        [argument] => of_one_argument(name, argument),
+        [first, second] => of_two_arguments(name, first, second),
+        [first, second, third] => of_three_arguments(name, first, second, third),
+        _ => None,
+    }
+}
+
+/// The command of this name, except `expand`, without arguments.
+fn of_no_argument<'a>(name: &str) -> Option<Command<'a>>
+    requires { name.now ≢ codes "expand" }
+    ensures some { IfSome result (AreArgumentsOf (name.now ∷ [])) }
+    ensures none { IfNone result (AreNoArguments (name.now ∷ [])) }
+{
+    match name {
+        "--help" | "-h" | "help" => Some(Command::Help),
+        "--version" => Some(Command::Version),
+        _ => None,
+    }
+}
+
+/// The command of this name, except `expand`, with one argument.
+fn of_one_argument<'a>(name: &str, argument: &'a str) -> Option<Command<'a>>
+    requires { name.now ≢ codes "expand" }
+    ensures some { IfSome result (AreArgumentsOf (name.now ∷ argument.now ∷ [])) }
+    ensures none { IfNone result (AreNoArguments (name.now ∷ argument.now ∷ [])) }
+{
+    match name {
+        "verify" => Some(Command::Verify { code: argument }),
+        "show" => Some(Command::Show { code: argument }),
+        "inspect" => Some(Command::Review(Review::Inspect { table: argument })),
+        _ => None,
+    }
+}
+
+/// The command of this name, except `expand`, with two arguments.
+fn of_two_arguments<'a>(name: &str, first: &'a str, second: &'a str) -> Option<Command<'a>>
+    requires { name.now ≢ codes "expand" }
+    ensures some { IfSome result (AreArgumentsOf (name.now ∷ first.now ∷ second.now ∷ [])) }
+    ensures none { IfNone result (AreNoArguments (name.now ∷ first.now ∷ second.now ∷ [])) }
+{
+    match name {
+        "link" => Some(Command::Link {
+            rules: first,
+            query: second,
+        }),
+        "compile" => Some(Command::Compile {
+            rules: first,
+            code: second,
+        }),
+        "upgrade" => Some(Command::Upgrade {
+            old: first,
+            new: second,
+        }),
+        "run" => Some(Command::Run {
+            code: first,
+            query: second,
+        }),
+        "resolve" => Some(Command::Resolve {
+            registry: first,
+            query: second,
+        }),
+        "lint" => Some(Command::Review(Review::Lint {
+            rules: first,
+            table: second,
         })),
-        ["--help" | "-h" | "help"] => Some(Command::Help),
-        ["--version"] => Some(Command::Version),
+        _ => None,
+    }
+}
+
+/// The command of this name, except `expand`, with three arguments.
+fn of_three_arguments<'a>(
+    name: &str,
+    first: &'a str,
+    second: &'a str,
+    third: &'a str,
+) -> Option<Command<'a>>
+    requires { name.now ≢ codes "expand" }
+    ensures some { IfSome result (AreArgumentsOf (name.now ∷ first.now ∷ second.now ∷ third.now ∷ [])) }
+    ensures none { IfNone result (AreNoArguments (name.now ∷ first.now ∷ second.now ∷ third.now ∷ [])) }
+{
+    match name {
+        "serve" => Some(Command::Serve(Service::parse(first, second, third)?)),
+        "explain" => Some(Command::Review(Review::Explain {
+            rules: first,
+            table: second,
+            query: third,
+        })),
         _ => None,
     }
 }

@@ -18,19 +18,19 @@ pub enum Fault<'a> {
     #[error("usage")]
     Usage,
     /// An error of `expand`, `link` or `compile`.
-    #[error("{0}")]
+    #[error(transparent)]
     Rule(RuleFault<'a>),
     /// An error of `verify`, `show`, `upgrade` or `run`.
-    #[error("{0}")]
+    #[error(transparent)]
     Code(CodeFault<'a>),
     /// An error of `resolve` or `serve`.
-    #[error("{0}")]
+    #[error(transparent)]
     Menu(MenuFault<'a>),
     /// An error of `inspect`, `lint` or `explain`, or one of their warnings.
-    #[error("{0}")]
+    #[error(transparent)]
     Review(ReviewFault<'a>),
     /// An error that any command may have.
-    #[error("{0}")]
+    #[error(transparent)]
     Base(BaseFault<'a>),
 }
 

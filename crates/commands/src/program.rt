@@ -7,11 +7,11 @@ ghost use Rattle.commands.specs.Faults.{status_of};
 ghost use Rattle.commands.specs.Whole.{OutputFails, Refuses, Stops, Succeeds};
 ghost use Rattle.commands.specs.declared.fault.Fault.{Fault};
 
-use crate::answers::answer;
+use crate::answers::print_answer;
 use crate::arguments::{Command, parse};
 use crate::fault::Fault;
 use crate::system::System;
-use command_base::{BaseFault, NO_LINK};
+use command_base::NO_LINK;
 use files::Files;
 use http_streams::Ports;
 use menu_commands::serve;
@@ -113,11 +113,8 @@ fn run<'a, F: Files, K: KeySource, P: Ports, O: Write>(
             Ok(())
         }
         Some(command) => {
-            let text = answer(rt.alloc, &mut rt.files, &mut rt.keys, command)?;
-            match output.write_all(text.as_bytes()) {
-                Ok(()) => Ok(()),
-                Err(_) => Err(Fault::Base(BaseFault::Device("-"))),
-            }
+            print_answer(rt.alloc, &mut rt.files, &mut rt.keys, command, output)?;
+            Ok(())
         }
     }
 }
