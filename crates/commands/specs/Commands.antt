@@ -81,14 +81,14 @@ Leaves fails old new (Review review) = Unchanged old new
 Leaves fails old new Help = Unchanged old new
 Leaves fails old new Version = Unchanged old new
 
--- ---- the commands by subject
-
+-- the command is on templates or rule files
 abbrev pub IsOnRules : Command → Type 0
 IsOnRules (Expand e) = Unit {0}
 IsOnRules (Link rules query) = Unit {0}
 IsOnRules (Compile rules code) = Unit {0}
 IsOnRules command = ⊥
 
+-- the command is on code files
 abbrev pub IsOnCode : Command → Type 0
 IsOnCode (Verify code) = Unit {0}
 IsOnCode (Show code) = Unit {0}
@@ -96,10 +96,10 @@ IsOnCode (Upgrade source target) = Unit {0}
 IsOnCode (Run code query) = Unit {0}
 IsOnCode command = ⊥
 
--- `Does` and `Fails` where there are no keys: only `resolve` draws some
-
+-- `Does` where there are no keys to draw, which only `resolve` does
 abbrev pub DoesWithoutKeys : Disk → Disk → Command → Text → Type 0
 DoesWithoutKeys old new command text = Does {K = Unit {0}} (λ _ _ _ _. ⊥) old tt new tt command text
 
+-- `Fails` where there are no keys to draw
 abbrev pub FailsWithoutKeys : {F : Type 0} → (F → Disk) → (F → FileCall → Text → F → Type 0) → F → F → Command → Fault → Type 0
 FailsWithoutKeys at fails old new command fault = Fails {K = Unit {0}} at fails (λ _ _ _ _. ⊥) (λ _ _. ⊥) old tt new tt command fault
