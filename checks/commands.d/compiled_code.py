@@ -55,10 +55,10 @@ def compiled(program, rules):
 
 def test_versions(program):
     for condition in CONDITIONS + COUNTS:
-        wanted = b"OLK2" if condition in COUNTS else b"OLK1"
+        expected = b"OLK2" if condition in COUNTS else b"OLK1"
         rule = f"rule\nwhen {condition}\nlink b\n"
         for rules in (rule, "rule\nlink a\n" + rule, rule + "rule\nwhen has y\nlink {rft.au}\n"):
-            program.expect(rules, compiled(program, rules)[:4], wanted)
+            program.expect(rules, compiled(program, rules)[:4], expected)
     conditions = "".join(f"when {condition}\n" for condition in CONDITIONS)
     program.expect("all together", compiled(program, f"rule\n{conditions}link {{rft.au*}}\n")[:4], b"OLK1")
     program.expect("and counts", compiled(program, f"rule\n{conditions}when {COUNTS[0]}\nlink b\n")[:4], b"OLK2")
@@ -68,8 +68,8 @@ def test_versions(program):
 
 
 def test_bytes(program):
-    for rules, wanted in CODES:
-        program.expect(rules, compiled(program, rules), wanted)
+    for rules, expected in CODES:
+        program.expect(rules, compiled(program, rules), expected)
 
 
 def test_order_of_names(program):
@@ -83,5 +83,5 @@ def test_order_of_literals(program):
     compiled(program, 'rule\nwhen d is "d"\nwhen rft.au holds "c"\nwhen b from 7 to *\nlink a{x}b{+y}c\n')
     listing = program.run(["show", "code"])[1].decode().split("\n")
     compared = [f'compare "{text}"' for text in ("d", "c", "", "1", "7")]
-    wanted = compared + [f'link "{text}"' for text in ("a", ",", "b", "c")]
-    program.expect("literals", [line.split(" ", 2)[2] for line in listing if line.startswith("literal ")], wanted)
+    expected = compared + [f'link "{text}"' for text in ("a", ",", "b", "c")]
+    program.expect("literals", [line.split(" ", 2)[2] for line in listing if line.startswith("literal ")], expected)

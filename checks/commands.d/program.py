@@ -40,9 +40,9 @@ class Program:
         self.failures += 1
         print(f"checks/commands: {self.test}: {what}", file=sys.stderr)
 
-    def expect(self, what, got, wanted=True):
-        if got != wanted:
-            self.differ(f"{what}: got {str(got)[:600]!r}, wanted {str(wanted)[:600]!r}")
+    def expect(self, what, got, expected=True):
+        if got != expected:
+            self.differ(f"{what}: got {str(got)[:600]!r}, wanted {str(expected)[:600]!r}")
 
     def run(self, arguments, **how):
         """The status, standard output and standard error."""
@@ -52,8 +52,8 @@ class Program:
         return done.returncode, done.stdout, done.stderr
 
     def gives(self, arguments, status, printed, fault):
-        wanted = (status, as_bytes(printed), as_bytes(fault))
-        self.expect(f"openlink {str(arguments)[:200]}", self.run(arguments), wanted)
+        expected = (status, as_bytes(printed), as_bytes(fault))
+        self.expect(f"openlink {str(arguments)[:200]}", self.run(arguments), expected)
 
     def prints(self, arguments, line):
         """Status 0, the line or lines, and nothing else."""

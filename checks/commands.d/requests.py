@@ -101,8 +101,8 @@ def test_lists(program):
         count = f"{name} counts {len(members)} to {len(members)}"
         rules = f"{list_lines(declared)}rule\nwhen {count}\nlink http://e.org/{{?{name}*}}\n"
         program.write("list.rules", rules)
-        wanted = "&".join(f"{name}={quote(member, safe='')}" for member in members)
-        program.prints(["link", "list.rules", query], "http://e.org/" + ("?" + wanted if wanted else ""))
+        expected = "&".join(f"{name}={quote(member, safe='')}" for member in members)
+        program.prints(["link", "list.rules", query], "http://e.org/" + ("?" + expected if expected else ""))
 
 
 # Names of `list` lines, a query, the name of a text beside the lists, and its first value.

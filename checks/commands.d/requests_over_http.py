@@ -44,7 +44,7 @@ TARGETS = [
 
 
 def test_methods_and_targets(program):
-    gives(program, [(f"{line} HTTP/1.1\r\nHost: a\r\n\r\n", wanted) for line, wanted in TARGETS])
+    gives(program, [(f"{line} HTTP/1.1\r\nHost: a\r\n\r\n", expected) for line, expected in TARGETS])
 
 
 # A request, and the reply. With no byte there is no reply.
@@ -116,7 +116,7 @@ PAIRS = [
 
 def test_limits(program):
     for cases in LONG, FIELDS, PAIRS:
-        gives(program, [(start + piece * count + end, wanted) for start, piece, count, end, wanted in cases])
+        gives(program, [(start + piece * count + end, expected) for start, piece, count, end, expected in cases])
 
 
 REQUEST = b"GET /x HTTP/1.1\r\nHost: a\r\n\r\n"

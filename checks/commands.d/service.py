@@ -57,8 +57,8 @@ class Service:
 def expect_replies(program, cases):
     """A service gives each of these requests the reply that follows it."""
     with Service(program, len(cases)) as service:
-        for request, wanted in cases:
-            program.expect(f"the reply to {str(request)[:200]}", service.reply(request), wanted)
+        for request, expected in cases:
+            program.expect(f"the reply to {str(request)[:200]}", service.reply(request), expected)
 
 
 def request_of(target, fields=("Host: a",), method="GET", version="HTTP/1.1"):

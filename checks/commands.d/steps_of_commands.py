@@ -69,14 +69,14 @@ def test_steps_of_targets(program):
             for query in QUERIES:
                 fault = first_fault(steps)
                 if fault:
-                    wanted = (fault[1], f"target {name}: {fault[2]}")
+                    expected = (fault[1], f"target {name}: {fault[2]}")
                 elif last:
-                    wanted = (3, "registry: line 2") if "two" in last else (4, "target gamma: device: none.olk")
+                    expected = (3, "registry: line 2") if "two" in last else (4, "target gamma: device: none.olk")
                 else:
-                    wanted = query[1:] if isinstance(query, tuple) else None
+                    expected = query[1:] if isinstance(query, tuple) else None
                 text = query[0] if isinstance(query, tuple) else query
-                if wanted:
-                    program.fails(["resolve", "registry", text], *wanted)
+                if expected:
+                    program.fails(["resolve", "registry", text], *expected)
                 else:
                     program.finds_no_link(["resolve", "registry", text])
 

@@ -10,11 +10,11 @@ const FORMATS = { J: 'info:ofi/fmt:kev:mtx:journal', B: 'info:ofi/fmt:kev:mtx:bo
 let count = 0;
 let failures = 0;
 
-function expect(name, got, wanted) {
+function expect(name, got, expected) {
     count++;
-    if (got === wanted) return;
+    if (got === expected) return;
     failures++;
-    console.log('FAILED ' + name + '\n  gives  ' + got + '\n  wanted ' + wanted);
+    console.log('FAILED ' + name + '\n  gives  ' + got + '\n  expected ' + expected);
 }
 
 function written(pair) {
@@ -36,9 +36,9 @@ function testCases() {
         cases[rule].forEach(function (it) {
             const added = it[2].split(' ').filter(Boolean).map(written);
             const kept = it.length > 3 ? it[3] : it[1];
-            const wanted = added.concat(kept === '' ? [] : [kept]).join('&');
-            expect(rule + ': ' + it[0], door.requestOf(it[1]), wanted);
-            expect(rule + ': ' + it[0] + ', for any', door.anyOf(it[1]), other(wanted));
+            const expected = added.concat(kept === '' ? [] : [kept]).join('&');
+            expect(rule + ': ' + it[0], door.requestOf(it[1]), expected);
+            expect(rule + ': ' + it[0] + ', for any', door.anyOf(it[1]), other(expected));
         });
     });
 }
@@ -79,12 +79,12 @@ function testMenus() {
     expect('reports are joined', door.joinedReports('a\tlink 0\nb\tno row\nc\tno link\nd\tno row\n', 'a\tno row\nb\tlink 2\nc\tlink 1\nd\tno row\n'),
         'a\tlink 0\nb\tlink 2\nc\tno link\nd\tno row\n');
     const site = { groups: [{ name: 'A' }, { name: 'B', onlyWithout: 'A' }], targets: { b: { group: 'B', label: 'Bee', note: 'n' }, constructor: {} } };
-    const shown = function (menu) { return JSON.stringify(door.shownGroups(door.groupsOf(menu, door.siteIn(site, '')))); };
-    expect('a group that another one hides', shown('b\thttp://b/\na\thttp://a/\n'),
+    const listed = function (menu) { return JSON.stringify(door.shownGroups(door.groupsOf(menu, door.siteIn(site, '')))); };
+    expect('a group that another one hides', listed('b\thttp://b/\na\thttp://a/\n'),
         '[{"name":"A","links":[{"target":"a","label":"a","url":"http://a/"}]}]');
-    expect('a group alone', shown('b\thttp://b/\n'), '[{"name":"B","links":[{"target":"b","label":"Bee","url":"http://b/","note":"n"}]}]');
-    expect('links that are none', shown('a\tjavascript:x\na\thttp://a/ b\na\thttp://\u00e9/\nx\n'), '[]');
-    expect('names of every object', shown('constructor\thttp://c/\ntoString\thttp://t/\n').split('"target"').length, 3);
+    expect('a group alone', listed('b\thttp://b/\n'), '[{"name":"B","links":[{"target":"b","label":"Bee","url":"http://b/","note":"n"}]}]');
+    expect('links that are none', listed('a\tjavascript:x\na\thttp://a/ b\na\thttp://\u00e9/\nx\n'), '[]');
+    expect('names of every object', listed('constructor\thttp://c/\ntoString\thttp://t/\n').split('"target"').length, 3);
 }
 
 // A header, the languages that are offered, and the one that is chosen.
@@ -137,12 +137,12 @@ function testWords() {
     const labels = { languages: ['en', 'de'], groups: [{ name: 'G', label: { de: 'H' } }],
         targets: { a: { label: { en: 'A', de: 'B' }, note: { de: 'n' } }, b: { label: { en: 'C' } }, c: { label: { fr: 'D' } } } };
     const menu = 'a\thttp://a/\nb\thttp://b/\nc\thttp://c/\n';
-    const shown = function (header) {
+    const listed = function (header) {
         const group = door.shownGroups(door.groupsOf(menu, site(labels, header)))[0];
         return group.name + ' ' + group.label + ': ' + group.links.map(function (it) { return it.label + ' ' + it.note; }).join(', ');
     };
-    expect('labels', shown('en'), 'G undefined: A undefined, C undefined, c undefined');
-    expect('labels in another language', shown('de'), 'G H: B n, C undefined, c undefined');
+    expect('labels', listed('en'), 'G undefined: A undefined, C undefined, c undefined');
+    expect('labels in another language', listed('de'), 'G H: B n, C undefined, c undefined');
 }
 
 // The commands of the page for staff. The registry's paths are relative to its folder.
@@ -193,9 +193,9 @@ function replyWith(status) {
 function requestWith(uri, statuses) {
     return {
         variables: { request_uri: uri }, rawVariables: { args: Buffer.from('issn=2901-0012') }, headersIn: {}, headersOut: {},
-        method: 'GET', asked: 0, places: [],
+        method: 'GET', requested: 0, places: [],
         subrequest: function (place, options) {
-            const status = statuses[this.asked++];
+            const status = statuses[this.requested++];
             this.places.push(place + ' ' + options.args);
             if (status < 0) throw new Error('no\nreply');
             return Promise.resolve(replyWith(status));
@@ -204,38 +204,38 @@ function requestWith(uri, statuses) {
     };
 }
 
-async function expectReply(name, handler, request, wanted) {
+async function expectReply(name, handler, request, expected) {
     await handler(request);
-    expect(name, request.replied + ', asked ' + request.asked, wanted);
+    expect(name, request.replied + ', requested ' + request.requested, expected);
 }
 
 async function testRetries() {
-    await expectReply('asked again', door.json, requestWith('/find.json?', [502, 200, 200]), '200 "citation", asked 3');
-    await expectReply('asked again after half a reply', door.json, requestWith('/find.json?', ['cut', 200, 200]), '200 "citation", asked 3');
-    await expectReply('half of a reply twice', door.go, requestWith('/go?', [200, 'cut', 'cut']), '503 <h1>, asked 3');
-    await expectReply('asked again in vain', door.find, requestWith('/find?', [502, 502, 502, 502]), '503 <h1>, asked 4');
+    await expectReply('requested again', door.json, requestWith('/find.json?', [502, 200, 200]), '200 "citation", requested 3');
+    await expectReply('requested again after half a reply', door.json, requestWith('/find.json?', ['cut', 200, 200]), '200 "citation", requested 3');
+    await expectReply('half of a reply twice', door.go, requestWith('/go?', [200, 'cut', 'cut']), '503 <h1>, requested 3');
+    await expectReply('requested again in vain', door.find, requestWith('/find?', [502, 502, 502, 502]), '503 <h1>, requested 4');
 }
 
 async function testReplies() {
-    await expectReply('both menus', door.find, requestWith('/find?', [200, 200]), '200 <h1>, asked 2');
+    await expectReply('both menus', door.find, requestWith('/find?', [200, 200]), '200 <h1>, requested 2');
     if (typeof njs === 'undefined') await testRetries();  // the njs command line has no timers
-    await expectReply('not asked again', door.json, requestWith('/find.json', [504, 200]), '503 "error":503, asked 2');
-    await expectReply('no status', door.find, requestWith('/find?', [200, 0]), '503 <h1>, asked 2');
-    await expectReply('refused', door.go, requestWith('/go?', [400, 200]), '400 <h1>, asked 2');
+    await expectReply('not requested again', door.json, requestWith('/find.json', [504, 200]), '503 "error":503, requested 2');
+    await expectReply('no status', door.find, requestWith('/find?', [200, 0]), '503 <h1>, requested 2');
+    await expectReply('refused', door.go, requestWith('/go?', [400, 200]), '400 <h1>, requested 2');
     const request = requestWith('/why?', [200, 200]);
     request.rawVariables.args = Buffer.from("au=O'Neill&issn=2901-0012");
     let page = '';
     request.return = function (status, text) { this.replied = status; page = text; };
     await staff.why(request);
     expect('the page for staff', request.replied, 200);
-    const shown = page.split('<pre dir="ltr">').slice(1).map(function (it) { return it.split('</pre>')[0]; });
-    expect('the queries that were sent', shown.map(function (it) { return '/_report ' + it.split('&#39;').join("'").split('&amp;').join('&'); }).join(' '),
+    const listed = page.split('<pre dir="ltr">').slice(1).map(function (it) { return it.split('</pre>')[0]; });
+    expect('the queries that were sent', listed.map(function (it) { return '/_report ' + it.split('&#39;').join("'").split('&amp;').join('&'); }).join(' '),
         request.places.join(' '));
-    expect('the second one', shown[1].slice(0, 12), 'rft.issn=ANY');
-    await expectReply('no reports', staff.why, requestWith('/why?', [200, 503]), '503 <h1>, asked 2');
-    await expectReply('refused, for staff', staff.why, requestWith('/why?', [200, 400]), '400 <h1>, asked 2');
+    expect('the second one', listed[1].slice(0, 12), 'rft.issn=ANY');
+    await expectReply('no reports', staff.why, requestWith('/why?', [200, 503]), '503 <h1>, requested 2');
+    await expectReply('refused, for staff', staff.why, requestWith('/why?', [200, 400]), '400 <h1>, requested 2');
     const broken = requestWith('/find?', [200, -1]);
-    await expectReply('an exception', door.find, broken, '503 <h1>, asked 2');
+    await expectReply('an exception', door.find, broken, '503 <h1>, requested 2');
     expect('an exception in the log', broken.variables.openlink_found, 'exception:no_reply');
 }
 

@@ -10,11 +10,11 @@ HOSTILE = "</title><script>alert(1)</script>\"'><img src=x onerror=alert(1)>&amp
 counts = {"tests": 0, "failures": 0}
 
 
-def expect(name, got, wanted=True):
+def expect(name, got, expected=True):
     counts["tests"] += 1
-    if got != wanted:
+    if got != expected:
         counts["failures"] += 1
-        print(f"checks/front_door: {name}: got {str(got)[:600]!r}, wanted {str(wanted)[:600]!r}", file=sys.stderr)
+        print(f"checks/front_door: {name}: got {str(got)[:600]!r}, wanted {str(expected)[:600]!r}", file=sys.stderr)
 
 
 def test_rules(folder):
@@ -157,9 +157,9 @@ def test_requests(site):
     """Requests as real sources send them: each gets the targets that a reader expects."""
     with open(f"{HERE}/requests.tsv") as file:
         for line in file:
-            source, query, wanted = line.rstrip("\n").split("\t")
+            source, query, expected = line.rstrip("\n").split("\t")
             reply = site.get(f"/find.json?{query}")
-            expect(source, (reply.status, names_in(reply)), (200, wanted))
+            expect(source, (reply.status, names_in(reply)), (200, expected))
 
 
 def tidy(name, text):
@@ -535,11 +535,11 @@ def test_probes(folder):
         expect("probes of the sample library", len(re.findall(rb"^[^#\n].*\t", text, re.M)), 30)
         expect("they hold", tried(text), (0, "", ""))
         expect("they hold with line ends of Windows", tried(text.replace(b"\n", b"\r\n")), (0, "", ""))
-        shown = b"\ttidal-press aggregate-net catalogue web-search"
+        listed = b"\ttidal-press aggregate-net catalogue web-search"
         expect("an order", tried(article + b"\tweb-search catalogue aggregate-net tidal-press\n"), (0, "", ""))
         expect("no page", tried(b"sid=Entrez:PubMed\tnone")[0], 0)
         expect("what differs", tried(b"# a source\n\n" + article + b"\ttidal-press coastal-law interlibrary-loan pubmed nobody web-search\n"
-                                     + article + shown),
+                                     + article + listed),
                (1, f"{file}:3: {ARTICLE}\n  missing coastal-law: no row\n"
                    "  missing interlibrary-loan: link 0 but not shown: onlyWithout in targets.json hides its group\n"
                    "  missing pubmed: no link\n  missing nobody: not in the registry\n  too many aggregate-net: link 0\n"
@@ -551,7 +551,7 @@ def test_probes(folder):
         for reason, status, words in (("nothing listens", 4, {"front_door": f"http://127.0.0.1:{free_ports(1)[0]}"}),
                                       ("another server", 4, {"front_door": f"http://127.0.0.1:{site.ports[0]}"}),
                                       ("no address", 2, {"front_door": "127.0.0.1"})):
-            got = tried(article + shown, **words)
+            got = tried(article + listed, **words)
             expect(f"probe: {reason}", (got[0], got[1], got[2] != ""), (status, "", True))
         for text in (b"", b"# none\n", article, article + b"\t", article + b"\tnone tidal-press", article + b"\ta/b"):
             expect(f"a slip: {text[-20:]}", tried(text)[0], 3)
@@ -560,7 +560,7 @@ def test_probes(folder):
         for process in site.processes.values():
             process.kill()
             process.wait()
-        expect("no process", tried(article + shown)[:2], (4, ""))
+        expect("no process", tried(article + listed)[:2], (4, ""))
     finally:
         site.stop()
 

@@ -199,11 +199,11 @@ def test_problem_link(staff):
     for target in ("/find", "/none", f"/find.json?{ARTICLE}"):
         expect(f"{target[:12]} has no link", address_in(site.get(target).text), None)
     words = staff.targets["words"]
-    for link, wanted in ((None, False), ("", False), (3, False), ("javascript:alert({})", False), ("https://e.org/problem", False), ("e.org/{}", False),
+    for link, expected in ((None, False), ("", False), (3, False), ("javascript:alert({})", False), ("https://e.org/problem", False), ("e.org/{}", False),
                          ("https://e.org/ {}", False), ("https://e.org/p?q={}&l=en", True), ("HTTP://e.org/{}", True), ({"de": "mailto:a@b?body={}"}, False)):
         site.write_targets({**staff.targets, "words": {**words, "problemLink": link} if link is not None else {}})
         got = address_in(site.get(f"/find?{ARTICLE}").text)
-        expect(f"problemLink {link}", got, link.replace("{}", quote(ARTICLE, safe="")) if wanted else None)
+        expect(f"problemLink {link}", got, link.replace("{}", quote(ARTICLE, safe="")) if expected else None)
 
 
 def test(site, everywhere, expect, tidy):

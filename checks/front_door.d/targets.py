@@ -63,11 +63,11 @@ def faults_of_words(data):
     if found is None:
         return faults
     with open(SAMPLE) as file:
-        wanted = json.load(file)
-    texts("words", found, wanted, None, faults)
-    faults += [f"words: no {name}" for name in wanted if name not in found]
-    return faults + [f"words: {name} has not {wanted[name].count('{}')} of {{}}" for name in wanted
-                     if isinstance(found.get(name), str) and found[name].count("{}") != wanted[name].count("{}")]
+        expected = json.load(file)
+    texts("words", found, expected, None, faults)
+    faults += [f"words: no {name}" for name in expected if name not in found]
+    return faults + [f"words: {name} has not {expected[name].count('{}')} of {{}}" for name in expected
+                     if isinstance(found.get(name), str) and found[name].count("{}") != expected[name].count("{}")]
 
 
 def languages_of(site, loaded, faults):

@@ -13,9 +13,9 @@ exec {program} "$@"
 
 def kept(name, library, reason, week, path=None):
     """A run with week B delivered keeps the old files of one target for this reason; the others are as in this week."""
-    status, said = library.run()
+    status, printed = library.run()
     expect(name, (status, library.weeks_served(), library.left_behind()), (1, {week}, []))
-    expect_lines(name, said, f"  {path or library.input.path('book-house.txt')}: {reason}",
+    expect_lines(name, printed, f"  {path or library.input.path('book-house.txt')}: {reason}",
                  f"{library.current()} is in use; old files of book-house kept")
 
 
@@ -61,24 +61,24 @@ def test_code_cut_short():
             code = file.read()
         library.input.write("book-house.olk", code)
         library.input.write("targets.tsv", library.input.read("targets.tsv").replace(b"book-house.rules", b"book-house.olk"))
-        status, said = library.run()
-        expect("a code file", (status, "book-house: rules changed" in said), (0, True))
+        status, printed = library.run()
+        expect("a code file", (status, "book-house: rules changed" in printed), (0, True))
         library.input.deliver("B")
         library.input.write("book-house.olk", code[:-1])
         kept("a code file cut short", library, f"load: Truncated at {len(code) - 1}", "B", library.input.path("book-house.olk"))
         with open(library.input.path("targets.tsv"), "ab") as file:
             file.write(b"second-house\tbook-house.olk\tbook-house.txt\n")
-        status, said = library.run()
+        status, printed = library.run()
         stays = library.current()
         expect("a new target with it", (status, "second-house" in library.names()), (1, False))
-        expect_lines("a new target with it", said, "second-house: left out, since it has no old files",
+        expect_lines("a new target with it", printed, "second-house: left out, since it has no old files",
                      f"nothing new: {stays} stays in use; old files of book-house kept; second-house left out")
     with Library() as library:
         with open(library.path("current", "code", "coastal-law.olk"), "r+b") as file:
             file.truncate(50)
-        status, said = library.run()
+        status, printed = library.run()
         expect("the code in use cut short", (status, library.weeks_served()), (0, {"A"}))
-        expect("it is said", "the links of the version in use are not known: " in said)
+        expect("it is said", "the links of the version in use are not known: " in printed)
 
 
 def test_lists():
@@ -94,9 +94,9 @@ def test_lists():
                 ("probes.tsv", probes + b"issn=1\n", "line 31 is not a query, a tab, and names of targets or none")):
             library.input.write("targets.tsv", targets)
             library.input.write(file, data)
-            status, said = library.run()
+            status, printed = library.run()
             expect(reason, (status, library.versions(), library.left_behind()), (3, [first], []))
-            expect_lines(reason, said, f"deploy/update: {library.input.path(file)}: {reason}", f"{first} stays in use")
+            expect_lines(reason, printed, f"deploy/update: {library.input.path(file)}: {reason}", f"{first} stays in use")
 
 
 def test_probes():
@@ -105,22 +105,22 @@ def test_probes():
         first = library.current()
         library.input.deliver("B")
         library.input.replace("coastal-law.rules", "when given title_id", "when rft.genre is \"book\"")
-        status, said = library.run()
+        status, printed = library.run()
         expect("a lost link", (status, library.current(), library.weeks_served(), library.versions()), (3, first, {"A"}, [first]))
-        expect_lines("a lost link", said, "  missing coastal-law: no link", f"{first} stays in use",
+        expect_lines("a lost link", printed, "  missing coastal-law: no link", f"{first} stays in use",
                      "  loses coastal-law https://coastal.example.com/journals/rcl",
                      "deploy/update: 1 of 30 probes differ with the new version")
         library.input.deliver("B")
-        status, said = library.run(restart="true")
+        status, printed = library.run(restart="true")
         expect("processes that were not restarted", (status, library.current(), library.weeks_served(), library.versions()),
                (3, first, {"A"}, [first]))
-        expect_lines("processes that were not restarted", said, f"{first} is in use again",
+        expect_lines("processes that were not restarted", printed, f"{first} is in use again",
                      "deploy/update: the processes at the ports have other links than the new version")
         expect("nothing is left", (library.left_behind(), library.run()[0], library.weeks_served()), ([], 0, {"B"}))
         library.input.write("probes.tsv", b"rft.issn=3030-0009&date=1994\tcatalogue\n")
         library.input.deliver("A")
-        status, said = library.run()
-        expect("a wrong probe", (status, "  the version in use differs too" in said.splitlines()), (3, True))
+        status, printed = library.run()
+        expect("a wrong probe", (status, "  the version in use differs too" in printed.splitlines()), (3, True))
 
 
 def test_processes():
@@ -130,15 +130,15 @@ def test_processes():
         child = library.begin()
         for supervisor in library.site.supervisors:
             supervisor.child.kill()
-        said = "".join(child.communicate(timeout=60))
-        expect(f"killed processes come back: {said}", (child.returncode, library.weeks_served()), (0, {"B"}))
+        printed = "".join(child.communicate(timeout=60))
+        expect(f"killed processes come back: {printed}", (child.returncode, library.weeks_served()), (0, {"B"}))
         second = library.current()
         library.input.deliver("A")
         library.site.supervisors[1].is_down = True
-        status, said = library.run("--seconds", "1")
+        status, printed = library.run("--seconds", "1")
         port = library.site.ports[1]
         expect("a process that does not start", (status, library.current()), (3, second))
-        expect_lines("a process that does not start", said,
+        expect_lines("a process that does not start", printed,
                      f"deploy/update: the process at port {port} does not answer within 1 seconds: Connection refused",
                      f"{second} again: the process at port {port} does not answer within 1 seconds: Connection refused")
         expect("the other process", library.menu(library.site.ports[0])["coastal-law"], "https://coastal.example.com/titles/pp")
@@ -146,8 +146,8 @@ def test_processes():
         expect("the next run", (library.run()[0], library.weeks_served(), library.left_behind()), (0, {"A"}, []))
         failing = f"sh -c 'if [ PORT = {port} ]; then echo no unit >&2; exit 5; fi; exec {library.restart}'"
         library.input.deliver("B")
-        status, said = library.run(restart=failing)
-        expect("a restart that fails", (status, library.weeks_served(), "status 5, no unit" in said), (3, {"A"}, True))
+        status, printed = library.run(restart=failing)
+        expect("a restart that fails", (status, library.weeks_served(), "status 5, no unit" in printed), (3, {"A"}, True))
 
 
 def test_killed_commands():
@@ -159,10 +159,10 @@ def test_killed_commands():
             with open(program, "w") as file:
                 file.write(KILLED.format(command=command, program=PROGRAM))
             os.chmod(program, 0o755)
-            got, said = library.run("--program", program)
-            expect(f"{command} is killed: {said}", (got, library.current(), library.weeks_served(), library.left_behind()),
+            got, printed = library.run("--program", program)
+            expect(f"{command} is killed: {printed}", (got, library.current(), library.weeks_served(), library.left_behind()),
                    (status, first, {"A"}, []))
-            expect_lines(f"{command} is killed", said, f"{first} stays in use")
+            expect_lines(f"{command} is killed", printed, f"{first} stays in use")
 
 
 TESTS = [test_bad_files, test_code_cut_short, test_lists, test_probes, test_processes, test_killed_commands]

@@ -4,11 +4,11 @@ import sys
 counts = {"tests": 0, "failures": 0}
 
 
-def expect(name, got, wanted=True):
+def expect(name, got, expected=True):
     counts["tests"] += 1
-    if got != wanted:
+    if got != expected:
         counts["failures"] += 1
-        print(f"checks/update: {name}: got {str(got)[:1500]!r}, wanted {str(wanted)[:600]!r}", file=sys.stderr)
+        print(f"checks/update: {name}: got {str(got)[:1500]!r}, wanted {str(expected)[:600]!r}", file=sys.stderr)
 
 
 def expect_lines(name, text, *lines):

@@ -43,8 +43,8 @@ def test_no_file_left():
             with Library(folder=os.path.join(folder, "other")) as library:
                 library.input.deliver("B")
                 first, filler = library.current(), os.path.join(folder, "filler")
-                status, said = library.run(restart=f"sh -c 'mkdir {filler}; touch $(seq -f {filler}/%g 500) 2>/dev/null; exit 9'")
-                expect(f"a disk that is filled meanwhile: {said}", (status, library.current(), library.weeks_served()), (3, first, {"A"}))
+                status, printed = library.run(restart=f"sh -c 'mkdir {filler}; touch $(seq -f {filler}/%g 500) 2>/dev/null; exit 9'")
+                expect(f"a disk that is filled meanwhile: {printed}", (status, library.current(), library.weeks_served()), (3, first, {"A"}))
                 shutil.rmtree(filler)
                 expect("no longer full", (library.run()[0], library.weeks_served(), library.left_behind()), (0, {"B"}, []))
 
@@ -66,11 +66,11 @@ def fill(library, rooms, fill_up):
     first, statuses, filler = library.current(), [], os.path.join(os.path.dirname(library.folder), "filler")
     for room in rooms:
         fill_up(room)
-        status, said = library.run()
+        status, printed = library.run()
         statuses.append(status)
         shutil.rmtree(filler) if os.path.isdir(filler) else os.unlink(filler)
         is_new = status == 0
-        expect(f"room {room}: {said}", (library.current() != first, library.weeks_served(), library.left_behind()),
+        expect(f"room {room}: {printed}", (library.current() != first, library.weeks_served(), library.left_behind()),
                (is_new, {"B" if is_new else "A"}, []))
         if is_new:
             break

@@ -39,15 +39,15 @@ def time_of_a_run(library):
 
 
 def end_after(library, seconds, number):
-    """Starts a run and sends it a signal at this time. Returns its status, how long it took, and what it said."""
+    """Starts a run and sends it a signal at this time. Returns its status, how long it took, and what it printed."""
     start = time.monotonic()
     child = library.begin()
     try:
-        said = child.communicate(timeout=seconds)
+        printed = child.communicate(timeout=seconds)
     except subprocess.TimeoutExpired:
         child.send_signal(number)
-        said = child.communicate(timeout=60)
-    return child.returncode, time.monotonic() - start, "".join(said)
+        printed = child.communicate(timeout=60)
+    return child.returncode, time.monotonic() - start, "".join(printed)
 
 
 def test_killed():
@@ -66,8 +66,8 @@ def test_killed():
         expect("runs that were killed", killed, MOMENTS)
         expect(f"kills in each stage: {stages}", {"making", "trying", "restarting"} <= set(stages))
         library.input.deliver(OTHER[week])
-        status, said = library.run()
-        expect(f"the run after all: {said}", (status, library.weeks_served(), library.left_behind()), (0, {OTHER[week]}, []))
+        status, printed = library.run()
+        expect(f"the run after all: {printed}", (status, library.weeks_served(), library.left_behind()), (0, {OTHER[week]}, []))
     # Where a kill leaves no process for a moment, the page says so with status 503. It never says that there are no links.
     wrong = [fault for fault in reader.faults if fault[1] != 503]
     expect("meanwhile each request has a good reply, or 503", (wrong[:3], reader.requests > 100), ([], True))
@@ -81,14 +81,14 @@ def test_signals():
         while ended < 12 and whole < 12:
             library.input.deliver(OTHER[week])
             first, number = library.current(), (signal.SIGINT, signal.SIGTERM)[ended % 2]
-            status, seconds, said = end_after(library, took * (ended + 0.5) / 12, number)
+            status, seconds, printed = end_after(library, took * (ended + 0.5) / 12, number)
             if status == 0:  # it ended before
                 took, week, whole = seconds, OTHER[week], whole + 1
                 continue
             # Before it has begun, it ends without a word, or with one of Python that is still starting.
-            wanted = 3 if "deploy/update: " in said else status
-            expect(f"a signal at moment {ended}: {said}", (status, library.current(), library.weeks_served(), library.left_behind()),
-                   (wanted, first, {week}, []))
+            expected = 3 if "deploy/update: " in printed else status
+            expect(f"a signal at moment {ended}: {printed}", (status, library.current(), library.weeks_served(), library.left_behind()),
+                   (expected, first, {week}, []))
             ended += 1
         expect("runs that were ended", ended, 12)
         library.input.deliver(OTHER[week])
@@ -115,10 +115,10 @@ def test_signals_at_restarts():
             child.send_signal(number)
             time.sleep(0.2)
             child.send_signal(number)
-            said = "".join(child.communicate(timeout=60))
-            expect(f"{number.name} at a restart: {said}",
+            printed = "".join(child.communicate(timeout=60))
+            expect(f"{number.name} at a restart: {printed}",
                    (child.returncode, library.current(), library.weeks_served(), library.left_behind()), (3, first, {"A"}, []))
-            expect("its name is said", f"ended by {number.name}" in said)
+            expect("its name is said", f"ended by {number.name}" in printed)
 
 
 def test_two_runs():
@@ -126,8 +126,8 @@ def test_two_runs():
         library.input.deliver("B")
         child = begin_slowly(library)
         start = time.monotonic()
-        status, said = library.run()
-        expect("a second run", (status, said), (4, f"deploy/update: {library.path('lock')}: another run has not ended\n"))
+        status, printed = library.run()
+        expect("a second run", (status, printed), (4, f"deploy/update: {library.path('lock')}: another run has not ended\n"))
         expect("it ends at once", time.monotonic() - start < 1)
         expect("a trial too", library.run("--dry-run")[0], 4)
         expect("going back too", library.run("--back")[0], 4)

@@ -144,10 +144,17 @@ class Library:
         return found
 
     def left_behind(self):
-        """Names in the library that only a run has, and processes of a run that has ended."""
+        """Names in the library that only a run has, and processes of a run that has ended. These get a signal as it ends,
+        and two seconds to follow it."""
         names = [name for name in os.listdir(self.folder) if name not in ("current", "versions", "lock")]
         names += [name for name in self.versions() if name.endswith(".new")]
-        return names + self.processes_in("versions", ".new") + self.processes_in("trial", "")
+        end = time.monotonic() + 2
+        while self.processes_of_runs() and time.monotonic() < end:
+            time.sleep(0.01)
+        return names + self.processes_of_runs()
+
+    def processes_of_runs(self):
+        return self.processes_in("versions", ".new") + self.processes_in("trial", "")
 
     def processes_in(self, folder, suffix):
         found = []

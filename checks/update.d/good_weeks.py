@@ -10,17 +10,17 @@ ALL = list(tables())
 def test_good_week():
     """The whole sample library: every target is new, then some have changed, then none."""
     with Library(ALL, processes=4) as library:
-        status, said = library.first
+        status, printed = library.first
         expect("the first version", (status, library.names(), library.weeks_served()), (0, ALL, {"A"}))
-        expect_lines("the first version", said, "tidal-press: new, 3 rows", "30 probes hold", f"{library.current()} is in use")
+        expect_lines("the first version", printed, "tidal-press: new, 3 rows", "30 probes hold", f"{library.current()} is in use")
         first = library.current()
         library.input.deliver("B")
         with Reader(library) as reader:
-            status, said = library.run()
+            status, printed = library.run()
         expect("a good week", (status, library.weeks_served(), reader.faults), (0, {"B"}, []))
-        expect_lines("a good week", said, "tidal-press: 1 row added, 0 gone", "coastal-law: rules changed", "30 probes hold")
-        expect("nothing else has changed", re.findall(r"^([\w-]+): ", said, re.M), ["tidal-press", "coastal-law"])
-        moved = [line for line in said.splitlines() if " is now " in line]
+        expect_lines("a good week", printed, "tidal-press: 1 row added, 0 gone", "coastal-law: rules changed", "30 probes hold")
+        expect("nothing else has changed", re.findall(r"^([\w-]+): ", printed, re.M), ["tidal-press", "coastal-law"])
+        moved = [line for line in printed.splitlines() if " is now " in line]
         expect("links that lead elsewhere", moved, ["  coastal-law https://coastal.example.com/journals/rcl is now "
                                                     "https://coastal.example.com/titles/rcl"])
         second = library.current()
@@ -44,11 +44,11 @@ def test_changes():
         tried = library.run("--dry-run")
         expect("a trial", (tried[0], library.current(), library.versions()), (0, first, [first]))
         expect("a trial leaves nothing", library.left_behind(), [])
-        status, said = library.run()
+        status, printed = library.run()
         lines = ["catalogue: gone, since the list does not name it", "book-house: 1 row added, 1 gone", "extra: new, 1 row",
                  "  gains extra https://extra.example.org/Storm",
                  "  loses catalogue https://catalogue.example.org/search?index=number&term=2901-0012"]
-        expect_lines("what has changed", said, *lines, "1 probe holds")
+        expect_lines("what has changed", printed, *lines, "1 probe holds")
         expect_lines("what a trial says", tried[1], *lines, "a trial: nothing was put in use")
         expect("targets", (status, library.names()), (0, ["tidal-press", "coastal-law", "book-house", "doi-resolver", "extra"]))
 
@@ -84,18 +84,18 @@ def test_back():
         expect("the version after", (library.weeks_served(), kept), ({"B"}, []))
         for _ in range(len(library.versions()) - 1):
             expect("back again", library.run("--back")[0], 0)
-        status, said = library.run("--back")
+        status, printed = library.run("--back")
         expect("no version before", status, 3)
-        expect_lines("no version before", said, "deploy/update: there is no version before the one in use")
+        expect_lines("no version before", printed, "deploy/update: there is no version before the one in use")
 
 
 def test_warnings():
     """A warning that the list allows, by its words; and walls that move with the month."""
     with Library() as library:
         library.input.add_row("book-house", b"A book without a number\t\t\t\t\t\t\t\t\thttps://books.example.net/x")
-        status, said = library.run()
+        status, printed = library.run()
         expect("a warning", status, 1)
-        expect_lines("a warning", said, f"  {library.input.path('book-house.txt')}: rows without an identifier 1, first 2")
+        expect_lines("a warning", printed, f"  {library.input.path('book-house.txt')}: rows without an identifier 1, first 2")
         library.input.allowed["book-house"] = "rows 0; rows without an identifier"
         library.input.write_list()
         expect("it is allowed", library.run()[0], 0)
@@ -112,9 +112,9 @@ def test_wrong_arguments():
         expect("an unknown option", library.run("--backwards")[0], 2)
         expect("two modes", library.run("--back", "--dry-run")[0], 2)
         os.rename(library.input.path("targets.tsv"), library.input.path("other.tsv"))
-        status, said = library.run()
+        status, printed = library.run()
         expect("no list", status, 4)
-        expect_lines("no list", said, f"deploy/update: {library.input.path('targets.tsv')}: No such file or directory")
+        expect_lines("no list", printed, f"deploy/update: {library.input.path('targets.tsv')}: No such file or directory")
         expect("a site without ports", library.run("--site", "/dev/null")[0], 4)
 
 

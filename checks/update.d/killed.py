@@ -7,7 +7,7 @@ The moments are counted from 0. If the run ends first, FILE gets their number.
 """
 import os, runpy, signal, subprocess, sys
 
-wanted, file, script = int(sys.argv[1]), sys.argv[2], sys.argv[3]
+expected, file, script = int(sys.argv[1]), sys.argv[2], sys.argv[3]
 sys.argv = sys.argv[3:]
 sys.dont_write_bytecode = True
 moments = 0
@@ -15,7 +15,7 @@ moments = 0
 
 def pass_moment():
     global moments
-    if moments == wanted:
+    if moments == expected:
         os.kill(os.getpid(), signal.SIGKILL)
     moments += 1
 

@@ -19,12 +19,12 @@ def main():
     children = [subprocess.Popen([sys.executable, "-B", __file__, module], stdout=subprocess.PIPE, text=True) for module in MODULES]
     tests = failures = 0
     for module, child in zip(MODULES, children):
-        said = child.communicate()[0].splitlines()
+        printed = child.communicate()[0].splitlines()
         if child.returncode != 0:
-            print(f"checks/update: {module} ended with status {child.returncode} after {said[-1:]}", file=sys.stderr)
+            print(f"checks/update: {module} ended with status {child.returncode} after {printed[-1:]}", file=sys.stderr)
             failures += 1
             continue
-        tests, failures = (one + other for one, other in zip((tests, failures), map(int, said[-1].split())))
+        tests, failures = (one + other for one, other in zip((tests, failures), map(int, printed[-1].split())))
     print(f"checks/update: {tests - failures} passed, {failures} failed in {time.time() - start:.0f} s")
     return 1 if failures else 0
 

@@ -55,8 +55,8 @@ class Site:
 
 def modules_of(nginx):
     """The path of nginx's JavaScript module, or None if there is none."""
-    said = subprocess.run([nginx, "-V"], capture_output=True, text=True).stderr
-    found = re.search(r"--modules-path=(\S+)", said)
+    printed = subprocess.run([nginx, "-V"], capture_output=True, text=True).stderr
+    found = re.search(r"--modules-path=(\S+)", printed)
     path = f"{found[1] if found else '/usr/lib/nginx/modules'}/ngx_http_js_module.so"
     return path if os.path.exists(path) else None
 
@@ -98,8 +98,8 @@ class FrontDoor:
         self.child = children.start([self.nginx, "-e", log, "-p", self.folder, "-c", path], self.folder,
                                     stdout=subprocess.DEVNULL, stderr=subprocess.DEVNULL)
         if not all(children.wait_for(port, self.child, SECONDS) for port, _ in self.doors):
-            said = " ".join(text for text in map(read, (log, f"{self.folder}/error.log")) if text)
-            raise Failure(f"the front door for probes does not start: {said or 'nginx gives no reason'}", DEVICE)
+            printed = " ".join(text for text in map(read, (log, f"{self.folder}/error.log")) if text)
+            raise Failure(f"the front door for probes does not start: {printed or 'nginx gives no reason'}", DEVICE)
 
 
 def read(path):

@@ -41,8 +41,8 @@ class Probes:
         """The place, query and differences of each probe that does not hold there."""
         found = []
         try:
-            for number, query, wanted in self.list:
-                lines = self.probe.differences(door, door, query, wanted)
+            for number, query, expected in self.list:
+                lines = self.probe.differences(door, door, query, expected)
                 if lines:
                     found.append((number, query, lines))
         except self.probe.Unreachable as fault:
@@ -74,9 +74,9 @@ class Trial:
                                     stdout=subprocess.DEVNULL, stderr=subprocess.PIPE)
         if not children.wait_for(self.port, self.child, SECONDS):
             children.stop(self.child)
-            said = self.child.stderr.read().decode("utf-8", "replace").strip()
+            printed = self.child.stderr.read().decode("utf-8", "replace").strip()
             self.child.stderr.close()
-            raise Failure(f"{self.version} cannot be served: {said or 'it does not listen'}")
+            raise Failure(f"{self.version} cannot be served: {printed or 'it does not listen'}")
         return self
 
     def __exit__(self, *_):

@@ -43,11 +43,11 @@ class Program:
             raise Failure(f"{self.path}: {fault.strerror}", DEVICE) from fault
         except subprocess.TimeoutExpired as fault:
             raise Failure(f"openlink {words[0]}: no end after {SECONDS} seconds", DEVICE) from fault
-        said = done.stderr.decode("utf-8", "replace").strip().removeprefix("openlink: ")
+        printed = done.stderr.decode("utf-8", "replace").strip().removeprefix("openlink: ")
         if done.returncode == 3:
-            raise Refused([said])
+            raise Refused([printed])
         if not 0 <= done.returncode <= most:
-            raise Failure(f"openlink {' '.join(words)} in {self.folder}: status {done.returncode}, {said or 'no message'}", DEVICE)
+            raise Failure(f"openlink {' '.join(words)} in {self.folder}: status {done.returncode}, {printed or 'no message'}", DEVICE)
         return done.returncode, done.stdout.decode("utf-8", "replace")
 
     def warnings(self, *words):

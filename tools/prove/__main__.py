@@ -103,15 +103,15 @@ def prove_all(crates):
     say(f"{len(done)} of {len(crates.names)} crates proved; proving the others and building takes minutes")
     # On a terminal a line often enough to see that it works, and elsewhere seldom, since it may be a log.
     interval = 20 if sys.stderr.isatty() else 120
-    told = time.monotonic()
+    reported_at = time.monotonic()
     try:
         while not schedule.is_done():
             proofs.start_ready()
             pause()
             proofs.end_finished()
-            if time.monotonic() - told >= interval and not schedule.is_done():
+            if time.monotonic() - reported_at >= interval and not schedule.is_done():
                 say(schedule)
-                told = time.monotonic()
+                reported_at = time.monotonic()
     finally:
         proofs.end()
 

@@ -13,9 +13,9 @@ JOB = 2_500_000_000
 def slots():
     """Returns how many jobs can run at once: one for each processor, if memory suffices, and at least one. OPENLINK_JOBS
     sets another number."""
-    wanted = os.environ.get("OPENLINK_JOBS", "")
-    if wanted.isdigit() and int(wanted) > 0:
-        return int(wanted)
+    expected = os.environ.get("OPENLINK_JOBS", "")
+    if expected.isdigit() and int(expected) > 0:
+        return int(expected)
     found = [len(os.sched_getaffinity(0))]
     quota = re.match(r"(\d+) (\d+)", _text("/sys/fs/cgroup/cpu.max"))
     if quota:

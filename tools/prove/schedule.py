@@ -64,7 +64,7 @@ class Schedule:
         return max(sum(weight.values()) / self.slots, max(chain.values(), default=0))
 
     def __str__(self):
-        shown = [f"{name} ({jobs} jobs)" if jobs > 1 else name for name, (jobs, _) in self.running.items()]
+        proving = [f"{name} ({jobs} jobs)" if jobs > 1 else name for name, (jobs, _) in self.running.items()]
         left = self.seconds_left()
-        told = "" if left is None else f"; about {max(1, round(left / 60))} min left"
-        return f"{len(self.done)} of {len(self.crates.names)} crates proved, proving {', '.join(shown)}{told}"
+        remaining = "" if left is None else f"; about {max(1, round(left / 60))} min left"
+        return f"{len(self.done)} of {len(self.crates.names)} crates proved, proving {', '.join(proving)}{remaining}"
