@@ -3,8 +3,7 @@
 use commands::System;
 use files_in_memory::Memory;
 use http_streams::{Listener, Ports};
-use kbart_rows::Keys;
-use registry_file::{KeySource, NoKeys};
+use kbart_rows::{KeySource, Keys, NoKeys};
 use std::io::{self, ErrorKind};
 use streams_in_memory::Peers;
 

@@ -11,6 +11,7 @@ use menu_commands::MenuFault;
 use registry::AddErrorKind;
 use registry_file::{TargetError, TargetFault};
 use rule_commands::RuleFault;
+use rule_file::RuleFileFault;
 use rule_parser::{RuleError, RuleErrorKind};
 use std::process::Abort;
 use std::test::Fail;
@@ -225,7 +226,7 @@ fn an_allocation_that_fails_is_one_error(rt: HostRuntime) -> Result<(), Fail> {
         Fault::Base(BaseFault::Memory),
         Fault::Base(BaseFault::from(KevError::NoMemory)),
         Fault::Rule(RuleFault::from(template)),
-        Fault::Rule(RuleFault::from(rules)),
+        Fault::Rule(RuleFault::from(RuleFileFault::from(rules))),
         Fault::Rule(RuleFault::from(CompileError::NoMemory)),
         Fault::Code(CodeFault::from(code)),
         Fault::Code(CodeFault::from(LoadError::NoMemory)),

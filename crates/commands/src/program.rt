@@ -14,8 +14,8 @@ use crate::system::System;
 use command_base::NO_LINK;
 use files::Files;
 use http_streams::Ports;
+use kbart_rows::KeySource;
 use menu_commands::serve;
-use registry_file::KeySource;
 use std::io::Write;
 use target_commands::print_review;
 

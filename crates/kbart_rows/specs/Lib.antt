@@ -5,4 +5,5 @@ pub mod Reading
 pub mod Filling
 pub mod ColumnNames
 pub mod Hashing
+pub mod Drawing
 pub mod Private

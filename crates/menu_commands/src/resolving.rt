@@ -10,9 +10,10 @@ ghost use Rattle.menu_commands.specs.Resolve.{IsMenuText, IsNoMenu, IsResolveFau
 use crate::fault::MenuFault;
 use command_base::BaseFault;
 use files::Files;
+use kbart_rows::KeySource;
 use kev_read::read_kev;
 use registry::Registry;
-use registry_file::{KeySource, RegistryError, load_registry};
+use registry_file::{RegistryError, load_registry};
 use std::alloc::Global;
 
 /// The text of the menu that the registry file at the path has for the query: a line for each link.

@@ -15,8 +15,8 @@ use command_base::BaseFault;
 use files::Files;
 use http_service::{Counts, serve_on};
 use http_streams::Ports;
+use kbart_rows::KeySource;
 use registry::Registry;
-use registry_file::KeySource;
 use std::alloc::{AllocError, Global};
 use std::io::Write;
 

@@ -3,9 +3,9 @@
 use crate::codes::FAIL_CODE;
 use files::SystemFiles;
 use files_in_memory::{Content, Memory};
-use kbart_rows::{Keys, MAX_TABLE_BYTES};
+use kbart_rows::{KeySource, Keys, MAX_TABLE_BYTES, NoKeys, SystemKeys};
 use registry::Registry;
-use registry_file::{KeySource, NoKeys, RegistryError, SystemKeys, load_registry};
+use registry_file::{RegistryError, load_registry};
 use std::alloc::{AllocError, Global};
 use std::cell::Cell;
 use std::fs;

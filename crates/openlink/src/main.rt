@@ -7,7 +7,7 @@ use crate::arguments::{argument_texts, program_arguments};
 use commands::{Fault, System, command, report};
 use files::SystemFiles;
 use http_streams::Loopback;
-use registry_file::SystemKeys;
+use kbart_rows::SystemKeys;
 use std::io::Write;
 use std::process::ExitCode;
 

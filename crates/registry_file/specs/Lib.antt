@@ -1,4 +1,3 @@
 pub mod Lines
 pub mod Loading
-pub mod Drawing
 pub mod Private

@@ -17,7 +17,7 @@ use Rattle.kbart_rows.specs.declared.error.TableError.TheVariants as table
 use Rattle.registry.specs.Targets.{TargetValue}
 use Rattle.registry.specs.Refusals.{IsRefusal}
 use Rattle.registry.specs.declared.error.AddErrorKind.TheVariants as add
-use Rattle.registry_file.specs.Drawing.{IsDrawn}
+use Rattle.kbart_rows.specs.Drawing.{IsDrawn}
 use Rattle.registry_file.specs.Lines.{IsTargetLine, IsNoTargetLine}
 use Rattle.registry_file.specs.declared.lines.TheConstants.{MAX_REGISTRY_BYTES}
 use Rattle.registry_file.specs.declared.error.RegistryError.{RegistryError}

@@ -1,8 +1,7 @@
 //! Why a registry file could not be loaded.
 
-use crate::keys::NoKeys;
 use files::{FileError, ReadError};
-use kbart_rows::TableError;
+use kbart_rows::{NoKeys, TableError};
 use registry::AddErrorKind;
 use std::alloc::AllocError;
 use thiserror::Error;

@@ -2,13 +2,11 @@
 #![tactic(auto)]
 
 mod error;
-mod keys;
 mod lines;
 mod load;
 mod stop;
 mod target;
 
 pub use error::{RegistryError, TargetError, TargetFault};
-pub use keys::{KeySource, NoKeys, SystemKeys};
 pub use lines::MAX_REGISTRY_BYTES;
 pub use load::load_registry;

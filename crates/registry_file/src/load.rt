@@ -11,12 +11,11 @@ ghost use Rattle.registry_file.specs.declared.error.RegistryError.TheVariants.{D
 ghost use Rattle.registry_file.specs.declared.lines.TheConstants.{MAX_REGISTRY_BYTES};
 
 use crate::error::RegistryError;
-use crate::keys::KeySource;
 use crate::lines::{MAX_REGISTRY_BYTES, read_lines, target_line};
 use crate::target::add_target;
 use csv::ByteRecord;
 use files::{Files, read_whole};
-use kbart_rows::Keys;
+use kbart_rows::{KeySource, Keys};
 use registry::Registry;
 use std::alloc::Global;
 

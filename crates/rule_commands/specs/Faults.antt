@@ -3,13 +3,12 @@ use Rattle.std.specs.Prelude.{ℕ}
 use Rattle.uri_grammar.specs.declared.error.TemplateError.{TemplateError}
 use Rattle.uri_grammar.specs.declared.error.TemplateErrorKind.{TemplateErrorKind}
 use Rattle.uri_grammar.specs.declared.error.TemplateErrorKind.TheVariants as template
-use Rattle.rule_parser.specs.declared.error.RuleError.{RuleError}
-use Rattle.rule_parser.specs.declared.error.RuleErrorKind.{RuleErrorKind}
-use Rattle.rule_parser.specs.declared.error.RuleErrorKind.TheVariants as rules
 use Rattle.compiler.specs.declared.error.CompileError.{CompileError}
 use Rattle.compiler.specs.declared.error.CompileError.TheVariants as compile
 use Rattle.command_base.specs.Faults.{status_of as status_of_base}
 use Rattle.command_base.specs.declared.fault.BaseFault.TheVariants.{Memory}
+use Rattle.rule_file.specs.declared.fault.RuleFileFault.{RuleFileFault}
+use Rattle.rule_file.specs.declared.fault.RuleFileFault.TheVariants as file
 use Rattle.rule_commands.specs.declared.fault.RuleFault.{RuleFault}
 use Rattle.rule_commands.specs.declared.fault.RuleFault.TheVariants.{Template, Rules, Compile, NoLink, Base}
 
@@ -31,12 +30,9 @@ template_fault_of_kind e kind = Template e
 abbrev pub template_fault : TemplateError → RuleFault
 template_fault e = template_fault_of_kind e e.kind
 
-abbrev pub rules_fault_of_kind : RuleError → RuleErrorKind → RuleFault
-rules_fault_of_kind e rules.NoMemory = out_of_memory
-rules_fault_of_kind e kind = Rules e
-
-abbrev pub rules_fault : RuleError → RuleFault
-rules_fault e = rules_fault_of_kind e e.kind
+abbrev pub file_fault : RuleFileFault → RuleFault
+file_fault (file.Rules e) = Rules e
+file_fault (file.Base fault) = Base fault
 
 abbrev pub compile_fault : CompileError → RuleFault
 compile_fault compile.NoMemory = out_of_memory

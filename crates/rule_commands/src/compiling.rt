@@ -7,9 +7,9 @@ ghost use Rattle.command_base.specs.Commands.{Makes};
 ghost use Rattle.rule_commands.specs.Compile.{IsCode, IsCompiled, IsNoCode, IsCompileFault};
 
 use crate::fault::RuleFault;
-use crate::reading::read_rules;
 use command_base::place_counted;
 use files::Files;
+use rule_file::read_rules;
 use rule_parser::Rules;
 use std::alloc::Global;
 

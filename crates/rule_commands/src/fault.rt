@@ -5,7 +5,8 @@ ghost use Rattle.rule_commands.specs.Faults.{status_of};
 
 use command_base::{BaseFault, NO_LINK, REFUSED};
 use compiler::CompileError;
-use rule_parser::{RuleError, RuleErrorKind};
+use rule_file::RuleFileFault;
+use rule_parser::RuleError;
 use std::alloc::AllocError;
 use thiserror::Error;
 use uri_grammar::{TemplateError, TemplateErrorKind};
@@ -79,16 +80,16 @@ impl<'a> From<TemplateError> for RuleFault<'a> {
     }
 }
 
-impl<'a> From<RuleError> for RuleFault<'a> {
-    ghost use Rattle.rule_commands.specs.Faults.{rules_fault};
+impl<'a> From<RuleFileFault<'a>> for RuleFault<'a> {
+    ghost use Rattle.rule_commands.specs.Faults.{file_fault};
     ghost use Rattle.std.specs.Prelude.{◌≡◌};
 
-    ghost from_gives = { λ e fault. fault ≡ rules_fault e };
+    ghost from_gives = { λ e fault. fault ≡ file_fault e };
 
-    fn from(e: RuleError) -> RuleFault<'a> {
-        match e.kind {
-            RuleErrorKind::NoMemory => RuleFault::Base(BaseFault::Memory),
-            _ => RuleFault::Rules(e),
+    fn from(e: RuleFileFault<'a>) -> RuleFault<'a> {
+        match e {
+            RuleFileFault::Rules(e) => RuleFault::Rules(e),
+            RuleFileFault::Base(fault) => RuleFault::Base(fault),
         }
     }
 }

@@ -6,11 +6,9 @@ mod compiling;
 mod expanding;
 mod fault;
 mod linking;
-mod reading;
 
 pub use arguments::{ExpandArguments, expand_arguments};
 pub use compiling::compile;
 pub use expanding::expand;
 pub use fault::RuleFault;
 pub use linking::link;
-pub use reading::read_rules;

@@ -14,9 +14,9 @@ ghost use Rattle.command_base.specs.Faults.{IsQueryFault};
 ghost use Rattle.rule_commands.specs.Link.{IsLink, IsLinkLine, IsNoLink, IsLinkFault};
 
 use crate::fault::RuleFault;
-use crate::reading::read_rules;
 use command_base::{BaseFault, ended, environment};
 use files::Files;
+use rule_file::read_rules;
 use rule_parser::{Rules, meaning};
 use std::alloc::Global;
 

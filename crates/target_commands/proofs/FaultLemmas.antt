@@ -15,9 +15,9 @@ use Rattle.kbart_rows.specs.declared.error.TableError.TheVariants as table
 use Rattle.command_base.specs.Faults.{IsReadFault}
 use Rattle.command_base.specs.declared.fault.BaseFault.{BaseFault}
 use Rattle.command_base.specs.declared.fault.BaseFault.TheVariants.{Query, Memory, Device}
-use Rattle.rule_commands.specs.Rules.{IsUnread}
-use Rattle.rule_commands.specs.declared.fault.RuleFault.{RuleFault}
-use Rattle.rule_commands.specs.declared.fault.RuleFault.TheVariants as rule
+use Rattle.rule_file.specs.Rules.{IsUnread}
+use Rattle.rule_file.specs.declared.fault.RuleFileFault.{RuleFileFault}
+use Rattle.rule_file.specs.declared.fault.RuleFileFault.TheVariants as rule
 use Rattle.target_commands.specs.declared.fault.ReviewFault.TheVariants.{Base}
 use Rattle.target_commands.specs.Explain.{IsQuery}
 use Rattle.target_commands.specs.Faults.{query_fault, table_fault}
@@ -46,12 +46,9 @@ module _ {F K : Type 0} (fails : F → FileCall → Text → F → Type 0) (no_k
   rejected old new bytes table.NoMemory exists gives fault = exists
 
 -- a call that failed on the file of the rules
-pub unread_rules : {F : Type 0} (fails : F → FileCall → Text → F → Type 0) (found : Found) (path : Text) (before after : F) (fault : RuleFault)
+pub unread_rules : {F : Type 0} (fails : F → FileCall → Text → F → Type 0) (found : Found) (path : Text) (before after : F) (fault : RuleFileFault)
     → IsUnread found path (fails before Read path after) fault → IsUnread found path (HasFailed fails Read path) fault
-unread_rules fails found path before after (rule.Template e) why = why
 unread_rules fails found path before after (rule.Rules e) why = why
-unread_rules fails found path before after (rule.Compile e) why = why
-unread_rules fails found path before after rule.NoLink why = why
 unread_rules fails found path before after (rule.Base (Query e)) why = why
 unread_rules fails found path before after (rule.Base Memory) why = why
 unread_rules fails found path before after (rule.Base (Device named)) why = (why.0, (before, after, why.1))

@@ -6,7 +6,7 @@ use Rattle.kev_read.specs.declared.error.KevError.{KevError}
 use Rattle.command_base.specs.Faults.{query_fault as query_fault_of_base, status_of as status_of_base}
 use Rattle.command_base.specs.declared.fault.BaseFault.{BaseFault}
 use Rattle.command_base.specs.declared.fault.BaseFault.TheVariants.{Query, Memory, Device}
-use Rattle.rule_commands.specs.Faults.{status_of as status_of_rule}
+use Rattle.rule_file.specs.Faults.{status_of as status_of_rule}
 use Rattle.target_commands.specs.declared.fault.ReviewFault.{ReviewFault}
 use Rattle.target_commands.specs.declared.fault.ReviewFault.TheVariants.{Rule, Table, Warning, Base}
 

@@ -8,7 +8,7 @@ use Rattle.files.specs.declared.call.FileCall.TheVariants.{Read}
 use Rattle.kbart_rows.specs.Cells.{Holdings}
 use Rattle.kbart_rows.specs.Reading.{IsTable, IsFault}
 use Rattle.kbart_rows.specs.declared.read.TheConstants.{MAX_TABLE_BYTES}
-use Rattle.registry_file.specs.Drawing.{IsDrawn}
+use Rattle.kbart_rows.specs.Drawing.{IsDrawn}
 use Rattle.command_base.specs.declared.fault.BaseFault.{BaseFault}
 use Rattle.command_base.specs.declared.fault.BaseFault.TheVariants.{Query, Memory, Device}
 use Rattle.target_commands.specs.declared.fault.ReviewFault.{ReviewFault}

@@ -6,7 +6,7 @@ ghost use Rattle.target_commands.specs.Faults.{status_of};
 use command_base::{BaseFault, NO_LINK, REFUSED};
 use kbart_rows::TableError;
 use kev_read::KevError;
-use rule_commands::RuleFault;
+use rule_file::RuleFileFault;
 use std::alloc::AllocError;
 use thiserror::Error;
 
@@ -15,7 +15,7 @@ use thiserror::Error;
 pub enum ReviewFault<'a> {
     /// The rule file could not be read.
     #[error("{0}")]
-    Rule(RuleFault<'a>),
+    Rule(RuleFileFault<'a>),
     /// The file is not a holdings table.
     #[error("table: {0}")]
     Table(TableError),
@@ -41,13 +41,13 @@ impl<'a> ReviewFault<'a> {
     }
 }
 
-impl<'a> From<RuleFault<'a>> for ReviewFault<'a> {
+impl<'a> From<RuleFileFault<'a>> for ReviewFault<'a> {
     ghost use Rattle.target_commands.specs.declared.fault.ReviewFault.TheVariants.{Rule};
     ghost use Rattle.std.specs.Prelude.{◌≡◌};
 
     ghost from_gives = { λ e fault. fault ≡ Rule e };
 
-    fn from(e: RuleFault<'a>) -> ReviewFault<'a> {
+    fn from(e: RuleFileFault<'a>) -> ReviewFault<'a> {
         ReviewFault::Rule(e)
     }
 }

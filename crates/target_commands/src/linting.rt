@@ -13,8 +13,8 @@ use crate::fault::ReviewFault;
 use crate::printing::print;
 use crate::targets::read_target;
 use files::Files;
+use kbart_rows::KeySource;
 use printed_text::Findings;
-use registry_file::KeySource;
 use std::alloc::Global;
 use std::io::Write;
 

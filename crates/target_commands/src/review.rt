@@ -14,7 +14,7 @@ use crate::fault::ReviewFault;
 use crate::inspecting::inspect;
 use crate::linting::lint;
 use files::Files;
-use registry_file::KeySource;
+use kbart_rows::KeySource;
 use std::alloc::Global;
 use std::io::Write;
 

@@ -7,8 +7,7 @@ ghost use Rattle.target_commands.specs.Tables.{IsTableAt, IsNoTable};
 use crate::fault::ReviewFault;
 use command_base::{BaseFault, read_file};
 use files::Files;
-use kbart_rows::{MAX_TABLE_BYTES, Table, TableError};
-use registry_file::KeySource;
+use kbart_rows::{KeySource, MAX_TABLE_BYTES, Table, TableError};
 use std::alloc::Global;
 
 /// The holdings table at the path, which has at most 16,777,216 bytes. Random keys are drawn for its hashed look-ups.

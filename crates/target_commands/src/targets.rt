@@ -7,9 +7,8 @@ ghost use Rattle.target_commands.specs.Targets.{IsNoTarget, IsTarget};
 use crate::fault::ReviewFault;
 use crate::tables::read_table;
 use files::Files;
-use kbart_rows::Table;
-use registry_file::KeySource;
-use rule_commands::read_rules;
+use kbart_rows::{KeySource, Table};
+use rule_file::read_rules;
 use rule_parser::Rules;
 use std::alloc::Global;
 

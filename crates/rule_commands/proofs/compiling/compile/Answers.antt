@@ -1,15 +1,19 @@
 use Rattle.std.proofs.Common.{inl, inr, string_bytes}
 use Rattle.std.proofs.lemmas.Result.{err_from_is_err_and}
 use Rattle.files.specs.Placing.{IsPlaceFailure, beside}
+use Rattle.files.specs.declared.call.FileCall.TheVariants.{Read}
 use Rattle.command_base.proofs.CommandLemmas.{as_before, makes, not_placed}
 use Rattle.rule_commands.specs.Compile.{IsCompiled}
 use Rattle.rule_commands.specs.declared.fault.RuleFault.TheVariants.{Base}
+use Rattle.rule_commands.proofs.FaultLemmas.{unread}
 use Rattle.rule_commands.proofs.compiling.compile.Goals as goal
 
 pub returns-in_err-parsed-clause-err : goal.returns-in_err-parsed-clause-err
 returns-in_err-parsed-clause-err g c =
+    let path = c.args.rules.now in
+    let failed = g.F.Files.fails c.args.files.now Read path c.read_rules.new.files in
     let made = err_from_is_err_and c.from_residual.result c.from_residual.ensures.1 in
-    rw (made.1, made.2) (inl c.in_err-parsed.ensures.err)
+    rw (made.1, made.2) (inl (unread (g.F.Files.at c.args.files.now path) path failed c.in_err-parsed.field-0.0 c.in_err-parsed.ensures.err))
 
 pub returns-in_err-parsed-clause-kept : goal.returns-in_err-parsed-clause-kept
 returns-in_err-parsed-clause-kept g c =

@@ -1,11 +1,15 @@
 use Rattle.std.proofs.Common.{inl, inr, string_bytes}
 use Rattle.std.proofs.lemmas.Result.{err_from_is_err_and}
+use Rattle.files.specs.declared.call.FileCall.TheVariants.{Read}
+use Rattle.rule_commands.proofs.FaultLemmas.{unread}
 use Rattle.rule_commands.proofs.linking.link.Goals as goal
 
 pub returns-in_err-rules-clause-err : goal.returns-in_err-rules-clause-err
 returns-in_err-rules-clause-err g c =
+    let path = c.args.path.now in
+    let failed = g.F.Files.fails c.args.files.now Read path c.read_rules.new.files in
     let made = err_from_is_err_and c.from_residual.result c.from_residual.ensures.1 in
-    rw (made.1, made.2) (inl c.in_err-rules.ensures.err)
+    rw (made.1, made.2) (inl (unread (g.F.Files.at c.args.files.now path) path failed c.in_err-rules.field-0.0 c.in_err-rules.ensures.err))
 
 pub returns-in_err-link-clause-err : goal.returns-in_err-link-clause-err
 returns-in_err-link-clause-err g c =

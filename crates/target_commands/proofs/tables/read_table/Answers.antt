@@ -2,7 +2,7 @@ use Rattle.std.proofs.Common.{IfNone, IfSome, length, ◌≤◌, inr, refl, subs
 use Rattle.std.proofs.lemmas.Result.{err_from_is_err_and}
 use Rattle.files.specs.Found.{Gives, IsLong}
 use Rattle.kbart_rows.specs.Reading.{IsTable}
-use Rattle.registry_file.specs.Drawing.{IsDrawn}
+use Rattle.kbart_rows.specs.Drawing.{IsDrawn}
 use Rattle.target_commands.proofs.FaultLemmas.{rejected, unread}
 use Rattle.target_commands.proofs.tables.read_table.Goals as goal
 

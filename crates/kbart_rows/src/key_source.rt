@@ -1,10 +1,10 @@
-//! Secret keys of tables.
+//! Where the secret keys of tables come from.
 
 ghost use Rattle.std.specs.Prelude.{ℕ, IfOk, OnErr};
 ghost use Rattle.kbart_rows.specs.declared.keys.Keys.{Keys};
-ghost use Rattle.registry_file.specs.Drawing.{IsDrawn};
+ghost use Rattle.kbart_rows.specs.Drawing.{IsDrawn};
 
-use kbart_rows::Keys;
+use crate::keys::Keys;
 use std::io;
 use std::random::RandomSource;
 use thiserror::Error;

@@ -3,8 +3,8 @@ use Rattle.std.proofs.lemmas.Result.{err_from_is_err_and}
 use Rattle.files.specs.Found.{Gives, IsLong}
 use Rattle.files.specs.declared.call.FileCall.TheVariants.{Read}
 use Rattle.rule_parser.specs.Grammar.{IsRuleText}
-use Rattle.rule_commands.proofs.FaultLemmas.{too_long, unread}
-use Rattle.rule_commands.proofs.reading.read_rules.Goals as goal
+use Rattle.rule_file.proofs.FaultLemmas.{too_long, unread}
+use Rattle.rule_file.proofs.reading.read_rules.Goals as goal
 
 pub returns-in_err-bytes-clause-err : goal.returns-in_err-bytes-clause-err
 returns-in_err-bytes-clause-err g c =

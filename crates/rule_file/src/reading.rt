@@ -1,13 +1,12 @@
-//! Rule files.
+//! Reading rule files.
 
 ghost use Rattle.std.specs.Prelude.{◌≢◌, IfOk, IfErr, OnOk};
-ghost use Rattle.files.specs.Found.{Absent, OfFile};
+ghost use Rattle.files.specs.Found.{Absent};
 ghost use Rattle.files.specs.Changes.{Unchanged};
 ghost use Rattle.files.specs.declared.call.FileCall.TheVariants.{Read};
-ghost use Rattle.rule_parser.specs.Grammar.{IsRuleText};
-ghost use Rattle.rule_commands.specs.Rules.{IsUnread};
+ghost use Rattle.rule_file.specs.Rules.{HasRules, IsUnread};
 
-use crate::fault::RuleFault;
+use crate::fault::RuleFileFault;
 use command_base::read_file;
 use files::Files;
 use rule_parser::{MAX_BYTES, RuleError, RuleErrorKind, Rules};
@@ -24,15 +23,15 @@ pub fn read_rules<'a, F: Files>(
     alloc: Global,
     files: &mut F,
     path: &'a str,
-) -> Result<Rules, RuleFault<'a>>
-    ensures ok { IfOk result (λ rules. OfFile (F.at files.old path.now) (λ bytes. IsRuleText bytes rules)) }
+) -> Result<Rules, RuleFileFault<'a>>
+    ensures ok { IfOk result (HasRules (F.at files.old path.now)) }
     ensures exists { OnOk result (F.at files.old path.now ≢ Absent) }
     ensures err { IfErr result
         (IsUnread (F.at files.old path.now) path.now (F.fails files.old Read path.now files.new)) }
     ensures same { Unchanged (F.at files.old) (F.at files.new) }
 {
     let Some(bytes) = read_file(alloc, files, path, MAX_BYTES)? else {
-        return Err(RuleFault::Rules(TOO_LONG));
+        return Err(RuleFileFault::Rules(TOO_LONG));
     };
     Ok(Rules::parse(alloc, &bytes)?)
 }
