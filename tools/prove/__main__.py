@@ -1,7 +1,7 @@
 """Proves the crates that the program depends on, builds it, and runs it: python3 tools/prove [ARGUMENT ..]
 
-Proofs run side by side (schedule.py), each as an rt command in a folder of its own (room.py). What they prove stays in
-crates/NAME/out/, so after an interrupt the next run continues from there."""
+Proofs run side by side (schedule.py), each as a command of the toolchain (toolchain.py). What they prove stays in
+crates/openlink/out/proofs/, so after an interrupt the next run continues from there."""
 
 import os
 import signal
@@ -12,13 +12,11 @@ import time
 sys.dont_write_bytecode = True
 
 import machine
-import room
 from crates import Crates
 from schedule import Schedule
+from toolchain import Toolchain
 
 PROGRAM = "openlink"
-# The harmless run that `rt run` ends with.
-HARMLESS = ["expand", "x", ""]
 FAILED = 70
 SHOWN = 15
 
@@ -49,57 +47,48 @@ def pause(seconds=0.05):
 class Proofs:
     """The proofs that run now."""
 
-    def __init__(self, crates, schedule):
-        self.crates, self.schedule = crates, schedule
+    def __init__(self, crates, toolchain, schedule):
+        self.crates, self.toolchain, self.schedule = crates, toolchain, schedule
         self.running = {}
 
     def start_ready(self):
         while found := self.schedule.next():
             name, jobs = found
-            words = ["rt", "lib", "--jobs", str(jobs)]
-            if name == PROGRAM:
-                words = ["rt", "run", "--jobs", str(jobs), "--", *HARMLESS]
-            place = room.Room(self.crates, name)
-            self.running[name] = place, None
-            place.open()
-            self.running[name] = place, machine.start(words, place.folder, self.log(name))
+            self.crates.unmark(name)
+            words = self.toolchain.proof(self.crates, name, jobs)
+            self.running[name] = machine.start(words, self.crates.folder(name), self.crates.log(name))
             self.schedule.start(name, jobs)
 
-    def log(self, name):
-        return f"{self.crates.folder(name)}/out/{room.LOG}"
-
     def end_finished(self):
-        for name, (place, process) in [*self.running.items()]:
+        for name, process in [*self.running.items()]:
             status = process.poll()
             if status is None:
                 continue
-            place.close()
             del self.running[name]
-            if status or name == PROGRAM and not os.access(program_of(self.crates), os.X_OK):
+            if status:
                 raise Failed(self.failure(name, status))
             self.crates.mark_proved(name)
             self.schedule.end(name)
 
     def failure(self, name, status):
-        with open(self.log(name), encoding="utf-8", errors="replace") as file:
+        log = self.crates.log(name)
+        with open(log, encoding="utf-8", errors="replace") as file:
             lines = file.read().splitlines()[-SHOWN:]
         how = f"was ended by signal {-status}" if status < 0 else f"ended with status {status}"
-        return "\n".join([f"the proof of the crate {name} {how}; the end of {self.log(name)}:", *lines])
+        return "\n".join([f"the proof of the crate {name} {how}; the end of {log}:", *lines])
 
     def end(self):
-        machine.end([process for _, process in self.running.values() if process])
-        for place, _ in self.running.values():
-            place.close()
+        machine.end([*self.running.values()])
 
 
 def program_of(crates):
     return f"{crates.folder(PROGRAM)}/out/{PROGRAM}"
 
 
-def prove_all(crates):
+def prove_all(crates, toolchain):
     done = [name for name in crates.names if crates.is_proved(name)]
     schedule = Schedule(crates, machine.slots(), done)
-    proofs = Proofs(crates, schedule)
+    proofs = Proofs(crates, toolchain, schedule)
     say(f"{len(done)} of {len(crates.names)} crates proved; proving the others and building takes minutes")
     # On a terminal a line often enough to see that it works, and elsewhere seldom, since it may be a log.
     interval = 20 if sys.stderr.isatty() else 120
@@ -136,23 +125,27 @@ def become(program, arguments):
     os.execv(program, [program, *arguments])
 
 
+def link(crates, toolchain, started):
+    """Links the program. A source that was edited since the start is newer than it."""
+    program, new = program_of(crates), f"{crates.proofs}/{PROGRAM}"
+    subprocess.run(toolchain.link(crates.built(PROGRAM), new), stdout=sys.stderr, check=True)
+    os.utime(new, (started, started))
+    os.replace(new, program)
+
+
 def build(root, arguments):
     """Returns the program, once it is built."""
     started = time.time()
-    kit = subprocess.run(["rt", "version"], stdout=subprocess.PIPE, text=True, check=True).stdout
-    crates, wait = Crates(root, PROGRAM, kit), Wait()
-    # These are rt's locks, in rt's order; they end with this process.
-    for folder in sorted(map(crates.folder, crates.names)):
-        room.lock(folder, wait)
+    toolchain, wait = Toolchain(), Wait()
+    crates = Crates(root, PROGRAM, toolchain.version)
+    os.makedirs(crates.proofs, exist_ok=True)
+    # rt takes the same lock before it touches the program's out/. It ends with this process.
+    machine.lock(crates.folder(PROGRAM), wait)
     if wait.has_waited:
         # The other run may have built the program.
         become(f"{root}/openlink", arguments)
-    for name in crates.names:
-        os.makedirs(f"{crates.folder(name)}/out", exist_ok=True)
-    room.close_all(crates, wait)
-    prove_all(crates)
-    # A source that was edited since the start is newer than the program.
-    os.utime(program_of(crates), (started, started))
+    prove_all(crates, toolchain)
+    link(crates, toolchain, started)
     return program_of(crates)
 
 

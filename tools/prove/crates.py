@@ -11,23 +11,25 @@ LEAST = 1000
 
 
 def read(root):
-    """Returns the line of each crate that crates.txt lists, by name, and its dependencies among them."""
+    """Returns the line of each crate that crates.txt lists, by name, and the names of its dependencies."""
     lines = {}
     with open(f"{root}/crates.txt", encoding="utf-8") as file:
         for row in file:
             row = row.partition("#")[0].strip()
             if row:
                 lines[row.partition(":")[0].split()[0]] = row
-    words = {name: row.partition(":")[2].replace(",", " ").split() for name, row in lines.items()}
-    return lines, {name: [dep for dep in deps if dep in lines] for name, deps in words.items()}
+    return lines, {name: row.partition(":")[2].replace(",", " ").split() for name, row in lines.items()}
 
 
 class Crates:
     """A program and the crates that it depends on. In `names`, each comes after those that it depends on, the program last."""
 
     def __init__(self, root, program, kit):
-        self.root, self.program, self.kit = root, program, kit
-        self.lines, self.deps = read(root)
+        self.root, self.program = root, program
+        self.proofs = f"{self.folder(program)}/out/proofs"
+        self.lines, named = read(root)
+        self.deps = {name: [dep for dep in deps if dep in named] for name, deps in named.items()}
+        self.of_toolchain = {name: [dep for dep in deps if dep not in named] for name, deps in named.items()}
         self.names, self.below = [], {}
         self._visit(program)
         size = {name: self._size(name) for name in self.names}
@@ -59,6 +61,13 @@ class Crates:
     def folder(self, name):
         return f"{self.root}/crates/{name}"
 
+    def built(self, name):
+        """Returns the path of the crate's library or, of the program, of its object file."""
+        return f"{self.proofs}/{name}.{'o' if name == self.program else 'rlib'}"
+
+    def log(self, name):
+        return f"{self.proofs}/{name}.log"
+
     def _size(self, name):
         return sum(os.path.getsize(file) for file in files(self.folder(name), ("src",)))
 
@@ -72,20 +81,24 @@ class Crates:
         return found.hexdigest()
 
     def is_proved(self, name):
-        """Returns whether the library that is built was proved from these sources, with this toolchain. `rt lib` tests
-        the same in up to a minute. The final build does not rely on this: rt tests there what it builds on."""
+        """Returns whether the library that is built was proved from these sources, with this toolchain."""
         return name != self.program and _text(self._mark(name)) == self.sums[name]
 
+    def unmark(self, name):
+        """Removes the note before a new proof replaces the library."""
+        if os.path.lexists(self._mark(name)):
+            os.remove(self._mark(name))
+
     def mark_proved(self, name):
-        """Notes that `rt lib` has proved the crate, unless its sources have changed since the start. rt removes the
-        note with the library."""
-        stamp = f"{self.folder(name)}/out/rlib/stamp"
-        if name != self.program and os.path.isfile(stamp) and self.own_sum(name) == self.own[name]:
+        """Notes that the crate was proved, unless its sources, or those of a crate below it, have changed since the
+        start."""
+        is_same = self.own_sum(name) == self.own[name] and all(map(self.is_proved, self.deps[name]))
+        if name != self.program and is_same:
             with open(self._mark(name), "w", encoding="utf-8") as file:
                 file.write(self.sums[name])
 
     def _mark(self, name):
-        return f"{self.folder(name)}/out/rlib/sum"
+        return f"{self.proofs}/{name}.sum"
 
 
 def files(folder, parts):

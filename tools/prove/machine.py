@@ -1,5 +1,6 @@
 """What the machine offers, processors and memory, and the processes that run on it."""
 
+import fcntl
 import os
 import re
 import signal
@@ -28,6 +29,19 @@ def slots():
         anonymous = re.search(r"^anon (\d+)", held, re.M)
         found.append((int(limit) - int(anonymous[1] if anonymous else 0)) // JOB)
     return max(1, min(found))
+
+
+def lock(folder, wait):
+    """Takes a lock on a folder, as rt does, and returns what holds it. While another process has it, calls wait."""
+    held = os.open(folder, os.O_RDONLY)
+    while True:
+        try:
+            fcntl.flock(held, fcntl.LOCK_EX | fcntl.LOCK_NB)
+            return held
+        except BlockingIOError:
+            wait()
+        except OSError:
+            return held  # some file systems have no locks
 
 
 def start(words, folder, log):
