@@ -6,7 +6,7 @@ import os
 PARTS = ("src", "specs", "proofs")
 # How much of the time of a proof the crates below add, per byte of their src/, and what each proof costs at least, in
 # bytes of src/. Compared with measured times, the bytes of src/ predict far better than those of specs/ and proofs/.
-BELOW = 0.1
+BELOW = 0.02
 LEAST = 1000
 
 
