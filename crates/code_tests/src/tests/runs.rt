@@ -8,6 +8,12 @@ use std::test::Fail;
 use target_vars::Env;
 use verifier::{Verified, load};
 
+/// Accepted code of these instructions, and an environment.
+fn code_and_env(alloc: Global, text: &str, entries: &[Entry]) -> Result<(Verified, Env), Fail> {
+    let code = load(alloc, &file(alloc, b'1', text)?)?;
+    Ok((code, environment(alloc, entries)?))
+}
+
 /// Whether a run has ended after a turn, its steps, its place, the first two registers if it is in a loop, and its
 /// output.
 fn standing_text(alloc: Global, run: &Run<'_>, ended: bool) -> Result<String, AllocError> {
@@ -67,8 +73,7 @@ const TURNS: [(&str, &[Entry], &[u64], &str); 4] = [
 #[test]
 fn takes_turns(rt: HostRuntime) -> Result<(), Fail> {
     for (text, entries, turns, expected) in TURNS {
-        let code = load(rt.alloc(), &file(rt.alloc(), b'1', text)?)?;
-        let env = environment(rt.alloc(), entries)?;
+        let (code, env) = code_and_env(rt.alloc(), text, entries)?;
         let result = standings(rt.alloc(), &code, &env, turns)?;
         assert_eq!(rt; result.as_str(), expected);
     }
@@ -101,8 +106,7 @@ fn stepped(
 
 #[test]
 fn steps_on_its_words(rt: HostRuntime) -> Result<(), Fail> {
-    let code = load(rt.alloc(), &file(rt.alloc(), b'1', LIST_CODE)?)?;
-    let env = environment(rt.alloc(), COLOURS)?;
+    let (code, env) = code_and_env(rt.alloc(), LIST_CODE, COLOURS)?;
     for (n, expected) in [(5, (Step::More, Some(3))), (11, (Step::Link, Some(5)))] {
         assert_eq!(rt; stepped(rt.alloc(), &code, &env, n)?, expected);
     }
@@ -140,12 +144,11 @@ fn both(alloc: Global, codes: (&Verified, &Verified), envs: (&Env, &Env)) -> Res
 
 #[test]
 fn takes_turns_side_by_side(rt: HostRuntime) -> Result<(), Fail> {
-    let colours = environment(rt.alloc(), COLOURS)?;
-    let letter = environment(rt.alloc(), &[(false, "x", "a", 1)])?;
-    let list = load(rt.alloc(), &file(rt.alloc(), b'1', LIST_CODE)?)?;
-    let optional = load(rt.alloc(), &file(rt.alloc(), b'1', OPTIONAL)?)?;
+    let (list, colours) = code_and_env(rt.alloc(), LIST_CODE, COLOURS)?;
+    let (optional, letter) = code_and_env(rt.alloc(), OPTIONAL, &[(false, "x", "a", 1)])?;
+    let result = both(rt.alloc(), (&list, &optional), (&colours, &letter))?;
     assert_eq!(rt;
-        both(rt.alloc(), (&list, &optional), (&colours, &letter))?.as_str(),
+        result.as_str(),
         "false 1, true 4, true 12, true 4, link red,green,blue, link a"
     );
     Ok(())
