@@ -1,16 +1,17 @@
 //! The names of the columns of any number of tables.
 
-ghost use Rattle.std.specs.Prelude.{◌≡◌, ◌||◌, OnErr, OnOk, false, is_some, true};
+ghost use Rattle.std.specs.Prelude.{◌≡◌, ◌||◌, OnErr, OnOk, false, is_some, length, true};
 ghost use Rattle.std.specs.Str.{bytes_eq};
 ghost use Rattle.text_model.specs.Texts.{Text};
 ghost use Rattle.kbart_rows.specs.Cells.{column_of};
-ghost use Rattle.kbart_rows.specs.ColumnNames.{has};
+ghost use Rattle.kbart_rows.specs.ColumnNames.{has, names_in};
 
 use crate::keys::Keys;
 use crate::row_cursor::RowCursor;
 use crate::table::Table;
 use std::alloc::{AllocError, Global};
 use std::collections::HashSet;
+use std::collections::hash_set::Iter;
 
 /// The names of the columns of any number of tables; each name is kept once.
 #[derive(Drop)]
@@ -46,6 +47,20 @@ impl ColumnNames {
         ensures { result ≡ has self.now name.now }
     {
         self.names.contains(name)
+    }
+
+    /// How many names there are.
+    pub fn len(&self) -> usize
+        ensures { result ≡ length (names_in self.now) }
+    {
+        self.names.len()
+    }
+
+    /// Each name once, in any order.
+    pub fn iter(&self) -> Iter<'_, String>
+        ensures { result ≡ names_in self.now }
+    {
+        self.names.iter()
     }
 
     fn add_name(&mut self, alloc: Global, name: &str) -> Result<(), AllocError>

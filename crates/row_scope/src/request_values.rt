@@ -1,9 +1,9 @@
 //! The values that a request has under its keys.
 
 ghost use Rattle.std.specs.Prelude.{◌≡◌, ◌+◌, ◌-◌, ◌<◌, ◌≤◌, ◌*◌, [], IfOk, List, Some, drop, false, length, slice_get};
-ghost use Rattle.std.specs.Prelude.{sum_by, take, true};
+ghost use Rattle.std.specs.Prelude.{◌==◌, not, sum_by, take, true};
 ghost use Rattle.text_model.specs.Texts.{Text};
-ghost use Rattle.environment_model.specs.Environment.{byte_count, member_count};
+ghost use Rattle.environment_model.specs.Environment.{byte_count, member_count, members_of};
 ghost use Rattle.environment_model.specs.Lists as lists;
 ghost use Rattle.target_vars.specs.EnvValue.{IsWithin, piece_at};
 ghost use Rattle.target_vars.specs.declared.env.TheConstants.{MAX_BYTES, MAX_MEMBERS};
@@ -65,13 +65,14 @@ impl<'a> RequestValues<'a> {
         let _in_order = values.buffer();
         let ends = ends_of(alloc, &values)?;
         let (bytes, members) = sums_without_lists(request);
+        let meets = names_a_column(request, &values, columns);
         Ok(RequestValues {
             request,
             values,
             ends,
             bytes,
             members,
-            meets: names_a_column(request, columns),
+            meets,
         })
     }
 
@@ -171,8 +172,28 @@ impl<'a> RequestValues<'a> {
     }
 }
 
-/// Whether a key of a request is the name of one of the columns.
-fn names_a_column(request: &Request, columns: &ColumnNames) -> bool
+/// Whether a key of a request is the name of one of the columns. It looks each column's name up in the request, or each
+/// key among the columns, whichever are fewer.
+fn names_a_column(request: &Request, values: &KeyValues, columns: &ColumnNames) -> bool
+    requires { (key : Text) → members_of values.now.entries key ≡ all_of request.now.pairs key }
+    ensures { result ≡ false → (name : Text) → has columns.now name ≡ true → all_of request.now.pairs name ≡ [] }
+{
+    if columns.len() < request.pairs() {
+        columns.iter().any(|name| is_key(values, name.as_str()))
+    } else {
+        any_key_is_a_column(request, columns)
+    }
+}
+
+/// Whether a request has a value under the name.
+fn is_key(values: &KeyValues, name: &str) -> bool
+    ensures { result ≡ not (length (members_of values.now.entries name.now) == 0) }
+{
+    values.members_at(name).1 > 0
+}
+
+/// Whether a key of a request is the name of one of the columns, which are searched for each key.
+fn any_key_is_a_column(request: &Request, columns: &ColumnNames) -> bool
     ensures { result ≡ false → (name : Text) → has columns.now name ≡ true → all_of request.now.pairs name ≡ [] }
 {
     for index in 0..request.pairs() {

@@ -1,7 +1,7 @@
 use Rattle.std.proofs.Common.{◌≡◌, false, All, take}
 use Rattle.kev_read.specs.Pairs.{KeyValue}
 use Rattle.kbart_rows.specs.ColumnNames.{has}
-use Rattle.row_scope.proofs.request_values.names_a_column.Given as goal
+use Rattle.row_scope.proofs.request_values.any_key_is_a_column.Given as goal
 
 -- none of the keys so far is the name of a column
 abbrev pub invariant-loop-index : goal.invariant-loop-index
