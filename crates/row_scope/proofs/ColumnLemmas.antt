@@ -1,5 +1,6 @@
 -- Keys that are not names of columns, and columns whose names are not keys.
-use Rattle.std.proofs.Common.{◌≡◌, ◌==◌, true, false, true≢false, arith, cond, not, List, [], ◌∷◌, All, String, Global, string_bytes, length, map, filter, refl, sym, ap, ◌∙◌}
+use Rattle.std.proofs.Common.{◌≡◌, ◌==◌, true, false, true≢false, arith, cond, not, List, [], ◌∷◌, All, String, Global, string_bytes, length}
+use Rattle.std.proofs.Common.{map, filter, refl, sym, ap, ◌∙◌}
 use Rattle.std.specs.List.{list_any}
 use Rattle.std.specs.Str.{bytes_eq}
 use Rattle.std.proofs.lemmas.List.Elements.{All-head, All-tail}
