@@ -1,40 +1,85 @@
--- Keys that are not names of columns, and columns whose names are not keys.
-use Rattle.std.proofs.Common.{◌≡◌, ◌==◌, true, false, true≢false, arith, cond, not, List, [], ◌∷◌, All, String, Global, string_bytes, length}
-use Rattle.std.proofs.Common.{map, filter, refl, sym, ap, ◌∙◌}
+-- Keys that are names of columns, and columns whose names are keys.
+use Rattle.std.proofs.Common.{◌≡◌, ◌==◌, ◌||◌, ◌<◌, ℕ, zero, suc, Bool, true, false, true≢false, cond, not, List, [], ◌∷◌, String, Global}
+use Rattle.std.proofs.Common.{string_bytes, length, get_or, map, filter, refl, sym, ap, ◌∙◌, arith}
+use Rattle.std.proofs.Math.Bool.{or-true}
 use Rattle.std.specs.List.{list_any}
 use Rattle.std.specs.Str.{bytes_eq}
-use Rattle.std.proofs.lemmas.List.Elements.{All-head, All-tail}
 use Rattle.std.proofs.lemmas.List.Folds.{Any-from_list_any, list_any_at}
 use Rattle.std.proofs.lemmas.Slice.Eq.{bytes_eq-Decides}
 use Rattle.text_model.specs.Texts.{Text}
 use Rattle.kev_read.specs.Pairs.{KeyValue, all_of, has_key}
-use Rattle.kbart_rows.specs.ColumnNames.{has}
+use Rattle.kbart_rows.specs.ColumnNames.{has, names_in}
 use Rattle.kbart_rows.specs.declared.column_names.ColumnNames.{ColumnNames}
+use Rattle.row_scope.specs.RequestValues.{has_key_among}
 
-pub no_values : (columns : ColumnNames) (pairs : List KeyValue) → All (λ pair. has columns pair.key ≡ false) pairs
+is_nothing : (xs : List Text) → ((xs ≡ [] → ⊥) → ⊥) → xs ≡ []
+is_nothing [] some = refl
+is_nothing (x ∷ xs) some = absurd (some (λ none. omega (arith, ap length none)))
+
+has_length : (xs : List Text) → (xs ≡ [] → ⊥) → not (length xs == 0) ≡ true
+has_length [] some = absurd (some refl)
+has_length (x ∷ xs) some = grind arith
+
+same_truth : (a b : Bool) → (a ≡ true → b ≡ true) → (b ≡ true → a ≡ true) → a ≡ b
+same_truth true b to from = sym (to refl)
+same_truth false true to from = from refl
+same_truth false false to from = refl
+
+-- a column under whose name there is a value
+column_with_value : (columns : ColumnNames) (pairs : List KeyValue) (name : Text) → has columns name ≡ true → (all_of pairs name ≡ [] → ⊥)
+    → has_key_among columns pairs ≡ true
+column_with_value columns [] name there value = absurd (value refl)
+column_with_value columns (pair ∷ pairs) name there value =
+    elim (has_key name pair) as (λ b. has_key name pair ≡ b
+    → (map (λ p. p.value) (cond b (pair ∷ filter (has_key name) pairs) (filter (has_key name) pairs)) ≡ [] → ⊥)
+    → (has columns pair.key || has_key_among columns pairs) ≡ true) [
+      | true ↦ λ same some. ap (λ b. b || has_key_among columns pairs) (ap (has columns) ((bytes_eq-Decides pair.key name).0 same) ∙ there)
+      | false ↦ λ other some. ap (λ b. has columns pair.key || b) (column_with_value columns pairs name there some) ∙ or-true (has columns pair.key)
+    ] refl value
+
+-- a pair's key has a value
+key_with_value : (pairs : List KeyValue) (i : ℕ) (d : KeyValue) → i < length pairs → all_of pairs (get_or pairs i d).key ≡ [] → ⊥
+key_with_value [] i d within none = omega (arith, within)
+key_with_value (pair ∷ pairs) zero d within none =
+    let values = λ (b : Bool). map (λ (p : KeyValue). p.value) (cond b (pair ∷ filter (has_key pair.key) pairs) (filter (has_key pair.key) pairs)) in
+    omega (arith, ap length (sym (ap values ((bytes_eq-Decides pair.key pair.key).1 refl)) ∙ none))
+key_with_value (pair ∷ pairs) (suc i) d within none =
+    let key = (get_or pairs i d).key in
+    elim (has_key key pair) as (λ b. map (λ p. p.value) (cond b (pair ∷ filter (has_key key) pairs) (filter (has_key key) pairs)) ≡ [] → ⊥) [
+      | true ↦ λ nothing. omega (arith, ap length nothing)
+      | false ↦ key_with_value pairs i d (omega (arith, within))
+    ] none
+
+-- if no key is a column, there is no value under the name of one
+pub no_values : (columns : ColumnNames) (pairs : List KeyValue) → has_key_among columns pairs ≡ false
     → (name : Text) → has columns name ≡ true → all_of pairs name ≡ []
-no_values columns [] none name there = refl
-no_values columns (pair ∷ pairs) none name there =
-    let P = λ (p : KeyValue). has columns p.key ≡ false in
-    let here = All-head P pair pairs none in
-    let others = no_values columns pairs (All-tail P pair pairs none) name there in
-    elim (has_key name pair) as (λ b. has_key name pair ≡ b → map (λ p. p.value) (cond b (pair ∷ filter (has_key name) pairs) (filter (has_key name) pairs))
-    ≡ []) [
-      | true ↦ λ same. absurd (let key = (bytes_eq-Decides pair.key name).0 same in let is = sym here ∙ ap (has columns) key ∙ there in cc)
-      | false ↦ λ other. others
-    ] refl
+no_values columns pairs none name there =
+    is_nothing (all_of pairs name) (λ some. true≢false (sym (column_with_value columns pairs name there some) ∙ none))
 
-is_nothing : (xs : List Text) → (not (length xs == 0) ≡ true → ⊥) → xs ≡ []
-is_nothing [] no_value = refl
-is_nothing (x ∷ xs) no_value = absurd (no_value (grind arith))
+module _ (columns : ColumnNames) (pairs : List KeyValue) (values : Text → List Text) (same : (key : Text) → values key ≡ all_of pairs key) where
+  abbrev has_value : String Global → Bool
+  has_value name = not (length (values (string_bytes name)) == 0)
 
--- if there is no value under any of the names, there is none under a text that is one of them
-pub no_values_under : (values : Text → List Text) (names : List (String Global)) → list_any (λ n. not (length (values (string_bytes n)) == 0)) names ≡ false
-    → (name : Text) → list_any (λ n. bytes_eq name (string_bytes n)) names ≡ true → values name ≡ []
-no_values_under values names none name there =
-    let any = Any-from_list_any (λ n. bytes_eq name (string_bytes n)) names there in
-    let n = any.1 in
-    let is : name ≡ string_bytes n = (bytes_eq-Decides name (string_bytes n)).0 any.4 in
-    let has_value = λ (m : String Global). not (length (values (string_bytes m)) == 0) in
-    ap values is
-    ∙ is_nothing (values (string_bytes n)) (λ some. true≢false (sym (list_any_at has_value names any.0 n any.2 (ap has_value any.3 ∙ some)) ∙ none))
+  column_is_key : list_any has_value (names_in columns) ≡ true → has_key_among columns pairs ≡ true
+  column_is_key found =
+      let any = Any-from_list_any has_value (names_in columns) found in
+      let name = string_bytes any.1 in
+      let is_name = λ (n : String Global). bytes_eq name (string_bytes n) in
+      let there = list_any_at is_name (names_in columns) any.0 any.1 any.2 (ap is_name any.3 ∙ (bytes_eq-Decides name name).1 refl) in
+      let none = λ (nothing : all_of pairs name ≡ []). true≢false (sym any.4 ∙ ap (λ (vs : List Text). not (length vs == 0)) (same name ∙ nothing)) in
+      column_with_value columns pairs name there none
+
+  key_is_column : has_key_among columns pairs ≡ true → list_any has_value (names_in columns) ≡ true
+  key_is_column found =
+      let any = Any-from_list_any (λ (pair : KeyValue). has columns pair.key) pairs found in
+      let key = any.1.key in
+      let at = Any-from_list_any (λ (n : String Global). bytes_eq key (string_bytes n)) (names_in columns) any.4 in
+      let name = string_bytes at.1 in
+      let values_are : values name ≡ all_of pairs (get_or pairs any.0 any.1).key =
+      same name ∙ sym (ap (λ (pair : KeyValue). all_of pairs pair.key) any.3 ∙ ap (all_of pairs) ((bytes_eq-Decides key name).0 at.4)) in
+      let some = has_length (values name) (λ none. key_with_value pairs any.0 any.1 any.2 (sym values_are ∙ none)) in
+      list_any_at has_value (names_in columns) at.0 at.1 at.2 (ap has_value at.3 ∙ some)
+
+  -- whether a key is a column can be found by the names of the columns
+  pub found_by_columns : list_any has_value (names_in columns) ≡ has_key_among columns pairs
+  found_by_columns = same_truth (list_any has_value (names_in columns)) (has_key_among columns pairs) column_is_key key_is_column

@@ -1,5 +1,6 @@
 -- The values that a request has under its keys.
 use Rattle.std.specs.Prelude.{◌≡◌, ℕ, ◌+◌, ◌*◌, ◌≤◌, Bool, true, false, [], is_some, List, All, length, map, take, drop, sum_by, if◌then◌else◌}
+use Rattle.std.specs.List.{list_any}
 use Rattle.text_model.specs.Texts.{Text}
 use Rattle.environment_model.specs.Environment.{members_of}
 use Rattle.target_vars.specs.EnvValue.{EnvValue, IsWithin, piece_at}
@@ -20,6 +21,10 @@ pub record RequestValue : Type 0 where
 -- the header's names are among those of all columns
 abbrev pub AreAmong : ColumnNames → Row → Type 0
 AreAmong columns header = (name : Text) → is_some (column_of header name) ≡ true → has columns name ≡ true
+
+-- a key of the request is the name of a column
+abbrev pub has_key_among : ColumnNames → List KeyValue → Bool
+has_key_among columns pairs = list_any (λ pair. has columns pair.key) pairs
 
 -- if `meets` is false, the request has no key with one of these names
 abbrev pub IsApart : RequestValue → (Text → Bool) → Type 0

@@ -10,6 +10,7 @@ ghost use Rattle.target_vars.specs.declared.env.TheConstants.{MAX_BYTES, MAX_MEM
 ghost use Rattle.row_laws.specs.Shadowing.{requested};
 ghost use Rattle.row_scope.specs.Bindings.{IsBound, laid_in};
 ghost use Rattle.row_scope.specs.RequestValues.{AreValues, IsApart, AreValuesAt, bytes_of_key, members_of_key};
+ghost use Rattle.row_scope.specs.RequestValues.{has_key_among};
 ghost use Rattle.kev_read.specs.Pairs.{all_of};
 ghost use Rattle.kbart_rows.specs.ColumnNames.{has};
 ghost use Rattle.row_scope.specs.Private.Kept.{AreEnds};
@@ -58,6 +59,7 @@ impl<'a> RequestValues<'a> {
         columns: &ColumnNames,
     ) -> Result<RequestValues<'a>, AllocError>
         ensures pairs { IfOk result (λ values. values.pairs ≡ request.now.pairs) }
+        ensures meets { IfOk result (λ values. values.meets ≡ has_key_among columns.now request.now.pairs) }
         ensures apart { IfOk result (λ values. IsApart values (has columns.now)) }
     {
         let _bounded = request.pairs();
@@ -176,7 +178,7 @@ impl<'a> RequestValues<'a> {
 /// key among the columns, whichever are fewer.
 fn names_a_column(request: &Request, values: &KeyValues, columns: &ColumnNames) -> bool
     requires { (key : Text) → members_of values.now.entries key ≡ all_of request.now.pairs key }
-    ensures { result ≡ false → (name : Text) → has columns.now name ≡ true → all_of request.now.pairs name ≡ [] }
+    ensures { result ≡ has_key_among columns.now request.now.pairs }
 {
     if columns.len() < request.pairs() {
         columns.iter().any(|name| is_key(values, name.as_str()))
@@ -194,7 +196,7 @@ fn is_key(values: &KeyValues, name: &str) -> bool
 
 /// Whether a key of a request is the name of one of the columns, which are searched for each key.
 fn any_key_is_a_column(request: &Request, columns: &ColumnNames) -> bool
-    ensures { result ≡ false → (name : Text) → has columns.now name ≡ true → all_of request.now.pairs name ≡ [] }
+    ensures { result ≡ has_key_among columns.now request.now.pairs }
 {
     for index in 0..request.pairs() {
         if columns.contains(request.pair(index).0) {
