@@ -1,5 +1,5 @@
 -- Targets of a registry file, line by line.
-use Rattle.std.proofs.Common.{◌≡◌, ℕ, ◌+◌, ◌<◌, ◌≤◌, List, [], ◌∷◌, ◌++◌, inl, inr, length, map, take, drop, get_or, suc, sym, ap, subst, arith, ◌∙◌}
+use Rattle.std.proofs.Common.{◌≡◌, ℕ, ◌+◌, ◌<◌, ◌≤◌, List, [], ◌∷◌, ◌++◌, inr, length, map, take, drop, get_or, suc, sym, ap, subst, arith, ◌∙◌}
 use Rattle.std.proofs.lemmas.List.{take_more, map-append, length-map, length-take}
 use Rattle.std.proofs.Math.Seq.{split_at}
 use Rattle.text_model.specs.Texts.{Text}
@@ -60,7 +60,7 @@ module _ (disk : Disk) (keys : Keys) where
         → length bytes ≤ MAX_REGISTRY_BYTES → AreLines bytes (map cells lines) → IsNext cells lines n targets line
         → IsRefusedLine fails disk targets (n + 1) (cells line) e → IsRegistryFault fails disk keys bytes e
     line_fault cells bytes lines n targets line (Line m) short read next refused =
-        inr (record { rows = map cells lines; short = short; lines = read; stops = stops cells lines n targets line (Line m) next refused })
+        record { rows = map cells lines; short = short; lines = read; stops = stops cells lines n targets line (Line m) next refused }
     line_fault cells bytes lines n targets line (Target e) short read next refused =
         record { rows = map cells lines; short = short; lines = read; stops = stops cells lines n targets line (Target e) next refused }
     line_fault cells bytes lines n targets line NoMemory short read next refused = tt
@@ -76,8 +76,7 @@ pub not_loaded : {F K : Type 0} (fails : F → FileCall → Text → F → Type 
     (path : Text) (new : K)
     (bytes : Text) (keys : Keys) (e : RegistryError) → IsRead draws disk old path new bytes keys → IsRegistryFault fails disk keys bytes e
     → IsNotLoaded fails draws no_keys disk old path new e
-not_loaded fails draws no_keys disk old path new bytes keys (Line n) read (inl long) = absurd (omega (arith, long.1, read.short))
-not_loaded fails draws no_keys disk old path new bytes keys (Line n) read (inr line) =
+not_loaded fails draws no_keys disk old path new bytes keys (Line n) read line =
     inr (record { bytes = bytes; keys = keys; file = read.file; drawn = read.drawn; fault = line })
 not_loaded fails draws no_keys disk old path new bytes keys (Target e) read line =
     record { bytes = bytes; keys = keys; file = read.file; drawn = read.drawn; fault = line }

@@ -1,5 +1,5 @@
 -- Loading a registry file: its targets, or its first fault.
-use Rattle.std.specs.Prelude.{◌≡◌, ◌≢◌, ℕ, ◌+◌, ◌≤◌, ◌<◌, ◌⊎◌, List, [], ◌∷◌, ◌++◌, length, string_bytes}
+use Rattle.std.specs.Prelude.{◌≡◌, ◌≢◌, ℕ, ◌+◌, ◌≤◌, ◌⊎◌, List, [], ◌∷◌, ◌++◌, length, string_bytes}
 use Rattle.text_model.specs.Texts.{Text}
 use Rattle.code_model.specs.Code.{Code}
 use Rattle.code_file.specs.Grammar.{IsCodeFile}
@@ -115,7 +115,7 @@ module _ {F : Type 0} (fails : F → FileCall → Text → F → Type 0) (disk :
 
     -- why bytes are not a registry file
     abbrev pub IsRegistryFault : Text → RegistryError → Type 0
-    IsRegistryFault bytes (Line n) = ((n ≡ 0) × (MAX_REGISTRY_BYTES < length bytes)) ⊎ HasLineFault bytes (Line n)
+    IsRegistryFault bytes (Line n) = HasLineFault bytes (Line n)
     IsRegistryFault bytes (Target e) = HasLineFault bytes (Target e)
     IsRegistryFault bytes NoMemory = Unit {0}
     IsRegistryFault bytes Device = ⊥
