@@ -79,8 +79,11 @@ class Library:
         # No process can run before there is a first version.
         thread = threading.Thread(target=self.site.start)
         thread.start()
-        self.first = self.run()
+        self.first = self.run("--seconds", "60")  # on a busy machine a process may take more than five to listen
         thread.join()
+        if not os.path.lexists(self.path("current")):
+            self.__exit__()
+            raise RuntimeError(f"no first version: {self.first}")
         return self
 
     def __exit__(self, *_):
