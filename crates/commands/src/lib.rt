@@ -5,10 +5,12 @@ mod answers;
 mod arguments;
 mod fault;
 mod help;
+mod process_arguments;
 mod program;
 mod system;
 
 pub use arguments::{Command, parse};
 pub use fault::Fault;
+pub use process_arguments::{argument_texts, program_arguments};
 pub use program::{command, report};
 pub use system::System;

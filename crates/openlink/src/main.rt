@@ -1,10 +1,7 @@
 //! `openlink`: link resolving for OpenURL requests, from the command line.
 #![tactic(auto)]
 
-mod arguments;
-
-use crate::arguments::{argument_texts, program_arguments};
-use commands::{Fault, System, command, report};
+use commands::{Fault, System, argument_texts, command, program_arguments, report};
 use files::SystemFiles;
 use http_streams::Loopback;
 use kbart_rows::SystemKeys;

@@ -1,11 +1,11 @@
-//! The program's arguments.
+//! The arguments of the process, as the system gives them.
 
 ghost use Rattle.std.specs.Prelude.{◌≡◌, ◌⊎◌, map, string_bytes, IfOk, IfErr};
 ghost use Rattle.text_model.specs.Texts.{texts_of};
 ghost use Rattle.commands.specs.Faults.{out_of_memory};
 
+use crate::fault::Fault;
 use command_base::BaseFault;
-use commands::Fault;
 use std::alloc::{AllocError, Global};
 use std::env::{self, Env};
 use std::io::ErrorKind;
