@@ -1,0 +1,66 @@
+"""What a crate states to the crates above it: its definitions, its public items, and their contracts."""
+import glob
+import re
+
+from stored import text_of
+
+FUNCTION = re.compile(r"( *)(pub |pub\(crate\) )?(?:ghost )?(?:const )?(?:unsafe )?fn \w+")
+PRIVATE_FIELD = re.compile(r"(?:pub\(crate\) )?\w+: ")
+BLOCK = re.compile(r"(?:pub )?(?:unsafe )?(impl|trait|struct)\b")
+
+
+def statements(crate):
+    """Returns the statements of a crate as one text, without bodies, comments, imports, and private functions and
+    fields."""
+    texts = [text_of(path) for path in sorted(glob.glob(f"crates/{crate}/specs/**/*.antt", recursive=True))]
+    for path in sorted(glob.glob(f"crates/{crate}/src/**/*.rt", recursive=True)):
+        texts += [f"{path}\n", *stated(text_of(path).split("\n"))]
+    return "\n".join(texts)
+
+
+def stated(lines):
+    """Yields the lines of a source that are statements."""
+    block, at = "", 0
+    while at < len(lines):
+        line = lines[at]
+        at += 1
+        if BLOCK.match(line):
+            block = kind_of(lines, at - 1)
+        elif line.startswith("}"):
+            block = ""
+        function = FUNCTION.match(line)
+        if function:
+            head, at = head_from(lines, at - 1, function[1])
+            if function[2] == "pub " or block == "trait":
+                yield from head
+        elif is_stated(line.strip(), block):
+            yield line
+
+
+def kind_of(lines, number):
+    """Returns what begins on this line: impl, trait or struct. The implementation of a trait counts as a trait: all its
+    functions are public."""
+    end = next((at for at in range(number, len(lines)) if re.search(r"[{;]", lines[at])), number)
+    head = " ".join(lines[number:end + 1])
+    found = BLOCK.match(head)[1]
+    return "trait" if found == "impl" and " for " in head else found
+
+
+def is_stated(line, block):
+    if line.startswith(("//", "use ", "ghost use ", "mod ")):
+        return False
+    return block != "struct" or not PRIVATE_FIELD.match(line)
+
+
+def head_from(lines, number, indent):
+    """Returns the head of the function that begins on this line, with its contract, and the number of the line after
+    its body."""
+    for at in range(number, len(lines)):
+        line = lines[at].rstrip()
+        if line.endswith((";", "{}")):
+            return lines[number:at + 1], at + 1
+        opens = line.endswith("{") and (at == number or line.startswith(f"{indent})"))
+        if line == f"{indent}{{" or opens:
+            end = next(it for it in range(at + 1, len(lines)) if lines[it] == f"{indent}}}")
+            return lines[number:at + 1], end + 1
+    raise ValueError(f"the function on line {number + 1} has no end")
