@@ -1,7 +1,7 @@
 #!/usr/bin/env bash
-# Counts the instructions of `openlink compile`, by callgrind, on rule files that have a quarter, half and all of the bytes
-# that a rule file may have, and prints a table. Fails if the code has another size than is known. It needs the built program,
-# and is not part of the gate.
+# Counts the instructions of `openlink compile`, by callgrind, on rule files that have a quarter, half and all of the
+# bytes that a rule file may have, and prints a table. Fails if the code has another size than is known. It needs the
+# built program, and is not part of the gate.
 set -euo pipefail
 cd "$(dirname "$0")/.."
 program=$PWD/crates/openlink/out/openlink
@@ -27,8 +27,10 @@ row() {
   printf '#%0*d' $(($3 - $(stat -c %s "$work/all.rules") - 1)) 0 >> "$work/all.rules"
   [ "$(stat -c %s "$work/all.rules")" = "$3" ] || { echo "$1 $2: not $3 bytes" >&2; exit 1; }
   valgrind --tool=callgrind --callgrind-out-file=/dev/null "$program" compile "$work/all.rules" "$work/all.olk" \
-    > "$work/printed" 2> "$work/count.log" || { echo "$1 $2: not compiled" >&2; cat "$work/printed" "$work/count.log" >&2; exit 1; }
-  [ "$(cat "$work/printed")" = "$4 bytes" ] || { echo "$1 $2: a code of another size" >&2; cat "$work/printed" >&2; exit 1; }
+    > "$work/printed" 2> "$work/count.log" ||
+    { echo "$1 $2: not compiled" >&2; cat "$work/printed" "$work/count.log" >&2; exit 1; }
+  [ "$(cat "$work/printed")" = "$4 bytes" ] ||
+    { echo "$1 $2: a code of another size" >&2; cat "$work/printed" >&2; exit 1; }
   echo "| $1 | $2 | $3 | $(sed -n 's/.*Collected : //p' "$work/count.log") |"
 }
 

@@ -1,6 +1,6 @@
 #!/usr/bin/env bash
-# What it costs to expand a template for a stored request: the instructions and allocations of each round, by callgrind. The
-# measured program, expand.rt.txt, checks its results. Not part of the gate.
+# What it costs to expand a template for a stored request: the instructions and allocations of each round, by callgrind.
+# The measured program, expand.rt.txt, checks its results. Not part of the gate.
 #
 #   benches/expand.sh             the working tree
 #   benches/expand.sh COMMIT      that commit, and then the working tree

@@ -1,9 +1,9 @@
 #!/usr/bin/env bash
-# What inspecting a holdings table costs. Compares the processor time of `openlink inspect` on a table of almost 16 MiB and
-# 200,000 rows with that of reading it, as `openlink resolve` does for a request that matches no row. Fails if inspecting
-# takes more than twice the time of reading. In the first table each row has two identifiers of its own, in the second all
-# rows have the same two, and in the third each row has an error in every cell that is looked at. It needs the built program,
-# and is not part of the gate.
+# What inspecting a holdings table costs. Compares the processor time of `openlink inspect` on a table of almost 16 MiB
+# and 200,000 rows with that of reading it, as `openlink resolve` does for a request that matches no row. Fails if
+# inspecting takes more than twice the time of reading. In the first table each row has two identifiers of its own, in
+# the second all rows have the same two, and in the third each row has an error in every cell that is looked at. It
+# needs the built program, and is not part of the gate.
 set -euo pipefail
 cd "$(dirname "$0")/.."
 program=$PWD/crates/openlink/out/openlink

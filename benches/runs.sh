@@ -1,6 +1,6 @@
 #!/usr/bin/env bash
-# What a step of accepted code costs, run without tags and by the checked machine: its instructions, by callgrind. The measured
-# program, runs.rt.txt, checks its results. Not part of the gate.
+# What a step of accepted code costs, run without tags and by the checked machine: its instructions, by callgrind. The
+# measured program, runs.rt.txt, checks its results. Not part of the gate.
 set -eu
 cd "$(dirname "$0")/.."
 scratch=$(mktemp -d)
@@ -9,7 +9,8 @@ benches/copy_crates "$scratch"
 mkdir -p "$scratch/crates/runs_bench/src"
 cp benches/runs.rt.txt "$scratch/crates/runs_bench/src/main.rt"
 echo 'runs_bench: target_vars code_file interpreter verifier' >> "$scratch/crates.txt"
-(cd "$scratch/crates/runs_bench" && rt run -- rule 1) > "$scratch/build.log" 2>&1 || { tail -20 "$scratch/build.log"; exit 1; }
+(cd "$scratch/crates/runs_bench" && rt run -- rule 1) > "$scratch/build.log" 2>&1 ||
+  { tail -20 "$scratch/build.log"; exit 1; }
 
 # Instructions of N rounds of a workload.
 counted() {

@@ -1,7 +1,8 @@
 #!/usr/bin/env bash
-# What holdings tables cost: the time of reading one of 16 MiB and 200,000 rows, compared with the same work in plain Rust; the
-# memory that tables keep; the instructions of a look-up; and identifiers that were made to collide. The measured programs are
-# tables.rt.txt, which checks its results, and tables.rs, which is skipped if there is no rustc. Not part of the gate.
+# What holdings tables cost: the time of reading one of 16 MiB and 200,000 rows, compared with the same work in plain
+# Rust; the memory that tables keep; the instructions of a look-up; and identifiers that were made to collide. The
+# measured programs are tables.rt.txt, which checks its results, and tables.rs, which is skipped if there is no rustc.
+# Not part of the gate.
 set -euo pipefail
 cd "$(dirname "$0")/.."
 scratch=$(mktemp -d)
@@ -12,12 +13,13 @@ benches/copy_crates "$scratch/now"
 mkdir -p "$scratch/now/crates/tables_bench/src"
 cp benches/tables.rt.txt "$scratch/now/crates/tables_bench/src/main.rt"
 echo 'tables_bench: kbart_rows kev_read' >> "$scratch/now/crates.txt"
-(cd "$scratch/now/crates/tables_bench" && rt run -- collide 0) > "$scratch/build.log" 2>&1 || { tail -20 "$scratch/build.log"; exit 1; }
+(cd "$scratch/now/crates/tables_bench" && rt run -- collide 0) > "$scratch/build.log" 2>&1 ||
+  { tail -20 "$scratch/build.log"; exit 1; }
 program=$scratch/now/crates/tables_bench/out/tables_bench
 
 columns='publication_title print_identifier online_identifier date_first_issue_online num_first_vol_online
-  num_first_issue_online date_last_issue_online num_last_vol_online num_last_issue_online title_url first_author title_id
-  embargo_info coverage_depth notes publisher_name publication_type date_monograph_published_print
+  num_first_issue_online date_last_issue_online num_last_vol_online num_last_issue_online title_url first_author
+  title_id embargo_info coverage_depth notes publisher_name publication_type date_monograph_published_print
   date_monograph_published_online monograph_volume monograph_edition first_editor parent_publication_title_id
   preceding_publication_title_id access_type'
 

@@ -1,6 +1,6 @@
 #!/usr/bin/env bash
-# Counts the instructions of `openlink verify` on long code files, by callgrind, and prints a table. Fails if a verdict is
-# wrong. It needs the built program, and is not part of the gate.
+# Counts the instructions of `openlink verify` on long code files, by callgrind, and prints a table. Fails if a verdict
+# is wrong. It needs the built program, and is not part of the gate.
 set -euo pipefail
 cd "$(dirname "$0")/.."
 program=$PWD/crates/openlink/out/openlink

@@ -28,7 +28,8 @@ def enter():
 
 
 def cores():
-    """Two cores for nginx and the program and the others for the clients, or all for both where there are less than four."""
+    """Two cores for nginx and the program and the others for the clients, or all for both where there are less than
+    four."""
     every = sorted(os.sched_getaffinity(0))
     return (every[:2], every[2:]) if len(every) >= 4 else (every, every)
 
@@ -89,7 +90,8 @@ class Door:
         self.servers, self.clients = cores()
         self.program = os.path.abspath(program)
         os.chdir(TOP)
-        subprocess.run(["examples/library/build", self.program, f"{self.folder}/library"], check=True, stdout=subprocess.DEVNULL)
+        build = ["examples/library/build", self.program, f"{self.folder}/library"]
+        subprocess.run(build, check=True, stdout=subprocess.DEVNULL)
         self.install(os.path.abspath(site), worker_connections)
         self.processes = {port: None for port in self.ports}
         for port in self.ports:
@@ -117,14 +119,16 @@ class Door:
 
     def supervise(self, port):
         """As the unit does: a process that ends is started again after 100 ms."""
-        words = on_cores(self.servers, self.program, "serve", f"{self.folder}/library/registry.tsv", str(port), "1000000")
+        registry = f"{self.folder}/library/registry.tsv"
+        words = on_cores(self.servers, self.program, "serve", registry, str(port), "1000000")
         while not self.ended:
             self.processes[port] = subprocess.Popen(words, stdout=subprocess.DEVNULL)
             self.processes[port].wait()
             time.sleep(0.1)
 
     def start_nginx(self):
-        """Starts nginx, with the limits that systemd gives it on Debian: its peak of memory is then that of one trial."""
+        """Starts nginx, with the limits that systemd gives it on Debian: its peak of memory is then that of one
+        trial."""
         self.stop_nginx()
         hard = min(524288, resource.getrlimit(resource.RLIMIT_NOFILE)[1])
         words = ["prlimit", f"--nofile=1024:{hard}", "nginx", "-g", "daemon off;"]

@@ -1,5 +1,6 @@
-// The front door of the link resolver: reads an OpenURL of any source, asks the program for its menu, and replies with the
-// reader's page of pages.js. An operator edits nothing here: labels are in targets.json, the page's texts in words/.
+// The front door of the link resolver: reads an OpenURL of any source, asks the program for its menu, and replies with
+// the reader's page of pages.js. An operator edits nothing here: labels are in targets.json, the page's texts in
+// words/.
 //
 // It runs in njs 0.7.9 and later. That version lacks for-of, destructuring, spread, default parameters and classes. It
 // frees no memory before the reply is sent, and `test`, `exec`, `match` and `replace` take 5 KB where nothing matches,
@@ -58,8 +59,9 @@ function isDropped(key, value) {
         || (NUMBER_KEYS[key] === true && is(ANY, value));
 }
 
-// A query while the rules work on it. `args` is the request as it was sent, `pairs` its pairs, `given` their values by key,
-// `added` the values that the rules put before them, `addedKeys` the keys of these in their order. Each pair is read once.
+// A query while the rules work on it. `args` is the request as it was sent, `pairs` its pairs, `given` their values by
+// key, `added` the values that the rules put before them, `addedKeys` the keys of these in their order. Each pair is
+// read once.
 function Query(args) {
     this.args = args;
     this.pairs = [];
@@ -404,8 +406,9 @@ function argsOf(r) {
     });
 }
 
-// The status and text of a reply of the program. A process that ends while it writes leaves a reply that is shorter than
-// its head says, which nginx gives as status 200: it counts as no reply, since a page without links would be wrong.
+// The status and text of a reply of the program. A process that ends while it writes leaves a reply that is shorter
+// than its head says, which nginx gives as status 200: it counts as no reply, since a page without links would be
+// wrong.
 async function replyOf(r, place, args) {
     const reply = await r.subrequest(place, { args: args });
     const bytes = reply.responseBuffer || Buffer.from('');
@@ -419,7 +422,8 @@ async function ask(r, place, args) {
     await new Promise(function (done) { setTimeout(done, 400); });
     return replyOf(r, place, args);
 }
-// Asks with both queries; gives these, both texts, and the status: 200 only if both replies have it, else the greatest other.
+// Asks with both queries; gives these, both texts, and the status: 200 only if both replies have it, else the greatest
+// other.
 async function askBoth(r, place, q) {
     const queries = [requestText(q), anyText(q)];
     const replies = await Promise.all(queries.map((query) => ask(r, place, query)));
@@ -501,7 +505,8 @@ function guarded(handler) {
         try {
             await handler(r);
         } catch (e) {
-            r.variables.openlink_found = 'exception:' + pages.clean(String(e.message)).replace(/[^\w.]/g, '_').slice(0, 60);
+            const message = pages.clean(String(e.message));
+            r.variables.openlink_found = 'exception:' + message.replace(/[^\w.]/g, '_').slice(0, 60);
             sendFault(r, 503, languages.siteIn({ languages: own(targetsOf(), 'languages') }, ''));
         }
     };

@@ -1,8 +1,8 @@
 // The language of the reader's page, and its texts. An operator edits nothing here: the texts of a language are in
 // words/, and targets.json says which languages are offered.
 //
-// It runs in njs 0.7.9 and later, as find.js does; what that version lacks is said there. Each file of words is an object
-// that openlink.conf loads: words/pt-BR.json is `words_pt_BR`.
+// It runs in njs 0.7.9 and later, as find.js does; what that version lacks is said there. Each file of words is an
+// object that openlink.conf loads: words/pt-BR.json is `words_pt_BR`.
 
 const MOST_BYTES = 500;  // of a header; browsers send less than 200
 const MOST_RANGES = 20;
@@ -44,9 +44,9 @@ function named(range, languages) {
     return exact[0] || within[0] || around.reduce((a, b) => a && a.length > b.length ? a : b, undefined);
 }
 
-// The language of `languages` that an Accept-Language header prefers (RFC 9110, section 12.5.4): the first of those with
-// the same quality, and the first of all if the header prefers none. `*` matches every language that no other range
-// matches. A quality of 0 rejects a language.
+// The language of `languages` that an Accept-Language header prefers (RFC 9110, section 12.5.4): the first of those
+// with the same quality, and the first of all if the header prefers none. `*` matches every language that no other
+// range matches. A quality of 0 rejects a language.
 function chosen(header, languages) {
     const ranges = rangesOf(header);
     const isIn = (range, language) => range.tag !== '*' && covers(range.tag, language.toLowerCase());
@@ -64,7 +64,8 @@ function chosen(header, languages) {
 // ---------------------------------------------------------------- Words
 function wordsIn(language) { return globalThis['words_' + language.split('-').join('_')]; }
 
-// The languages that targets.json offers and openlink.conf has loaded; English if it names none. The first is the default.
+// The languages that targets.json offers and openlink.conf has loaded; English if it names none. The first is the
+// default.
 function offered(targets) {
     const list = own(targets, 'languages');
     const languages = [];
@@ -92,8 +93,8 @@ function textOf(value, site) {
     return text === undefined ? textIn(value, site.main) : text;
 }
 
-// The texts that a word may have, in the order of preference: those of targets.json come before those of the files, but a
-// plain text there is in the default language.
+// The texts that a word may have, in the order of preference: those of targets.json come before those of the files, but
+// a plain text there is in the default language.
 function candidates(name, site) {
     const text = own(site.words, name);
     const ofFile = (language) => own(wordsIn(language), name);

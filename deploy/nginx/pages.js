@@ -103,7 +103,8 @@ function documentOf(title, heading, body, site) {
     const library = escape(word(site, 'library'));
     return ['<!DOCTYPE html>', '<html lang="' + site.language + '" dir="' + site.dir + '">', '<head>',
         '<meta charset="utf-8">', '<meta name="viewport" content="width=device-width, initial-scale=1">',
-        '<title>' + escape(title) + (library && ' – ' + library) + '</title>', '<link rel="stylesheet" href="/menu.css">',
+        '<title>' + escape(title) + (library && ' – ' + library) + '</title>',
+        '<link rel="stylesheet" href="/menu.css">',
         '</head>', '<body>', library && '<header><p>' + library + '</p></header>', '<main>',
         '<h1>' + escape(heading) + '</h1>'].filter(Boolean)
         .concat(body, ['</main>', '</body>', '</html>', '']).join('\n');
@@ -119,7 +120,8 @@ function noteHtml(note) { return note ? '<p>' + escape(note) + '</p>' : ''; }
 function linkHtml(link) { return '<li>' + anchor(link.url, link.label) + noteHtml(link.note) + '</li>'; }
 function notice(name, site) { return '<p class="nothing">' + escape(word(site, name)) + '</p>'; }
 
-// The link by which a reader sends the request to the library. `{}` in the library's address is the place of the request.
+// The link by which a reader sends the request to the library. `{}` in the library's address is the place of the
+// request.
 const PROBLEM_LINK = /^(?:https?:\/\/|mailto:)[\x21-\x7e]*\{\}[\x21-\x7e]*$/i;
 function problemHtml(q, site) {
     const text = word(site, 'problem');

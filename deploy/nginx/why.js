@@ -1,10 +1,10 @@
 // The page for staff: the two queries that a request becomes, the program's report on each, and for each target the
-// command that explains its link or why it has none. All text of a request or a file is escaped here where it is put into
-// HTML, and quoted where it is put into a command. An operator edits nothing here: targets.json names the folder of the
-// registry if it is not the one below.
+// command that explains its link or why it has none. All text of a request or a file is escaped here where it is put
+// into HTML, and quoted where it is put into a command. An operator edits nothing here: targets.json names the folder
+// of the registry if it is not the one below.
 //
-// Only the server for staff loads this file, so no request of a reader meets code that reads files. It runs in njs 0.7.9
-// and later, as find.js does; what that version lacks is said there.
+// Only the server for staff loads this file, so no request of a reader meets code that reads files. It runs in njs
+// 0.7.9 and later, as find.js does; what that version lacks is said there.
 import fs from 'fs';
 import door from './find.js';
 import languages from './languages.js';
@@ -71,8 +71,8 @@ function commandOf(name, target, site, isFile) {
 // ---------------------------------------------------------------- Reports
 function isLink(reason) { return is(/^link /, reason); }
 
-// The reason of each target for both queries, in the order of the registry, and which of the two queries the target gets:
-// 0, or 1 if only the second one finds a link, or a row. /find takes the target's link from the same one.
+// The reason of each target for both queries, in the order of the registry, and which of the two queries the target
+// gets: 0, or 1 if only the second one finds a link, or a row. /find takes the target's link from the same one.
 function reasonsOf(reports) {
     const lines = reports.map((text) => text.split('\n').filter((line) => line.indexOf('\t') > 0)
         .map((line) => ({ name: line.slice(0, line.indexOf('\t')), reason: line.slice(line.indexOf('\t') + 1) })));
@@ -137,7 +137,8 @@ function pageOf(q, replies, site) {
     const reasons = reasonsOf(replies.texts);
     const found = replies.status !== 200 ? [pages.faultHtml(replies.status, site)]
         : reportsHtml(reasons, site).concat(commandsHtml(reasons, replies.queries, site));
-    const body = [pages.citationHtml(pages.citationOf(q, site), site)].concat(queriesHtml(replies.queries, site), found);
+    const body = [pages.citationHtml(pages.citationOf(q, site), site)]
+        .concat(queriesHtml(replies.queries, site), found);
     return pages.documentOf(title, title, body, site);
 }
 

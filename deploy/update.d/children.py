@@ -19,7 +19,8 @@ def tied():
 
 def start(words, folder, **how):
     """Starts a command that ends with this process."""
-    return subprocess.Popen(words, cwd=folder, stdin=subprocess.DEVNULL, start_new_session=True, preexec_fn=tied(), **how)
+    how = {"stdin": subprocess.DEVNULL, "start_new_session": True, **how}
+    return subprocess.Popen(words, cwd=folder, preexec_fn=tied(), **how)
 
 
 def stop(child):

@@ -1,5 +1,5 @@
-"""A front door of its own for probes: nginx with the module and the texts that the site has, on free ports of this machine.
-It has a door for each list of processes."""
+"""A front door of its own for probes: nginx with the module and the texts that the site has, on free ports of this
+machine. It has a door for each list of processes."""
 import os, re, shutil, subprocess
 import children
 from outcome import DEVICE, Failure

@@ -18,7 +18,8 @@ def changes(old, new):
 
 
 def last_date(embargo, today):
-    """The last date that an embargo such as P1Y (everything but the last year) leaves open, or None if it has no such part."""
+    """The last date that an embargo such as P1Y (everything but the last year) leaves open, or None if it has no such
+    part."""
     wall = WALL.search(embargo)
     if not wall:
         return None

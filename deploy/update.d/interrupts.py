@@ -1,4 +1,5 @@
-"""SIGINT, SIGTERM and SIGHUP as the exception Interrupted, which is raised once. While a run goes back they are ignored."""
+"""SIGINT, SIGTERM and SIGHUP as the exception Interrupted, which is raised once. While a run goes back they are
+ignored."""
 import signal
 from outcome import Interrupted
 

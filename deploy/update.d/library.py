@@ -73,7 +73,8 @@ class Library:
             os.unlink(self.path("current.new"))
 
     def remove_newer(self):
-        """Removes versions that are newer than the one in use: a run went back from them, or was killed before their use."""
+        """Removes versions that are newer than the one in use: a run went back from them, or was killed before their
+        use."""
         current = self.current() or ""
         for stamp in self.versions():
             if stamp > current:

@@ -66,7 +66,8 @@ class Maker:
                 self.report(f"{name}: gone, since the list does not name it")
         if not self.names:
             raise Failure("no target is left")
-        self.write("registry.tsv", "".join(f"{name}\tcode/{name}.olk\ttables/{name}.txt\n" for name in self.names).encode())
+        lines = [f"{name}\tcode/{name}.olk\ttables/{name}.txt\n" for name in self.names]
+        self.write("registry.tsv", "".join(lines).encode())
 
     def names_before(self):
         """The names of the targets of the older version."""
@@ -148,7 +149,8 @@ class Maker:
         reasons = rejections + self.doubts(target.table, target.allowed, "inspect", table)
         if not new.has_code and not rejections:
             lint = self.doubts(target.rules, target.allowed, "lint", f"received/{target.name}.rules", table)
-            reasons += [line for line in lint if line.partition(": ")[2] not in [it.partition(": ")[2] for it in reasons]]
+            known = [it.partition(": ")[2] for it in reasons]
+            reasons += [line for line in lint if line.partition(": ")[2] not in known]
         before, after = len(holdings.rows(old.table)) if old else 0, len(holdings.rows(new.table))
         if after * 2 < before and FEWER not in target.allowed:
             reasons.append(f"{target.table}: {FEWER}: {after}, and {before} before")
@@ -166,7 +168,8 @@ class Maker:
 
     def say_refusal(self, name, old, reasons):
         (self.left_out if old is None else self.kept).append(name)
-        self.report(f"{name}: {'left out, since it has no old files' if old is None else 'kept its old rules and table'}")
+        how = "left out, since it has no old files" if old is None else "kept its old rules and table"
+        self.report(f"{name}: {how}")
         for reason in reasons:
             self.report(f"  {reason}")
 

@@ -1,5 +1,5 @@
-"""The library's probes: what each shows in the version in use and in the new one. The requests and the comparison are those of
-the script `probe`."""
+"""The library's probes: what each shows in the version in use and in the new one. The requests and the comparison are
+those of the script `probe`."""
 import importlib.machinery, importlib.util, os, shutil, subprocess
 import children
 from outcome import DEVICE, Failure

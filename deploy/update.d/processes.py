@@ -30,13 +30,14 @@ def answers(port):
 
 class Processes:
     def __init__(self, ports, restart, seconds):
-        """Ports, the command that restarts a process (PORT is its port), and the seconds that it has to listen again."""
+        """Ports, the command that restarts a process (PORT is its port), and the seconds that it has to listen
+        again."""
         self.ports, self.restart, self.seconds = ports, restart, seconds
         self.restarted = []
 
     def wait_for_all(self):
-        """Waits until each process answers, as long as one may take: a killed run may have left one that is being restarted,
-        and another must not be restarted meanwhile."""
+        """Waits until each process answers, as long as one may take: a killed run may have left one that is being
+        restarted, and another must not be restarted meanwhile."""
         end = time.monotonic() + self.seconds
         for port in self.ports:
             while not answers(port) and time.monotonic() < end:

@@ -29,7 +29,8 @@ def is_plain(line):
 
 
 def warnings_in(text):
-    """The lines of `inspect` or `lint` that are warnings. That a column of identifiers is missing is one if both are."""
+    """The lines of `inspect` or `lint` that are warnings. That a column of identifiers is missing is one if both
+    are."""
     lines = text.splitlines()
     missing = [line for line in lines if NO_COLUMN.fullmatch(line)]
     return [line for line in lines if not is_plain(line) and (line not in missing or len(missing) > 1)]
@@ -41,7 +42,8 @@ class Program:
         self.path, self.folder = path, folder
 
     def run(self, *words, most=0):
-        """What a command prints. Refused if it rejects a file; a Failure if it ends with another status above `most`."""
+        """What a command prints. Refused if it rejects a file; a Failure if it ends with another status above
+        `most`."""
         try:
             done = subprocess.run([self.path, *words], cwd=self.folder, stdin=subprocess.DEVNULL, capture_output=True,
                                   timeout=SECONDS, start_new_session=True, preexec_fn=children.tied())
@@ -53,7 +55,8 @@ class Program:
         if done.returncode == 3:
             raise Refused([printed])
         if not 0 <= done.returncode <= most:
-            raise Failure(f"openlink {' '.join(words)} in {self.folder}: status {done.returncode}, {printed or 'no message'}", DEVICE)
+            command = f"openlink {' '.join(words)} in {self.folder}"
+            raise Failure(f"{command}: status {done.returncode}, {printed or 'no message'}", DEVICE)
         return done.returncode, done.stdout.decode("utf-8", "replace")
 
     def warnings(self, *words):

@@ -30,7 +30,8 @@ class Run:
         probes = self.probes_of(os.path.join(folder, "probes.tsv"))
         new = library.begin()
         unfinished = library.version(f"{new}.new")
-        maker = Maker(unfinished, old and library.version(old), Program(self.program, unfinished), datetime.date.today(), report)
+        older, program = old and library.version(old), Program(self.program, unfinished)
+        maker = Maker(unfinished, older, program, datetime.date.today(), report)
         maker.make(targets)
         if old and making.is_same(unfinished, library.version(old)):
             return self.say_end(maker, f"nothing new: {old} stays in use")
@@ -56,7 +57,8 @@ class Run:
         return FrontDoor(self.site, self.library.path("trial"))
 
     def try_version(self, probes, door, unfinished, old):
-        """Loads the new version and resolves the probes. A Failure says which differ. Returns the links of each probe."""
+        """Loads the new version and resolves the probes. A Failure says which differ. Returns the links of each
+        probe."""
         port = children.free_port()
         if not probes.list:
             with Trial(self.program, unfinished, port):
@@ -119,7 +121,8 @@ class Run:
         return KEPT if maker.kept or maker.left_out else ALL_NEW
 
     def go_back(self, ports):
-        """Serves the version that `before` names, at these ports. What fails is said, and does not stop it, nor do signals."""
+        """Serves the version that `before` names, at these ports. What fails is said, and does not stop it, nor do
+        signals."""
         interrupts.are_ignored()
         stamp = self.library.version_of("before")
         self.library.move_back(stamp)

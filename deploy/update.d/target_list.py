@@ -1,6 +1,6 @@
-"""The list of targets, targets.tsv: a line for each, in the order of the menu. A line has a name, a rule file, a table, and
-the warnings that are allowed for it, separated by semicolons; the last cell may be missing. Paths are relative to the
-folder of the list. Empty lines and lines that begin with # are skipped."""
+"""The list of targets, targets.tsv: a line for each, in the order of the menu. A line has a name, a rule file, a table,
+and the warnings that are allowed for it, separated by semicolons; the last cell may be missing. Paths are relative to
+the folder of the list. Empty lines and lines that begin with # are skipped."""
 import dataclasses, os, re
 from outcome import Failure
 

@@ -22,7 +22,8 @@ def read(root):
 
 
 class Crates:
-    """A program and the crates that it depends on. In `names`, each comes after those that it depends on, the program last."""
+    """A program and the crates that it depends on. In `names`, each comes after those that it depends on, the program
+    last."""
 
     def __init__(self, root, program, kit):
         self.root, self.program = root, program

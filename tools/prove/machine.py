@@ -12,8 +12,8 @@ JOB = 2_500_000_000
 
 
 def slots():
-    """Returns how many jobs can run at once: one for each processor, if memory suffices, and at least one. OPENLINK_JOBS
-    sets another number."""
+    """Returns how many jobs can run at once: one for each processor, if memory suffices, and at least one.
+    OPENLINK_JOBS sets another number."""
     expected = os.environ.get("OPENLINK_JOBS", "")
     if expected.isdigit() and int(expected) > 0:
         return int(expected)

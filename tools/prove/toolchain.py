@@ -1,7 +1,7 @@
 """The toolchain: `rattle build`, which proves a crate and builds it, and `rattle-link`, which links the program.
 
-A library is built with --statements: the crates above it then load what it states, and not its proofs, which halves the time
-of all proofs. `rt lib` has no such flag."""
+A library is built with --statements: the crates above it then load what it states, and not its proofs, which halves the
+time of all proofs. `rt lib` has no such flag."""
 
 import os
 import subprocess
