@@ -29,14 +29,14 @@ const VERSIONS = [
 ];
 
 const OLD = [
-    ['EBSCO', 'genre=article&issn=29010012&title=Annals+of+Tidal+Studies&volume=12&issue=3&date=20030501&atitle=Storm+surges'
-        + '&spage=101&pages=101-118&sid=EBSCO:Academic+Search&aulast=Smith',
-        'rft.genre=article rft.issn=2901-0012 rft.volume=12 rft.issue=3 rft.spage=101 rft.pages=101-118 rft.date=2003-05-01'
-        + ' rft.atitle=Storm+surges rft.aulast=Smith rfr_id=info:sid/EBSCO:Academic+Search'
+    ['EBSCO', 'genre=article&issn=29010012&title=Annals+of+Tidal+Studies&volume=12&issue=3&date=20030501'
+        + '&atitle=Storm+surges&spage=101&pages=101-118&sid=EBSCO:Academic+Search&aulast=Smith',
+        'rft.genre=article rft.issn=2901-0012 rft.volume=12 rft.issue=3 rft.spage=101 rft.pages=101-118'
+        + ' rft.date=2003-05-01 rft.atitle=Storm+surges rft.aulast=Smith rfr_id=info:sid/EBSCO:Academic+Search'
         + ' rft.jtitle=Annals+of+Tidal+Studies rft_val_fmt=J x.issn=2901-0012'],
     ['Web of Science', 'sid=ISI:WoS&genre=article&aulast=Smith&auinit=J&stitle=ANN+TIDAL+STUD&pid=%3Cut%3E1%3C/ut%3E',
-        'rft.genre=article rft.stitle=ANN+TIDAL+STUD rft.aulast=Smith rft.auinit=J rft_dat=<ut>1</ut> rfr_id=info:sid/ISI:WoS'
-        + ' rft_val_fmt=J'],
+        'rft.genre=article rft.stitle=ANN+TIDAL+STUD rft.aulast=Smith rft.auinit=J rft_dat=<ut>1</ut>'
+        + ' rfr_id=info:sid/ISI:WoS rft_val_fmt=J'],
     ['Ovid, a book', 'sid=OVID:books&genre=book&isbn=978-1-234-56010-2&title=Harbours',
         'rft.genre=book rft.isbn=9781234560102 rfr_id=info:sid/OVID:books rft.btitle=Harbours rft_val_fmt=B'
         + ' x.isbn=9781234560102'],
@@ -56,8 +56,8 @@ const OLD = [
 ];
 
 const IDENTIFIERS = [
-    ['PubMed LinkOut', 'sid=Entrez:PubMed&id=pmid:99990001', 'rfr_id=info:sid/Entrez:PubMed rft_val_fmt=J x.pmid=99990001'
-        + ' rft_id=info:pmid/99990001'],
+    ['PubMed LinkOut', 'sid=Entrez:PubMed&id=pmid:99990001',
+        'rfr_id=info:sid/Entrez:PubMed rft_val_fmt=J x.pmid=99990001 rft_id=info:pmid/99990001'],
     ['Crossref', 'sid=crossref&id=doi:10.5555/tidal.2003&pid=x', 'rft_dat=x rfr_id=info:sid/crossref rft_val_fmt=J'
         + ' x.doi=10.5555/tidal.2003 rft_id=info:doi/10.5555/tidal.2003'],
     ['Scopus, encoded twice', 'rft_val_fmt=x&rft_id=info%253Adoi%252F10.5555%252Fa%2528b%2529', 'x.doi=10.5555/a(b)'],
@@ -67,9 +67,11 @@ const IDENTIFIERS = [
         'x.doi=10.5555/a x.pmid=7'],
     ['WorldCat', 'rft_val_fmt=x&rft_id=info%3Aoclcnum%2F123&rft_id=urn%3AISSN%3A2901-0012&rft.eissn=2908-0142',
         'x.oclc=123 rft.issn=2901-0012 x.issn=2901-0012 x.eissn=2908-0142'],
-    ['an address of PubMed', 'rft_val_fmt=x&rft_id=https://pubmed.ncbi.nlm.nih.gov/7/&id=http://www.ncbi.nlm.nih.gov/pubmed/8',
+    ['an address of PubMed',
+        'rft_val_fmt=x&rft_id=https://pubmed.ncbi.nlm.nih.gov/7/&id=http://www.ncbi.nlm.nih.gov/pubmed/8',
         'x.pmid=7 rft_id=info:pmid/8'],
-    ['old addresses of DOIs', 'rft_val_fmt=x&id=http://dx.doi.org/10.5555/a.', 'x.doi=10.5555/a rft_id=info:doi/10.5555/a'],
+    ['old addresses of DOIs', 'rft_val_fmt=x&id=http://dx.doi.org/10.5555/a.',
+        'x.doi=10.5555/a rft_id=info:doi/10.5555/a'],
     ['bare numbers', 'rft_val_fmt=x&pmid=7&doi=10.5555/a,&rft.doi=doi:10.5555/A', 'x.doi=10.5555/A'
         + ' rft_id=info:doi/10.5555/A rft_id=info:pmid/7 x.pmid=7'],
     ['the same one twice', 'rft_val_fmt=x&rft_id=info:doi/10.5555/A&doi=10.5555/a', 'x.doi=10.5555/A'],

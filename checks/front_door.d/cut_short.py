@@ -1,5 +1,5 @@
-"""Replies that a process leaves when it ends while it writes, and those of a stranger at its port. No page may then say that
-there are no links: nginx gives such a reply as status 200."""
+"""Replies that a process leaves when it ends while it writes, and those of a stranger at its port. No page may then say
+that there are no links: nginx gives such a reply as status 200."""
 import concurrent.futures, contextlib, json, socket, threading
 
 ARTICLE = "issn=2901-0012&volume=12"
@@ -85,4 +85,5 @@ def test(site, expect):
 
     with stubs(site, first_cut_short):
         reply = site.get(f"/find.json?{ARTICLE}")
-        expect("each query is asked once more", (reply.status, "https://press.example.com/12" in reply.text), (200, True))
+        expect("each query is asked once more", (reply.status, "https://press.example.com/12" in reply.text),
+               (200, True))

@@ -1,12 +1,14 @@
-// The unit tests of find.js and why.js: the cases of cases.js, requests of good form, limits, menus and commands. Runs in njs
-// and in node, in a folder with the module and sample.js, which run.py writes; prints each failure, and a last line that
-// counts.
+// The unit tests of find.js and why.js: the cases of cases.js, requests of good form, limits, menus and commands. Runs
+// in njs and in node, in a folder with the module and sample.js, which run.py writes; prints each failure, and a last
+// line that counts.
 import door from './find.js';
 import staff from './why.js';
 import cases from './cases.js';
 import sample from './sample.js';
 
-const FORMATS = { J: 'info:ofi/fmt:kev:mtx:journal', B: 'info:ofi/fmt:kev:mtx:book', D: 'info:ofi/fmt:kev:mtx:dissertation' };
+const FORMATS = {
+    J: 'info:ofi/fmt:kev:mtx:journal', B: 'info:ofi/fmt:kev:mtx:book', D: 'info:ofi/fmt:kev:mtx:dissertation'
+};
 let count = 0;
 let failures = 0;
 
@@ -49,7 +51,8 @@ function testGoodForm() {
         const out = door.requestOf(request);
         expect('good form', out.slice(-request.length - 1), '&' + request);
         out.slice(0, -request.length - 1).split('&').forEach(function (pair) {
-            expect('added to good form: ' + pair, /^(x\.(issn|eissn|isbn|doi|pmid)|rft\.(issn|isbn))=/.test(pair), true);
+            expect('added to good form: ' + pair, /^(x\.(issn|eissn|isbn|doi|pmid)|rft\.(issn|isbn))=/.test(pair),
+                true);
         });
     });
 }
@@ -63,41 +66,57 @@ function repeated(text, times) {
 function testLimits() {
     const long = 'title=' + repeated('a', 7000) + '&issn=2901-0012&rft.genre=article';
     const out = door.requestOf(long);
-    expect('a long title goes once', out.length < 12000 && /rft\.jtitle=a{7000}&/.test(out) && !/&title=/.test(out), true);
+    expect('a long title goes once',
+        out.length < 12000 && /rft\.jtitle=a{7000}&/.test(out) && !/&title=/.test(out), true);
     expect('a long title keeps the rest', /^rft\.issn=2901-0012&.*&rft\.genre=article$/.test(out), true);
     const tail = door.requestOf('rft_val_fmt=x&rft.volume=3&' + repeated('rft.au=' + repeated('b', 70) + '&', 200));
-    expect('pairs at the end go', tail.length <= 12000 && tail.length > 11900 && /^rft_val_fmt=x&rft\.volume=3&/.test(tail), true);
+    expect('pairs at the end go',
+        tail.length <= 12000 && tail.length > 11900 && /^rft_val_fmt=x&rft\.volume=3&/.test(tail), true);
     expect('pairs are read up to 300', door.requestOf(repeated('a=1&', 400)).split('&').length, 301);
     expect('nothing', door.requestOf('') + '|' + door.anyOf(''), '|rft.issn=ANY');
-    ['%', '=', '&=', 'a', '%E9=%E9', repeated('%E9', 4000), '=' + repeated('%', 4000), 'title=' + repeated('%E9', 2600)].forEach(function (text) {
-        expect('hostile: ' + text.slice(0, 20), /^[\x21-\x7e]*$/.test(door.requestOf(text)) && door.requestOf(text).length <= 12000, true);
+    const hostile = ['%', '=', '&=', 'a', '%E9=%E9', repeated('%E9', 4000), '=' + repeated('%', 4000)];
+    hostile.concat('title=' + repeated('%E9', 2600)).forEach(function (text) {
+        const sent = door.requestOf(text);
+        expect('hostile: ' + text.slice(0, 20), /^[\x21-\x7e]*$/.test(sent) && sent.length <= 12000, true);
     });
 }
 
 function testMenus() {
     expect('menus are joined', door.joined('a\tx\nb\ty\n', 'b\tz\nc\tw\n'), 'a\tx\nb\ty\nc\tw');
-    expect('reports are joined', door.joinedReports('a\tlink 0\nb\tno row\nc\tno link\nd\tno row\n', 'a\tno row\nb\tlink 2\nc\tlink 1\nd\tno row\n'),
+    const reports = ['a\tlink 0\nb\tno row\nc\tno link\nd\tno row\n', 'a\tno row\nb\tlink 2\nc\tlink 1\nd\tno row\n'];
+    expect('reports are joined', door.joinedReports(reports[0], reports[1]),
         'a\tlink 0\nb\tlink 2\nc\tno link\nd\tno row\n');
-    const site = { groups: [{ name: 'A' }, { name: 'B', onlyWithout: 'A' }], targets: { b: { group: 'B', label: 'Bee', note: 'n' }, constructor: {} } };
-    const listed = function (menu) { return JSON.stringify(door.shownGroups(door.groupsOf(menu, door.siteIn(site, '')))); };
+    const site = { groups: [{ name: 'A' }, { name: 'B', onlyWithout: 'A' }],
+        targets: { b: { group: 'B', label: 'Bee', note: 'n' }, constructor: {} } };
+    const listed = function (menu) {
+        return JSON.stringify(door.shownGroups(door.groupsOf(menu, door.siteIn(site, ''))));
+    };
     expect('a group that another one hides', listed('b\thttp://b/\na\thttp://a/\n'),
         '[{"name":"A","links":[{"target":"a","label":"a","url":"http://a/"}]}]');
-    expect('a group alone', listed('b\thttp://b/\n'), '[{"name":"B","links":[{"target":"b","label":"Bee","url":"http://b/","note":"n"}]}]');
+    expect('a group alone', listed('b\thttp://b/\n'),
+        '[{"name":"B","links":[{"target":"b","label":"Bee","url":"http://b/","note":"n"}]}]');
     expect('links that are none', listed('a\tjavascript:x\na\thttp://a/ b\na\thttp://\u00e9/\nx\n'), '[]');
-    expect('names of every object', listed('constructor\thttp://c/\ntoString\thttp://t/\n').split('"target"').length, 3);
+    expect('names of every object',
+        listed('constructor\thttp://c/\ntoString\thttp://t/\n').split('"target"').length, 3);
 }
 
 // A header, the languages that are offered, and the one that is chosen.
 const HEADERS = [
-    ['', 'en de', 'en'], ['de', 'en de', 'de'], ['DE', 'en de', 'de'], ['de-AT', 'en de', 'de'], ['de-Latn-AT', 'en de', 'de'],
+    ['', 'en de', 'en'], ['de', 'en de', 'de'], ['DE', 'en de', 'de'], ['de-AT', 'en de', 'de'],
+    ['de-Latn-AT', 'en de', 'de'],
     ['de-AT, en;q=0.9', 'en de', 'de'], ['en;q=0.3, de;q=0.8', 'en de', 'de'], ['fr, de;q=0.5', 'en de', 'de'],
-    ['fr', 'en de', 'en'], ['de;q=0', 'de en', 'en'], ['de;q=0.000, fr', 'de en', 'en'], ['en;q=0, de;q=0', 'de en', 'de'],
+    ['fr', 'en de', 'en'], ['de;q=0', 'de en', 'en'], ['de;q=0.000, fr', 'de en', 'en'],
+    ['en;q=0, de;q=0', 'de en', 'de'],
     ['*', 'en de', 'en'], ['*, en;q=0.5', 'en de', 'de'], ['fr, *;q=0.1', 'en de', 'en'], ['*;q=0', 'en de', 'en'],
     ['de, *;q=0', 'en de', 'de'], ['de;q=0.5, en;q=0.5', 'en de', 'de'], ['de ; q=1.000 , en', 'en de', 'de'],
-    ['de;q=0.001', 'en de', 'de'], ['pt', 'en pt-BR', 'pt-BR'], ['pt-PT', 'en pt-BR', 'en'], ['pt-br', 'en pt pt-BR', 'pt-BR'],
-    ['pt', 'en pt-BR pt', 'pt'], ['zh-Hant-TW', 'en zh zh-Hant', 'zh-Hant'], ['den', 'en de', 'en'], ['d', 'en de', 'en'],
-    ['de;q=2, en', 'de en', 'en'], ['de;q=0.1234, en', 'de en', 'en'], ['de;q=, en', 'de en', 'en'], ['de;level=1, en', 'de en', 'en'],
-    ['de_AT, en', 'de en', 'en'], ['<de>, "en", \u00e9, de\r\nX: y', 'en de', 'en'], [',,,de,,', 'en de', 'de'], ['__proto__', 'en', 'en']
+    ['de;q=0.001', 'en de', 'de'], ['pt', 'en pt-BR', 'pt-BR'], ['pt-PT', 'en pt-BR', 'en'],
+    ['pt-br', 'en pt pt-BR', 'pt-BR'],
+    ['pt', 'en pt-BR pt', 'pt'], ['zh-Hant-TW', 'en zh zh-Hant', 'zh-Hant'], ['den', 'en de', 'en'],
+    ['d', 'en de', 'en'],
+    ['de;q=2, en', 'de en', 'en'], ['de;q=0.1234, en', 'de en', 'en'], ['de;q=, en', 'de en', 'en'],
+    ['de;level=1, en', 'de en', 'en'],
+    ['de_AT, en', 'de en', 'en'], ['<de>, "en", \u00e9, de\r\nX: y', 'en de', 'en'], [',,,de,,', 'en de', 'de'],
+    ['__proto__', 'en', 'en']
 ];
 
 function testHeaders() {
@@ -117,10 +136,13 @@ function testWords() {
     const site = function (targets, header) { return door.siteIn(targets, header); };
     const chosen = function (list, header) { return site({ languages: list }, header).language; };
     expect('no languages', chosen(undefined, 'de'), 'en');
-    expect('languages that are none', [3, {}, 'de', [], [3], ['fr'], ['de_', 7]].map(function (it) { return chosen(it, 'de'); }).join(' '), 'en en en en en en en');
+    const noLanguages = [3, {}, 'de', [], [3], ['fr'], ['de_', 7]];
+    expect('languages that are none', noLanguages.map(function (it) { return chosen(it, 'de'); }).join(' '),
+        'en en en en en en en');
     expect('one that is not loaded', chosen(['fr', 'de', 'en'], 'fr'), 'de');
     expect('a region', chosen(['en', 'pt-BR'], 'pt'), 'pt-BR');
-    expect('the direction', site({ languages: ['he', 'en'] }, '').dir + ' ' + site({ languages: ['he', 'en'] }, 'en').dir, 'rtl ltr');
+    expect('the direction',
+        site({ languages: ['he', 'en'] }, '').dir + ' ' + site({ languages: ['he', 'en'] }, 'en').dir, 'rtl ltr');
     const heading = function (words, header) {
         const menu = 'a\thttp://a/\n';  // no group is named, so there is one with the word `links`
         return door.groupsOf(menu, site({ languages: ['en', 'de'], words: words }, header))[0].name;
@@ -130,16 +152,23 @@ function testWords() {
     globalThis.words_de.links = 'Verweise';
     expect('a word in another language', heading({}, 'de'), 'Verweise');
     expect('a word of the site', heading({ links: 'A' }, 'en') + ' ' + heading({ links: 'A' }, 'de'), 'A Verweise');
-    expect('words of the site', heading({ links: { en: 'A', de: 'B' } }, 'en') + ' ' + heading({ links: { en: 'A', de: 'B' } }, 'de'), 'A B');
-    expect('a word of the site for one language', heading({ links: { de: 'B' } }, 'en') + ' ' + heading({ links: { en: 'A' } }, 'de'), 'Links Verweise');
+    const both = { links: { en: 'A', de: 'B' } };
+    expect('words of the site', heading(both, 'en') + ' ' + heading(both, 'de'), 'A B');
+    expect('a word of the site for one language',
+        heading({ links: { de: 'B' } }, 'en') + ' ' + heading({ links: { en: 'A' } }, 'de'), 'Links Verweise');
     delete globalThis.words_de.links;
     expect('a plain word for all languages', heading({ links: 'A' }, 'de'), 'A');
-    const labels = { languages: ['en', 'de'], groups: [{ name: 'G', label: { de: 'H' } }],
-        targets: { a: { label: { en: 'A', de: 'B' }, note: { de: 'n' } }, b: { label: { en: 'C' } }, c: { label: { fr: 'D' } } } };
+    const labels = {
+        languages: ['en', 'de'], groups: [{ name: 'G', label: { de: 'H' } }],
+        targets: {
+            a: { label: { en: 'A', de: 'B' }, note: { de: 'n' } }, b: { label: { en: 'C' } }, c: { label: { fr: 'D' } }
+        }
+    };
     const menu = 'a\thttp://a/\nb\thttp://b/\nc\thttp://c/\n';
     const listed = function (header) {
         const group = door.shownGroups(door.groupsOf(menu, site(labels, header)))[0];
-        return group.name + ' ' + group.label + ': ' + group.links.map(function (it) { return it.label + ' ' + it.note; }).join(', ');
+        return group.name + ' ' + group.label + ': '
+            + group.links.map(function (it) { return it.label + ' ' + it.note; }).join(', ');
     };
     expect('labels', listed('en'), 'G undefined: A undefined, C undefined, c undefined');
     expect('labels in another language', listed('de'), 'G H: B n, C undefined, c undefined');
@@ -147,31 +176,44 @@ function testWords() {
 
 // The commands of the page for staff. The registry's paths are relative to its folder.
 function testCommands() {
-    const registry = staff.registryOf('a\tcode/a.olk\ttables/a.txt\r\n\nb part\tcode/a.olk\t/t/it\'s.txt\nc\tx\nconstructor\tc.d/e\tf\n');
+    const registry = staff.registryOf('a\tcode/a.olk\ttables/a.txt\r\n\nb part\tcode/a.olk\t/t/it\'s.txt\n'
+        + 'c\tx\nconstructor\tc.d/e\tf\n');
     expect('a registry', Object.keys(registry).join(), 'a,b part,constructor');
     const received = function (path) { return path === '/r/received/a.rules'; };
     const command = function (targets, name, query) {
-        return staff.commandOf(name, registry[name], door.siteIn(targets, ''), received) + ' ' + staff.quotedQuery(query);
+        return staff.commandOf(name, registry[name], door.siteIn(targets, ''), received) + ' '
+            + staff.quotedQuery(query);
     };
     expect('a command', command({}, 'a', 'rft.issn=2901-0012&x=1'),
-        "openlink explain '/etc/openlink/current/rules/a.rules' '/etc/openlink/current/tables/a.txt' 'rft.issn=2901-0012&x=1'");
-    expect('the rules of the code', command({ folder: '/srv/r/' }, 'b part', 'a=b'), "openlink explain '/srv/r/rules/a.rules' '/t/it'\\''s.txt' 'a=b'");
-    expect('code in another folder', command({ folder: '/r' }, 'constructor', ''), "openlink explain '/r/rules/e.rules' '/r/f' ''");
-    const named = function (rules) { return command({ folder: '/r', targets: { a: { rules: rules } } }, 'a', '').split("'")[1]; };
+        "openlink explain '/etc/openlink/current/rules/a.rules' '/etc/openlink/current/tables/a.txt' "
+        + "'rft.issn=2901-0012&x=1'");
+    expect('the rules of the code', command({ folder: '/srv/r/' }, 'b part', 'a=b'),
+        "openlink explain '/srv/r/rules/a.rules' '/t/it'\\''s.txt' 'a=b'");
+    expect('code in another folder', command({ folder: '/r' }, 'constructor', ''),
+        "openlink explain '/r/rules/e.rules' '/r/f' ''");
+    const named = function (rules) {
+        return command({ folder: '/r', targets: { a: { rules: rules } } }, 'a', '').split("'")[1];
+    };
     expect('rules as they were received', command({ folder: '/r' }, 'b part', '').split("'")[1], '/r/received/a.rules');
     expect('rules that are named', [named('own/b.rules'), named('/o/b.rules'), named(3), named(undefined)].join(),
         '/r/own/b.rules,/o/b.rules,/r/received/a.rules,/r/received/a.rules');
-    expect('a folder that is no text', command({ folder: ['/r'] }, 'a', '').split("'")[1], '/etc/openlink/current/rules/a.rules');
-    expect('quotes', command({ folder: '' }, 'a', "a='$(id)`\\\"%27%'"), "openlink explain '/rules/a.rules' '/tables/a.txt' 'a=%27$(id)`\\\"%27%%27'");
+    expect('a folder that is no text', command({ folder: ['/r'] }, 'a', '').split("'")[1],
+        '/etc/openlink/current/rules/a.rules');
+    expect('quotes', command({ folder: '' }, 'a', "a='$(id)`\\\"%27%'"),
+        "openlink explain '/rules/a.rules' '/tables/a.txt' 'a=%27$(id)`\\\"%27%%27'");
 }
 
 // The reports on both queries, and which of the queries a target gets.
 const REASONS = [
-    ['link 3', 'no row', 0], ['link 3', 'link 0', 0], ['no row', 'link 0', 1], ['no row', 'no link', 1], ['no row', 'no row', 0],
-    ['no link', 'no row', 0], ['no link', 'no link', 0], ['no link', 'link 0', 1], ['not a web link', 'no row', 0], ['no row', 'over budget', 1]
+    ['link 3', 'no row', 0], ['link 3', 'link 0', 0], ['no row', 'link 0', 1], ['no row', 'no link', 1],
+    ['no row', 'no row', 0],
+    ['no link', 'no row', 0], ['no link', 'no link', 0], ['no link', 'link 0', 1], ['not a web link', 'no row', 0],
+    ['no row', 'over budget', 1]
 ];
 function testReasons() {
-    const report = function (i) { return REASONS.map(function (it, n) { return 't' + n + '\t' + it[i] + '\n'; }).join(''); };
+    const report = function (i) {
+        return REASONS.map(function (it, n) { return 't' + n + '\t' + it[i] + '\n'; }).join('');
+    };
     staff.reasonsOf([report(0), report(1)]).forEach(function (it, n) {
         expect('the query of ' + REASONS[n].join(', '), it.name + ' ' + it.reasons.join(', ') + ' ' + it.used,
             't' + n + ' ' + REASONS[n][0] + ', ' + REASONS[n][1] + ' ' + REASONS[n][2]);
@@ -181,26 +223,29 @@ function testReasons() {
     expect('no report', staff.reasonsOf(['', '']).length, 0);
 }
 
-// A reply to a subrequest of nginx. The status 'cut' is that of a reply that a process has not written to its end: 200, with
-// less text than its head says.
+// A reply to a subrequest of nginx. The status 'cut' is that of a reply that a process has not written to its end: 200,
+// with less text than its head says.
 function replyWith(status) {
     const text = 'a\thttp://a/\n';
     const bytes = Buffer.from(status === 'cut' ? text.slice(0, -1) : text);
-    return { status: status === 'cut' ? 200 : status, headersOut: { 'Content-Length': String(text.length) }, responseBuffer: bytes };
+    return { status: status === 'cut' ? 200 : status, headersOut: { 'Content-Length': String(text.length) },
+        responseBuffer: bytes };
 }
 
 // A request of nginx whose subrequests get these statuses; -1 throws.
 function requestWith(uri, statuses) {
     return {
-        variables: { request_uri: uri }, rawVariables: { args: Buffer.from('issn=2901-0012') }, headersIn: {}, headersOut: {},
-        method: 'GET', requested: 0, places: [],
+        variables: { request_uri: uri }, rawVariables: { args: Buffer.from('issn=2901-0012') }, headersIn: {},
+        headersOut: {}, method: 'GET', requested: 0, places: [],
         subrequest: function (place, options) {
             const status = statuses[this.requested++];
             this.places.push(place + ' ' + options.args);
             if (status < 0) throw new Error('no\nreply');
             return Promise.resolve(replyWith(status));
         },
-        return: function (status, text) { this.replied = status + ' ' + /(<h1>|<a href="[^"]*"|.error.:...|.citation.)|$/.exec(text)[0]; }
+        return: function (status, text) {
+            this.replied = status + ' ' + /(<h1>|<a href="[^"]*"|.error.:...|.citation.)|$/.exec(text)[0];
+        }
     };
 }
 
@@ -210,16 +255,21 @@ async function expectReply(name, handler, request, expected) {
 }
 
 async function testRetries() {
-    await expectReply('requested again', door.json, requestWith('/find.json?', [502, 200, 200]), '200 "citation", requested 3');
-    await expectReply('requested again after half a reply', door.json, requestWith('/find.json?', ['cut', 200, 200]), '200 "citation", requested 3');
-    await expectReply('half of a reply twice', door.go, requestWith('/go?', [200, 'cut', 'cut']), '503 <h1>, requested 3');
-    await expectReply('requested again in vain', door.find, requestWith('/find?', [502, 502, 502, 502]), '503 <h1>, requested 4');
+    await expectReply('requested again', door.json, requestWith('/find.json?', [502, 200, 200]),
+        '200 "citation", requested 3');
+    await expectReply('requested again after half a reply', door.json, requestWith('/find.json?', ['cut', 200, 200]),
+        '200 "citation", requested 3');
+    await expectReply('half of a reply twice', door.go, requestWith('/go?', [200, 'cut', 'cut']),
+        '503 <h1>, requested 3');
+    await expectReply('requested again in vain', door.find, requestWith('/find?', [502, 502, 502, 502]),
+        '503 <h1>, requested 4');
 }
 
 async function testReplies() {
     await expectReply('both menus', door.find, requestWith('/find?', [200, 200]), '200 <h1>, requested 2');
     if (typeof njs === 'undefined') await testRetries();  // the njs command line has no timers
-    await expectReply('not requested again', door.json, requestWith('/find.json', [504, 200]), '503 "error":503, requested 2');
+    await expectReply('not requested again', door.json, requestWith('/find.json', [504, 200]),
+        '503 "error":503, requested 2');
     await expectReply('no status', door.find, requestWith('/find?', [200, 0]), '503 <h1>, requested 2');
     await expectReply('refused', door.go, requestWith('/go?', [400, 200]), '400 <h1>, requested 2');
     const request = requestWith('/why?', [200, 200]);
@@ -229,8 +279,10 @@ async function testReplies() {
     await staff.why(request);
     expect('the page for staff', request.replied, 200);
     const listed = page.split('<pre dir="ltr">').slice(1).map(function (it) { return it.split('</pre>')[0]; });
-    expect('the queries that were sent', listed.map(function (it) { return '/_report ' + it.split('&#39;').join("'").split('&amp;').join('&'); }).join(' '),
-        request.places.join(' '));
+    const sent = listed.map(function (it) {
+        return '/_report ' + it.split('&#39;').join("'").split('&amp;').join('&');
+    });
+    expect('the queries that were sent', sent.join(' '), request.places.join(' '));
     expect('the second one', listed[1].slice(0, 12), 'rft.issn=ANY');
     await expectReply('no reports', staff.why, requestWith('/why?', [200, 503]), '503 <h1>, requested 2');
     await expectReply('refused, for staff', staff.why, requestWith('/why?', [200, 400]), '400 <h1>, requested 2');

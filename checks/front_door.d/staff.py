@@ -2,19 +2,22 @@
 import html, json, os, re, socket, subprocess
 from urllib.parse import parse_qsl, quote, unquote, urlsplit
 
-ARTICLE = "sid=google&issn=2901-0012&volume=12&issue=3&spage=101&date=2003&atitle=Storm+surges&title=Annals+of+Tidal+Studies"
+ARTICLE = ("sid=google&issn=2901-0012&volume=12&issue=3&spage=101&date=2003&atitle=Storm+surges"
+           "&title=Annals+of+Tidal+Studies")
 # A shell script in place of the program: prints its arguments, each with a NUL after it.
 PRINTS_ARGUMENTS = "#!/bin/sh\nprintf '%s\\0' \"$@\"\n"
 # Titles of a request that a shell, HTML or a command line could take for something else.
-TITLES = ["'", "''", "'; echo x; '", "O'Neill & Sons", '"', "`id`", "$(id)", "${HOME}", "\\", "\\'", "a\\", "%27", "%2527", "%", "%2'7", "a\nb",
-          "a\r\nb", "\t", "\x01\x1b[31m\x7f", "<script>alert(1)</script>", "</pre></code>", "&amp;&lt;", "é ü 漢字 \U0001f600", "\u202e\u2028", "-n",
-          "!!", "#", "~", "*", "a=b", "{}", "$&", "--", "; rm -rf x", "|", ">x", "\x00"]
+TITLES = ["'", "''", "'; echo x; '", "O'Neill & Sons", '"', "`id`", "$(id)", "${HOME}", "\\", "\\'", "a\\", "%27",
+          "%2527", "%", "%2'7", "a\nb", "a\r\nb", "\t", "\x01\x1b[31m\x7f", "<script>alert(1)</script>",
+          "</pre></code>", "&amp;&lt;", "é ü 漢字 \U0001f600", "\u202e\u2028", "-n", "!!", "#",
+          "~", "*", "a=b", "{}", "$&", "--", "; rm -rf x", "|", ">x", "\x00"]
 
 
 def page_parts(text):
     """The two queries, the reasons of each target for both, and the command of each target, as a reader sees them."""
     queries = [html.unescape(it) for it in re.findall(r'<pre dir="ltr">(.*?)</pre>', text, re.S)]
-    rows = re.findall(r'<tr><th scope="row"><a href="#target-[^"]*">(.*?)</a></th><td>(.*?)</td><td>(.*?)</td></tr>', text)
+    rows = re.findall(r'<tr><th scope="row"><a href="#target-[^"]*">(.*?)</a></th><td>(.*?)</td><td>(.*?)</td></tr>',
+                      text)
     reasons = {name: [re.sub(r"<.*?>", "", it) for it in cells] for name, *cells in rows}
     bold = {name: [i for i, it in enumerate(cells) if it.startswith("<strong>")] for name, *cells in rows}
     commands = {name: html.unescape(it) for name, it in re.findall(
@@ -37,8 +40,10 @@ class Staff:
 
     def arguments_of(self, command):
         """What a shell gives the program for a command that is pasted."""
-        self.expect(f"a command: {command[:60]}", (command.startswith("openlink explain '"), "\n" in command), (True, False))
-        done = subprocess.run(["sh", "-c", self.script + command[len("openlink"):]], capture_output=True, cwd=self.site.path("temp"))
+        self.expect(f"a command: {command[:60]}", (command.startswith("openlink explain '"), "\n" in command),
+                    (True, False))
+        done = subprocess.run(["sh", "-c", self.script + command[len("openlink"):]], capture_output=True,
+                              cwd=self.site.path("temp"))
         self.expect(f"the shell: {command[-60:]}", (done.returncode, done.stderr), (0, b""))
         return done.stdout.decode().split("\0")[:-1]
 
@@ -49,12 +54,15 @@ class Staff:
 
 
 def test_page(staff, everywhere):
-    """Both queries, the reports that the program gives on them, and commands with the files and the query of each target."""
+    """Both queries, the reports that the program gives on them, and commands with the files and the query of each
+    target."""
     expect, site = staff.expect, staff.site
     reply = staff.get(ARTICLE)
     staff.tidy("the page for staff", reply.text)
-    expect("the page for staff", (reply.status, reply.headers["Content-Type"], reply.text.count("<h1>")), (200, "text/html; charset=utf-8", 1))
-    for part in ("<h1>Why a link is shown or missing</h1>", "<strong><bdi>Storm surges</bdi></strong>", "<h2>Query 1</h2>", "<h2>Query 2</h2>",
+    expect("the page for staff", (reply.status, reply.headers["Content-Type"], reply.text.count("<h1>")),
+           (200, "text/html; charset=utf-8", 1))
+    for part in ("<h1>Why a link is shown or missing</h1>", "<strong><bdi>Storm surges</bdi></strong>",
+                 "<h2>Query 1</h2>", "<h2>Query 2</h2>",
                  "<h2>Reports</h2>", "<h2>Commands</h2>"):
         expect(f"the page for staff has {part}", part in reply.text)
     queries, reasons, bold, commands = page_parts(reply.text)
@@ -73,7 +81,8 @@ def test_page(staff, everywhere):
         expect(f"the command for {name}", (word, query), ("explain", queries[1 if name in everywhere else 0]))
         expect(f"the table of {name}", table, site.path(registry[name][1]))
         code = site.path("temp/code.olk")
-        subprocess.run([os.path.abspath("crates/openlink/out/openlink"), "compile", rules, code], check=True, stdout=subprocess.DEVNULL)
+        subprocess.run([os.path.abspath("crates/openlink/out/openlink"), "compile", rules, code], check=True,
+                       stdout=subprocess.DEVNULL)
         with open(code, "rb") as made, open(site.path(registry[name][0]), "rb") as used:
             expect(f"the rules of {name}", made.read(), used.read())
 
@@ -84,21 +93,26 @@ def test_hostile_titles(staff):
         for key in ("atitle", "rft.atitle"):
             reply = staff.get(f"{key}={quote(title, safe='')}&issn=2901-0012")
             queries, _, _, commands = page_parts(reply.text)
-            staff.expect(f"hostile title {title!r}", (reply.status, len(queries), "<script" in reply.text), (200, 2, False))
-            staff.expect(f"control characters of {title!r}", re.findall("[\x00-\x09\x0b-\x1f\x7f-\x9f\u2028]", reply.text), [])
+            staff.expect(f"hostile title {title!r}", (reply.status, len(queries), "<script" in reply.text),
+                         (200, 2, False))
+            staff.expect(f"control characters of {title!r}",
+                         re.findall("[\x00-\x09\x0b-\x1f\x7f-\x9f\u2028]", reply.text), [])
             for name, query in (("tidal-press", queries[0]), ("web-search", queries[1])):
                 argument = staff.arguments_of(commands[name])[3]
                 staff.expect(f"{name}: the query of {title!r}", argument, query.replace("'", "%27"))
-                got = [value for key, value in parse_qsl(argument, keep_blank_values=True, errors="strict") if key == "rft.atitle"]
+                got = [value for key, value in parse_qsl(argument, keep_blank_values=True, errors="strict")
+                       if key == "rft.atitle"]
                 # A title without a letter has no value; the front door leaves its pair out.
                 staff.expect(f"{name}: the title {title!r}", got[:1], [title] if title.strip() else [])
     for raw in (b"'$(id)`\"\\<b>", b"\xe9'\xff", b"a'b%'%2'7"):
-        reply = staff.site.send(b"GET /why?atitle=" + raw + b"&issn=2901-0012 HTTP/1.1\r\nHost: a\r\nConnection: close\r\n\r\n", staff.site.report_port)
+        head = b" HTTP/1.1\r\nHost: a\r\nConnection: close\r\n\r\n"
+        reply = staff.site.send(b"GET /why?atitle=" + raw + b"&issn=2901-0012" + head, staff.site.report_port)
         queries, _, _, commands = page_parts(reply.split(b"\r\n\r\n", 1)[1].decode())
         argument = staff.arguments_of(commands["tidal-press"])[3]
         staff.expect(f"the raw bytes {raw}", (argument, b"<b>" in reply), (queries[0].replace("'", "%27"), False))
         title = dict(reversed(parse_qsl(argument)))["rft.atitle"]
-        staff.expect(f"the title of {raw}", title, raw.decode("windows-1252") if raw[0] > 0x7f else unquote(raw.decode()))
+        expected = raw.decode("windows-1252") if raw[0] > 0x7f else unquote(raw.decode())
+        staff.expect(f"the title of {raw}", title, expected)
 
 
 def test_folders(staff):
@@ -106,14 +120,16 @@ def test_folders(staff):
     expect, site = staff.expect, staff.site
     folder = site.path("temp/it's $(id) \\ \"<b>\" é")
     os.symlink(site.folder, folder)
-    named = {**staff.targets["targets"], "tidal-press": {"rules": "/o'/x y.rules"}, "catalogue": {"rules": "own/c.rules"}}
+    named = {**staff.targets["targets"], "tidal-press": {"rules": "/o'/x y.rules"},
+             "catalogue": {"rules": "own/c.rules"}}
     site.write_targets({**staff.targets, "folder": folder, "targets": named})
     os.mkdir(site.path("received"))
     os.rename(site.path("rules/pubmed.rules"), site.path("received/pubmed.rules"))
     reply = staff.get(ARTICLE)
     staff.tidy("a folder with quotes", reply.text)
     commands = page_parts(reply.text)[3]
-    for name, rules in (("web-search", f"{folder}/rules/web-search.rules"), ("tidal-press", "/o'/x y.rules"), ("catalogue", f"{folder}/own/c.rules"),
+    for name, rules in (("web-search", f"{folder}/rules/web-search.rules"), ("tidal-press", "/o'/x y.rules"),
+                        ("catalogue", f"{folder}/own/c.rules"),
                         ("pubmed", f"{folder}/received/pubmed.rules")):
         expect(f"a folder with quotes: {name}", staff.arguments_of(commands[name])[1], rules)
     expect("a table in it", staff.arguments_of(commands["web-search"])[2], f"{folder}/tables/ANY.tsv")
@@ -132,7 +148,8 @@ def test_folders(staff):
     with open(site.path("registry.tsv"), "w") as file:
         file.write(text.replace("tidal-press\t", "tidal\t").replace("\n", "\r\n"))
     commands = page_parts(staff.get(ARTICLE).text)[3]
-    expect("a target that the file no longer has", ("tidal-press" in commands, "tidal" in commands, "web-search" in commands), (False, False, True))
+    expect("a target that the file no longer has",
+           ("tidal-press" in commands, "tidal" in commands, "web-search" in commands), (False, False, True))
     expect("the line ends of the file", staff.arguments_of(commands["web-search"])[2], site.path("tables/ANY.tsv"))
     expect("its notice", "this target is not in " in staff.get(ARTICLE).text)
     with open(site.path("registry.tsv"), "w") as file:
@@ -146,7 +163,8 @@ def test_server(staff):
         for host in ("a", "127.0.0.1", f"127.0.0.1:{site.report_port}"):
             reply = site.get(path, headers={"Host": host})
             expect(f"{path} for readers, {host}", (reply.status, "Query 1" in reply.text), (404, False))
-    reply = site.send(f"GET http://127.0.0.1:{site.report_port}/why HTTP/1.1\r\nHost: a\r\nConnection: close\r\n\r\n".encode())
+    address = f"http://127.0.0.1:{site.report_port}/why"
+    reply = site.send(f"GET {address} HTTP/1.1\r\nHost: a\r\nConnection: close\r\n\r\n".encode())
     expect("an absolute address for readers", reply[:12], b"HTTP/1.1 404")
     try:
         socket.create_connection(("127.0.0.2", site.report_port), 2).close()
@@ -162,11 +180,13 @@ def test_server(staff):
     expect("its style", site.get("/menu.css", port=site.report_port).headers["Content-Type"], "text/css")
     for query in ("", "&&", "rft.isbn="):
         reply = staff.get(query)
-        expect(f"no reference: {query}", (reply.status, "No reference was given." in reply.text, len(page_parts(reply.text)[0])), (200, True, 2))
+        expect(f"no reference: {query}",
+               (reply.status, "No reference was given." in reply.text, len(page_parts(reply.text)[0])), (200, True, 2))
         staff.tidy("no reference", reply.text)
     reply = staff.get(ARTICLE, "de-AT")
     staff.tidy("the page for staff in German", reply.text)
-    for part in ('<html lang="de" dir="ltr">', "<h1>Warum ein Link erscheint oder fehlt</h1>", "<h2>Abfrage 2</h2>", "<h2>Berichte</h2>", "<h2>Befehle</h2>"):
+    for part in ('<html lang="de" dir="ltr">', "<h1>Warum ein Link erscheint oder fehlt</h1>", "<h2>Abfrage 2</h2>",
+                 "<h2>Berichte</h2>", "<h2>Befehle</h2>"):
         expect(f"the page in German has {part}", part in reply.text)
 
 
@@ -189,8 +209,10 @@ def test_problem_link(staff):
         expect(f"{name}: the body", link.startswith("http://127.0.0.1:8079/why?"))
         return site.get(link[len("http://127.0.0.1:8079"):], port=site.report_port)
 
-    for query in (ARTICLE, "atitle=a%27b%26c%3Cd%3E%25%0D%0A%C3%A9%E9&issn=2901-0012", "a&&b=1;c=2&amp;d=%&e='\"<>", "x=" + "%25" * 2500):
-        expect(f"staff see the request {query[:30]}", opened(query[:30], address_in(site.get(f"/find?{quote(query, safe='=&%+;')}").text)).text,
+    for query in (ARTICLE, "atitle=a%27b%26c%3Cd%3E%25%0D%0A%C3%A9%E9&issn=2901-0012", "a&&b=1;c=2&amp;d=%&e='\"<>",
+                  "x=" + "%25" * 2500):
+        expect(f"staff see the request {query[:30]}",
+               opened(query[:30], address_in(site.get(f"/find?{quote(query, safe='=&%+;')}").text)).text,
                staff.get(quote(query, safe="=&%+;")).text)
     body = ("atitle=" + "%C3%A9" * 1300 + "&" + ARTICLE).encode()[:8192]
     reply = opened("a form", address_in(site.get("/find?sid=form&rft.note=" + "a" * 7000, "POST", body, form).text))
@@ -199,8 +221,10 @@ def test_problem_link(staff):
     for target in ("/find", "/none", f"/find.json?{ARTICLE}"):
         expect(f"{target[:12]} has no link", address_in(site.get(target).text), None)
     words = staff.targets["words"]
-    for link, expected in ((None, False), ("", False), (3, False), ("javascript:alert({})", False), ("https://e.org/problem", False), ("e.org/{}", False),
-                         ("https://e.org/ {}", False), ("https://e.org/p?q={}&l=en", True), ("HTTP://e.org/{}", True), ({"de": "mailto:a@b?body={}"}, False)):
+    for link, expected in ((None, False), ("", False), (3, False), ("javascript:alert({})", False),
+                           ("https://e.org/problem", False), ("e.org/{}", False),
+                           ("https://e.org/ {}", False), ("https://e.org/p?q={}&l=en", True),
+                           ("HTTP://e.org/{}", True), ({"de": "mailto:a@b?body={}"}, False)):
         site.write_targets({**staff.targets, "words": {**words, "problemLink": link} if link is not None else {}})
         got = address_in(site.get(f"/find?{ARTICLE}").text)
         expect(f"problemLink {link}", got, link.replace("{}", quote(ARTICLE, safe="")) if expected else None)

@@ -16,7 +16,8 @@ def words():
 
 
 def texts(place, value, names, languages, faults):
-    """Faults of an object whose members are texts under known names, some of them by language if there are languages."""
+    """Faults of an object whose members are texts under known names, some of them by language if there are
+    languages."""
     if not isinstance(value, dict):
         faults.append(f"{place} is not an object")
         return
@@ -99,7 +100,8 @@ def faults_of(data, loaded=None):
     site = parsed(data, faults)
     if site is None:
         return faults
-    faults += [f"unknown name {json.dumps(name)}" for name in site if name not in ("languages", "words", "groups", "targets", "folder")]
+    faults += [f"unknown name {json.dumps(name)}" for name in site
+               if name not in ("languages", "words", "groups", "targets", "folder")]
     languages = languages_of(site, loaded, faults)
     texts("words", site.get("words", {}), words(), languages, faults)
     problem_link(site, faults)

@@ -23,7 +23,8 @@ def test_full_disk():
     with Library() as aside:
         with disk(aside, "size=1m") as folder:
             if folder is None:
-                print("checks/update: no tmpfs can be mounted here: files of limited size are tried, and no full disk", file=sys.stderr)
+                print("checks/update: no tmpfs can be mounted here: files of limited size are tried, and no full disk",
+                      file=sys.stderr)
                 return test_file_limit(aside)
             with Library(folder=os.path.join(folder, "library")) as library:
                 statuses = fill(library, (0, 4, 16, 40, 64, 84, 96), lambda room: fill_bytes(folder, room * 1024))
@@ -31,8 +32,8 @@ def test_full_disk():
 
 
 def test_no_file_left():
-    """A disk that has room for more bytes, but only for some files; and one that is filled while processes are restarted, so that
-    not even a link to the version before can be made."""
+    """A disk that has room for more bytes, but only for some files; and one that is filled while processes are
+    restarted, so that not even a link to the version before can be made."""
     with Library() as aside:
         with disk(aside, "size=8m,nr_inodes=500") as folder:
             if folder is None:
@@ -43,10 +44,13 @@ def test_no_file_left():
             with Library(folder=os.path.join(folder, "other")) as library:
                 library.input.deliver("B")
                 first, filler = library.current(), os.path.join(folder, "filler")
-                status, printed = library.run(restart=f"sh -c 'mkdir {filler}; touch $(seq -f {filler}/%g 500) 2>/dev/null; exit 9'")
-                expect(f"a disk that is filled meanwhile: {printed}", (status, library.current(), library.weeks_served()), (3, first, {"A"}))
+                fills = f"mkdir {filler}; touch $(seq -f {filler}/%g 500) 2>/dev/null; exit 9"
+                status, printed = library.run(restart=f"sh -c '{fills}'")
+                expect(f"a disk that is filled meanwhile: {printed}",
+                       (status, library.current(), library.weeks_served()), (3, first, {"A"}))
                 shutil.rmtree(filler)
-                expect("no longer full", (library.run()[0], library.weeks_served(), library.left_behind()), (0, {"B"}, []))
+                expect("no longer full", (library.run()[0], library.weeks_served(), library.left_behind()),
+                       (0, {"B"}, []))
 
 
 def fill_bytes(folder, room):

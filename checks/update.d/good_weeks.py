@@ -12,13 +12,15 @@ def test_good_week():
     with Library(ALL, processes=4) as library:
         status, printed = library.first
         expect("the first version", (status, library.names(), library.weeks_served()), (0, ALL, {"A"}))
-        expect_lines("the first version", printed, "tidal-press: new, 3 rows", "30 probes hold", f"{library.current()} is in use")
+        expect_lines("the first version", printed, "tidal-press: new, 3 rows", "30 probes hold",
+                     f"{library.current()} is in use")
         first = library.current()
         library.input.deliver("B")
         with Reader(library) as reader:
             status, printed = library.run()
         expect("a good week", (status, library.weeks_served(), reader.faults), (0, {"B"}, []))
-        expect_lines("a good week", printed, "tidal-press: 1 row added, 0 gone", "coastal-law: rules changed", "30 probes hold")
+        expect_lines("a good week", printed, "tidal-press: 1 row added, 0 gone", "coastal-law: rules changed",
+                     "30 probes hold")
         expect("nothing else has changed", re.findall(r"^([\w-]+): ", printed, re.M), ["tidal-press", "coastal-law"])
         moved = [line for line in printed.splitlines() if " is now " in line]
         expect("links that lead elsewhere", moved, ["  coastal-law https://coastal.example.com/journals/rcl is now "
@@ -36,21 +38,25 @@ def test_changes():
         rows = library.input.read("book-house.txt").splitlines(keepends=True)
         library.input.write("book-house.txt", b"".join(rows[:1] + rows[2:] + [rows[1].replace(b"\tLi\t", b"\tLee\t")]))
         library.input.names = [name for name in library.input.names if name != "catalogue"]
-        library.input.write("extra.rules", b"rule\nwhen given rft.atitle\nlink https://extra.example.org/{rft.atitle}\n")
+        library.input.write("extra.rules",
+                            b"rule\nwhen given rft.atitle\nlink https://extra.example.org/{rft.atitle}\n")
         library.input.write("extra.txt", library.input.read("doi-resolver.txt"))
         library.input.names.append("extra")
         library.input.write_list()
-        library.input.write("probes.tsv", b"sid=google&issn=2901-0012&atitle=Storm&date=2003&volume=12\ttidal-press extra\n")
+        library.input.write("probes.tsv",
+                            b"sid=google&issn=2901-0012&atitle=Storm&date=2003&volume=12\ttidal-press extra\n")
         tried = library.run("--dry-run")
         expect("a trial", (tried[0], library.current(), library.versions()), (0, first, [first]))
         expect("a trial leaves nothing", library.left_behind(), [])
         status, printed = library.run()
-        lines = ["catalogue: gone, since the list does not name it", "book-house: 1 row added, 1 gone", "extra: new, 1 row",
+        lines = ["catalogue: gone, since the list does not name it", "book-house: 1 row added, 1 gone",
+                 "extra: new, 1 row",
                  "  gains extra https://extra.example.org/Storm",
                  "  loses catalogue https://catalogue.example.org/search?index=number&term=2901-0012"]
         expect_lines("what has changed", printed, *lines, "1 probe holds")
         expect_lines("what a trial says", tried[1], *lines, "a trial: nothing was put in use")
-        expect("targets", (status, library.names()), (0, ["tidal-press", "coastal-law", "book-house", "doi-resolver", "extra"]))
+        expect("targets", (status, library.names()),
+               (0, ["tidal-press", "coastal-law", "book-house", "doi-resolver", "extra"]))
 
 
 def test_requests():
@@ -76,7 +82,8 @@ def test_back():
             stamps.append(library.current())
         expect("four versions are kept", library.versions(), stamps[-4:])
         expect("back", library.run("--back"), (0, f"{stamps[-2]} is in use again\n"))
-        expect("the version before", (library.current(), library.weeks_served(), library.left_behind()), (stamps[-2], {"A"}, []))
+        expect("the version before", (library.current(), library.weeks_served(), library.left_behind()),
+               (stamps[-2], {"A"}, []))
         # A new version may have the stamp of the one that is removed, if both were made within a second.
         open(library.path("versions", stamps[-1], "mark"), "w").close()
         expect("forward", library.run()[0], 0)
@@ -95,7 +102,8 @@ def test_warnings():
         library.input.add_row("book-house", b"A book without a number\t\t\t\t\t\t\t\t\thttps://books.example.net/x")
         status, printed = library.run()
         expect("a warning", status, 1)
-        expect_lines("a warning", printed, f"  {library.input.path('book-house.txt')}: rows without an identifier 1, first 2")
+        expect_lines("a warning", printed,
+                     f"  {library.input.path('book-house.txt')}: rows without an identifier 1, first 2")
         library.input.allowed["book-house"] = "rows 0; rows without an identifier"
         library.input.write_list()
         expect("it is allowed", library.run()[0], 0)
@@ -114,7 +122,8 @@ def test_wrong_arguments():
         os.rename(library.input.path("targets.tsv"), library.input.path("other.tsv"))
         status, printed = library.run()
         expect("no list", status, 4)
-        expect_lines("no list", printed, f"deploy/update: {library.input.path('targets.tsv')}: No such file or directory")
+        expect_lines("no list", printed,
+                     f"deploy/update: {library.input.path('targets.tsv')}: No such file or directory")
         expect("a site without ports", library.run("--site", "/dev/null")[0], 4)
 
 

@@ -33,8 +33,8 @@ def watched(call, suffix):
 
 
 def with_rename(run, rename):
-    """Passes the moments before and after the rename of `compile`, which has ended then: before it, the code is whole in
-    CODE.new, and there is no CODE."""
+    """Passes the moments before and after the rename of `compile`, which has ended then: before it, the code is whole
+    in CODE.new, and there is no CODE."""
     def wrapped(words, **how):
         done = run(words, **how)
         if words[1:2] == ["compile"] and done.returncode == 0:

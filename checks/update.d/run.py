@@ -1,5 +1,5 @@
-"""The tests of deploy/update; checks/update starts it at the top of the repository. The modules run side by side; with the
-name of one, it runs this one alone, prints how long each test takes, and last the numbers of tests and failures."""
+"""The tests of deploy/update; checks/update starts it at the top of the repository. The modules run side by side; with
+the name of one, it runs this one alone, prints how long each test takes, and last the numbers of tests and failures."""
 import importlib, subprocess, sys, time
 from counting import counts
 
@@ -16,7 +16,8 @@ def run(module):
 
 def main():
     start = time.time()
-    children = [subprocess.Popen([sys.executable, "-B", __file__, module], stdout=subprocess.PIPE, text=True) for module in MODULES]
+    children = [subprocess.Popen([sys.executable, "-B", __file__, module], stdout=subprocess.PIPE, text=True)
+                for module in MODULES]
     tests = failures = 0
     for module, child in zip(MODULES, children):
         printed = child.communicate()[0].splitlines()

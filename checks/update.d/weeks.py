@@ -3,15 +3,18 @@ import os, shutil, subprocess
 
 SAMPLE = "examples/library"
 # A title that probes.tsv does not name. Both tables of week B have it, and in this week the society's pages have moved.
-TITLE = "Papers on Piers\t3030-0009\t3030-0017\t1990-01-01\t1\t1\t\t\t\thttps://press.example.com/pp\t\tpp\t\tfulltext\t\tPress\tserial"
+TITLE = ("Papers on Piers\t3030-0009\t3030-0017\t1990-01-01\t1\t1\t\t\t\thttps://press.example.com/pp\t\tpp\t"
+         "\tfulltext\t\tPress\tserial")
 MOVED = ("https://coastal.example.com/journals/", "https://coastal.example.com/titles/")
 QUERY = "rft.issn=3030-0009&rft.volume=5&rft.date=1994"
 MENUS = {
     "A": {"coastal-law": "https://coastal.example.com/journals/pp"},
-    "B": {"tidal-press": "https://press.example.com/3030-0017/5", "coastal-law": "https://coastal.example.com/titles/pp"},
+    "B": {"tidal-press": "https://press.example.com/3030-0017/5",
+          "coastal-law": "https://coastal.example.com/titles/pp"},
 }
 SMALL = ("tidal-press", "coastal-law", "book-house", "catalogue", "doi-resolver")
-HTML = b"<!DOCTYPE html>\n<html><head><title>Sign in</title></head>\n<body><p>Your session has ended.</p></body></html>\n"
+HTML = (b"<!DOCTYPE html>\n<html><head><title>Sign in</title></head>\n"
+        b"<body><p>Your session has ended.</p></body></html>\n")
 
 
 def tables():
