@@ -1,9 +1,11 @@
-"""What `compile` and `upgrade` find at the path that they write, and beside it: what they replace, what they refuse, and
-what a failure leaves."""
-import ctypes, errno, os, resource, signal, struct
+"""What `compile` and `upgrade` find at the path that they write, and beside it: what they replace, what they refuse,
+and what a failure leaves."""
+import os, resource, signal
 from assembler import LIST_FILE
+from system_calls import RENAME, STORE, without
 
-# A command without its last argument, the path that it writes; the number of bytes written there; and the first of them.
+# A command without its last argument, the path that it writes; the number of bytes written there; and the first of
+# them.
 COMMANDS = [(["compile", "a.rules"], 127, b"OLK1"), (["upgrade", "a.olk"], 68, b"OLK2")]
 
 
@@ -36,7 +38,7 @@ def test_no_regular_file(program):
     os.symlink("folder", f"{program.folder}/to_folder")
     os.symlink("/dev/null", f"{program.folder}/to_device")
     for command, _, _ in COMMANDS:
-        for name in "folder", "fifo", "to_folder", "to_device", "/dev/null":
+        for name in "folder", "fifo", "to_folder", "to_device", ".", "/dev/null", "/proc/self/cwd":
             path = os.path.join(program.folder, name)
             before = kind_of(path)
             program.fails(command + [name], 4, f"device: {name}")
@@ -93,7 +95,8 @@ def test_a_full_disk(program):
         for room in 0, 1, size - 1:
             for name, content in ("code", b"the old file"), ("none", None):
                 given = program.run(command + [name], **with_room(room, signal.SIG_IGN))
-                program.expect(f"{command} {name}, {room} bytes", given, (4, b"", f"openlink: device: {name}\n".encode()))
+                fault = f"openlink: device: {name}\n".encode()
+                program.expect(f"{command} {name}, {room} bytes", given, (4, b"", fault))
                 program.expect(f"the file {name}", program.read(name), content)
                 program.expect(f"{name}.new exists", program.has(f"{name}.new"), False)
         given = program.run(command + ["code"], **with_room(size, signal.SIG_IGN))
@@ -101,28 +104,27 @@ def test_a_full_disk(program):
         program.expect("the first bytes", program.read("code")[:4], first)
 
 
-def refuse_to_store():
-    """Makes `fsync` and `fdatasync` fail, by a filter of the system calls of x86-64 (seccomp)."""
-    load, equal, answer = 0x20, 0x15, 0x06
-    steps = [(load, 0, 0, 0), (equal, 1, 0, 74), (equal, 0, 1, 75),
-             (answer, 0, 0, 0x00050000 | errno.EIO), (answer, 0, 0, 0x7FFF0000)]
-    code = ctypes.create_string_buffer(b"".join(struct.pack("=HBBI", *step) for step in steps))
-    filter = ctypes.create_string_buffer(struct.pack("@HP", len(steps), ctypes.addressof(code)))
-    libc = ctypes.CDLL(None, use_errno=True)
-    # PR_SET_NO_NEW_PRIVS, then PR_SET_SECCOMP with SECCOMP_MODE_FILTER.
-    if libc.prctl(38, 1, 0, 0, 0) or libc.prctl(22, 2, filter, 0, 0):
-        raise OSError(ctypes.get_errno(), "no filter of system calls")
-
-
 def test_a_file_that_is_not_stored(program):
     """The new file is stored before it is renamed: if that fails, the old file stays."""
     write_sources(program)
     for command, _, _ in COMMANDS:
         program.write("code", "the old file")
-        given = program.run(command + ["code"], preexec_fn=refuse_to_store)
+        given = program.run(command + ["code"], **without(STORE))
         program.expect(f"{command} without storing", given, (4, b"", b"openlink: device: code\n"))
         program.expect("code", program.read("code"), b"the old file")
         program.expect("code.new is there", program.has("code.new"), False)
+
+
+def test_a_file_that_is_not_renamed(program):
+    """The old file stays, and the new one is removed."""
+    write_sources(program)
+    for command, _, _ in COMMANDS:
+        program.write("code", "the old file")
+        for name, content in ("code", b"the old file"), ("none", None):
+            given = program.run(command + [name], **without(RENAME))
+            program.expect(f"{command} without renaming", given, (4, b"", f"openlink: device: {name}\n".encode()))
+            program.expect(f"the file {name}", program.read(name), content)
+            program.expect(f"{name}.new exists", program.has(f"{name}.new"), False)
 
 
 def test_a_command_that_is_killed(program):

@@ -3,7 +3,7 @@ import importlib, os, sys
 from program import Program
 
 HERE = os.path.dirname(os.path.abspath(__file__))
-NO_TESTS = ("run", "program", "assembler", "service", "targets")
+NO_TESTS = ("run", "program", "assembler", "service", "system_calls", "targets")
 
 subjects = {name[:-3] for name in os.listdir(HERE) if name.endswith(".py")} - {*NO_TESTS}
 runs = failures = 0
