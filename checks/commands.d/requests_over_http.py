@@ -67,6 +67,17 @@ REQUESTS = [
     (b"GET /openurl HTTP/1.2\r\nHost: a\r\n\r\n", BAD),
     (b"GET /openurl HTTP/2.0\r\nHost: a\r\n\r\n", BAD),
     (b"\r\nGET /x?ctx_ver=1 HTTP/1.1\nHost: a\n\n", NOT_FOUND),
+    (b"\r\n\nGET hTTps://a:80/openurl HTTP/1.1\nhost:\r\n\n", HTML),
+    (b"GET http://a/openurl HTTP/1.0\r\n\r\n", HTML),
+    (b"GET /openurl HTTP/1.0\r\nHost: b\r\n\r\n", HTML),
+    (b"GET /openurl?ctx_ver=1 HTTP/1.0\r\n\r\n", WRONG_VERSION),
+    (b"POST /openurl HTTP/1.0\r\n\r\n", METHOD),
+    (b"GET http://a/openurl HTTP/1.1\r\n\r\n", BAD),
+    (b"GET /openurl HTTP/1.1\r\nHost: a\r\nhOST: a\r\n\r\n", BAD),
+    (b"GET /openurl HTTP/1.1\r\nHost: a\r\nHost: a\r\nHost: a\r\n\r\n", BAD),
+    (b"GET /openurl HTTP/1.0\r\nHost: a\r\nHost: a\r\n\r\n", BAD),
+    (b"GET /openurl HTTP/1.0\r\nHost: a\r\nHost: a\r\nHost: a\r\n\r\n", BAD),
+    (b"GET /openurl\r\nHost: a\r\n\r\n", BAD),
     (b"", b""),
 ]
 
@@ -84,11 +95,39 @@ TO_HEAD = [
     (b"HEAD /x HTTP/1.1\r\nHost: a\r\n", BAD),
     (b"HEAD /x HTTP/1.1\r\n", BAD),
     (b"HEAD http://a/openurl.txt?ctx_ver=1 HTTP/1.0\r\n\r\n", to_head(WRONG_VERSION)),
+    (b"HEAD /openurl HTTP/1.0\r\n\r\n", to_head(HTML)),
+    (b"HEAD /x HTTP/1.0\r\n\r\n", to_head(NOT_FOUND)),
+    (b"HEAD * HTTP/1.0\r\n\r\n", to_head(BAD)),
+    (b"HEAD * HTTP/1.1\r\n\r\n", to_head(BAD)),
+    (b"HEAD /openurl HTTP/1.0\r\n", BAD),
+    (b"HEAD /openurl HTTP/1.1\r\n", BAD),
+    (b"head /openurl HTTP/1.0\r\n\r\n", METHOD),
 ]
 
 
 def test_replies_without_a_body(program):
     gives(program, TO_HEAD)
+
+
+# Requests to a service without targets, and the replies.
+WITHOUT_TARGETS = [
+    (b"GET /openurl HTTP/1.0\r\n\r\n", HTML),
+    (b"GET /openurl.txt HTTP/1.0\r\n\r\n", TEXT),
+    (b"GET /report HTTP/1.0\r\n\r\n", reply_of(200, "")),
+    (b"HEAD /openurl HTTP/1.0\r\n\r\n", to_head(HTML)),
+]
+
+
+def test_a_registry_without_targets(program):
+    write_registry(program, [])
+    expect_replies(program, WITHOUT_TARGETS)
+
+
+def test_the_query_is_decoded_once(program):
+    """It is all after the first `?`."""
+    write_registry(program, [("alpha", "rule\nlink http://e.org/{a}\n", JOURNAL)])
+    request = b"GET /openurl.txt?rft.issn=1234567x&a=b%20c?d HTTP/1.1\r\nHost: a\r\n\r\nmore"
+    expect_replies(program, [(request, reply_of(200, "alpha\thttp://e.org/b%20c%3Fd\n"))])
 
 
 # The start of a request, what follows it, how often, the end, and the reply. The first, of 16,384 bytes, is open; the
@@ -106,11 +145,15 @@ FIELDS = [
     ("GET /report HTTP/1.1\r\nHost: a\r\n", "A: b\r\n", 127, "\r\n", REPORT),
     ("GET /report HTTP/1.1\r\nHost: a\r\n", "A: b\r\n", 128, "\r\n", BAD),
     ("GET /x HTTP/1.1\r\nHost: a\r\n", "A: b\r\n", 128, "\r\n", BAD),
+    ("GET /openurl.txt HTTP/1.1\r\nHost: a\r\n", "A: b\r\n", 0, "\r\n", TEXT),
+    ("GET /openurl.txt HTTP/1.1\r\nHost: a\r\n", "A: b\r\n", 127, "\r\n", TEXT),
+    ("GET /openurl.txt HTTP/1.1\r\nHost: a\r\n", "A: b\r\n", 128, "\r\n", BAD),
 ]
 
 # The same, with a query of 4,097 pairs.
 PAIRS = [
     ("GET /openurl?a", "&a", 4096, " HTTP/1.1\r\nHost: a\r\n\r\n", TOO_MANY_PAIRS),
+    ("GET /openurl?a", "&a", 4096, " HTTP/1.0\r\n\r\n", TOO_MANY_PAIRS),
 ]
 
 
