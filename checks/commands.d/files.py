@@ -1,4 +1,6 @@
-"""Files that are empty, as large as they may be, and larger."""
+"""Files that are empty, as large as they may be, larger, or without an end, and what can't be read."""
+import fcntl, os, struct, termios
+from targets import ANY_LINK
 
 
 def largest_code():
@@ -43,3 +45,52 @@ def test_the_largest_code(program):
     program.expect("its last line", lines[5376:5377], [b"4095 HALT"])
     program.write("longer.olk", code + b"\0")
     program.fails(["show", "longer.olk"], 3, "code: TooLong at 65536")
+
+
+# A command, the arguments after the path that it reads, and the fault where a file has more than 65,536 bytes.
+COMMANDS = [
+    ("show", [], "code: TooLong at 65536"),
+    ("verify", [], "load: TooLong at 65536"),
+    ("link", ["x=1"], "rules: line 0: TooLong"),
+    ("compile", ["new.olk"], "rules: line 0: TooLong"),
+    ("upgrade", ["new.olk"], "code: TooLong at 65536"),
+    ("resolve", ["x=1"], "registry: line 0"),
+]
+
+
+def left_in_pipe(program, arguments, count, fault):
+    """The command fails on the pipe `pipe` with that many bytes in it; returns how many of them it leaves there."""
+    pipe = os.open(f"{program.folder}/pipe", os.O_RDWR)
+    try:
+        fcntl.fcntl(pipe, 1031, 2**17)  # F_SETPIPE_SZ
+        os.write(pipe, b"\n" * count)
+        program.fails(arguments, 3, fault)
+        return struct.unpack("i", fcntl.ioctl(pipe, termios.FIONREAD, b"\0" * 4))[0]
+    finally:
+        os.close(pipe)
+
+
+def test_one_byte_past_the_limit_is_read(program):
+    """And no more of a file without an end."""
+    os.mkfifo(f"{program.folder}/pipe")
+    for command, rest, fault in COMMANDS:
+        program.fails([command, "/dev/zero", *rest], 3, fault)
+        left = left_in_pipe(program, [command, "pipe", *rest], 65_537 + 10, fault)
+        program.expect(f"the bytes that {command} leaves", left, 10)
+    program.expect("new.olk exists", program.has("new.olk"), False)
+
+
+def test_a_table_without_an_end(program):
+    program.write("any.olk", ANY_LINK)
+    program.write("registry", "alpha\tany.olk\t/dev/zero\nbeta\t/dev/zero\tnone\n")
+    program.fails(["resolve", "registry", ""], 3, "target alpha: table: TooLong")
+    program.write("registry", "alpha\t/dev/zero\tnone\n")
+    program.fails(["resolve", "registry", ""], 3, "target alpha: load: TooLong at 65536")
+
+
+def test_what_cannot_be_read(program):
+    """A folder can be opened, but not read."""
+    for path in ".", "none/none", "none":
+        for command, rest, _ in COMMANDS:
+            program.fails([command, path, *rest], 4, f"device: {path}")
+    program.expect("new.olk exists", program.has("new.olk"), False)
