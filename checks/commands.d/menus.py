@@ -70,6 +70,15 @@ def test_a_menu_with_links(program):
           '<li><a href="http://e.org/b">alpha</a></li>\n</ul>\n')
 
 
+def test_a_row_after_seven_others(program):
+    write_registry(program, [
+        ("zeta", OF_THE_ROW, "print_identifier\ttitle_url\n" + "1234-567X\tx:\n" * 7 + "1234-567X\thttp://\n"),
+        ("beta", OF_A_SCRIPT, JOURNAL),
+    ])
+    shows(program, "rft.issn=1234567x", "zeta\thttp://\n", "zeta\tlink 7\nbeta\tnot a web link\n",
+          page('<li><a href="http://">zeta</a></li>\n'))
+
+
 def test_a_menu_without_links(program):
     # By its last row, the text of 20,000 bytes, the cells and the ISSN: 60 times 20,035 bytes.
     letters = "a" * 20_000
