@@ -1,6 +1,6 @@
 """What `compile` and `upgrade` find at the path that they write, and beside it: what they replace, what they refuse,
 and what a failure leaves."""
-import os, resource, signal
+import os, resource, signal, stat
 from assembler import LIST_FILE
 from system_calls import RENAME, STORE, without
 
@@ -30,15 +30,24 @@ def places(program, command, name, size, first):
     program.expect(f"{name}.new exists", program.has(f"{name}.new"), False)
 
 
+def add_device(program):
+    """The path of a device. That of the system is used only where a faulty program could not replace it."""
+    if not os.access("/dev", os.W_OK):
+        return "/dev/null"
+    os.mknod(f"{program.folder}/device", stat.S_IFCHR | 0o666, os.makedev(1, 3))
+    return "device"
+
+
 def test_no_regular_file(program):
     """A folder, a FIFO, a device, and a link to one of them, are refused and stay."""
     write_sources(program)
     os.mkdir(f"{program.folder}/folder")
     os.mkfifo(f"{program.folder}/fifo")
+    device = add_device(program)
     os.symlink("folder", f"{program.folder}/to_folder")
-    os.symlink("/dev/null", f"{program.folder}/to_device")
+    os.symlink(device, f"{program.folder}/to_device")
     for command, _, _ in COMMANDS:
-        for name in "folder", "fifo", "to_folder", "to_device", ".", "/dev/null", "/proc/self/cwd":
+        for name in "folder", "fifo", device, "to_folder", "to_device", ".", "/proc/self/cwd":
             path = os.path.join(program.folder, name)
             before = kind_of(path)
             program.fails(command + [name], 4, f"device: {name}")
