@@ -1,10 +1,12 @@
-//! Tests of menus, registries, the runs of a request, files and registry files, for what no contract says and no
-//! command shows: what an error gives back, how values are printed, what a watch observes, and files and random numbers
-//! that fail.
+//! Tests of menus, registries, the runs of a request, files, registry files and HTTP, for what no contract says and no
+//! command shows: what an error gives back, how values are printed, what a watch observes, files and random numbers
+//! that fail, and peers that send and receive a few bytes at a time or fail.
 #![tactic(auto)]
 
 #[cfg(test)]
 mod codes;
+#[cfg(test)]
+mod exchanges;
 #[cfg(test)]
 mod menus;
 #[cfg(test)]
@@ -15,6 +17,12 @@ mod registry_files;
 mod resolver;
 #[cfg(test)]
 mod runs_together;
+#[cfg(test)]
+mod service;
+#[cfg(test)]
+mod shared;
+#[cfg(test)]
+mod streams;
 #[cfg(test)]
 mod system_files;
 

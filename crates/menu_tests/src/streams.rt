@@ -1,6 +1,6 @@
 //! Streams, and the reading of a head.
 
-use crate::REQUEST;
+use crate::shared::REQUEST;
 use http_streams::{
     Failed, HeadError, Input, MAX_HEAD_BYTES, Output, read_head, write_all, write_both,
 };
@@ -67,19 +67,15 @@ fn reads_until_the_head_is_closed(rt: HostRuntime) -> Result<(), Fail> {
     Ok(())
 }
 
-/// Whether all of these bytes but one are read as a head, `piece` bytes at a time.
-fn leaves_one(alloc: Global, bytes: &[u8], piece: usize) -> Result<bool, HeadError> {
-    let mut input = PieceIn::new(alloc, bytes, piece.max(1), None)?;
-    let head = read_head(alloc, &mut input)?;
-    let next = input.read(&mut [0; 4]);
-    Ok(head.len() == 16_384 && next == Ok(1))
-}
-
+/// Of the bytes all but one are read as a head.
 #[test]
 fn leaves_what_is_no_head(rt: HostRuntime) -> Result<(), Fail> {
     let bytes = vec![in rt.alloc(); b'x'; MAX_HEAD_BYTES + 1]?;
-    assert_eq!(rt; leaves_one(rt.alloc(), &bytes, 1000), Ok(true));
-    assert_eq!(rt; leaves_one(rt.alloc(), &bytes, bytes.len()), Ok(true));
+    for piece in [1000, bytes.len()] {
+        let mut input = PieceIn::new(rt.alloc(), &bytes, piece.max(1), None)?;
+        assert_eq!(rt; read_head(rt.alloc(), &mut input)?.len(), 16_384);
+        assert_eq!(rt; input.read(&mut [0; 4]), Ok(1));
+    }
     Ok(())
 }
 
@@ -123,59 +119,39 @@ fn writes_in_pieces_up_to_a_failure(rt: HostRuntime) -> Result<(), Fail> {
     Ok(())
 }
 
-/// Whether all of these bytes are written by one call.
-fn writes_at_once(alloc: Global, bytes: &[u8]) -> Result<bool, AllocError> {
-    let mut output = PieceOut::new(alloc, 1_000, None)?;
-    Ok(output.write(bytes) == Ok(1_000) && output.written() == bytes)
-}
-
 #[test]
 fn writes_much_in_one_piece(rt: HostRuntime) -> Result<(), Fail> {
     let much = vec![in rt.alloc(); b'x'; 1_000]?;
-    assert!(rt; writes_at_once(rt.alloc(), &much)?);
+    let mut output = PieceOut::new(rt.alloc(), 1_000, None)?;
+    assert_eq!(rt; output.write(&much), Ok(1_000));
+    assert_eq!(rt; output.written(), much.as_slice());
     Ok(())
 }
 
-/// Three reads of two bytes from a tape with three, and two writes after the first read: whether all results are right,
-/// and what has been written at the end.
-fn gives_and_takes(alloc: Global) -> Result<(bool, Vec<u8>), AllocError> {
-    let mut tape = Tape::new(alloc, b"abc")?;
-    let mut front = [0; 2];
-    let mut rest = [0; 2];
-    let first = tape.read(&mut front);
-    let one = tape.write(b"one");
-    let two = write_all(&mut tape, b"two");
-    let second = tape.read(&mut rest);
-    let end = tape.read(&mut rest);
-    let written = Vec::from_slice(alloc, tape.written())?;
-    let told = [first, one, second, end] == [Ok(2), Ok(3), Ok(1), Ok(0)] && two == Ok(());
-    Ok((told && front == *b"ab" && rest[0] == b'c', written))
-}
-
+/// Three reads of two bytes from a tape with three, and two writes after the first read.
 #[test]
 fn tapes_give_and_take(rt: HostRuntime) -> Result<(), Fail> {
-    let (told, written) = gives_and_takes(rt.alloc())?;
-    assert!(rt; told);
-    assert_eq!(rt; written.as_slice(), b"onetwo".as_slice());
+    let mut tape = Tape::new(rt.alloc(), b"abc")?;
+    let mut room = [0; 2];
+    assert_eq!(rt; tape.read(&mut room), Ok(2));
+    assert_eq!(rt; room, *b"ab");
+    assert_eq!(rt; tape.write(b"one"), Ok(3));
+    assert_eq!(rt; write_all(&mut tape, b"two"), Ok(()));
+    assert_eq!(rt; tape.read(&mut room), Ok(1));
+    assert_eq!(rt; room[0], b'c');
+    assert_eq!(rt; tape.read(&mut room), Ok(0));
+    assert_eq!(rt; tape.written(), b"onetwo".as_slice());
     Ok(())
 }
 
-/// How many bytes three reads of three bytes in pieces of two return if the second read fails, and the last byte.
-fn three_reads(alloc: Global) -> Result<([Result<usize, Failed>; 3], u8), AllocError> {
-    let mut input = PieceIn::new(alloc, b"abc", 2, Some(1))?;
-    let mut room = [0; 8];
-    let reads = [
-        input.read(&mut room),
-        input.read(&mut room),
-        input.read(&mut room),
-    ];
-    Ok((reads, room[0]))
-}
-
+/// Three reads of three bytes in pieces of two, the second of which fails.
 #[test]
 fn a_read_that_fails_takes_nothing(rt: HostRuntime) -> Result<(), Fail> {
-    let (reads, last) = three_reads(rt.alloc())?;
-    assert_eq!(rt; reads, [Ok(2), Err(Failed), Ok(1)]);
-    assert_eq!(rt; last, b'c');
+    let mut input = PieceIn::new(rt.alloc(), b"abc", 2, Some(1))?;
+    let mut room = [0; 8];
+    assert_eq!(rt; input.read(&mut room), Ok(2));
+    assert_eq!(rt; input.read(&mut room), Err(Failed));
+    assert_eq!(rt; input.read(&mut room), Ok(1));
+    assert_eq!(rt; room[0], b'c');
     Ok(())
 }

@@ -1,6 +1,6 @@
 //! How connections are served and counted, over memory and on loopback.
 
-use crate::{REPLY, REQUEST};
+use crate::shared::{REPLY, REQUEST};
 use http_service::{Counts, serve_on, serve_within};
 use http_streams::{Listener, Loopback, Ports};
 use registry::Registry;
