@@ -1,7 +1,7 @@
 //! Interleaved runs.
 
 use crate::codes::{LIST_CODE, TEXT_CODE};
-use crate::lists;
+use crate::shared::lists;
 use interpreter::{Run, prepare};
 use link_menu::{Blind, Fate, Shown, Watch, play, round, turn_all};
 use std::alloc::{AllocError, Global};

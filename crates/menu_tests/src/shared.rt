@@ -1,4 +1,35 @@
-//! A request and its reply.
+//! What the tests of several files use: a target's addition, what a watch recorded, and a request with its reply.
+
+use kbart_rows::Table;
+use link_menu::Shown;
+use registry::{AddError, Registry};
+use std::alloc::{AllocError, Global};
+use std::test::Fail;
+use verifier::load;
+
+/// Two rows of one journal, in two years.
+const JOURNAL: &[u8] =
+    b"print_identifier\ttitle_url\tdate_first_issue_online\tdate_last_issue_online\n\
+1234-567X\thttp://e.org/a\t1990\t1995\n1234-567X\thttp://e.org/b\t2000\t\n";
+
+/// Adds a target with the journal; an error gives its parts back.
+pub(crate) fn add(
+    alloc: Global,
+    registry: &mut Registry,
+    name: &str,
+    code: &[u8],
+) -> Result<Result<(), AddError>, Fail> {
+    let code = load(alloc, code)?;
+    let table = Table::read(alloc, JOURNAL)?;
+    let name = String::from_str(alloc, name)?;
+    Ok(registry.add(name, code, table))
+}
+
+/// The lists that the watch recorded, as text.
+pub(crate) fn lists(alloc: Global, recorder: &Shown) -> Result<String, AllocError> {
+    let lists = recorder.lists();
+    format!(in alloc; "{lists:?}")
+}
 
 /// A request for a path that is none of the pages.
 pub(crate) const REQUEST: &[u8; 28] = b"GET /x HTTP/1.1\r\nHost: a\r\n\r\n";
