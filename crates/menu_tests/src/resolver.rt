@@ -1,9 +1,9 @@
-//! What a watch observes until the menu of a small registry is complete.
+//! The menu of a small registry: what a watch observes until it is complete, and a link of 20,000 bytes.
 
 use crate::codes::{ISSN_CODE, LIST_CODE};
 use crate::shared::{add, lists};
 use kev_read::read_kev;
-use link_menu::{Shown, resolve_watched};
+use link_menu::{Shown, resolve, resolve_watched};
 use registry::Registry;
 use std::test::Fail;
 
@@ -28,5 +28,24 @@ fn rounds(rt: HostRuntime) -> Result<(), Fail> {
     assert_eq!(rt; report.as_str(), "p\tnot a web link\nq\tlink 0\n");
     let lists = lists(rt.alloc(), &recorder)?;
     assert_eq!(rt; lists.as_str(), "[[64, 8], [123, 8], [64], [123]]");
+    Ok(())
+}
+
+/// The link is written, and is not a web link. The head of a request over HTTP is too small for these members.
+#[test]
+fn twenty_long_members(rt: HostRuntime) -> Result<(), Fail> {
+    let mut registry = Registry::new(rt.alloc());
+    if let Err(error) = add(rt.alloc(), &mut registry, "gamma", LIST_CODE)? {
+        return Err(Fail::from(error.kind));
+    }
+    let member = "a".repeat(rt.alloc(), 1_000)?;
+    let member = format!(in rt.alloc(); "&list={member}")?;
+    let members = member.as_str().repeat(rt.alloc(), 20)?;
+    let query = format!(in rt.alloc(); "rft.issn=1234567x{members}")?;
+    let request = read_kev(rt.alloc(), query.as_bytes())?;
+    let menu = resolve(rt.alloc(), &registry, &request)?;
+    let report = menu.report(rt.alloc())?;
+    assert_eq!(rt; report.as_str(), "gamma\tnot a web link\n");
+    assert!(rt; menu.is_empty());
     Ok(())
 }
