@@ -117,3 +117,22 @@ TEXTS = [
 def test_texts_beside_lists(program):
     for declared, query, name, text in TEXTS:
         has_text(program, declared, query, name, text)
+
+
+# Names of `list` lines, a query, and the values of all of its pairs, which are those of these lists.
+PAIRS = [
+    ([], "", []),
+    (["x", "y"], "x=1&y=2&x=3", ["x=1", "x=3", "y=2"]),
+    (["ctx_ver", "url_ver", "x"], "ctx_ver=Z39.88-2004&url_ver=Z39.88-2004&x=1",
+     ["ctx_ver=Z39.88-2004", "url_ver=Z39.88-2004", "x=1"]),
+    (["ctx_ver"], "ctx_ver=Z39%2E88%2D2004", ["ctx_ver=Z39.88-2004"]),
+    (["url_ver"], "url_ver=Z39.88-2004&url_ver=1", ["url_ver=Z39.88-2004", "url_ver=1"]),
+    (["a"], "a&&&a&&", ["a=", "a="]),
+]
+
+
+def test_all_pairs(program):
+    for declared, query, pairs in PAIRS:
+        options = [argument for name in declared for argument in ("--list", name)]
+        names = ",".join(f"{name}*" for name in declared) or "none"
+        program.prints(["expand", *options, f"{{?{names}}}", query], "?" + "&".join(pairs) if pairs else "")

@@ -226,10 +226,19 @@ TABLES = [
     (b"x\n" + LONGER + b"\n", "RowTooLong"),
     (b"x\n" + b"\t" * 65536 + b"\r\n", None),
     (b"x\n" + b"\t" * 65537 + b"\r\n", "RowTooLong"),
+    # The tabs between cells count, even beyond the columns of the header.
+    (b"a\n" + b"\t" * 65536, None),
+    (b"a\n" + b"\t" * 65537, "RowTooLong"),
     # The header has the same limit, of which a byte order mark takes nothing.
+    (LONGEST, None),
+    (LONGER, "RowTooLong"),
     (b"\xef\xbb\xbf" + LONGEST, None),
     (LONGER + b"\nb\n", "RowTooLong"),
+    # Neither the header nor blank lines are rows.
     (b"x\n" + b"a\n" * 200000 + b"\n\r\n", None),
+    (b"a\n\n" + b"1\n" * 200000, None),
+    (b"a\n\n" + b"1\n" * 200001, "TooManyRows"),
+    (b"a\n" + b"\n" * 200001, None),
     # The row too many is refused before its length is looked at, and a line before it first.
     (b"x\n" + b"a\n" * 200000 + LONGER, "TooManyRows"),
     (LONGER + b"\na" * 200001, "RowTooLong"),
