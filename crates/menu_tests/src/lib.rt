@@ -1,10 +1,13 @@
-//! Tests of menus, registries, the runs of a request, files, registry files and HTTP, for what no contract says and no
-//! command shows: what an error gives back, what a watch observes, files and random numbers that fail, and peers that
-//! send and receive a few bytes at a time or fail.
+//! Tests of environments, requests, tables, menus, registries, the runs of a request, files, registry files and HTTP,
+//! for what no contract says and no command shows: sizes and places, names that no rule can have, where filling stops,
+//! what an error gives back, how values are printed, what a watch observes, files and random numbers that fail, and
+//! peers that send and receive a few bytes at a time or fail.
 #![tactic(auto)]
 
 #[cfg(test)]
 mod codes;
+#[cfg(test)]
+mod environments;
 #[cfg(test)]
 mod exchanges;
 #[cfg(test)]
@@ -13,6 +16,8 @@ mod menus;
 mod registries;
 #[cfg(test)]
 mod registry_files;
+#[cfg(test)]
+mod requests;
 #[cfg(test)]
 mod resolver;
 #[cfg(test)]
@@ -25,3 +30,5 @@ mod shared;
 mod streams;
 #[cfg(test)]
 mod system_files;
+#[cfg(test)]
+mod tables;

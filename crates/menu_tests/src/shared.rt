@@ -8,7 +8,7 @@ use std::test::Fail;
 use verifier::load;
 
 /// Two rows of one journal, in two years.
-const JOURNAL: &[u8] =
+pub(crate) const JOURNAL: &[u8] =
     b"print_identifier\ttitle_url\tdate_first_issue_online\tdate_last_issue_online\n\
 1234-567X\thttp://e.org/a\t1990\t1995\n1234-567X\thttp://e.org/b\t2000\t\n";
 
