@@ -1,7 +1,7 @@
 """The tests of the front door; checks/front_door starts it at the top of the repository."""
 import concurrent.futures, glob, json, os, re, shutil, signal, subprocess, sys, tempfile, threading, time
 from urllib.parse import quote
-import cut_short, staff, targets
+import cut_short, speed, staff, targets
 from running import FOR_EVERY_REQUEST, Site, free_ports
 
 HERE = os.path.dirname(os.path.abspath(__file__))
@@ -44,43 +44,6 @@ def test_rules(folder):
                 print(done.stdout, file=sys.stderr)
             else:
                 counts["tests"] += int(lines[-1][3:])
-
-
-# Requests, and the milliseconds that each may take.
-REQUESTS = {"usual": 1, "long": 10, "many": 10, "latin": 10}
-SPEED = """import door from './find.js';
-import sample from './sample.js';
-const requests = { usual: sample[0], long: (sample[0] + '&rft.description=' + 'word+and%2C+'.repeat(700)).slice(0, 8192),
-    many: 'rft.issn=1234-567&'.repeat(455), latin: 'atitle=%E9&'.repeat(740) };
-for (let i = 0; i < COUNT; i++) door.requestOf(requests.NAME);
-"""
-
-
-# Headers of 8 KB for Accept-Language.
-LANGUAGES = """import door from './find.js';
-const headers = { commas: ','.repeat(8192), ranges: 'x-1-2-3-4-5-6;q=0.001,'.repeat(370), hyphens: 'de' + '-a'.repeat(4095),
-    spaces: 'de' + ' '.repeat(8190), stars: '*,'.repeat(4096) };
-const offered = 'en de fr es pt-BR zh-Hant ar he pl cs'.split(' ');
-for (let i = 0; i < COUNT; i++) door.chosen(headers.NAME, offered);
-"""
-
-
-def test_speed(folder):
-    """The processor time in njs of a request, a usual one below 1 ms, one of 8 KB below 10 ms; of a header below 1 ms.
-    The least of three times counts, since other programs on the machine make a time longer and never shorter."""
-    def took(name, count):
-        with open(f"{folder}/speed.js", "w") as file:
-            file.write((SPEED if name in REQUESTS else LANGUAGES).replace("NAME", name).replace("COUNT", str(count)))
-        child = subprocess.Popen(["njs", "-p", folder, f"{folder}/speed.js"])
-        _, status, usage = os.wait4(child.pid, 0)
-        child.returncode = status
-        expect(f"speed of {name}", status, 0)
-        return usage.ru_utime + usage.ru_stime
-
-    for name, most in {**REQUESTS, **dict.fromkeys(("commas", "ranges", "hyphens", "spaces", "stars"), 1)}.items():
-        start, whole = (min(took(name, count) for _ in range(3)) for count in (0, 200))
-        time_of_one = (whole - start) * 1000 / 200
-        expect(f"speed of {name}: {time_of_one:.2f} ms", time_of_one < most)
 
 
 SLIPS = [
@@ -588,7 +551,7 @@ def main():
     start = time.time()
     with tempfile.TemporaryDirectory() as folder:
         test_rules(folder)
-        test_speed(folder)
+        speed.test(folder, expect)
     test_targets()
     test_style()
     site = Site()

@@ -1,0 +1,76 @@
+"""The processor time that the front door takes in njs for a request, and for the header Accept-Language, as a multiple
+of what a peer takes in the same run. The peer splits, decodes, encodes and joins the pairs of a usual request with
+JavaScript's own functions. On a slow or busy machine both take longer, and their ratio stays."""
+import os, resource, subprocess
+
+TRIES = 5
+SECONDS = 20  # of processor time, after which a script that does not end is killed
+SCRIPT = """import door from './find.js';
+import sample from './sample.js';
+// All but the usual request have 8 KB, and so have the headers.
+const requests = {
+    usual: sample[0],
+    long: (sample[0] + '&rft.description=' + 'word+and%2C+'.repeat(700)).slice(0, 8192),
+    many: 'rft.issn=1234-567&'.repeat(455),
+    latin: 'atitle=%E9&'.repeat(740)
+};
+const headers = {
+    commas: ','.repeat(8192),
+    ranges: 'x-1-2-3-4-5-6;q=0.001,'.repeat(370),
+    hyphens: 'de' + '-a'.repeat(4095),
+    spaces: 'de' + ' '.repeat(8190),
+    stars: '*,'.repeat(4096)
+};
+const offered = 'en de fr es pt-BR zh-Hant ar he pl cs'.split(' ');
+function written(part) { return encodeURIComponent(decodeURIComponent(part.split('+').join(' '))); }
+function peer() { return requests.usual.split('&').map((pair) => pair.split('=').map(written).join('=')).join('&'); }
+for (let i = 0; i < COUNT; i++) CALL;
+"""
+# For each: how often a script calls it, so that no script takes long, and how many calls of the peer may at most take
+# as long as one of it. When these limits were set, it was 2.4, 5, 12 and 35, and 1.1, 5, 0.14, 0.14 and 1.7.
+REQUESTS = {"usual": (200, 5), "long": (100, 12), "many": (40, 26), "latin": (15, 76)}
+HEADERS = {"commas": (400, 3), "ranges": (100, 8), "hyphens": (3000, 0.5), "spaces": (3000, 0.5), "stars": (300, 4)}
+CALLS = {
+    "nothing": ("0", 0), "peer": ("peer()", 500),
+    **{name: (f"door.requestOf(requests.{name})", count) for name, (count, _) in REQUESTS.items()},
+    **{name: (f"door.chosen(headers.{name}, offered)", count) for name, (count, _) in HEADERS.items()},
+}
+
+
+def limit_time():
+    resource.setrlimit(resource.RLIMIT_CPU, (SECONDS, SECONDS))
+
+
+def took(folder, name):
+    """The status of a script that makes the calls of this name, and its seconds of processor time."""
+    call, count = CALLS[name]
+    with open(f"{folder}/speed.js", "w") as file:
+        file.write(SCRIPT.replace("CALL", call).replace("COUNT", str(count)))
+    child = subprocess.Popen(["njs", "-p", folder, f"{folder}/speed.js"], preexec_fn=limit_time)
+    _, status, usage = os.wait4(child.pid, 0)
+    child.returncode = status
+    return status, usage.ru_utime + usage.ru_stime
+
+
+def costs_of(least):
+    """For each request and header the calls of the peer that take as long, from the least times of all scripts."""
+    one = {name: max(0, least[name] - least["nothing"]) / count for name, (_, count) in CALLS.items() if count}
+    return {name: one[name] / (one["peer"] or 1e-9) for name in (*REQUESTS, *HEADERS)}
+
+
+def test(folder, expect):
+    """Each costs at most what it may. The least time of each script counts, since other processes on the machine make a
+    time longer and never shorter. If one costs more, all are measured again, up to five times."""
+    most = {name: most for name, (_, most) in {**REQUESTS, **HEADERS}.items()}
+    least, costs = {}, {}
+    for _ in range(TRIES):
+        for name in CALLS:
+            status, seconds = took(folder, name)
+            if status != 0:
+                return expect(f"the script of {name}, which has {SECONDS} s of processor time", status, 0)
+            least[name] = min(seconds, least.get(name, seconds))
+        costs = costs_of(least)
+        if all(costs[name] <= most[name] for name in costs):
+            break
+    for name, cost in costs.items():
+        expect(f"{name} costs {cost:.2f} times what the peer does, and {most[name]} are allowed", cost <= most[name])
