@@ -1,8 +1,9 @@
 """The tests of the front door; checks/front_door starts it at the top of the repository."""
-import concurrent.futures, glob, json, os, re, shutil, signal, subprocess, sys, tempfile, threading, time
+import glob, json, os, re, shutil, socket, subprocess, sys, tempfile, time
 from urllib.parse import quote
-import cut_short, speed, staff, targets
 from running import FOR_EVERY_REQUEST, Site, free_ports
+import cut_short, restarts, speed, staff, targets
+from patience import patience, wait_until
 
 HERE = os.path.dirname(os.path.abspath(__file__))
 ARTICLE = "sid=google&issn=2901-0012&volume=12&issue=3&spage=101&date=2003&atitle=Storm+surges&title=Annals+of+Tidal+Studies"
@@ -390,84 +391,23 @@ def test_staff(site):
 
 
 def test_limit(site):
-    """Twenty requests of one address at a time; the next one gets a page with status 429."""
-    import socket
-    head = b"POST /find HTTP/1.1\r\nHost: a\r\nContent-Type: application/x-www-form-urlencoded\r\nContent-Length: 10\r\n\r\n"
-    peers = [socket.create_connection(("127.0.0.1", site.port), 5) for _ in range(20)]
+    """Twenty requests of one address at a time; the next one gets a page with status 429. Each of the twenty has passed
+    the limit once nginx asks for its body, which does not come."""
+    form = b"Content-Type: application/x-www-form-urlencoded\r\nContent-Length: 10\r\nExpect: 100-continue\r\n\r\n"
+    head = b"POST /find HTTP/1.1\r\nHost: a\r\n" + form
+    peers = [socket.create_connection(("127.0.0.1", site.port), patience(5)) for _ in range(20)]
     for peer in peers:
         peer.sendall(head)
-    time.sleep(0.2)
+    expect("what twenty requests get", {peer.recv(1000) for peer in peers}, {b"HTTP/1.1 100 Continue\r\n\r\n"})
     reply = site.get("/find")
     expect("the request after twenty", (reply.status, "too many requests" in reply.text), (429, True))
     for peer in peers:
         peer.close()
-    time.sleep(0.1)
-    expect("after them", site.get("/find").status, 200)
+    expect("after them", wait_until(lambda: site.get("/find").status == 200))
 
 
-def readers(site, seconds, count=4):
-    """The status, start and duration of each request that readers send one after the other."""
-    end = time.time() + seconds
-    results = []
-
-    def read():
-        while time.time() < end:
-            start = time.time()
-            results.append((site.get(f"/find?{ARTICLE}").status, start, time.time() - start))
-            time.sleep(0.01)
-
-    with concurrent.futures.ThreadPoolExecutor(count) as pool:
-        for done in [pool.submit(read) for _ in range(count)]:
-            done.result()
-    return results
-
-
-def with_readers(site, seconds, act):
-    actor = threading.Timer(0.3, act)
-    actor.start()
-    results = readers(site, seconds)
-    actor.join()
-    return results
-
-
-def test_processes(site):
-    def restart_all():
-        for process in site.processes.values():
-            process.kill()
-        for process in site.processes.values():
-            process.wait()
-        for port in site.ports:
-            site.start_process(port)
-
-    one = site.ports[0]
-    results = with_readers(site, 1, lambda: site.processes[one].kill())
-    expect("one process killed", {status for status, _, _ in results}, {200})
-    site.processes[one].wait()
-    start = time.time()
-    site.start_process(one)
-    site.wait_for(one)
-    # On a busy machine, all limits of time are longer by some starts of a process, which takes 0.05 s on an idle one.
-    slack = 5 * (time.time() - start)
-    results = with_readers(site, 2.5 + slack, restart_all)
-    faults = [start for status, start, _ in results if status != 200]
-    expect("all processes restarted", not faults or max(faults) - min(faults) < 1 + slack)
-    site.wait_for(one)
-    results = with_readers(site, 4.5 + slack, lambda: site.processes[one].send_signal(signal.SIGSTOP))
-    site.processes[one].send_signal(signal.SIGCONT)
-    expect("one process stopped", {status for status, _, _ in results}, {200})
-    expect("the slowest of them", max(took for _, _, took in results) < 4 + slack)
-    for process in site.processes.values():
-        process.kill()
-        process.wait()
-    reply = site.get(f"/find?{ARTICLE}")
-    expect("no process", (reply.status, "The service is being restarted." in reply.text), (503, True))
-    tidy("no process", reply.text)
-    reply = site.get(f"/find.json?{ARTICLE}")
-    expect("no process, as JSON", (reply.status, json.loads(reply.text)), (503, {"error": 503}))
-    reply = site.get(f"/why?{ARTICLE}", port=site.report_port)
-    expect("no process, for staff", (reply.status, reply.text.count("<h2>"), "The service is being restarted." in reply.text), (503, 2, True))
-    tidy("no process, for staff", reply.text)
-    expect("no process, passed on", site.get(f"/openurl?{ARTICLE}").status in (502, 503, 504))
+def test_restarts(site):
+    restarts.test(site, ARTICLE, expect, tidy)
 
 
 def test_cut_short(site):
@@ -560,7 +500,7 @@ def main():
         expect("nginx -t", (status, text if status else ""), (0, ""))
         site.start()
         for test in (test_requests, test_page, test_json, test_languages, test_go, test_hostile, test_form, test_passed_on, test_staff, test_faults,
-                     test_limit, test_hostile_labels, test_processes, test_cut_short, test_logs):
+                     test_limit, test_hostile_labels, test_restarts, test_cut_short, test_logs):
             test(site)
     finally:
         site.stop()

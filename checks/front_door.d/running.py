@@ -1,5 +1,8 @@
 """Starts nginx with the front door and processes of the program, in a temporary folder and on free local ports."""
-import http.client, json, os, random, re, shutil, signal, socket, subprocess, tempfile, time
+import http.client, json, os, random, re, shutil, signal, socket, subprocess, sys, tempfile
+
+sys.path.insert(0, os.path.join(os.path.dirname(os.path.dirname(os.path.abspath(__file__))), "shared"))
+from patience import patience, wait_until
 
 PROGRAM = os.path.abspath("crates/openlink/out/openlink")
 LIBRARY = {
@@ -133,13 +136,15 @@ class Site:
             self.wait_for(port)
 
     def wait_for(self, port):
-        for _ in range(1500):
+        def listens():
             try:
-                socket.create_connection(("127.0.0.1", port), 1).close()
-                return
+                socket.create_connection(("127.0.0.1", port), patience(1)).close()
+                return True
             except OSError:
-                time.sleep(0.02)
-        raise SystemExit(f"checks/front_door: nothing listens at port {port}")
+                return False
+
+        if not wait_until(listens):
+            raise SystemExit(f"checks/front_door: nothing listens at port {port}")
 
     def write_targets(self, data):
         """Writes this targets.json and takes it in use; the one that operators copy if it is None."""
@@ -154,19 +159,20 @@ class Site:
         """Reads the configuration again, and waits until a new worker serves."""
         before = self.workers()
         self.nginx.send_signal(signal.SIGHUP)
-        for _ in range(1500):
+
+        def are_new():
             after = self.workers()
-            if after and not after & before:
-                return
-            time.sleep(0.02)
-        raise SystemExit("checks/front_door: nginx did not reload")
+            return after and not after & before
+
+        if not wait_until(are_new):
+            raise SystemExit("checks/front_door: nginx did not reload")
 
     def workers(self):
         done = subprocess.run(["ps", "-o", "pid=", "--ppid", str(self.nginx.pid)], capture_output=True, text=True)
         return set(done.stdout.split())
 
     def get(self, target, method="GET", body=None, headers=None, port=None):
-        peer = http.client.HTTPConnection("127.0.0.1", port or self.port, timeout=30)
+        peer = http.client.HTTPConnection("127.0.0.1", port or self.port, timeout=patience(30))
         try:
             peer.request(method, target, body, headers or {})
             reply = peer.getresponse()
@@ -176,7 +182,7 @@ class Site:
 
     def send(self, data, port=None):
         """The whole reply to these bytes."""
-        with socket.create_connection(("127.0.0.1", port or self.port), 30) as peer:
+        with socket.create_connection(("127.0.0.1", port or self.port), patience(30)) as peer:
             peer.sendall(data)
             parts = []
             while part := peer.recv(65536):
@@ -190,5 +196,5 @@ class Site:
                 process.terminate()
         for process in [*self.processes.values(), self.nginx]:
             if process:
-                process.wait(10)
+                process.wait(patience(10))
         shutil.rmtree(self.folder, ignore_errors=True)
