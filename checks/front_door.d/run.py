@@ -6,7 +6,8 @@ import cut_short, restarts, speed, staff, targets
 from patience import patience, wait_until
 
 HERE = os.path.dirname(os.path.abspath(__file__))
-ARTICLE = "sid=google&issn=2901-0012&volume=12&issue=3&spage=101&date=2003&atitle=Storm+surges&title=Annals+of+Tidal+Studies"
+ARTICLE = ("sid=google&issn=2901-0012&volume=12&issue=3&spage=101&date=2003&atitle=Storm+surges"
+           "&title=Annals+of+Tidal+Studies")
 HOSTILE = "</title><script>alert(1)</script>\"'><img src=x onerror=alert(1)>&amp;\r\nX-Evil: 1\u202e\u0000\ufffe\u2028é"
 counts = {"tests": 0, "failures": 0}
 
@@ -61,17 +62,20 @@ SLIPS = [
     (b'{"groups": [{"name": "A"}], "words": {"libary": "x"}}', 'words: unknown name "libary"'),
     (b'{"groups": [{"name": "A"}], "words": {"library": 3}}', "words: library is not a text"),
     (b'{"groups": [{"name": "A"}], "words": {"problemLink": "https://e.org/"}}', "words: problemLink is no address"),
-    (b'{"groups": [{"name": "A"}], "words": {"problemLink": {"en": "a@e.org?body={}"}}}', "words: problemLink is no address"),
+    (b'{"groups": [{"name": "A"}], "words": {"problemLink": {"en": "a@e.org?body={}"}}}',
+     "words: problemLink is no address"),
     (b'{"groups": [{"name": "A"}], "folder": "openlink"}', "folder is not an absolute path"),
     (b'{"groups": [{"name": "A"}], "folder": 3}', "folder is not an absolute path"),
     (b'{"groups": [{"name": "A"}], "targets": {"a": {"rules": {"en": "x"}}}}', 'target "a": rules is not a text'),
     (b'{"groups": [{"name": "A"}], "words": {"library": {"en": 3}}}', "words: library: en is not a text"),
-    (b'{"groups": [{"name": "A"}], "words": {"library": {"de": "x"}}}', 'words: library: "de" is none of the languages'),
+    (b'{"groups": [{"name": "A"}], "words": {"library": {"de": "x"}}}',
+     'words: library: "de" is none of the languages'),
     (b'{"groups": [{"name": {"en": "A"}}]}', "group 1: name is not a text"),
     (b'{"languages": "en", "groups": [{"name": "A"}]}', "languages is not a list of languages"),
     (b'{"languages": ["en_GB"], "groups": [{"name": "A"}]}', 'languages: "en_GB" is no tag of a language'),
     (b'{"languages": ["fr"], "groups": [{"name": "A"}]}', "languages: no words/fr.json"),
-    (b'{"groups": [{"name": "A"}], "targets": {"a": {"label": {"e": "x"}}}}', 'target "a": label: "e" is none of the languages'),
+    (b'{"groups": [{"name": "A"}], "targets": {"a": {"label": {"e": "x"}}}}',
+     'target "a": label: "e" is none of the languages'),
 ]
 SLIPS_OF_WORDS = [
     (b'{"heading": "x"', "line 1, column"),
@@ -88,7 +92,8 @@ def test_targets():
     with open("deploy/nginx/targets.json") as file:
         site = json.load(file)
     expect("targets.json has the library's words", set(site["words"]), set(targets.OF_THE_LIBRARY))
-    expect("it offers all languages", {f"{language}.json" for language in site["languages"]}, set(os.listdir("deploy/nginx/words")))
+    expect("it offers all languages", {f"{language}.json" for language in site["languages"]},
+           set(os.listdir("deploy/nginx/words")))
     for data, fault in SLIPS:
         expect(f"targets.json: {fault}", any(fault in found for found in targets.faults_of(data, {"en", "de"})))
     for data, fault in SLIPS_OF_WORDS:
@@ -146,30 +151,38 @@ def test_page(site):
     reply = site.get(f"/find?{ARTICLE}")
     expect("the page", (reply.status, reply.headers["Content-Type"]), (200, "text/html; charset=utf-8"))
     tidy("a page with links", reply.text)
-    for part in ('<html lang="en" dir="ltr">', '<meta name="viewport"', "<title>Storm surges – Example University Library</title>",
-                 "<strong><bdi>Storm surges</bdi></strong>", "<cite><bdi>Annals of Tidal Studies</bdi></cite>", "vol. 12", "no. 3",
+    for part in ('<html lang="en" dir="ltr">', '<meta name="viewport"',
+                 "<title>Storm surges – Example University Library</title>",
+                 "<strong><bdi>Storm surges</bdi></strong>", "<cite><bdi>Annals of Tidal Studies</bdi></cite>",
+                 "vol. 12", "no. 3",
                  "p. 101", "2003"):
         expect(f"the page has {part}", part in reply.text)
     expect("one h1", reply.text.count("<h1>"), 1)
     expect("order", order_of(reply.text), ["h1", 'p class="citation"', "h2",
-           'a href="https://press.example.com/2908-0142/12/3/101"', 'a href="https://aggregator.example.net/titles/17"', "h2",
+           'a href="https://press.example.com/2908-0142/12/3/101"', 'a href="https://aggregator.example.net/titles/17"',
+           "h2",
            'a href="https://catalogue.example.org/search?index=number&amp;term=2901-0012"', "h2",
-           'a href="https://search.example.org/?q=Storm%20surges"', 'p class="problem"', f'a href="{problem_link(ARTICLE)}"'])
+           'a href="https://search.example.org/?q=Storm%20surges"', 'p class="problem"',
+           f'a href="{problem_link(ARTICLE)}"'])
     tar = "issn=3006-1962&atitle=Notes+on+tar&date=1921"
     reply = site.get(f"/find?{tar}")
     tidy("a page without full text", reply.text)
-    expect("without full text", order_of(reply.text), ["h1", 'p class="citation"', 'p class="nothing"', 'p class="help"',
+    expect("without full text", order_of(reply.text),
+           ["h1", 'p class="citation"', 'p class="nothing"', 'p class="help"',
            'a href="https://library.example.edu/ask"', "h2",
            'a href="https://loans.example.org/article?issn=3006-1962&amp;title=Notes%20on%20tar"', "h2",
-           'a href="https://search.example.org/?q=Notes%20on%20tar"', 'p class="problem"', f'a href="{problem_link(tar)}"'])
+           'a href="https://search.example.org/?q=Notes%20on%20tar"', 'p class="problem"',
+           f'a href="{problem_link(tar)}"'])
     expect("an identifier alone", "DOI 10.5555/a" in site.get("/find?id=doi:10.5555/a").text)
     expect("a PubMed number alone", "PubMed 7" in site.get("/find?id=pmid:7").text)
     for query in ("", "?", "?&&", "?rft.isbn="):
         reply = site.get(f"/find{query}")
-        expect(f"no reference: {query}", (reply.status, "No reference was given." in reply.text, "<h2>" in reply.text), (200, True, False))
+        expect(f"no reference: {query}", (reply.status, "No reference was given." in reply.text, "<h2>" in reply.text),
+               (200, True, False))
     tidy("no reference", reply.text)
     reply = site.get("/find?rft.genre=unnamed&rft.atitle=x")
-    expect("a target without a label", ">toString</a>" in reply.text and reply.text.index("toString") < reply.text.index("More about it"))
+    expect("a target without a label",
+           ">toString</a>" in reply.text and reply.text.index("toString") < reply.text.index("More about it"))
     expect("HEAD", (site.get(f"/find?{ARTICLE}", "HEAD").status, site.get(f"/find?{ARTICLE}", "HEAD").body), (200, b""))
     expect("style", site.get("/menu.css").headers["Content-Type"], "text/css")
 
@@ -179,16 +192,21 @@ def test_json(site):
     expect("JSON", (reply.status, reply.headers["Content-Type"], reply.headers["Access-Control-Allow-Origin"]),
            (200, "application/json", "*"))
     expect("JSON as a whole", json.loads(reply.text), {
-        "citation": {"title": "Storm surges", "journal": "Annals of Tidal Studies", "year": "2003", "volume": "12", "issue": "3",
+        "citation": {"title": "Storm surges", "journal": "Annals of Tidal Studies", "year": "2003", "volume": "12",
+                     "issue": "3",
                      "pages": "101", "issn": "2901-0012"},
         "groups": [
             {"name": "Full text", "links": [
-                {"target": "tidal-press", "label": "Tidal Press", "url": "https://press.example.com/2908-0142/12/3/101"},
-                {"target": "aggregate-net", "label": "AggregateNet", "url": "https://aggregator.example.net/titles/17"}]},
-            {"name": "In the library", "links": [{"target": "catalogue", "label": "Library catalogue",
-                                                  "url": "https://catalogue.example.org/search?index=number&term=2901-0012"}]},
-            {"name": "More about it", "links": [{"target": "web-search", "label": "Search the web",
-                                                 "url": "https://search.example.org/?q=Storm%20surges"}]}]})
+                {"target": "tidal-press", "label": "Tidal Press",
+                 "url": "https://press.example.com/2908-0142/12/3/101"},
+                {"target": "aggregate-net", "label": "AggregateNet",
+                 "url": "https://aggregator.example.net/titles/17"}]},
+            {"name": "In the library", "links": [
+                {"target": "catalogue", "label": "Library catalogue",
+                 "url": "https://catalogue.example.org/search?index=number&term=2901-0012"}]},
+            {"name": "More about it", "links": [
+                {"target": "web-search", "label": "Search the web",
+                 "url": "https://search.example.org/?q=Storm%20surges"}]}]})
     note = json.loads(site.get("/find.json?issn=2943-081X&date=2012").text)["groups"][0]["links"][0]
     expect("a note", note["note"], "Off campus, sign in with your library card")
     expect("nothing found", json.loads(site.get("/find.json?rft.genre=article").text), {"citation": {}, "groups": []})
@@ -201,16 +219,19 @@ def test_languages(site):
     def reply_in(header, target=f"/find?{ARTICLE}"):
         return site.get(target, headers={} if header is None else {"Accept-Language": header})
 
-    for header, language in ((None, "en"), ("", "en"), ("en-GB,en;q=0.9", "en"), ("de-AT,de;q=0.9,en;q=0.8", "de"), ("fr", "en"),
-                             ("fr;q=0.9,de;q=0.1", "de"), ("de;q=0", "en"), ("," * 8000, "en"), ("de" + ",x" * 3000, "de"),
+    for header, language in ((None, "en"), ("", "en"), ("en-GB,en;q=0.9", "en"), ("de-AT,de;q=0.9,en;q=0.8", "de"),
+                             ("fr", "en"), ("fr;q=0.9,de;q=0.1", "de"), ("de;q=0", "en"), ("," * 8000, "en"),
+                             ("de" + ",x" * 3000, "de"),
                              ("\u00e4\u00fc,de".encode().decode("latin-1"), "de")):
         reply = reply_in(header)
         name = f"Accept-Language {(header or '')[:20]}"
-        expect(name, (reply.status, reply.headers["Content-Language"], reply.headers["Vary"]), (200, language, "Accept-Language"))
+        expect(name, (reply.status, reply.headers["Content-Language"], reply.headers["Vary"]),
+               (200, language, "Accept-Language"))
         expect(f"{name}: the page", f'<html lang="{language}" dir="ltr">' in reply.text)
     reply = reply_in("de")
     tidy("a page in German", reply.text)
-    for part in (">Problem melden</a>", "<title>Storm surges – Bibliothek der Beispieluniversität</title>", "<h1>Diesen Titel finden</h1>",
+    for part in (">Problem melden</a>", "<title>Storm surges – Bibliothek der Beispieluniversität</title>",
+                 "<h1>Diesen Titel finden</h1>",
                  "Bd. 12", "Nr. 3",
                  "S. 101", "<h2>Volltext</h2>", ">Bibliothekskatalog</a>", ">Im Web suchen</a>"):
         expect(f"the page in German has {part}", part in reply.text)
@@ -224,7 +245,8 @@ def test_languages(site):
     expect("headers of JSON", (reply.headers["Content-Language"], reply.headers["Vary"]), ("de", "Accept-Language"))
     for target, method in (("/none", "GET"), ("/find", "DELETE")):
         reply = site.get(target, method, headers={"Accept-Language": "de"})
-        expect(f"a fault in German: {method}", ("<h1>Diesen Titel finden</h1>" in reply.text, reply.headers["Content-Language"],
+        expect(f"a fault in German: {method}",
+               ("<h1>Diesen Titel finden</h1>" in reply.text, reply.headers["Content-Language"],
                                                     reply.headers["Vary"]), (True, "de", "Accept-Language"))
     expect("a redirect has no language", site.get("/go?issn=2943-081X&date=2012").headers["Content-Language"], None)
     for name, reply in zip(("reader", "staff"), hebrew(site)):
@@ -247,11 +269,15 @@ def hebrew(site):
         json.dump({**data, "languages": ["de", "he", "fr"]}, file)
     site.reload()
     reply = site.get("/find?" + ARTICLE, headers={"Accept-Language": "he-IL, fr"})
-    expect("Hebrew", ('<html lang="he" dir="rtl">' in reply.text, "<h1>חיפוש</h1>" in reply.text, "Bd. 12" in reply.text), (True,) * 3)
+    expect("Hebrew", ('<html lang="he" dir="rtl">' in reply.text, "<h1>חיפוש</h1>" in reply.text,
+                      "Bd. 12" in reply.text), (True,) * 3)
     staff_reply = site.get("/why?" + ARTICLE, headers={"Accept-Language": "he-IL, fr"}, port=site.report_port)
-    expect("Hebrew for staff", ('<html lang="he" dir="rtl">' in staff_reply.text, "<h2>Berichte</h2>" in staff_reply.text), (True, True))
-    expect("commands and reports stay from left to right", re.findall(r"<(?:pre|code)(?! (?:lang=\"en\" )?dir=\"ltr\")", staff_reply.text), [])
-    expect("another default", site.get("/find", headers={"Accept-Language": "en, fr"}).headers["Content-Language"], "de")
+    expect("Hebrew for staff",
+           ('<html lang="he" dir="rtl">' in staff_reply.text, "<h2>Berichte</h2>" in staff_reply.text), (True, True))
+    expect("commands and reports stay from left to right",
+           re.findall(r"<(?:pre|code)(?! (?:lang=\"en\" )?dir=\"ltr\")", staff_reply.text), [])
+    expect("another default", site.get("/find", headers={"Accept-Language": "en, fr"}).headers["Content-Language"],
+           "de")
     shutil.copy("deploy/nginx/targets.json", site.path("openlink"))
     with open(site.path("openlink.conf"), "w") as file:
         file.write(conf)
@@ -275,9 +301,9 @@ def test_go(site):
     expect("a redirect with line ends", (reply.status, reply.headers["X-Evil"]), (302, None))
 
 
-KEYS = ("rft.atitle rft.jtitle rft.btitle rft.title rft.stitle rft.au rft.aulast rft.aufirst rft.aucorp rft.date rft.volume rft.issue"
-        " rft.pages rft.spage rft.artnum rft.issn rft.eissn rft.isbn rft_id rfr_id rft.genre title id doi pmid sid pid date issn"
-        " isbn ctx_ver ctx_enc rft_val_fmt first x.doi title_url").split()
+KEYS = ("rft.atitle rft.jtitle rft.btitle rft.title rft.stitle rft.au rft.aulast rft.aufirst rft.aucorp rft.date"
+        " rft.volume rft.issue rft.pages rft.spage rft.artnum rft.issn rft.eissn rft.isbn rft_id rfr_id rft.genre"
+        " title id doi pmid sid pid date issn isbn ctx_ver ctx_enc rft_val_fmt first x.doi title_url").split()
 
 
 def test_hostile(site):
@@ -285,9 +311,11 @@ def test_hostile(site):
         for value in (HOSTILE, "%" * 20 + "$&$1{}" + HOSTILE[::-1]):
             query = f"{key}={quote(value)}&issn=2901-0012&id=doi:10.5555/{quote(value[:9])}"
             reply = site.get(f"/find?{query}")
-            expect(f"hostile {key}", (reply.status, "<script" in reply.text, "<img" in reply.text, reply.headers["X-Evil"]),
+            expect(f"hostile {key}",
+                   (reply.status, "<script" in reply.text, "<img" in reply.text, reply.headers["X-Evil"]),
                    (200, False, False, None))
-            expect(f"hostile {key}: control characters", re.findall("[\x00-\x09\x0b-\x1f\x7f-\x9f\ufffe\u2028]", reply.text), [])
+            expect(f"hostile {key}: control characters",
+                   re.findall("[\x00-\x09\x0b-\x1f\x7f-\x9f\ufffe\u2028]", reply.text), [])
         json.loads(site.get(f"/find.json?{query}").text)
         tidy(f"hostile {key}", reply.text)
     reply = site.send(b"GET /find?rft.atitle=\xe9\xff\x01<script> HTTP/1.1\r\nHost: a\r\nConnection: close\r\n\r\n")
@@ -304,20 +332,28 @@ def test_hostile_labels(site):
     with open(site.path("openlink/words/de.json"), "w") as file:
         json.dump({**words, "volume": 3, "heading": {"de": HOSTILE}, "issue": None}, file)
     with open(path, "w") as file:
-        json.dump({"languages": ["en", "de", HOSTILE], "words": words, "groups": [{"name": HOSTILE}, {"name": "B" + HOSTILE}], "targets": {
-            "tidal-press": {"label": HOSTILE, "note": HOSTILE}, "catalogue": {"label": HOSTILE, "group": "B" + HOSTILE}}}, file)
+        json.dump({
+            "languages": ["en", "de", HOSTILE], "words": words,
+            "groups": [{"name": HOSTILE}, {"name": "B" + HOSTILE}],
+            "targets": {
+                "tidal-press": {"label": HOSTILE, "note": HOSTILE},
+                "catalogue": {"label": HOSTILE, "group": "B" + HOSTILE}}}, file)
     site.reload()
     for query in (ARTICLE, "", "id=doi:10.1000/a"):
         reply = site.get(f"/find?{query}")
-        expect("hostile labels", (reply.status, "<script" in reply.text, "<img" in reply.text, "&lt;script&gt;" in reply.text),
+        expect("hostile labels",
+               (reply.status, "<script" in reply.text, "<img" in reply.text, "&lt;script&gt;" in reply.text),
                (200, False, False, True))
     reply = site.get(f"/find?{ARTICLE}", headers={"Accept-Language": "de"})
-    expect("hostile words", (reply.status, reply.headers["Content-Language"], "<script" in reply.text, reply.headers["X-Evil"]),
+    expect("hostile words",
+           (reply.status, reply.headers["Content-Language"], "<script" in reply.text, reply.headers["X-Evil"]),
            (200, "de", False, None))
     # Members of wrong types that the module has to survive.
-    for data in ({}, {"words": 3, "groups": {}, "targets": []}, {"groups": [3, {"name": {}}], "targets": {"tidal-press": 7}},
+    for data in ({}, {"words": 3, "groups": {}, "targets": []},
+                 {"groups": [3, {"name": {}}], "targets": {"tidal-press": 7}},
                  {"groups": [{"name": "A", "onlyWithout": "A"}], "words": {"heading": None}}, [], "x",
-                 {"languages": {"length": 3}, "words": {"heading": {"en": 3}}}, {"languages": [["de"], 3, None, "x" * 99]},
+                 {"languages": {"length": 3}, "words": {"heading": {"en": 3}}},
+                 {"languages": [["de"], 3, None, "x" * 99]},
                  {"targets": {"tidal-press": {"label": {}, "note": {"en": []}}}}):
         with open(path, "w") as file:
             json.dump(data, file)
@@ -335,13 +371,17 @@ def test_hostile_labels(site):
 
 def test_faults(site):
     form = {"Content-Type": "application/x-www-form-urlencoded"}
-    for target, method, body, status in (("/none", "GET", None, 404), ("/find", "DELETE", None, 403), ("/go", "POST", b"", 403),
-                                         ("/openurl", "POST", b"", 403), ("/report", "GET", None, 404), ("/_menu", "GET", None, 404),
+    for target, method, body, status in (("/none", "GET", None, 404), ("/find", "DELETE", None, 403),
+                                         ("/go", "POST", b"", 403),
+                                         ("/openurl", "POST", b"", 403), ("/report", "GET", None, 404),
+                                         ("/_menu", "GET", None, 404),
                                          ("/report.txt", "GET", None, 404), ("/_report", "GET", None, 404),
                                          ("/fault", "GET", None, 404), ("/find", "TRACE", None, 405),
-                                         ("/find", "POST", b"a" * 9000, 413), ("/find?" + "a" * 9000, "GET", None, 414)):
+                                         ("/find", "POST", b"a" * 9000, 413),
+                                         ("/find?" + "a" * 9000, "GET", None, 414)):
         reply = site.get(target, method, body, form)
-        expect(f"{method} {target[:20]}", (reply.status, "<h1>Find this item</h1>" in reply.text, "nginx" in reply.text), (status, True, False))
+        expect(f"{method} {target[:20]}",
+               (reply.status, "<h1>Find this item</h1>" in reply.text, "nginx" in reply.text), (status, True, False))
         tidy(f"{method} {target[:20]}", reply.text)
     expect("a long cookie", site.get("/find", headers={"Cookie": "a" * 9000}).status, 400)
     expect("a cookie", site.get("/find", headers={"Cookie": "a" * 7000}).status, 200)
@@ -353,24 +393,31 @@ def test_faults(site):
         expect(f"{path}/", (reply.status, reply.headers["Location"]), (301, f"{path}?a=b"))
     for target in ("/find", "/none", f"/find.json?{ARTICLE}"):
         headers = site.get(target).headers
-        expect(f"headers of {target[:10]}", [headers[name] for name in ("X-Content-Type-Options", "Referrer-Policy", "Cache-Control", "X-Robots-Tag")],
+        expect(f"headers of {target[:10]}",
+               [headers[name] for name in ("X-Content-Type-Options", "Referrer-Policy", "Cache-Control",
+                                           "X-Robots-Tag")],
                ["nosniff", "strict-origin", "private, no-store", "noindex, nofollow"])
-        expect(f"content policy of {target[:10]}", headers["Content-Security-Policy"].startswith("default-src 'none'; style-src 'self';"))
+        expect(f"content policy of {target[:10]}",
+               headers["Content-Security-Policy"].startswith("default-src 'none'; style-src 'self';"))
 
 
 def test_form(site):
     form = {"Content-Type": "application/x-www-form-urlencoded; charset=UTF-8"}
     for target in ("/find", "/find.json"):
-        expect(f"a form to {target}", site.get(target, "POST", ARTICLE.encode(), form).text, site.get(f"{target}?{ARTICLE}").text)
+        expect(f"a form to {target}", site.get(target, "POST", ARTICLE.encode(), form).text,
+               site.get(f"{target}?{ARTICLE}").text)
     half = len("sid=google&issn=2901-0012")
     expect("a form and a query", site.get(f"/find?{ARTICLE[:half]}", "POST", ARTICLE[half + 1:].encode(), form).text,
            site.get(f"/find?{ARTICLE}").text)
-    expect("8 KB", site.get("/find", "POST", ("atitle=" + "%C3%A9" * 1300 + "&" + ARTICLE).encode()[:8192], form).status, 200)
-    expect("another kind of body", "No reference" in site.get("/find", "POST", ARTICLE.encode(), {"Content-Type": "text/plain"}).text)
+    longest = ("atitle=" + "%C3%A9" * 1300 + "&" + ARTICLE).encode()[:8192]
+    expect("8 KB", site.get("/find", "POST", longest, form).status, 200)
+    expect("another kind of body",
+           "No reference" in site.get("/find", "POST", ARTICLE.encode(), {"Content-Type": "text/plain"}).text)
 
 
 def test_passed_on(site):
-    for query in ("rft.issn=2901-0012&rft.volume=%2d12", "rft.issn=2901-0012;..%2f&rft%2edate=2003", "ctx_ver=wrong", ""):
+    for query in ("rft.issn=2901-0012&rft.volume=%2d12", "rft.issn=2901-0012;..%2f&rft%2edate=2003", "ctx_ver=wrong",
+                  ""):
         for path in ("/openurl", "/openurl.txt"):
             expect(f"{path}?{query}", site.get(f"{path}?{query}").body if query != "ctx_ver=wrong" else b"",
                    site.get(f"{path}?{query}", port=site.ports[0]).body if query != "ctx_ver=wrong" else b"")
@@ -378,8 +425,10 @@ def test_passed_on(site):
     expect("the report", (report.status, "catalogue\tlink 0\n" in report.text), (200, True))
     report = site.get(f"/report.txt?{ARTICLE}", port=site.report_port)
     lines = report.text.split("\n")
-    expect("the report of both queries", (report.status, report.headers["Content-Type"]), (200, "text/plain; charset=utf-8"))
-    expect("its reasons", [line for line in lines if line.split("\t")[0] in ("tidal-press", "coastal-law", "web-search", "pubmed")],
+    expect("the report of both queries", (report.status, report.headers["Content-Type"]),
+           (200, "text/plain; charset=utf-8"))
+    expect("its reasons",
+           [line for line in lines if line.split("\t")[0] in ("tidal-press", "coastal-law", "web-search", "pubmed")],
            ["tidal-press\tlink 0", "coastal-law\tno row", "pubmed\tno link", "web-search\tlink 0"])
     expect("the report has each target once", len({line.split("\t")[0] for line in lines}), len(lines))
     for target in ("/_report?a=b", "/find"):
@@ -420,15 +469,16 @@ def probe(*words):
 
 
 def test_probes(folder):
-    """The probes of the sample library hold; mistakes in a file of probes and a front door that does not answer each have
-    their own message and exit status."""
+    """The probes of the sample library hold; mistakes in a file of probes and a front door that does not answer each
+    have their own message and exit status."""
     site = Site(1, is_sample=True)
     file = f"{folder}/probes.tsv"
 
     def tried(text, front_door=None, reports=None):
         with open(file, "wb") as probes:
             probes.write(text)
-        return probe(file, front_door or f"http://127.0.0.1:{site.port}", reports or f"http://127.0.0.1:{site.report_port}")
+        return probe(file, front_door or f"http://127.0.0.1:{site.port}",
+                     reports or f"http://127.0.0.1:{site.report_port}")
 
     article = ARTICLE.encode()
     try:
@@ -441,16 +491,18 @@ def test_probes(folder):
         listed = b"\ttidal-press aggregate-net catalogue web-search"
         expect("an order", tried(article + b"\tweb-search catalogue aggregate-net tidal-press\n"), (0, "", ""))
         expect("no page", tried(b"sid=Entrez:PubMed\tnone")[0], 0)
-        expect("what differs", tried(b"# a source\n\n" + article + b"\ttidal-press coastal-law interlibrary-loan pubmed nobody web-search\n"
+        expect("what differs", tried(b"# a source\n\n" + article
+                                     + b"\ttidal-press coastal-law interlibrary-loan pubmed nobody web-search\n"
                                      + article + listed),
                (1, f"{file}:3: {ARTICLE}\n  missing coastal-law: no row\n"
                    "  missing interlibrary-loan: link 0 but not shown: onlyWithout in targets.json hides its group\n"
-                   "  missing pubmed: no link\n  missing nobody: not in the registry\n  too many aggregate-net: link 0\n"
-                   "  too many catalogue: link 0\n1 of 2 probes differ\n", ""))
+                   "  missing pubmed: no link\n  missing nobody: not in the registry\n"
+                   "  too many aggregate-net: link 0\n  too many catalogue: link 0\n1 of 2 probes differ\n", ""))
         expect("none, and some are shown", tried(article + b"\tnone")[1].count("too many"), 4)
         expect("a hostile query", tried(b"rft.atitle=\xff\x00\r \"#$(id)\x1b&issn=2901-0012\ttidal-press")[0], 1)
         expect("a query that is too long", "the front door refuses" in tried(b"a" * 9000 + b"\tnone")[1])
-        expect("no reports", "no report: " in tried(article + b"\tpubmed", reports=f"http://127.0.0.1:{free_ports(1)[0]}")[1])
+        expect("no reports", "no report: " in tried(article + b"\tpubmed",
+                                                    reports=f"http://127.0.0.1:{free_ports(1)[0]}")[1])
         for reason, status, words in (("nothing listens", 4, {"front_door": f"http://127.0.0.1:{free_ports(1)[0]}"}),
                                       ("another server", 4, {"front_door": f"http://127.0.0.1:{site.ports[0]}"}),
                                       ("no address", 2, {"front_door": "127.0.0.1"})):
@@ -474,8 +526,10 @@ def test_logs(site):
     form = re.compile(r"\S+ \d{3} \S+ \S.* [\d.]+ found=(\d+/\d+)? targets=[\w.,-]* from=[\w:.\/-]*")
     expect("the log", [line for line in lines if not form.fullmatch(line)][:3], [])
     expect("the log has links and sources", any(re.search(
-        r" 200 GET /find [\d.]+ found=2/5 targets=tidal-press,aggregate-net,catalogue,web-search from=info:sid/google$", line) for line in lines))
-    expect("the log has redirects", any(re.search(r" 302 GET /go [\d.]+ found=1/2 targets=estuary-online from=$", line) for line in lines))
+        r" 200 GET /find [\d.]+ found=2/5 targets=tidal-press,aggregate-net,catalogue,web-search from=info:sid/google$",
+        line) for line in lines))
+    expect("the log has redirects",
+           any(re.search(r" 302 GET /go [\d.]+ found=1/2 targets=estuary-online from=$", line) for line in lines))
     expect("the log has no query", [line for line in lines if "issn" in line], [])
     for name in ("openlink-error.log", "error.log", "start.log"):
         if os.path.exists(site.path(f"log/{name}")):
@@ -499,7 +553,8 @@ def main():
         status, text = site.test_configuration()
         expect("nginx -t", (status, text if status else ""), (0, ""))
         site.start()
-        for test in (test_requests, test_page, test_json, test_languages, test_go, test_hostile, test_form, test_passed_on, test_staff, test_faults,
+        for test in (test_requests, test_page, test_json, test_languages, test_go, test_hostile, test_form,
+                     test_passed_on, test_staff, test_faults,
                      test_limit, test_hostile_labels, test_restarts, test_cut_short, test_logs):
             test(site)
     finally:

@@ -17,8 +17,9 @@ LIBRARY = {
 }
 # Targets that answer every request that has what their links need.
 FOR_EVERY_REQUEST = {
-    "interlibrary-loan": "rule\nwhen given x.issn\nlink https://loans.example.org/article?issn={x.issn}&title={rft.atitle}\n"
-    "\nrule\nwhen given x.isbn\nlink https://loans.example.org/book?isbn={x.isbn}\n",
+    "interlibrary-loan":
+        "rule\nwhen given x.issn\nlink https://loans.example.org/article?issn={x.issn}&title={rft.atitle}\n"
+        "\nrule\nwhen given x.isbn\nlink https://loans.example.org/book?isbn={x.isbn}\n",
     "doi-resolver": "rule\nwhen given x.doi\nlink https://doi.example.org/{x.doi}\n",
     "pubmed": "rule\nwhen given x.pmid\nlink https://pubmed.example.org/{x.pmid}/\n",
     "web-search": "rule\nwhen given rft.atitle\nlink https://search.example.org/?q={rft.atitle}\n",
@@ -43,8 +44,8 @@ http {{
 
 
 def free_ports(count):
-    """Ports at which nothing listens, below those that the system gives to clients (from 32768 on). While a process is down, a
-    client at such a port could get it as its own, and then hear itself."""
+    """Ports at which nothing listens, below those that the system gives to clients (from 32768 on). While a process is
+    down, a client at such a port could get it as its own, and then hear itself."""
     ports = []
     while len(ports) < count:
         port = random.randrange(20000, 32000)
@@ -98,7 +99,8 @@ class Site:
             for name, table in tables.items():
                 shutil.copy(table, self.path("tables"))
                 code = f"code/{name}.olk"
-                subprocess.run([PROGRAM, "compile", self.path(f"rules/{name}.rules"), self.path(code)], check=True, stdout=subprocess.DEVNULL)
+                subprocess.run([PROGRAM, "compile", self.path(f"rules/{name}.rules"), self.path(code)], check=True,
+                               stdout=subprocess.DEVNULL)
                 registry.write(f"{name}\t{code}\ttables/{os.path.basename(table)}\n")
 
     def write_configuration(self):
@@ -109,7 +111,8 @@ class Site:
         text, count = re.subn(r"(    server 127\.0\.0\.1:\d+ max_fails=0;\n)+", servers, text)
         assert count == 1, "openlink.conf has no list of processes"
         for old, new in (("/etc/nginx/openlink/", self.path("openlink/")), ("/var/log/nginx/", self.path("log/")),
-                         ("listen 80;", f"listen 127.0.0.1:{self.port};"), ("127.0.0.1:8079", f"127.0.0.1:{self.report_port}")):
+                         ("listen 80;", f"listen 127.0.0.1:{self.port};"),
+                         ("127.0.0.1:8079", f"127.0.0.1:{self.report_port}")):
             assert old in text, f"openlink.conf has no {old}"
             text = text.replace(old, new)
         with open(self.path("openlink.conf"), "w") as file:
