@@ -14,13 +14,13 @@ use Rattle.row_scope.specs.RowEnvironments.{names_of}
 use Rattle.row_scope.specs.RowValue.{RowValue}
 use Rattle.target_vars.specs.EnvValue.{EnvValue}
 use Rattle.verified_runs.specs.RunValue.{RunValue, new_run}
-use Rattle.registry.specs.Fates.{Fate, fate_in, fate_of_row}
+use Rattle.verified_runs.specs.Fates.{Fate, fate_in}
 use Rattle.registry.specs.RowEnvironments.{row_environment}
-use Rattle.registry.specs.Entries.{resolution_by}
-use Rattle.link_menu.specs.declared.fate.Fate as answer
+use Rattle.registry.specs.Entries.{fate_of_row, resolution_by}
+use Rattle.interleaved_runs.specs.declared.fate.Fate as answer
 use Rattle.link_menu.specs.declared.batch.Batch.{Batch}
-use Rattle.link_menu.specs.Fates.{fate_of, is_over_budget, runs_of, fate_value}
-use Rattle.link_menu.specs.StepLists.{end_of, ends_of}
+use Rattle.interleaved_runs.specs.Fates.{fate_of, is_over_budget, runs_of, fate_value}
+use Rattle.interleaved_runs.specs.StepLists.{end_of, ends_of}
 use Rattle.link_menu.specs.RowsByRound.{steps_in, steps_of_row}
 use Rattle.link_menu.specs.Private.Searches.{SearchValue, IsBatchOf, IsNumbered, code_next, ends_next, env_next, fate_next, fates_next, is_open}
 use Rattle.link_menu.specs.Private.Searches.{after_fate, after_fate_at, after_next_row, after_row, after_row_at}

@@ -14,7 +14,6 @@ use Rattle.registry.specs.Targets.{TargetValue}
 use Rattle.registry.specs.Entries.{matching_rows_of, resolution_of_row}
 use Rattle.link_menu.specs.RowsByRound.{ends_in_round, longest, rounds_of, steps_of_row, tried_rows, up_to_link}
 use Rattle.link_menu.specs.Private.Searches.{SearchValue, ends_next, is_open, started, after_next_row, after_row_at}
-use Rattle.link_menu.proofs.TurnsOfAll.{max_less}
 
 -- ---- the rows that a search still has to try
 
@@ -151,9 +150,7 @@ pub longest_after : (pairs : List KeyValue) (k : ℕ) (targets : List TargetValu
 unfolding longest
 longest_after pairs k [] = none_less k
 longest_after pairs k (target ∷ targets) =
-    let rows = tried_rows target pairs in
-    max_less (length (drop k rows)) (longest (map (λ left. left.2) (map (left_after k pairs) targets))) (length rows) (rounds_of targets pairs) k
-    (length-drop k rows) (longest_after pairs k targets)
+    omega (arith, length-drop k (tried_rows target pairs), longest_after pairs k targets)
 
 pub while_open : (searches : List SearchValue) → list_any is_open searches ≡ true → 0 < rounds_left searches
 unfolding longest

@@ -5,10 +5,10 @@ use Rattle.std.specs.List.{filter_map, list_any}
 use Rattle.kev_read.specs.Pairs.{KeyValue}
 use Rattle.row_scope.specs.RequestValues.{RequestValue}
 use Rattle.registry.specs.Targets.{TargetValue}
-use Rattle.link_menu.specs.StepLists.{HasSeenAll, HasSeenSome, step_lists_to_end, with_lists}
+use Rattle.interleaved_runs.specs.StepLists.{HasSeenAll, HasSeenSome, step_lists_to_end, with_lists}
 use Rattle.link_menu.specs.RowsByRound.{ends_in_round, longest, rounds_of, step_lists_in_all_rounds, step_lists_in_rounds}
 use Rattle.link_menu.specs.Private.Searches.{SearchValue, ends_next, is_open, started, after_next_row}
-use Rattle.link_menu.proofs.StepListLemmas.{first_of, rest_of, with_more, with_none}
+use Rattle.interleaved_runs.proofs.StepListLemmas.{first_of, rest_of, with_more, with_none}
 use Rattle.link_menu.proofs.RoundLemmas.{AllFromStart, FirstAndRest, NoneFrom, all_tried, drop_one, end_at, ends_after, ends_of_searches, left_after}
 use Rattle.link_menu.proofs.RoundLemmas.{left_at_start, left_of, longest_after, none_open, one_less, rounds_left, while_open}
 

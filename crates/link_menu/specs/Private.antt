@@ -1,4 +1,2 @@
 -- Definitions that no contract of a public function cites.
-pub mod Rounds
-pub mod RunSets
 pub mod Searches

@@ -9,9 +9,9 @@ use Rattle.menu.specs.Links.{is_link}
 use Rattle.verified_runs.specs.declared.run.TheConstants.{MAX_LINK_BYTES}
 use Rattle.registry.specs.Targets.{TargetValue}
 use Rattle.registry.specs.RowEnvironments.{row_environment}
-use Rattle.registry.specs.Fates.{most_bytes_in}
+use Rattle.verified_runs.specs.Fates.{most_bytes_in}
 use Rattle.registry.specs.Entries.{matching_rows_of, resolution_of_row}
-use Rattle.link_menu.specs.StepLists.{step_lists_to_end}
+use Rattle.interleaved_runs.specs.StepLists.{step_lists_to_end}
 
 -- ---- the rows of one target
 

@@ -1,13 +1,13 @@
 //! The search for a target's link, row after row.
 
 ghost use Rattle.std.specs.Prelude.{◌≡◌, IfOk};
-ghost use Rattle.menu.specs.Links as links;
 ghost use Rattle.row_scope.specs.RequestValues.{IsApartFrom};
-ghost use Rattle.link_menu.specs.Fates.{fate_value};
+ghost use Rattle.interleaved_runs.specs.Fates.{fate_value};
 ghost use Rattle.link_menu.specs.Private.Searches as spec;
 
 use crate::citation::Citation;
-use crate::fate::Fate;
+use crate::resolution::{is_link, resolution_of};
+use interleaved_runs::Fate;
 use menu::{MenuEntry, Resolution, Text};
 use registry::Target;
 use row_scope::{KnownValues, TargetRequest};
@@ -85,7 +85,7 @@ impl<'a> TargetSearch<'a> {
             return;
         };
         let _rows = self.target.table().rows();
-        let resolution = fate.into_resolution(row);
+        let resolution = resolution_of(fate, row);
         self.next = if is_link(&resolution) {
             None
         } else {
@@ -106,10 +106,4 @@ impl<'a> TargetSearch<'a> {
             resolution: self.resolution,
         })
     }
-}
-
-fn is_link(resolution: &Resolution) -> bool
-    ensures { result ≡ links.is_link resolution.now }
-{
-    matches!(resolution, Resolution::Link { .. })
 }

@@ -14,7 +14,7 @@ use Rattle.registry.specs.Refusals.{IsRefusal}
 use Rattle.registry.specs.declared.error.AddErrorKind.TheVariants.{BadTargetName, NoMemory}
 use Rattle.row_scope.specs.RowEnvironments.{entries_of_row}
 use Rattle.registry.specs.RowEnvironments.{row_environment}
-use Rattle.registry.specs.Fates.{OverBudget, Link, NoLink}
+use Rattle.verified_runs.specs.Fates.{OverBudget, Link, NoLink}
 use Rattle.registry.specs.Entries.{chosen, resolution_by}
 
 -- ---- what is chosen

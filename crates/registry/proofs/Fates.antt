@@ -6,7 +6,7 @@ use Rattle.code_model.specs.Code.{Code}
 use Rattle.machine_model.specs.Runs.{Outcome}
 use Rattle.machine_model.specs.Next.{outcome_of}
 use Rattle.verified_runs.specs.declared.run.TheConstants.{MAX_LINK_BYTES}
-use Rattle.registry.specs.Fates.{OverBudget, ended, fate_in, most_bytes_in}
+use Rattle.verified_runs.specs.Fates.{OverBudget, ended, fate_in, most_bytes_in}
 
 pub over_budget : (code : Code) (env : Environment) → MAX_LINK_BYTES < most_bytes_in code env → fate_in code env ≡ OverBudget (most_bytes_in code env)
 unfolding fate_in

@@ -16,7 +16,7 @@ use Rattle.menu.specs.declared.entry.MenuEntry.{MenuEntry}
 use Rattle.menu.specs.declared.entry.Resolution.{Resolution}
 use Rattle.menu.specs.declared.entry.Resolution.TheVariants as resolution
 use Rattle.registry.specs.Targets.{TargetValue}
-use Rattle.registry.specs.Fates.{fate_in}
+use Rattle.verified_runs.specs.Fates.{fate_in}
 use Rattle.registry.specs.Entries.{menu_of, resolution_of}
 
 -- what is unfolded to compute budgets and runs

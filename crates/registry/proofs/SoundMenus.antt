@@ -22,7 +22,7 @@ use Rattle.menu.specs.declared.entry.Resolution.{Resolution}
 use Rattle.menu.specs.declared.entry.Resolution.TheVariants as resolution
 use Rattle.registry.specs.Targets.{TargetValue, IsRegistry}
 use Rattle.registry.specs.RowEnvironments.{row_environment}
-use Rattle.registry.specs.Fates.{Fate, OverBudget, Link, NoLink, ended, fate_in, most_bytes_in}
+use Rattle.verified_runs.specs.Fates.{Fate, OverBudget, Link, NoLink, ended, fate_in, most_bytes_in}
 use Rattle.registry.specs.Entries.{entry_of, last_resolution, matching_rows_of, menu_of, resolution_by, resolution_of, resolution_of_row}
 use Rattle.registry.specs.MenuLinks.{IsMenuLink, IsSoundMenu}
 

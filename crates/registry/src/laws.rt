@@ -10,7 +10,7 @@ ghost use Rattle.menu.specs.Links.{is_link};
 ghost use Rattle.menu.specs.declared.entry.Resolution.{Resolution};
 ghost use Rattle.menu.specs.declared.entry.Resolution.TheVariants.{NoRow};
 ghost use Rattle.registry.specs.Targets.{TargetValue, IsRegistry};
-ghost use Rattle.registry.specs.Fates.{OverBudget, ended, fate_in, most_bytes_in};
+ghost use Rattle.verified_runs.specs.Fates.{OverBudget, ended, fate_in, most_bytes_in};
 ghost use Rattle.registry.specs.Entries.{matching_rows_of, menu_of, resolution_from, resolution_of, resolution_of_row};
 ghost use Rattle.registry.specs.MenuLinks.{IsSoundMenu};
 

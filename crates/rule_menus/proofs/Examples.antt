@@ -20,7 +20,7 @@ use Rattle.rule_parser.specs.declared.rule.Guard.TheVariants as guard
 use Rattle.rule_parser.specs.Rules.{RuleSet}
 use Rattle.menu.specs.declared.entry.MenuEntry.{MenuEntry}
 use Rattle.menu.specs.declared.entry.Resolution.TheVariants as resolution
-use Rattle.registry.specs.Fates.{fate_in}
+use Rattle.verified_runs.specs.Fates.{fate_in}
 use Rattle.registry.specs.Entries.{menu_of}
 use Rattle.rule_menus.specs.RuleMenus.{RuleTarget, coded, environment_by_code, environment_by_rules, menu_by_rules}
 

@@ -16,7 +16,7 @@ use Rattle.menu.specs.Links.{is_link}
 use Rattle.menu.specs.WebLink.{is_web_link}
 use Rattle.menu.specs.declared.entry.Resolution.{Resolution}
 use Rattle.menu.specs.declared.entry.Resolution.TheVariants as resolution
-use Rattle.registry.specs.Fates.{OverBudget}
+use Rattle.verified_runs.specs.Fates.{OverBudget}
 use Rattle.registry.specs.Entries.{chosen, last_resolution, menu_of, resolution_by, resolution_of}
 use Rattle.rule_explanation.specs.Explanation.{explanation, is_detailed, text_of_rows, tried_row_text}
 use Rattle.rule_explanation.specs.Rows.{gives_web_link, has_web_link, is_web, tried_rows, up_to_first}

@@ -24,7 +24,7 @@ use Rattle.rule_parser.specs.Rules.{RuleSet}
 use Rattle.menu.specs.declared.entry.MenuEntry.{MenuEntry}
 use Rattle.menu.specs.declared.entry.Resolution.{Resolution}
 use Rattle.menu.specs.declared.entry.Resolution.TheVariants as resolution
-use Rattle.registry.specs.Fates.{fate_in}
+use Rattle.verified_runs.specs.Fates.{fate_in}
 use Rattle.registry.specs.Entries.{menu_of}
 use Rattle.rule_explanation.specs.Explanation.{explanation}
 use Rattle.rule_menus.specs.RuleMenus.{RuleTarget, coded}

@@ -10,7 +10,7 @@ use Rattle.menu.specs.Links.{is_link}
 use Rattle.menu.specs.WebLink.{is_web_link}
 use Rattle.menu.specs.declared.entry.Resolution.{Resolution}
 use Rattle.menu.specs.declared.entry.Resolution.TheVariants as resolution
-use Rattle.registry.specs.Fates.{OverBudget}
+use Rattle.verified_runs.specs.Fates.{OverBudget}
 use Rattle.registry.specs.Entries.{resolution_by}
 use Rattle.rule_menus.specs.RuleMenus.{RuleTarget, environment_by_rules, most_bytes_of_row, fate_of_meaning, resolution_of_row_by_rules, resolution_by_rules}
 use Rattle.rule_menus.specs.FirstLinks.{is_cited, MeansWebLink, IsFirstWebLink}

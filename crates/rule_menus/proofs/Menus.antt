@@ -15,7 +15,7 @@ use Rattle.compiler_model.specs.Answer.{answer}
 use Rattle.compiler_model.specs.Compiled.{code_of}
 use Rattle.verified_runs.specs.declared.run.TheConstants.{MAX_LINK_BYTES}
 use Rattle.menu.specs.declared.entry.Resolution.TheVariants.{NoRow}
-use Rattle.registry.specs.Fates.{OverBudget, ended, fate_in}
+use Rattle.verified_runs.specs.Fates.{OverBudget, ended, fate_in}
 use Rattle.registry.specs.Entries.{chosen, entry_of, menu_of, resolution_by, resolution_of, resolution_of_row}
 use Rattle.rule_menus.specs.RuleMenus.{RuleTarget, HasSoundRules, coded, environment_by_code, environment_by_rules, most_bytes_of_row}
 use Rattle.rule_menus.specs.RuleMenus.{fate_of_meaning, fate_by_rules, resolution_of_row_by_rules, resolution_by_rules, entry_by_rules, menu_by_rules}

@@ -15,7 +15,7 @@ use Rattle.menu.specs.declared.entry.Resolution.{Resolution}
 use Rattle.menu.specs.declared.entry.Resolution.TheVariants.{NoRow}
 use Rattle.registry.specs.Targets.{TargetValue}
 use Rattle.registry.specs.RowEnvironments.{row_environment}
-use Rattle.registry.specs.Fates.{Fate, OverBudget, Link, NoLink, most_bytes_in}
+use Rattle.verified_runs.specs.Fates.{Fate, OverBudget, Link, NoLink, most_bytes_in}
 use Rattle.registry.specs.Entries.{chosen, resolution_by}
 
 -- a content provider: its name, its rules, and the table of its holdings

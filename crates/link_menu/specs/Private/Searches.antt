@@ -14,11 +14,11 @@ use Rattle.row_scope.specs.RowValue.{RowValue, TargetRequestValue}
 use Rattle.verified_runs.specs.Names.{AreNumbered}
 use Rattle.registry.specs.Targets.{TargetValue}
 use Rattle.registry.specs.RowEnvironments.{row_environment}
-use Rattle.registry.specs.Fates.{Fate, fate_of_row}
-use Rattle.registry.specs.Entries.{matching_rows_of, resolution_by}
+use Rattle.verified_runs.specs.Fates.{Fate}
+use Rattle.registry.specs.Entries.{fate_of_row, matching_rows_of, resolution_by}
 use Rattle.link_menu.specs.declared.batch.Batch.{Batch}
-use Rattle.link_menu.specs.Fates.{fate_of, runs_of}
-use Rattle.link_menu.specs.StepLists.{ends_of}
+use Rattle.interleaved_runs.specs.Fates.{fate_of, runs_of}
+use Rattle.interleaved_runs.specs.StepLists.{ends_of}
 use Rattle.link_menu.specs.RowsByRound.{steps_of_row}
 
 -- a request, a target, the matching row that is tried next, and the resolution so far

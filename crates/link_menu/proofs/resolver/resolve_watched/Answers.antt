@@ -1,7 +1,7 @@
 use Rattle.std.proofs.Common.{◌≡◌, ◌<◌, ap, ◌∙◌, sym, subst, map, true, false}
 use Rattle.std.specs.Prelude.{IfOk}
 use Rattle.std.specs.List.{list_any}
-use Rattle.link_menu.specs.StepLists.{HasSeenAll, HasSeenSome}
+use Rattle.interleaved_runs.specs.StepLists.{HasSeenAll, HasSeenSome}
 use Rattle.link_menu.specs.RowsByRound.{step_lists_in_all_rounds}
 use Rattle.registry.specs.Entries.{menu_of}
 use Rattle.registry.specs.Targets.{AreAllAmong}
@@ -9,7 +9,7 @@ use Rattle.link_menu.specs.Private.Searches.{ends_next, is_open, started}
 use Rattle.link_menu.proofs.RoundLemmas.{rounds_left}
 use Rattle.link_menu.proofs.RoundProgress.{AfterRounds, all_rounds, at_first, fewer_rounds, one_round, part_of_round, some_rounds}
 use Rattle.link_menu.proofs.SearchLemmas.{all_written_back, entry_in_the_end, menu_after_round, menu_at_end, menu_at_start}
-use Rattle.link_menu.proofs.StepListLemmas.{nothing_seen, on_err, on_ok}
+use Rattle.interleaved_runs.proofs.StepListLemmas.{nothing_seen, on_err, on_ok}
 use Rattle.link_menu.proofs.resolver.resolve_watched.Goals as goal
 
 -- ---- before the first round

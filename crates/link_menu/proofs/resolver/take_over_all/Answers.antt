@@ -2,7 +2,7 @@ use Rattle.std.proofs.Common.{◌≡◌, ◌∷◌, ◌+◌, ap, ◌∙◌, sym,
 use Rattle.std.specs.Vec.Iter.{into_iter_items}
 use Rattle.std.specs.Prelude.{◌++◌}
 use Rattle.std.specs.Option.{option_to_list}
-use Rattle.link_menu.specs.Fates.{fate_value}
+use Rattle.interleaved_runs.specs.Fates.{fate_value}
 use Rattle.link_menu.specs.Private.Searches.{is_open}
 use Rattle.link_menu.proofs.BatchLemmas.{before_next, others_next, passed, taken}
 use Rattle.link_menu.proofs.resolver.take_over_all.Goals as goal

@@ -1,6 +1,6 @@
 use Rattle.std.proofs.Common.{◌≡◌, drop, map, take}
 use Rattle.std.specs.Vec.Iter.{into_iter_items}
-use Rattle.link_menu.specs.Fates.{fate_value}
+use Rattle.interleaved_runs.specs.Fates.{fate_value}
 use Rattle.link_menu.specs.Private.Searches.{fates_next, after_next_row}
 use Rattle.link_menu.proofs.resolver.take_over_all.Given as goal
 

@@ -1,0 +1,5 @@
+pub mod RunSetLemmas
+pub mod FateLemmas
+pub mod TurnLemmas
+pub mod StepListLemmas
+pub mod TurnsOfAll

@@ -1,0 +1,31 @@
+use Rattle.std.proofs.Common.{◌≡◌, List, [], ◌∷◌, map, refl, ap, subst}
+use Rattle.std.specs.Prelude.{IfOk, OnOk, OnErr}
+use Rattle.std.specs.List.{zip}
+use Rattle.target_vars.specs.EnvValue.{EnvValue}
+use Rattle.interleaved_runs.specs.Fates.{fate_of, fate_value}
+use Rattle.interleaved_runs.specs.StepLists.{HasSeenAll, HasSeenSome, step_lists_of}
+use Rattle.interleaved_runs.proofs.rounds.round.Goals as goal
+
+-- an `Env` as a scope has the same value
+each_itself : (envs : List EnvValue) → map (λ env. env) envs ≡ envs
+each_itself [] = refl
+each_itself (env ∷ envs) = ap (λ es. env ∷ es) (each_itself envs)
+
+pub returns-clause-fates : goal.returns-clause-fates
+returns-clause-fates g c =
+    subst (λ envs. IfOk c.round_over.result (λ fates. map fate_value fates.items ≡ map fate_of (zip (map (λ code. code.now) c.args.codes.now) envs)))
+    (each_itself c.args.envs.now) c.round_over.ensures.fates
+
+pub returns-clause-observed : goal.returns-clause-observed
+returns-clause-observed g c =
+    let told = g.W.Watch.lists c.args.watch.now in
+    let observed = g.W.Watch.lists c.round_over.new.watch in
+    subst (λ envs. OnOk c.round_over.result (HasSeenAll (step_lists_of (zip (map (λ code. code.now) c.args.codes.now) envs)) told observed))
+    (each_itself c.args.envs.now) c.round_over.ensures.observed
+
+pub returns-clause-err : goal.returns-clause-err
+returns-clause-err g c =
+    let told = g.W.Watch.lists c.args.watch.now in
+    let observed = g.W.Watch.lists c.round_over.new.watch in
+    subst (λ envs. OnErr c.round_over.result (HasSeenSome (step_lists_of (zip (map (λ code. code.now) c.args.codes.now) envs)) told observed))
+    (each_itself c.args.envs.now) c.round_over.ensures.err

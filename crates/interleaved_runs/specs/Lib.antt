@@ -1,0 +1,4 @@
+pub mod Fates
+pub mod Turns
+pub mod StepLists
+pub mod Private

@@ -1,8 +1,0 @@
-use Rattle.std.proofs.Common.{length, map, take}
-use Rattle.std.specs.List.{zip}
-use Rattle.link_menu.specs.Private.RunSets.{IsRunSetOf}
-use Rattle.link_menu.proofs.run_set.RunSet.begin_all.Given as goal
-
-abbrev pub invariant-loop-code : goal.invariant-loop-code
-invariant-loop-code g l =
-    IsRunSetOf (take (length l.yielded) (zip (map (λ c. c.now) l.codes) (map g.E.Scope.environment l.envs))) l.run_set.over_budget.items l.run_set.runs.items
