@@ -1,25 +1,25 @@
 -- One more connection is served and counted.
 use Rattle.std.proofs.Common.{◌≡◌, ℕ, ◌+◌, List, [], ◌∷◌, ◌++◌, length, map, Option, Result, Ok, Err, refl, sym, ap, ◌∙◌, subst, arith}
 use Rattle.std.proofs.lemmas.List.{map-append, length-map}
-use Rattle.registry.specs.Targets.{TargetValue}
+use Rattle.menu_source.specs.Menus.{Menus}
 use Rattle.http_streams.specs.Streams.{InputState, OutputState}
-use Rattle.http_front.specs.declared.exchange.Served.{Served}
-use Rattle.http_front.specs.declared.exchange.Served.TheVariants.{Nothing, Replied}
-use Rattle.http_front.specs.declared.exchange.ServeError.{ServeError}
+use Rattle.http_exchange.specs.declared.exchange.Served.{Served}
+use Rattle.http_exchange.specs.declared.exchange.Served.TheVariants.{Nothing, Replied}
+use Rattle.http_exchange.specs.declared.exchange.ServeError.{ServeError}
 use Rattle.http_service.specs.Connections.{AreServed, Connection, IsAccepted, IsServed, counted, counted_all, counts_of, none_yet, outcome}
 use Rattle.http_service.specs.declared.counts.Counts.{Counts}
 
 -- ---- served
 
-pub served-one_more : {L I O : Type 0} (targets : List TargetValue) (gives : L → Option (I × O) → L → Type 0) (closes : L → I × O → L → Type 0)
+pub served-one_more : {L I O : Type 0} (menus : Menus) (gives : L → Option (I × O) → L → Type 0) (closes : L → I × O → L → Type 0)
     (input_state : I → InputState) (output_state : O → OutputState) (wait : ℕ) (old between new : L) (all : List (Connection I O)) (c : Connection I O)
-    → AreServed targets gives closes input_state output_state wait old all between → IsAccepted gives closes between c new
-    → IsServed targets input_state output_state wait c
-    → AreServed targets gives closes input_state output_state wait old (all ++ c ∷ []) new
-served-one_more targets gives closes input_state output_state wait old between new [] c same accepted served =
+    → AreServed menus gives closes input_state output_state wait old all between → IsAccepted gives closes between c new
+    → IsServed menus input_state output_state wait c
+    → AreServed menus gives closes input_state output_state wait old (all ++ c ∷ []) new
+served-one_more menus gives closes input_state output_state wait old between new [] c same accepted served =
     (new, subst (λ l. IsAccepted gives closes l c new) (sym same) accepted, served, refl)
-served-one_more targets gives closes input_state output_state wait old between new (x ∷ all) c before accepted served =
-    (before.0, before.1, before.2, served-one_more targets gives closes input_state output_state wait before.0 between new all c before.3 accepted served)
+served-one_more menus gives closes input_state output_state wait old between new (x ∷ all) c before accepted served =
+    (before.0, before.1, before.2, served-one_more menus gives closes input_state output_state wait before.0 between new all c before.3 accepted served)
 
 -- ---- counted
 

@@ -1,12 +1,12 @@
 -- Connections that are served one at a time, and how they are counted.
 use Rattle.std.specs.Prelude.{◌≡◌, ℕ, ◌+◌, ◌<◌, List, [], ◌∷◌, length, map, Option, Some, None, Result, Ok, Err}
-use Rattle.registry.specs.Targets.{TargetValue}
+use Rattle.menu_source.specs.Menus.{Menus}
 use Rattle.http_streams.specs.Streams.{InputState, OutputState, AreFresh}
-use Rattle.http_front.specs.Exchange.{IsExchange}
-use Rattle.http_front.specs.declared.exchange.Served.{Served}
-use Rattle.http_front.specs.declared.exchange.Served.TheVariants.{Nothing, Replied}
-use Rattle.http_front.specs.declared.exchange.ServeError.{ServeError}
-use Rattle.http_front.specs.declared.exchange.ServeError.TheVariants.{ReadFault}
+use Rattle.http_exchange.specs.Exchange.{IsExchange}
+use Rattle.http_exchange.specs.declared.exchange.Served.{Served}
+use Rattle.http_exchange.specs.declared.exchange.Served.TheVariants.{Nothing, Replied}
+use Rattle.http_exchange.specs.declared.exchange.ServeError.{ServeError}
+use Rattle.http_exchange.specs.declared.exchange.ServeError.TheVariants.{ReadFault}
 use Rattle.http_service.specs.declared.counts.Counts.{Counts}
 
 -- ---- connections
@@ -23,11 +23,11 @@ outcome Unread = Err ReadFault
 outcome (Exchanged input output result input2 output2) = result
 
 -- its streams were new, each of their calls may take that many nanoseconds, and this was its exchange
-abbrev pub IsServed : {I O : Type 0} → List TargetValue → (I → InputState) → (O → OutputState) → ℕ → Connection I O → Type 0
-IsServed targets input_state output_state wait Unread = Unit {0}
-IsServed targets input_state output_state wait (Exchanged input output result input2 output2) =
+abbrev pub IsServed : {I O : Type 0} → Menus → (I → InputState) → (O → OutputState) → ℕ → Connection I O → Type 0
+IsServed menus input_state output_state wait Unread = Unit {0}
+IsServed menus input_state output_state wait (Exchanged input output result input2 output2) =
     AreFresh wait (input_state input) (output_state output)
-    × IsExchange targets (input_state input) (output_state output) result (input_state input2) (output_state output2)
+    × IsExchange menus (input_state input) (output_state output) result (input_state input2) (output_state output2)
 
 -- the listener accepted the connection with its streams, and closed it afterwards
 abbrev pub IsAccepted : {L I O : Type 0} → (L → Option (I × O) → L → Type 0) → (L → I × O → L → Type 0) → L → Connection I O → L → Type 0
@@ -36,12 +36,12 @@ IsAccepted gives closes old (Exchanged input output result input2 output2) new =
     (between : _) × gives old (Some (input, output)) between × closes between (input2, output2) new
 
 -- the connections were accepted one at a time, and each was served and closed before the next
-abbrev pub AreServed : {L I O : Type 0} → List TargetValue → (L → Option (I × O) → L → Type 0) → (L → I × O → L → Type 0)
+abbrev pub AreServed : {L I O : Type 0} → Menus → (L → Option (I × O) → L → Type 0) → (L → I × O → L → Type 0)
     → (I → InputState) → (O → OutputState) → ℕ → L → List (Connection I O) → L → Type 0
-AreServed targets gives closes input_state output_state wait old [] new = old ≡ new
-AreServed targets gives closes input_state output_state wait old (c ∷ cs) new =
-    (between : _) × IsAccepted gives closes old c between × IsServed targets input_state output_state wait c
-    × AreServed targets gives closes input_state output_state wait between cs new
+AreServed menus gives closes input_state output_state wait old [] new = old ≡ new
+AreServed menus gives closes input_state output_state wait old (c ∷ cs) new =
+    (between : _) × IsAccepted gives closes old c between × IsServed menus input_state output_state wait c
+    × AreServed menus gives closes input_state output_state wait between cs new
 
 -- ---- counts
 
@@ -64,13 +64,13 @@ counts_of connections = counted_all none_yet (map outcome connections)
 -- ---- a service
 
 -- exactly that many connections were served, and these are their counts
-abbrev pub ServesAll : {L I O : Type 0} → List TargetValue → (L → Option (I × O) → L → Type 0) → (L → I × O → L → Type 0)
+abbrev pub ServesAll : {L I O : Type 0} → Menus → (L → Option (I × O) → L → Type 0) → (L → I × O → L → Type 0)
     → (I → InputState) → (O → OutputState) → ℕ → ℕ → L → L → Counts → Type 0
-ServesAll {I = I} {O = O} targets gives closes input_state output_state wait count old new counts = (all : List (Connection I O))
-    × AreServed targets gives closes input_state output_state wait old all new × (length all ≡ count) × (counts ≡ counts_of all)
+ServesAll {I = I} {O = O} menus gives closes input_state output_state wait count old new counts = (all : List (Connection I O))
+    × AreServed menus gives closes input_state output_state wait old all new × (length all ≡ count) × (counts ≡ counts_of all)
 
 -- fewer were served, and then none could be accepted
-abbrev pub StopsEarly : {L I O : Type 0} → List TargetValue → (L → Option (I × O) → L → Type 0) → (L → I × O → L → Type 0)
+abbrev pub StopsEarly : {L I O : Type 0} → Menus → (L → Option (I × O) → L → Type 0) → (L → I × O → L → Type 0)
     → (L → L → Type 0) → (I → InputState) → (O → OutputState) → ℕ → ℕ → L → L → Type 0
-StopsEarly {L = L} {I = I} {O = O} targets gives closes fails input_state output_state wait count old new = (all : List (Connection I O)) × (last : L)
-    × AreServed targets gives closes input_state output_state wait old all last × (length all < count) × fails last new
+StopsEarly {L = L} {I = I} {O = O} menus gives closes fails input_state output_state wait count old new = (all : List (Connection I O)) × (last : L)
+    × AreServed menus gives closes input_state output_state wait old all last × (length all < count) × fails last new

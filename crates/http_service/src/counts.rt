@@ -3,7 +3,7 @@
 ghost use Rattle.std.specs.Prelude.{◌≡◌, ◌+◌, ◌<◌};
 ghost use Rattle.http_service.specs.Connections.{counted, none_yet};
 
-use http_front::{ServeError, Served};
+use http_exchange::{ServeError, Served};
 
 /// The number of connections that ended in each way.
 #[derive(Clone, Copy, Debug, PartialEq, Eq)]

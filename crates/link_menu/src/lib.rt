@@ -14,6 +14,8 @@
 //! All targets are searched side by side: a round of [`interleaved_runs`] tries one row of each, and a [`Watch`]
 //! observes the runs.
 //!
+//! To code that needs menus alone, a registry is passed as [`RegistryMenus`].
+//!
 //! ```rust
 //! let request = read_kev(alloc, query.as_bytes())?;
 //! let menu = resolve(alloc, &registry, &request)?;
@@ -23,6 +25,7 @@
 
 mod batch;
 mod citation;
+mod registry_menus;
 mod resolution;
 mod resolver;
 mod target_search;
@@ -32,6 +35,7 @@ pub use kbart_rows::{ColumnNames, Table};
 pub use kev_read::Request;
 pub use menu::{Menu, MenuEntry, Resolution, Text, is_web_link};
 pub use registry::{AddError, AddErrorKind, MAX_TARGETS, Registry, Target};
+pub use registry_menus::RegistryMenus;
 pub use resolver::{resolve, resolve_watched};
 pub use row_scope::{
     KnownValues, NameColumns, NameNumbers, RequestValues, RowScope, TargetRequest,

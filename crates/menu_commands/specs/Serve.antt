@@ -3,6 +3,7 @@ use Rattle.std.specs.Prelude.{◌≡◌, ◌≢◌, ◌⊎◌, ℕ, List, [], �
 use Rattle.std.specs.Fmt.{decimal}
 use Rattle.text_model.specs.Texts.{Text}
 use Rattle.registry.specs.Targets.{TargetValue}
+use Rattle.registry.specs.Entries.{menu_of}
 use Rattle.files.specs.Found.{Disk}
 use Rattle.files.specs.declared.call.FileCall.{FileCall}
 use Rattle.registry_file.specs.Loading.{IsLoaded}
@@ -58,7 +59,7 @@ module _ {K P L I O : Type 0} (draws : K → ℕ → ℕ → K → Type 0) (bind
     pub first : L
     pub last : L
     pub listening : IsListening draws binds disk keys_before ports_before service keys_after ports_after targets first line
-    pub served : ServesAll targets gives closes input_state output_state wait service.count first last counts
+    pub served : ServesAll (menu_of targets) gives closes input_state output_state wait service.count first last counts
 
   -- it listens, fewer connections are served, and then none can be accepted
   pub record StopsServing (no_more : L → L → Type 0) (line : Text) (fault : MenuFault) : Type 0 where
@@ -66,5 +67,5 @@ module _ {K P L I O : Type 0} (draws : K → ℕ → ℕ → K → Type 0) (bind
     pub first : L
     pub last : L
     pub listening : IsListening draws binds disk keys_before ports_before service keys_after ports_after targets first line
-    pub stopped : StopsEarly targets gives closes no_more input_state output_state wait service.count first last
+    pub stopped : StopsEarly (menu_of targets) gives closes no_more input_state output_state wait service.count first last
     pub told : fault ≡ Port service.port_text

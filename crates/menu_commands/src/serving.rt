@@ -16,6 +16,7 @@ use files::Files;
 use http_service::{Counts, serve_on};
 use http_streams::Ports;
 use kbart_rows::KeySource;
+use link_menu::RegistryMenus;
 use registry::Registry;
 use std::alloc::{AllocError, Global};
 use std::io::Write;
@@ -52,7 +53,8 @@ pub fn serve<'a, F: Files, K: KeySource, P: Ports, O: Write>(
     if output.write_all(line.as_bytes()).is_err() {
         return Err(MenuFault::Base(BaseFault::Device("-")));
     }
-    match serve_on(alloc, &mut listener, service.count, &registry) {
+    let menus = RegistryMenus::new(&registry);
+    match serve_on(alloc, &mut listener, service.count, &menus) {
         Ok(counts) => Ok(counts),
         Err(_) => Err(MenuFault::Port(service.port_text)),
     }

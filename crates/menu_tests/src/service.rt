@@ -3,6 +3,7 @@
 use crate::shared::{REPLY, REQUEST};
 use http_service::{Counts, serve_on, serve_within};
 use http_streams::{Listener, Loopback, Ports};
+use link_menu::RegistryMenus;
 use registry::Registry;
 use std::alloc::{AllocError, Global};
 use std::io::{self, Write};
@@ -49,6 +50,7 @@ fn counted<L: Listener>(
     wait: Option<u64>,
 ) -> io::Result<(u32, u32, u32)> {
     let registry = Registry::new(alloc);
+    let menus = RegistryMenus::new(&registry);
     let Counts {
         replied,
         nothing,
@@ -58,10 +60,10 @@ fn counted<L: Listener>(
             alloc,
             listener,
             count,
-            &registry,
+            &menus,
             Duration::from_millis(millis),
         )?,
-        None => serve_on(alloc, listener, count, &registry)?,
+        None => serve_on(alloc, listener, count, &menus)?,
     };
     Ok((replied, nothing, faults))
 }

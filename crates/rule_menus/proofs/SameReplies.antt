@@ -10,9 +10,9 @@ use Rattle.registry.specs.Entries.{menu_of}
 use Rattle.http_request.specs.declared.route.Page.{Page}
 use Rattle.http_request.specs.Routes.{IsRouted, RouteValue}
 use Rattle.http_request.specs.Routes as route
-use Rattle.http_front.specs.Exchange.{IsReply, front, no_memory}
-use Rattle.http_front.specs.Replies.{ReplyValue, printed, unavailable}
-use Rattle.http_front.specs.RouteReplies.{IsQueryReply, IsReplyTo, is_html, page_text}
+use Rattle.http_exchange.specs.Exchange.{IsReply, front, no_memory}
+use Rattle.http_exchange.specs.Replies.{ReplyValue, printed, unavailable}
+use Rattle.http_exchange.specs.RouteReplies.{IsQueryReply, IsReplyTo, is_html, page_text}
 use Rattle.rule_menus.specs.Replies.{HasReply}
 
 -- a request has one route, and its reply has a body or none
@@ -26,24 +26,24 @@ pub record IsReplyOf (targets : List TargetValue) (bytes : List ℕ) (status : �
   pub without_body : Bool
   pub value : ReplyValue
   pub routed : IsRouted bytes at without_body
-  pub replies : IsReplyTo targets at value
+  pub replies : IsReplyTo (menu_of targets) at value
   pub status_is : status ≡ value.status
   pub reply_is : reply ≡ printed value without_body
 
 abbrev page_of : Page → List MenuEntry → ReplyValue
 page_of page entries = record { status = 200; html = is_html page; body = page_text page entries }
 
-reply_parts : (targets : List TargetValue) (bytes : List ℕ) (status : ℕ) (reply : List ℕ) → IsReply targets bytes status reply
+reply_parts : (targets : List TargetValue) (bytes : List ℕ) (status : ℕ) (reply : List ℕ) → IsReply (menu_of targets) bytes status reply
     → (status ≡ unavailable.status → ⊥) → IsReplyOf targets bytes status reply
 reply_parts targets bytes _ _ (front at without_body value routed replies) other =
     record { at = at; without_body = without_body; value = value; routed = routed; replies = replies; status_is = refl; reply_is = refl }
 reply_parts targets bytes _ _ (no_memory at without_body routed) other = absurd (other refl)
 
 module _ (targets others : List TargetValue) (same : (pairs : List KeyValue) → menu_of targets pairs ≡ menu_of others pairs) where
-  same_value : (at : RouteValue) (a b : ReplyValue) → IsReplyTo targets at a → IsReplyTo others at b → a ≡ b
+  same_value : (at : RouteValue) (a b : ReplyValue) → IsReplyTo (menu_of targets) at a → IsReplyTo (menu_of others) at b → a ≡ b
   same_value (route.Menu page query) a b x y = by_refusal (refusal query) x y
     where
-      by_refusal : (f : Option KevError) → IsQueryReply targets page query f a → IsQueryReply others page query f b → a ≡ b
+      by_refusal : (f : Option KevError) → IsQueryReply (menu_of targets) page query f a → IsQueryReply (menu_of others) page query f b → a ≡ b
       by_refusal None x y = x ∙ ap (page_of page) (same (pairs_of query)) ∙ sym y
       by_refusal (Some kev.TooManyPairs) x y = x ∙ sym y
       by_refusal (Some kev.WrongVersion) x y = x ∙ sym y
@@ -61,7 +61,7 @@ module _ (targets others : List TargetValue) (same : (pairs : List KeyValue) →
         let x = reply_parts targets bytes status reply a.replies a.no_failure in
         let y = reply_parts others bytes other another b.replies b.no_failure in
         let routes = one_route bytes x.at y.at x.without_body y.without_body x.routed y.routed in
-        let there : IsReplyTo others x.at y.value = subst (λ at. IsReplyTo others at y.value) (sym routes.0) y.replies in
+        let there : IsReplyTo (menu_of others) x.at y.value = subst (λ at. IsReplyTo (menu_of others) at y.value) (sym routes.0) y.replies in
         let value : x.value ≡ y.value = same_value x.at x.value y.value x.replies there in (
           x.status_is ∙ ap (λ (v : ReplyValue). v.status) value ∙ sym y.status_is,
           x.reply_is ∙ ap (λ (v : ReplyValue). printed v x.without_body) value ∙ ap (printed y.value) routes.1 ∙ sym y.reply_is,
@@ -76,8 +76,8 @@ module _ (one_route : HasOneRoute) (targets : List TargetValue) (bytes : List �
   reply_is_page page query without_body entries status reply meant routed accepted h =
       let x = reply_parts targets bytes status reply h.replies h.no_failure in
       let routes = one_route bytes x.at (route.Menu page query) x.without_body without_body x.routed routed in
-      let there : IsReplyTo targets (route.Menu page query) x.value = subst (λ at. IsReplyTo targets at x.value) routes.0 x.replies in
-      let answer : IsQueryReply targets page query None x.value = subst (λ f. IsQueryReply targets page query f x.value) accepted there in
+      let there : IsReplyTo (menu_of targets) (route.Menu page query) x.value = subst (λ at. IsReplyTo (menu_of targets) at x.value) routes.0 x.replies in
+      let answer : IsQueryReply (menu_of targets) page query None x.value = subst (λ f. IsQueryReply (menu_of targets) page query f x.value) accepted there in
       let value = answer ∙ ap (page_of page) meant in (
         x.status_is ∙ ap (λ (v : ReplyValue). v.status) value,
         x.reply_is ∙ ap (λ (v : ReplyValue). printed v x.without_body) value

@@ -15,8 +15,8 @@ loop-served-preserved g c =
     let next = c.in_ok-serve_next.ensures.served in (
       (
         so_far.0 ++ next.0 ∷ [],
-        served-one_more c.args.registry.now g.L.Listener.gives g.L.Listener.closes g.L.In.Input.input_state g.L.Out.Output.output_state (as_nanos c.args.wait)
-            c.args.listener.now c.loop-served.listener c.serve_next.new.listener so_far.0 next.0 so_far.1 next.1 next.2,
+        served-one_more (g.S.MenuSource.menus c.args.source.now) g.L.Listener.gives g.L.Listener.closes g.L.In.Input.input_state g.L.Out.Output.output_state
+            (as_nanos c.args.wait) c.args.listener.now c.loop-served.listener c.serve_next.new.listener so_far.0 next.0 so_far.1 next.1 next.2,
         omega (arith, length-append so_far.0 (next.0 ∷ []), so_far.2),
         c.add.ensures ∙ ap (λ counts. counted counts c.in_ok-serve_next.field-0) so_far.3 ∙ ap (counted (counts_of so_far.0)) next.3
             ∙ sym (counts-one_more so_far.0 next.0),

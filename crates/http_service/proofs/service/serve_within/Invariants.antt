@@ -7,7 +7,7 @@ use Rattle.http_service.proofs.service.serve_within.Given as goal
 abbrev pub invariant-loop-served : goal.invariant-loop-served
 invariant-loop-served g l =
     ((all : List (Connection g.row.L-In.Denot g.row.L-Out.Denot))
-    × AreServed l.registry g.L.Listener.gives g.L.Listener.closes g.L.In.Input.input_state g.L.Out.Output.output_state (as_nanos l.wait)
+    × AreServed (g.S.MenuSource.menus l.source) g.L.Listener.gives g.L.Listener.closes g.L.In.Input.input_state g.L.Out.Output.output_state (as_nanos l.wait)
     l.fn.listener all l.listener
     × (length all ≡ l._served) × (l.counts ≡ counts_of all))
     × (l._served ≤ l.count)

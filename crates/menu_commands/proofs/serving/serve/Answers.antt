@@ -26,7 +26,7 @@ returns-in-Ok-clause-served g c = (
     first = c.in_ok-registry.listener;
     last = c.serve_on.new.listener;
     listening = c.in_ok-registry.ensures.ok;
-    served = c.in-Ok.ensures.served;
+    served = rw c.new-menus.ensures at c.in-Ok.ensures.served;
   },
   search rules,
 )
@@ -40,7 +40,7 @@ returns-clause-failed g c =
         first = c.in_ok-registry.listener;
         last = c.serve_on.new.listener;
         listening = c.in_ok-registry.ensures.ok;
-        stopped = c.in-Err.ensures.stopped;
+        stopped = rw c.new-menus.ensures at c.in-Err.ensures.stopped;
         told = refl;
       },
       search rules,

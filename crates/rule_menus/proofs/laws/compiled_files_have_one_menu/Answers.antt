@@ -1,7 +1,7 @@
 use Rattle.std.proofs.Common.{List, sym, ap, ◌∙◌}
 use Rattle.registry.specs.Targets.{TargetValue}
 use Rattle.registry.specs.Entries.{menu_of}
-use Rattle.http_front.specs.RouteReplies.{page_text}
+use Rattle.http_exchange.specs.RouteReplies.{page_text}
 use Rattle.rule_menus.proofs.ReadTargets.{are_coded}
 use Rattle.rule_menus.proofs.laws.compiled_files_have_one_menu.Goals as goal
 

@@ -1,5 +1,5 @@
 use Rattle.std.proofs.Common.{sym, ap, ◌∙◌}
-use Rattle.http_front.specs.RouteReplies.{page_text}
+use Rattle.http_exchange.specs.RouteReplies.{page_text}
 use Rattle.rule_menus.proofs.SameFiles.{one_menu, rules_sound}
 use Rattle.rule_menus.proofs.laws.files_have_one_menu.Goals as goal
 

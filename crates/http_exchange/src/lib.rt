@@ -1,0 +1,23 @@
+//! One exchange over HTTP: a request is read from any input, and its reply, with a menu from any [`MenuSource`], is
+//! written to any output (RFC 9110 and RFC 9112; RFC 6585, section 5, for status 431).
+//!
+//! Differences from the standard, with their tests in `checks/commands.d`:
+//! - A connection has one request and one reply (`test_one_exchange_a_connection` in `connections.py`); whatever
+//!   follows the request's head is ignored (`test_whole_requests` in `requests_over_http.py`).
+//! - There is no clock, and so no Date field (every reply in `requests_over_http.py` is compared as a whole).
+//! - Every method other than GET and HEAD gets 405 (`test_methods_and_targets` in `requests_over_http.py`).
+//!
+//! ```rust
+//! let registry = Registry::new(rt.alloc());
+//! let served = serve_one(rt.alloc(), &mut input, &mut output, &RegistryMenus::new(&registry));
+//! assert_eq!(rt; served, Ok(Served::Replied(404)));
+//! ```
+#![tactic(auto)]
+
+mod exchange;
+mod menu_page;
+mod reply;
+
+pub use exchange::{ServeError, Served, serve_one};
+pub use http_streams::{Failed, Input, Output, TimedWire, Wire};
+pub use menu_source::MenuSource;
