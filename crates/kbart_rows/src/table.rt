@@ -39,7 +39,7 @@ use target_vars::{Env, VarsError};
 /// - Only `print_identifier` and `online_identifier` have a meaning here (`test_keys_and_columns` in `keys.py`). Every
 ///   other column, even one that the practice does not name, is just a variable (`test_lines_and_cells`).
 /// - If several columns have the same name, the first one counts, even in a row in which its cell is empty
-///   (`test_lines_and_cells`). A name may be empty (`reads_lines_and_cells` in the crate `holdings_tests`).
+///   (`test_lines_and_cells`). A name may be empty (`reads_cells` in the crate `menu_tests`).
 /// - Quotes are plain characters, cells are not trimmed, and `#` does not begin a comment (`test_lines_and_cells`).
 /// - A line ends with LF, CR LF or CR. Blank lines are not rows; a line of tabs is a row (`test_lines_and_cells`), and
 ///   a line of one space is not blank (`test_faults`).
