@@ -26,11 +26,13 @@ class Sums:
         self.stated = {}
 
     def of(self, crate):
-        """Returns a sum of the crate's sources, its edits of this folder, and the statements of the crates below it."""
+        """Returns a sum of the crate's sources without their lines of comments, its edits of this folder, and the
+        statements of the crates below it."""
         found = hashlib.sha256()
-        for path in [*sources(crate), *sorted(glob.glob(f"sweeps/edits/{crate}/*.edit"))]:
-            with open(path, "rb") as file:
-                found.update(repr((path, file.read())).encode())
+        for path in sources(crate):
+            found.update(repr((path, without_comments(text_of(path)))).encode())
+        for path in sorted(glob.glob(f"sweeps/edits/{crate}/*.edit")):
+            found.update(repr((path, text_of(path))).encode())
         for name in sorted(self.below(crate)):
             found.update(f"{name} {self.statements(name)}\n".encode())
         return found.hexdigest()[:16]
@@ -54,6 +56,10 @@ class Sums:
 def sources(crate):
     walks = [os.walk(f"crates/{crate}/{part}") for part in PARTS]
     return sorted(f"{at}/{name}" for walk in walks for at, _, names in walk for name in names)
+
+
+def without_comments(text):
+    return [line for line in text.split("\n") if not line.lstrip().startswith(("//", "--"))]
 
 
 def tried():
