@@ -1,0 +1,119 @@
+"""What `lint` finds in the rules of a target, and `inspect` in its table."""
+
+
+def finds(program, rules, table, printed, status):
+    program.write("some.rules", rules)
+    program.write("some.tsv", table)
+    program.gives(["lint", "some.rules", "some.tsv"], status, printed, "")
+
+
+def test_requests_that_choose_the_host(program):
+    rules = "rule\nwhen given rft.isssn\nlink https://e.org{x}\nrule\nlink {+title_url}\nrule\nlink none:\n"
+    table = "print_identifier\ttitle_url\n1234-5679\thttp://e.org/a\n2049-3630\t\n"
+    printed = """rules 3
+rule 1, guard 1: unknown name rft.isssn, did you mean rft.issn
+rule 1, link: unknown name x
+rule 1, link: a request can set the host by x
+rule 2, link: a request can set the host by title_url
+rule 3 is never reached
+"""
+    finds(program, rules, table, printed, 1)
+
+
+def test_no_link_before_the_last_rule(program):
+    rules = "rule\nwhen given rft.isssn\nlink https://e.org{x}\nrule\nlink none:\nrule\nlink {+title_url}\n"
+    table = "print_identifier\ttitle_url\n1234-5679\thttp://e.org/a\n2049-3630\thttp://e.org/b\n"
+    printed = """rules 3
+rule 1, guard 1: unknown name rft.isssn, did you mean rft.issn
+rule 1, link: unknown name x
+rule 1, link: a request can set the host by x
+rule 2, link: never a web link
+rule 3 is never reached
+"""
+    finds(program, rules, table, printed, 1)
+
+
+TABLE = (
+    "print_identifier\ttitle_url\ttitle_id\tTitle_Name\trft.au\n"
+    "1234-5679\thttp://e.org/a\tj1\tA\tB\n"
+    "2049-3630\thttp://e.org/b\tj2\tA\tB\n"
+)
+
+# The link of a rule without guards, what is found in it, or None, and the status.
+LINKS = [
+    ("http://e.org/{x.y}", None, 0),
+    ("none:", "never a web link", 0),
+    ("https:/{/rft.date}", "a request can set the host by rft.date", 1),
+    ("https://e.org{/rft.date}", None, 0),
+    ("{+title_url}{rft.date}", None, 0),
+    ("https://{title_id}{rft.date}", "a request can set the host by rft.date", 1),
+    ("https://{title_id}.e.org/{rft.date}", None, 0),
+    ("https://{rft.au}/", "a request can set the host by rft.au", 1),
+    ("http:/e.org/{rft.date}", "never a web link", 0),
+]
+
+
+def test_links(program):
+    for link, found, status in LINKS:
+        line = f"rule 1, link: {found}\n" if found else ""
+        finds(program, f"rule\nlink {link}", TABLE, f"rules 1\n{line}", status)
+
+
+def test_no_rules(program):
+    finds(program, "", TABLE, "rules 0\n", 1)
+
+
+def test_names_and_bounds(program):
+    rules = "rule\nwhen has title_name\nlink http://e.org/{num_first_vol_online}"
+    printed = """rules 1
+rule 1, guard 1: unknown name title_name, did you mean Title_Name
+rule 1, link: no column num_first_vol_online
+"""
+    finds(program, rules, TABLE, printed, 1)
+    rules = "rule\nwhen rft.volume from 5 to 5\nwhen rft.volume from 5 to 4\nlink http://e.org/{issn}"
+    printed = """rules 1
+rule 1, guard 2: never holds
+rule 1, link: unknown name issn, did you mean rft.issn
+"""
+    finds(program, rules, TABLE, printed, 1)
+
+
+def test_a_table(program):
+    program.write("some.tsv", "Print Identifier\tonline_identifier\tdate_first_issue_online\tx\n"
+                              "1234-5679\t2049-3630\t1995\t\n1234-5679\t\t3/1/1995\ta\tb\n")
+    printed = """rows 2
+identifiers 1
+no column print_identifier
+unknown column "Print Identifier", did you mean print_identifier
+unknown column "x"
+rows without an identifier 1, first 1
+rows of one identifier 1, "20493630"
+date_first_issue_online not a date 1, first 1 "3/1/1995"
+rows longer than the header 1, first 1
+"""
+    program.gives(["inspect", "some.tsv"], 1, printed, "")
+
+
+# Tables without identifiers, how many rows they have, and the lines of their columns and of cells past the header.
+ROWS = [
+    # A name may be empty. Of two byte order marks one is text.
+    ("a\t\n1\t2\n", 1, "unknown column \"a\"\n", ""),
+    ("\ufeff\ufeffa\n1\n", 1, "unknown column \"\\xef\\xbb\\xbfa\"\n", ""),
+    ("a\n1\t2\n", 1, "unknown column \"a\"\n", "rows longer than the header 1, first 0\n"),
+    # LF, CR LF and CR end lines; blank ones are skipped, and one of tabs is not.
+    ("a\r\n\r\n1\r\n2", 2, "unknown column \"a\"\n", ""),
+    ("a\r\r1\r2", 2, "unknown column \"a\"\n", ""),
+    ("\n\na\n\n1\n\n", 1, "unknown column \"a\"\n", ""),
+    ("a\tb\n\t\n", 1, "unknown column \"a\"\nunknown column \"b\"\n", ""),
+]
+
+
+def test_rows_of_tables(program):
+    for table, rows, columns, longer in ROWS:
+        program.write("some.tsv", table)
+        printed = (f"rows {rows}\nidentifiers 0\nno column print_identifier\nno column online_identifier\n{columns}"
+                   f"rows without an identifier {rows}, first 0\n{longer}")
+        program.gives(["inspect", "some.tsv"], 1, printed, "")
+    # Only a header.
+    program.write("some.tsv", "print_identifier\n")
+    program.gives(["inspect", "some.tsv"], 1, "rows 0\nidentifiers 0\nno column online_identifier\n", "")
