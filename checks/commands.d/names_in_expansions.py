@@ -16,6 +16,11 @@ LISTS = [
     ("{;%41*}", ";%41=a;%41=b", ";%41"), ("{?%41*}", "?%41=a&%41=b", "?%41="), ("{&%41*}", "&%41=a&%41=b", "&%41="),
 ]
 
+# The same where %41 is the text `x`, and %42 the list of `a` and `b`.
+BOTH = [
+    ("{?%41}", "?%41=x"), ("{;%41}", ";%41=x"), ("{?%42}", "?%42=a,b"), ("{?%42*}", "?%42=a&%42=b"), ("{?A,B,%61}", ""),
+]
+
 # Templates and queries; the names are not equal.
 UNEQUAL = [
     ("{%41}", "A=x"), ("{A}", "%2541=x"), ("{%41}", "%41=x"), ("{%41}", "a=x"), ("{%41}", "%252541=x"),
@@ -36,6 +41,11 @@ def test_lists(program):
     for template, expansion, empty in LISTS:
         program.prints(["expand", "--list", "%41", template, "%2541=a&%2541=b"], expansion)
         program.prints(["expand", "--list", "%41", template, "%2541="], empty)
+
+
+def test_texts_and_lists(program):
+    for template, expansion in BOTH:
+        program.prints(["expand", "--list", "%42", template, "%2541=x&%2542=a&%2542=b"], expansion)
 
 
 def test_all_triplets(program):

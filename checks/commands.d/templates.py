@@ -1,5 +1,9 @@
-"""Templates that `expand` takes or refuses, beside the examples of RFC 6570."""
+"""Templates that `expand` takes, beside the examples of RFC 6570."""
+import re
 from urllib.parse import quote
+
+# A percent sign that begins no triplet.
+LONE_PERCENT = "%(?![0-9A-Fa-f]{2})"
 
 TEXTS = "&".join([
     "hello=Hello+World%21",
@@ -46,6 +50,55 @@ OF_TEXTS = [
 def test_texts(program):
     for template, expansion in OF_TEXTS:
         program.prints(["expand", template, TEXTS], expansion)
+
+
+# A template, a query, and the expansion: literals, operators, names and prefixes.
+OTHER_TEXTS = [
+    ("é/{x}", "x=1", "%C3%A9/1"),
+    ("it's%41%c3", "", "it's%41%c3"),
+    ("X{.empty}{#x}", "empty=&x=1", "X.#1"),
+    ("\U000e1000\U0010fffd", "", "%F3%A1%80%80%F4%8F%BF%BD"),
+    ("%41a%4a{x}&'%7e", "x=1", "%41a%4a1&'%7e"),
+    ("{x}{y}é", "x=1&y=2", "12%C3%A9"),
+    ("{;v}{&v}", "v=6", ";v=6&v=6"),
+    ("{a:9999}{b:10}{c:250}", f"a={'1' * 10000}&b={'2' * 11}&c={'3' * 251}", "1" * 9999 + "2" * 10 + "3" * 250),
+    ("{%41.b_9}", "%2541.b_9=x", "x"),
+    ("{%c3%A9*}", "%25c3%25A9=x", "x"),
+    ("{.12.%41_}", "12.%2541_=x", ".x"),
+    ("{#A:1,a}", "A=xy&a=zz", "#x,zz"),
+    ("{a}{b}", "a=1&b=2", "12"),
+    ("{x}{?x,y,rft.au*}", "x=a", "a?x=a"),
+    ("a{x}b{?y,z*}{/x:3}", "", "ab"),
+]
+
+
+def test_other_texts(program):
+    """The same by a rule."""
+    for template, query, expansion in OTHER_TEXTS:
+        program.prints(["expand", template, query], expansion)
+        program.write("rules", f"rule\nlink {template}\n")
+        program.prints(["link", "rules", query], expansion)
+
+
+# A value, a number of items, and the value cut to that number: of code points, and with each triplet as one item.
+CUT = [
+    ("value", 3, "val", "val"),
+    ("value", 30, "value", "value"),
+    ("éa", 1, "é", "é"),
+    ("a€𝄞b", 3, "a€𝄞", "a€𝄞"),
+    ("%41%42%43", 2, "%4", "%41%42"),
+    ("%4%41", 2, "%4", "%4"),
+    ("%4%41", 3, "%4%", "%4%41"),
+    ("%%41x", 2, "%%", "%%41"),
+    ("%C3%A9", 1, "%", "%C3"),
+]
+
+
+def test_prefixes(program):
+    for value, items, of_points, of_triplets in CUT:
+        query = "x=" + quote(value, safe="")
+        program.prints(["expand", f"{{x:{items}}}", query], quote(of_points, safe=""))
+        program.prints(["expand", f"{{+x:{items}}}", query], quote(re.sub(LONE_PERCENT, "%25", of_triplets), safe="%"))
 
 
 MEMBERS = "&".join([
@@ -106,50 +159,3 @@ def test_written_texts(program):
         query = "x=" + quote(text, safe="")
         program.prints(["expand", "{x}", query], simple)
         program.prints(["expand", "{+x}", query], reserved)
-
-
-# A template, the kind of its first fault, and its place.
-FAULTS = [
-    ("{a b}", "BadName", 1),
-    ("x{+}", "BadName", 3),
-    ("{a", "Unclosed", 0),
-    ("{}", "EmptyExpression", 0),
-    ("{=a}", "ReservedOperator", 1),
-    ("{a:0}", "BadModifier", 2),
-    ("{a:10000}", "BadModifier", 2),
-    ("a}", "BadLiteral", 1),
-    ("{,a}", "ReservedOperator", 1),
-    ("{a,}", "BadName", 3),
-    ("{.}", "BadName", 2),
-    ("{a:3*}", "BadModifier", 2),
-    ("{a}}", "BadLiteral", 3),
-    ("{!a}", "ReservedOperator", 1),
-    ("{@a}", "ReservedOperator", 1),
-    ("{|a}", "ReservedOperator", 1),
-    ("{a,b:01}", "BadModifier", 4),
-    ("{a**}", "BadModifier", 2),
-    ("{a.}", "BadName", 1),
-    ("{a%4}", "BadName", 1),
-    ("{é}", "BadName", 1),
-    ("é{?a,bé}", "BadName", 6),
-    ("é%4", "BadLiteral", 2),
-    ("a b", "BadLiteral", 1),
-    ("\ue000\ufdd0", "BadLiteral", 3),
-    ("\U0001fffe", "BadLiteral", 0),
-    ("\x7f", "BadLiteral", 0),
-    ("\U000e0001", "BadLiteral", 0),
-    ("{a}{b", "Unclosed", 3),
-    ("a" * 8193, "TooLong", 8192),
-    ("{" + "n" * 256 + "}", "BadName", 1),
-    ("{" + "n" * 256 + ":0}", "BadName", 1),
-]
-
-
-def test_faults(program):
-    for template, kind, place in FAULTS:
-        program.fails(["expand", template, ""], 3, f"template: {kind} at {place}")
-
-
-def test_longest_texts(program):
-    program.prints(["expand", "a" * 8192, ""], "a" * 8192)
-    program.prints(["expand", "{" + "n" * 255 + "}", ""], "")
