@@ -16,10 +16,11 @@ EQUAL = ["", "a", "A", "é", "e\u0301", "Smith, J", "%41", "a" * 300]
 # Values, and the number of each: that of the 1 to 9 digits of ASCII that it begins with.
 NUMBERS = [
     ("5", 5), ("0", 0), ("00", 0), ("000000005", 5), ("999999999", 999999999), ("5-", 5), ("5x6", 5), ("5%2E5", 5),
-    ("5+6", 5), ("", None), ("0000000005", None), ("1000000000", None), ("1234567890", None), ("1234567890x", None),
-    ("%2B5", None), ("-5", None), ("+5", None), ("%205", None), ("%095", None), ("%0A5", None), ("%005", None),
-    ("x5", None), ("%235", None), ("%2E5", None), ("%E2%88%925", None), ("%EF%BC%95", None), ("%D9%A5", None),
-    ("%C2%B2", None), ("%E2%85%A4", None), ("V", None), ("%EF%BB%BF5", None),
+    ("5+6", 5), ("12%283%29", 12), ("007x", 7), ("", None), ("a1", None), ("0000000001a", None), ("0000000005", None),
+    ("1000000000", None), ("1234567890", None), ("1234567890x", None), ("%2B5", None), ("-5", None), ("+5", None),
+    ("%205", None), ("%095", None), ("%0A5", None), ("%005", None), ("x5", None), ("%235", None), ("%2E5", None),
+    ("%E2%88%925", None), ("%EF%BC%95", None), ("%D9%A5", None), ("%C2%B2", None), ("%E2%85%A4", None), ("V", None),
+    ("%EF%BB%BF5", None),
 ]
 
 
@@ -83,6 +84,13 @@ def test_numbers(program):
     cases += [(encoded(one) + "5", one.isdigit()) for one in ASCII] + [("5" + encoded(one), True) for one in ASCII]
     for value, is_number in cases:
         gives_link(program, is_number, f"x={value}")
+
+
+def test_exact_numbers(program):
+    for value, number in NUMBERS:
+        for bound in (0, 1, 5, 7, 12, 999999999):
+            write_rule(program, f"when x from {bound} to {bound}", "link e")
+            gives_link(program, number == bound, f"x={value}")
 
 
 def test_bounds(program):

@@ -1,87 +1,33 @@
-"""Rule files that `link` takes or refuses: their faults, guards, lists and links."""
-
-# A rule file, and its first fault.
-FIRST_FAULTS = [
-    ("when has x", "line 1: BadLine"),
-    ("link a", "line 1: BadLine"),
-    ("\ufeffrule\nlink a", "line 1: BadLine"),
-    ("#\nlist a b", "line 2: BadLine"),
-    ("rule\nlink", "line 2: BadLine"),
-    ("rule\n \nrule", "line 2: BadLine"),
-    (";\nrule\nlink a", "line 1: BadLine"),
-    ("rule\nlink a\nlist x", "line 3: BadLine"),
-    ("rule\nwhen x is \"a\\\"\nlink b", "line 2: BadLine"),
-    ("rule\nwhen x from 1 to 1234567890\nlink b", "line 2: BadLine"),
-    ("rule\nwhen rft.au counts 1\nlink b", "line 2: BadLine"),
-    ("rule\nwhen rft.au counts 1 to 2 \nlink b", "line 2: BadLine"),
-    ("rule\nwhen rft.au from x to 1 2\nlink b", "line 2: BadLine"),
-    ("rule\nrule", "line 1: NoLink"),
-    ("rule", "line 1: NoLink"),
-    ("# one\nrule\nlink a\n\nrule\nwhen has x\nrule", "line 5: NoLink"),
-    ("rule\nlink {a", "line 2: Template Unclosed"),
-    ("rule\nlink a\r", "line 2: Template BadLiteral"),
-    ("rule\nlink {rft.au:3}{", "line 2: Template Unclosed"),
-    # Each other kind of a template's fault.
-    ("rule\nlink " + "a" * 8193, "line 2: Template TooLong"),
-    ("rule\nlink {}", "line 2: Template EmptyExpression"),
-    ("rule\nlink {=a}", "line 2: Template ReservedOperator"),
-    ("rule\nlink {a b}", "line 2: Template BadName"),
-    ("rule\nlink {a:0}", "line 2: Template BadModifier"),
-    # Faults of the whole file.
-    ("#" * 65537, "line 0: TooLong"),
-    (b"#\xff", "line 0: NotUtf8"),
-]
-
-
-def test_first_faults(program):
-    for rules, fault in FIRST_FAULTS:
-        program.write("faulty.rules", rules)
-        program.fails(["link", "faulty.rules", ""], 3, f"rules: {fault}")
-
-
-def test_longest_file(program):
-    program.write("long.rules", "#" * 65536)
-    program.finds_no_link(["link", "long.rules", ""])
-
-
-# Lines that use a list as a text, or a text as a list, where `counts` is declared a list.
-MISUSES = [
-    "when given rft.au",
-    "when rft.au is \"x\"",
-    "when rft.au from 1 to 2",
-    "when x from rft_id to 2",
-    "when x from 1 to counts",
-    "when x holds \"x\"",
-    "when x counts 1 to 2",
-    "when has counts 1 to 2",
-    "when rft.au counts rft_id to 2",
-    "when rft.au counts 1 to rft_id",
-    "when counts counts 1 to counts",
-    "link {rft.au:3}",
-    "link a{?x,counts:1}",
-]
-
-
-def test_misused_names(program):
-    for line in MISUSES:
-        program.write("misused.rules", f"list counts\nrule\n{line}\nlink a")
-        program.fails(["link", "misused.rules", ""], 3, "rules: line 3: KindMismatch")
-
+"""Rule files that `link` takes: their names, guards and links."""
 
 # A name of a `list` line, and whether it is one.
 NAMES = [
     ("rft.au", True),
     ("rft_id", True),
+    ("a", True),
+    ("_", True),
+    ("9", True),
     ("12", True),
+    ("A.b.%4a", True),
+    ("%41", True),
     ("%41b", True),
+    ("a%C3_", True),
     ("", False),
+    (".", False),
     (".a", False),
     ("a.", False),
     ("a..b", False),
+    ("a-b", False),
     ("a b", False),
-    ("%4", False),
-    ("é", False),
+    ("a:1", False),
     ("a*", False),
+    ("%", False),
+    ("%4", False),
+    ("%4g", False),
+    ("a%4", False),
+    ("a%", False),
+    ("é", False),
+    ("aé", False),
     ("n" * 255, True),
     ("n" * 256, False),
 ]
@@ -146,6 +92,66 @@ def test_guards(program):
             program.prints(arguments, "http://e.org/")
         else:
             program.finds_no_link(arguments)
+
+
+# A guard where `y` is a declared list, a query, and whether the guard holds.
+OTHER_GUARDS = [
+    ("has 12", "12=", True),
+    ("has rft.au", "rft.au=", True),
+    ("has rft.au", "rft.aulast=a", False),
+    ("lacks y", "x=a", True),
+    ("lacks y", "y=", False),
+    ("has is \"x\"", "has=x", True),
+    ("has is \"x\"", "x=", False),
+    ("given from 1 to 2", "given=2", True),
+    ("given from 1 to 2", "given=3", False),
+    ("is is \"is\"", "is=is", True),
+    ("x is \"\"", "x=", True),
+    ("x is \"\"", "x=+", False),
+    ("x is \" \"", "x=+", True),
+    ("x is \"a\\\\\"", "x=a%5C", True),
+    ("x is \"\\\"\"", "x=%22", True),
+    ("x is \"é\"", "x=%C3%A9", True),
+    ("y holds \"to\"", "y=a&y=to", True),
+    ("y holds \"to\"", "y=a", False),
+    ("x from to to to", "x=5&to=5", True),
+    ("x from to to to", "x=5&to=6", False),
+    ("x from * to *", "x=5", True),
+    ("x from 000000001 to 999999999", "x=1", True),
+    ("x from 000000001 to 999999999", "x=0", False),
+    ("x from 1a to b2", "x=5&1a=4&b2=6", True),
+    ("x from 1a to b2", "x=5&1a=6&b2=6", False),
+    ("x from 1a to b2", "x=5&1a=4&b2=4", False),
+    ("y counts 0 to x", "y=a&x=1", True),
+    ("y counts 0 to x", "y=a&y=b&x=1", False),
+]
+
+
+def test_other_guards(program):
+    for guard, query, holds in OTHER_GUARDS:
+        program.write("guard.rules", f"list y\nrule\nwhen {guard}\nlink a")
+        expected = (0, b"a\n", b"") if holds else (1, b"", b"")
+        program.expect(f"{guard}, {query}", program.run(["link", "guard.rules", query]), expected)
+
+
+# A rule file, and how many rules it has.
+NUMBERS_OF_RULES = [
+    ("", 0),
+    ("#", 0),
+    ("list x\nlist rft.au\nlist x", 0),
+    ("rule\nlink a", 1),
+    ("rule\r\n#\r\n\r\nlink a\r\n", 1),
+    ("rule\nlink ", 1),
+    ("list 12\nrule\nlink {12*}\nrule\nwhen has x\nlink b\n", 2),
+    ("#\ufeff\nrule\nlink {x:9999}{rft.au}", 1),
+]
+
+
+def test_numbers_of_rules(program):
+    program.write("one.tsv", "print_identifier\n1\n")
+    for rules, number in NUMBERS_OF_RULES:
+        program.write("some.rules", rules)
+        program.expect(rules, program.run(["lint", "some.rules", "one.tsv"])[1].split(b"\n")[0], b"rules %d" % number)
 
 
 COVERAGE = (
