@@ -43,6 +43,11 @@ def link(times, text):
     return "rule\nlink " + "b{a}" * times + "{a}" * text + "\n"
 
 
+def named(count):
+    """A rule with a link of one expression of that many names of four digits."""
+    return "rule\nlink {" + ",".join(str(1000 + at) for at in range(count)) + "}\n"
+
+
 def pages(*lengths):
     """A rule for each length, with a link of that many letters; each has 19 bytes more in the code."""
     return "".join(f"rule\nlink {letter * length}\n" for letter, length in zip("bcdefghij", lengths))
@@ -61,10 +66,26 @@ RULES = [
     (link(0, 585), "TooManyInstructions"),
     (pages(8170, 8170, 8170, 8171, 8171, 8171, 8171, 8172), 65536),
     (pages(8170, 8170, 8170, 8171, 8171, 8171, 8172, 8172), "FileTooLong"),
+    (pages(*[8170] * 7, 8176), 65536),
+    (pages(*[8170] * 7, 8177), "FileTooLong"),
     (pages(*[8192] * 7, 8021), 65535),
     (pages(*[8192] * 7, 8022), 65536),
     (pages(*[8192] * 7, 8023), "FileTooLong"),
     (rules_of(257, 1025, 4096, 65536), "TooManyNames"),
+    (named(257), "TooManyNames"),
+    # Guards of 257 names, and of 1,025 texts.
+    ("rule\n" + "".join(f"when has n{at}\n" for at in range(257)) + guards(1000, 2024) + "link b\n", "TooManyNames"),
+]
+
+# Rules at a limit, and the names, literals, instructions and bytes of their code.
+COUNTS = [
+    # 10 bytes, a name of 3, 1,023 literals of 7 and one of 4, and 8 for each instruction.
+    ("rule\n" + guards(1000, 2022) + "link b\n", 1, 1024, 4095, 39938),
+    # 10 bytes, eight literals of 3 bytes and 65,366 letters, and 8 for each instruction.
+    (pages(*[8170] * 7, 8176), 0, 8, 17, 65536),
+    # 256 names of 6 bytes, and three literals of 4, 4 and 3.
+    (named(256), 256, 3, 1539, 13869),
+    ("rule\nwhen has d\nlink {c}{b}{a}\n", 4, 3, 25, 10 + 4 * 3 + 3 + 4 + 4 + 8 * 25),
 ]
 
 
@@ -78,6 +99,14 @@ def test_rules(program):
         else:
             program.fails(["compile", "rules", "none"], 3, f"compile: {outcome}")
             program.expect("a code of refused rules", program.has("none"), False)
+
+
+def test_counts(program):
+    for rules, names, literals, instructions, size in COUNTS:
+        program.write("rules", rules)
+        program.prints(["compile", "rules", "code"], f"{size} bytes")
+        head = f"OLK1 names {names} literals {literals} instructions {instructions}"
+        program.expect("the head", program.run(["show", "code"])[1].split(b"\n")[0], head.encode())
 
 
 def test_links_at_the_limits(program):

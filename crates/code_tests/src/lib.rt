@@ -1,7 +1,7 @@
-//! Tests of codes that no command of the program can make: the checked machine, and that accepted code runs as it does;
-//! the steps and turns of a run; environments that no query makes; and calls that the program does not make. The
-//! scripts in `checks/commands.d` test code files, listings, verdicts, budgets, links and compiled rules through the
-//! program.
+//! Tests of what no command of the program shows: the checked machine, and that accepted code runs as it does; the
+//! steps and turns of a run; codes that no file has and environments that no query makes; that writing does not let a
+//! text grow; and errors that no command prints. The scripts in `checks/commands.d` test templates, rules, code files,
+//! listings, verdicts, budgets, links and compiled rules through the program.
 #![tactic(auto)]
 
 #[cfg(test)]

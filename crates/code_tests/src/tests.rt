@@ -2,11 +2,13 @@
 
 mod budgets;
 mod entry_points;
-mod limits;
+mod errors;
 mod machines;
 mod parts;
+mod rules;
 mod runs;
 mod tables;
+mod texts;
 mod verified;
 
 use self::tables::{COUNTS_OF_TABLES, ENTRIES, OPERATIONS};

@@ -4,9 +4,7 @@ use super::tables::{
     BRANCHES, EFFECTS, FIRST, LIST_CODE, LIST_FILE, OPTIONAL, RULE, SECOND, STUCK, TEXTS, VARIABLES,
 };
 use super::{Entry, checked, environment, file, outcome_text};
-use compiler::compile;
 use interpreter::{Run, prepare};
-use rule_parser::Rules;
 use std::alloc::{AllocError, Global};
 use std::process::Abort;
 use std::test::Fail;
@@ -88,7 +86,7 @@ fn each_instruction_does_what_it_says(rt: HostRuntime) -> Result<(), Fail> {
 
 /// The version of a code, its instructions, an environment, the outcome, and after how many steps; 0 for code that is
 /// not accepted.
-const OTHERS: [(u8, &str, &[Entry], &str, u64); 12] = [
+const OTHERS: [(u8, &str, &[Entry], &str, u64); 13] = [
     (b'1', LIST_CODE, VARIABLES, "link red,green,blue", 12),
     (b'2', LIST_CODE, VARIABLES, "link red,green,blue", 12),
     (b'1', LIST_CODE, &[], "link ", 3),
@@ -101,10 +99,19 @@ const OTHERS: [(u8, &str, &[Entry], &str, u64); 12] = [
     (b'1', LAST, &[], "stuck at 3", 0),
     (b'1', LAST, VARIABLES, "link blue", 0),
     (b'2', COUNTS, VARIABLES, "link ", 5),
+    (b'2', COUNTED, TWO, "link http://e.org/A,B", 19),
 ];
 
 /// The last element, after the loop.
 const LAST: &str = "LIST r0 n1, EACH r1 r0 3, NEXT, PUT r1 u, HALT";
+
+const TWO: &[Entry] = &[(true, "list", "A", 1), (true, "list", "B", 1)];
+
+/// What a rule with a guard `counts` and a link of that list is compiled to (`COUNTS_LISTING` in
+/// `checks/commands.d/compiled_rules.py`).
+const COUNTED: &str =
+    "LIST r0 n1, COUNT r1 r0, CONST r2 l7, NUMBER r3 r2 5, LESS r1 r3 17, EMIT l9, CONST r4 l2, \
+    LIST r0 n1, NOLIST r0 16, EMPTY r4 11, EMIT l0, CONST r4 l7, EACH r5 r0 16, SEP l0, PUT r5 u, NEXT, HALT, FAIL";
 
 /// Counts of one list, compared.
 const COUNTS: &str = "LIST r0 n1, COUNT r1 r0, COUNT r63 r0, LESS r1 r63 5, HALT, FAIL";
@@ -118,28 +125,6 @@ fn other_environments(rt: HostRuntime) -> Result<(), Fail> {
         assert_eq!(rt; result.as_str(), expected, "{text}");
         assert_eq!(rt; taken, steps, "{text}");
     }
-    Ok(())
-}
-
-/// The outcome of the code of rules, and its steps.
-fn result_of_rules(alloc: Global, rules: &str, env: &Env) -> Result<(String, u64), Fail> {
-    let rules = Rules::parse(alloc, rules.as_bytes())?;
-    let file = compile(alloc, &rules)?.write(alloc)?;
-    let code = load(alloc, &file)?;
-    ended(alloc, &code, env, 64)
-}
-
-/// Two authors are counted, and written by the loop over them.
-#[test]
-fn compiled_counts(rt: HostRuntime) -> Result<(), Fail> {
-    let rules = "rule\nwhen rft.au counts 2 to *\nlink http://e.org/{rft.au}\n";
-    let env = environment(
-        rt.alloc(),
-        &[(true, "rft.au", "A", 1), (true, "rft.au", "B", 1)],
-    )?;
-    let (result, steps) = result_of_rules(rt.alloc(), rules, &env)?;
-    assert_eq!(rt; result.as_str(), "link http://e.org/A,B");
-    assert_eq!(rt; steps, 19);
     Ok(())
 }
 

@@ -1,7 +1,7 @@
 //! Codes that are made from parts, and instructions that are made from fields.
 
-use code_file::CodeErrorKind::{BadLiteral, BadName, NoCode, NoMemory, TooLong, TooMany};
-use code_file::{Code, CodeError, CodeErrorKind, Instr, Literal, Name, instruction, spelling};
+use code_file::CodeErrorKind::{BadLiteral, BadName, NoCode, TooLong, TooMany};
+use code_file::{Code, CodeErrorKind, Instr, Literal, Name, instruction, spelling};
 use code_model::Instruction::{Count, Cut};
 use std::alloc::{AllocError, Global};
 use std::test::Fail;
@@ -77,18 +77,5 @@ fn lists_are_in_table_order_and_as_often_as_there(rt: HostRuntime) -> Result<(),
     let code = Code::from_parts(names, Vec::new(rt.alloc()), halt)?;
     let lists = code.lists(rt.alloc())?;
     assert_eq!(rt; lists.as_slice(), ["b", "a", "b"].as_slice());
-    Ok(())
-}
-
-#[test]
-fn memory_that_ran_out_is_printed(rt: HostRuntime) -> Result<(), Fail> {
-    let fault = CodeError {
-        kind: NoMemory,
-        at: 0,
-    };
-    assert_eq!(rt;
-        format!(in rt.alloc(); "{fault}")?.as_str(),
-        "NoMemory at 0"
-    );
     Ok(())
 }
