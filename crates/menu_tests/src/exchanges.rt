@@ -54,41 +54,6 @@ fn a_write_fails(rt: HostRuntime) -> Result<(), Fail> {
     Ok(())
 }
 
-/// The reply if an allocation fails, and its head.
-const UNAVAILABLE: &[u8] =
-    b"HTTP/1.1 503 Service Unavailable\r\nContent-Type: text/plain; charset=utf-8\r\nContent-Length: 14\r\n\
-    Connection: close\r\n\r\nout of memory\n";
-
-/// How many bytes of that reply come before its body.
-const HEAD: usize = UNAVAILABLE.len() - 14;
-
-/// Requests, and how many bytes the reply has if an allocation fails while the reply is made.
-const FAILING: [(&[u8], usize); 2] = [
-    (b"GET /openurl HTTP/1.0\r\n\r\n", HEAD + 14),
-    (b"HEAD /openurl HTTP/1.0\r\n\r\n", HEAD),
-];
-
-/// If an allocation of the exchange fails, the reply has the status 503, or the output fails. No reply has a status
-/// other than 200 and 503.
-#[test]
-fn without_memory(rt: HostRuntime) -> Result<(), Fail> {
-    let registry = Registry::new(rt.alloc());
-    for (request, length) in FAILING {
-        let mut input = PieceIn::new(rt.alloc(), request, 28, None)?;
-        let mut output = PieceOut::new(rt.alloc(), 1000, None)?;
-        match serve_one(rt.alloc(), &mut input, &mut output, &registry) {
-            Ok(Served::Replied(503)) => {
-                let written = output.written();
-                // If there was no memory to read the head, the method is unknown.
-                assert!(rt; written == &UNAVAILABLE[..length] || written == UNAVAILABLE);
-            }
-            Err(ServeError::WriteFault(sent)) => assert_eq!(rt; output.written().len(), sent),
-            served => assert_eq!(rt; served, Ok(Served::Replied(200))),
-        }
-    }
-    Ok(())
-}
-
 const PRINTED: [(ServeError, &str); 2] = [
     (ServeError::ReadFault, "ReadFault"),
     (ServeError::WriteFault(115), "WriteFault after 115 bytes"),

@@ -32,21 +32,6 @@ fn gives_the_parts_back(rt: HostRuntime) -> Result<(), Fail> {
     Ok(())
 }
 
-/// If memory runs out, nothing is added, and a second call adds the parts that were given back.
-#[test]
-fn a_second_call_takes_the_parts(rt: HostRuntime) -> Result<(), Fail> {
-    let mut registry = Registry::new(rt.alloc());
-    if let Err(error) = add(rt.alloc(), &mut registry, "alpha", LIST_CODE)? {
-        assert_eq!(rt; Some(error.kind), Some(AddErrorKind::NoMemory));
-        assert!(rt; registry.targets().is_empty());
-        if let Err(error) = registry.add(error.name, error.code, error.table) {
-            return Err(Fail::from(error.kind));
-        }
-    }
-    assert!(rt; has_alpha_alone(&registry));
-    Ok(())
-}
-
 #[test]
 fn errors_print_their_kind(rt: HostRuntime) -> Result<(), AllocError> {
     let kind = AddErrorKind::NoMemory;
