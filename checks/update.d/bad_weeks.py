@@ -1,7 +1,7 @@
 """Files that are rejected or doubtful, and probes, processes and commands that fail. The version before is served."""
 import os
 from counting import expect, expect_lines
-from fixture import PROGRAM, Library
+from fixture import PROGRAM, Library, ended, patience, whole
 from weeks import HTML
 
 # The program, but a command that is killed: `compile` after it has begun to write.
@@ -130,20 +130,27 @@ def test_processes():
         child = library.begin()
         for supervisor in library.site.supervisors:
             supervisor.child.kill()
-        printed = "".join(child.communicate(timeout=60))
-        expect(f"killed processes come back: {printed}", (child.returncode, library.weeks_served()), (0, {"B"}))
+        status, printed = ended(child)
+        expect(f"killed processes come back: {printed}", (status, library.weeks_served()), (0, {"B"}))
         second = library.current()
         library.input.deliver("A")
         library.site.supervisors[1].is_down = True
-        status, printed = library.run("--seconds", "1")
-        port = library.site.ports[1]
+        port, seconds = library.site.ports[1], whole(patience(1))
+        status, printed = library.run("--seconds", seconds)
         expect("a process that does not start", (status, library.current()), (3, second))
-        expect_lines("a process that does not start", printed,
-                     f"deploy/update: the process at port {port} does not answer within 1 seconds: Connection refused",
-                     f"{second} again: the process at port {port} does not answer within 1 seconds: Connection refused")
+        fault = f"the process at port {port} does not answer within {seconds} seconds: Connection refused"
+        expect_lines("a process that does not start", printed, f"deploy/update: {fault}", f"{second} again: {fault}")
         expect("the other process", library.menu(library.site.ports[0])["coastal-law"], "https://coastal.example.com/titles/pp")
         library.site.supervisors[1].is_down = False
         expect("the next run", (library.run()[0], library.weeks_served(), library.left_behind()), (0, {"A"}, []))
+        library.input.deliver("B")
+        other = library.site.supervisors[1].child.pid
+        library.site.supervisors[0].is_down = True
+        expect("the first process does not start", library.run("--seconds", seconds)[0], 3)
+        expect("no other is restarted before it answers", library.site.supervisors[1].child.pid, other)
+        library.site.supervisors[0].is_down = False
+        library.input.deliver("A")
+        expect("once it starts", (library.run()[0], library.weeks_served(), library.left_behind()), (0, {"A"}, []))
         failing = f"sh -c 'if [ PORT = {port} ]; then echo no unit >&2; exit 5; fi; exec {library.restart}'"
         library.input.deliver("B")
         status, printed = library.run(restart=failing)

@@ -4,7 +4,8 @@ from weeks import MENUS, QUERY, SMALL, Input
 
 HERE = os.path.dirname(os.path.abspath(__file__))
 sys.path.insert(0, os.path.join(os.path.dirname(HERE), "front_door.d"))
-from running import PROGRAM, Site  # the site that checks/front_door tests
+from running import PROGRAM, Site  # the site that checks/front_door tests; it finds the modules of checks/shared too
+from patience import patience, wait_until
 
 UPDATE = "deploy/update"
 PYTHON = (sys.executable, "-S", "-B")  # without the packages of the machine, which take a third of a run's time to load
@@ -79,7 +80,7 @@ class Library:
         # No process can run before there is a first version.
         thread = threading.Thread(target=self.site.start)
         thread.start()
-        self.first = self.run("--seconds", "60")  # on a busy machine a process may take more than five to listen
+        self.first = self.run()
         thread.join()
         if not os.path.lexists(self.path("current")):
             self.__exit__()
@@ -98,7 +99,8 @@ class Library:
 
     def words(self, *options, restart=None):
         return [UPDATE, "--library", self.folder, "--input", self.input.folder, "--program", PROGRAM, "--site",
-                self.site.path("openlink.conf"), "--seconds", "5", "--restart", restart or self.restart, *options]
+                self.site.path("openlink.conf"), "--seconds", whole(patience(10)), "--restart", restart or self.restart,
+                *options]
 
     def begin(self, *options, before=PYTHON, **how):
         """Starts a run."""
@@ -106,9 +108,7 @@ class Library:
 
     def run(self, *options, **how):
         """The status of a run and all that it says."""
-        child = self.begin(*options, **how)
-        out, errors = child.communicate(timeout=120)
-        return child.returncode, out + errors
+        return ended(self.begin(*options, **how))
 
     def current(self):
         """The stamp of the version in use."""
@@ -124,7 +124,7 @@ class Library:
 
     def menu(self, port, query=QUERY):
         """The links that the process at a port gives, by target."""
-        peer = http.client.HTTPConnection("127.0.0.1", port, timeout=5)
+        peer = http.client.HTTPConnection("127.0.0.1", port, timeout=patience(5))
         try:
             peer.request("GET", f"/openurl.txt?{query}")
             reply = peer.getresponse()
@@ -135,25 +135,21 @@ class Library:
 
     def weeks_served(self):
         """The weeks whose menu the ports give; an unknown menu, or None if a port gives no reply within five seconds."""
-        found = set()
-        for port in self.site.ports:
-            end, menu = time.monotonic() + 5, None
-            while menu is None and time.monotonic() < end:
-                try:
-                    menu = self.menu(port)
-                except (OSError, http.client.HTTPException):
-                    time.sleep(0.02)
-            found.add(week_of(menu))
-        return found
+        def reply_of(port):
+            try:
+                menu = self.menu(port)
+            except (OSError, http.client.HTTPException):
+                return None
+            return None if menu is None else (week_of(menu),)
+
+        return {(wait_until(lambda: reply_of(port), 5) or (None,))[0] for port in self.site.ports}
 
     def left_behind(self):
         """Names in the library that only a run has, and processes of a run that has ended. These get a signal as it ends,
         and two seconds to follow it."""
         names = [name for name in os.listdir(self.folder) if name not in ("current", "versions", "lock")]
         names += [name for name in self.versions() if name.endswith(".new")]
-        end = time.monotonic() + 2
-        while self.processes_of_runs() and time.monotonic() < end:
-            time.sleep(0.01)
+        wait_until(lambda: not self.processes_of_runs(), 2)
         return names + self.processes_of_runs()
 
     def processes_of_runs(self):
@@ -171,10 +167,22 @@ class Library:
         return found
 
 
+def whole(seconds):
+    return str(round(seconds))
+
+
+def ended(child, seconds=120):
+    """The status of a run that was begun, and all that it says. One that does not end is killed, and has no status."""
+    try:
+        out, errors = child.communicate(timeout=patience(seconds))
+        return child.returncode, out + errors
+    except subprocess.TimeoutExpired:
+        child.kill()
+        return None, "".join(child.communicate()) + "The run did not end.\n"
+
+
 def week_of(menu):
     """The week whose menu this is: its links of the targets in which the weeks differ."""
-    if menu is None:
-        return None
     links = {name: menu[name] for name in menu if name in ("tidal-press", "coastal-law")}
     return next((week for week in MENUS if MENUS[week] == links), str(links))
 

@@ -2,7 +2,7 @@
 import signal
 from counting import expect
 from ends import OTHER, served
-from fixture import HERE, PYTHON, Library
+from fixture import HERE, PYTHON, Library, ended
 
 
 def killed_at(library, number, *options, **how):
@@ -10,7 +10,7 @@ def killed_at(library, number, *options, **how):
     file = library.aside("moments")
     before = (*PYTHON, f"{HERE}/killed.py", str(number), file)
     child = library.begin(*options, before=before, **how)
-    child.communicate(timeout=60)
+    ended(child)
     if child.returncode == -signal.SIGKILL:
         return None
     with open(file) as text:
