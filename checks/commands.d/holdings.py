@@ -1,5 +1,5 @@
-"""Cells of tables with spaces at their ends, what they count, the limit of a table's bytes, and rows that are much shorter
-than the header."""
+"""Cells of tables with spaces at their ends, what they count, the limit of a table's bytes, and rows that are much
+shorter than the header."""
 from assembler import code
 from service import expect_replies, reply_of, request_of
 from targets import ANY_LINK, write_registry

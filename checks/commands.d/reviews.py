@@ -70,9 +70,11 @@ LIST_EXPLANATIONS = [
     ("rft.issn=1&subject=tides&subject=sea", 1,
      "row 0\n  rule 1, guard 1 fails: subject holds \"law\"\n    subject list of 2\n  no rule holds\n"),
     ("rft.issn=1&subject=law&rft.au=Li&most=3", 1,
-     "row 0\n  rule 1, guard 2 fails: rft.au counts 2 to most\n    rft.au list of 1\n    most \"3\"\n  no rule holds\n"),
+     "row 0\n  rule 1, guard 2 fails: rft.au counts 2 to most\n    rft.au list of 1\n    most \"3\"\n"
+     "  no rule holds\n"),
     ("rft.issn=1&subject=law", 1,
-     "row 0\n  rule 1, guard 2 fails: rft.au counts 2 to most\n    rft.au undefined\n    most undefined\n  no rule holds\n"),
+     "row 0\n  rule 1, guard 2 fails: rft.au counts 2 to most\n    rft.au undefined\n    most undefined\n"
+     "  no rule holds\n"),
     ("rft.issn=2&subject=law", 1,
      "row 1\n  rule 1, guard 1 fails: subject holds \"law\"\n    subject undefined\n  no rule holds\n"),
 ]
@@ -141,7 +143,8 @@ def test_bytes_outside_ascii(program):
     lines = ("row 0\n  rule 1, guard 1 fails: x is \"\\xc3\\xa9\\x09\\\"\"\n    x \"\\xc3\\xa9\\x22\\x5c\"\n"
              "  no rule holds\n")
     program.gives(["explain", "accent.rules", "one.tsv", "rft.issn=1&x=%C3%A9%22%5C"], 1, lines, "")
-    long = "row 0\n  rule 1, guard 1 fails: x is \"\\xc3\\xa9\\x09\\\"\"\n    x \"" + "a" * 60 + "\"...\n  no rule holds\n"
+    long = ("row 0\n  rule 1, guard 1 fails: x is \"\\xc3\\xa9\\x09\\\"\"\n    x \"" + "a" * 60
+            + "\"...\n  no rule holds\n")
     program.gives(["explain", "accent.rules", "one.tsv", "rft.issn=1&x=" + "a" * 61], 1, long, "")
 
 
@@ -158,7 +161,8 @@ def test_the_hundredth_row(program):
     """Of 150 matching rows, the rules that fail are printed for the first hundred."""
     program.write("last.rules", "rule\nwhen title_id is \"149\"\nlink https://e.org/{title_id}\n")
     program.write("many.tsv", "print_identifier\ttitle_id\n" + "".join(f"1\t{row}\n" for row in range(150)))
-    lines = "".join(f"row {row}\n  rule 1, guard 1 fails: title_id is \"149\"\n    title_id \"{row}\"\n  no rule holds\n"
+    lines = "".join(f"row {row}\n  rule 1, guard 1 fails: title_id is \"149\"\n"
+                    f"    title_id \"{row}\"\n  no rule holds\n"
                     for row in range(100))
     lines += "".join(f"row {row}\n  no rule holds\n" for row in range(100, 149))
     lines += "row 149\n  rule 1 holds: https://e.org/149\n"
@@ -173,7 +177,8 @@ def test_output_fails(program):
         program.expect(f"{arguments[0]} into a full output", full, (4, b"", DEVICE))
         narrow = run_into(program, f"{program.folder}/narrow", 3, 1, arguments)
         program.expect(f"{arguments[0]} into 3 bytes", narrow, (4, b"", DEVICE))
-        program.expect(f"the 3 bytes of {arguments[0]}", program.read("narrow"), b"rul" if arguments[0] == "lint" else b"row")
+        beginning = b"rul" if arguments[0] == "lint" else b"row"
+        program.expect(f"the 3 bytes of {arguments[0]}", program.read("narrow"), beginning)
 
 
 def test_a_table_without_memory(program):

@@ -34,7 +34,8 @@ def test_bad_files():
             ("a table of a header alone", "book-house.txt", table.splitlines(keepends=True)[0], "rows 0"),
             ("less than half of the table", "book-house.txt", b"".join(table.splitlines(keepends=True)[:2]),
              f"less than half of the rows: 1, and {len(table.splitlines()) - 1} before"),
-            ("a rule file with a slip", "book-house.rules", rules.replace(b"when given rft.spage", b"when given rft.spage "),
+            ("a rule file with a slip", "book-house.rules",
+             rules.replace(b"when given rft.spage", b"when given rft.spage "),
              "rules: line 4: BadLine"),
             ("a misspelt name", "book-house.rules", rules.replace(b"given rft.spage", b"given rft.isssn"),
              "rule 1, guard 2: unknown name rft.isssn, did you mean rft.issn"),
@@ -55,17 +56,20 @@ def test_bad_files():
 
 
 def test_code_cut_short():
-    """A code file from others that is cut short, for a target with and without old files; then one in the version in use."""
+    """A code file from others that is cut short, for a target with and without old files; then one in the version in
+    use."""
     with Library() as library:
         with open(library.path("current", "code", "book-house.olk"), "rb") as file:
             code = file.read()
         library.input.write("book-house.olk", code)
-        library.input.write("targets.tsv", library.input.read("targets.tsv").replace(b"book-house.rules", b"book-house.olk"))
+        library.input.write("targets.tsv",
+                            library.input.read("targets.tsv").replace(b"book-house.rules", b"book-house.olk"))
         status, printed = library.run()
         expect("a code file", (status, "book-house: rules changed" in printed), (0, True))
         library.input.deliver("B")
         library.input.write("book-house.olk", code[:-1])
-        kept("a code file cut short", library, f"load: Truncated at {len(code) - 1}", "B", library.input.path("book-house.olk"))
+        kept("a code file cut short", library, f"load: Truncated at {len(code) - 1}", "B",
+             library.input.path("book-house.olk"))
         with open(library.input.path("targets.tsv"), "ab") as file:
             file.write(b"second-house\tbook-house.olk\tbook-house.txt\n")
         status, printed = library.run()
@@ -96,7 +100,8 @@ def test_lists():
             library.input.write(file, data)
             status, printed = library.run()
             expect(reason, (status, library.versions(), library.left_behind()), (3, [first], []))
-            expect_lines(reason, printed, f"deploy/update: {library.input.path(file)}: {reason}", f"{first} stays in use")
+            expect_lines(reason, printed, f"deploy/update: {library.input.path(file)}: {reason}",
+                         f"{first} stays in use")
 
 
 def test_probes():
@@ -106,13 +111,15 @@ def test_probes():
         library.input.deliver("B")
         library.input.replace("coastal-law.rules", "when given title_id", "when rft.genre is \"book\"")
         status, printed = library.run()
-        expect("a lost link", (status, library.current(), library.weeks_served(), library.versions()), (3, first, {"A"}, [first]))
+        expect("a lost link", (status, library.current(), library.weeks_served(), library.versions()),
+               (3, first, {"A"}, [first]))
         expect_lines("a lost link", printed, "  missing coastal-law: no link", f"{first} stays in use",
                      "  loses coastal-law https://coastal.example.com/journals/rcl",
                      "deploy/update: 1 of 30 probes differ with the new version")
         library.input.deliver("B")
         status, printed = library.run(restart="true")
-        expect("processes that were not restarted", (status, library.current(), library.weeks_served(), library.versions()),
+        expect("processes that were not restarted",
+               (status, library.current(), library.weeks_served(), library.versions()),
                (3, first, {"A"}, [first]))
         expect_lines("processes that were not restarted", printed, f"{first} is in use again",
                      "deploy/update: the processes at the ports have other links than the new version")
@@ -140,7 +147,8 @@ def test_processes():
         expect("a process that does not start", (status, library.current()), (3, second))
         fault = f"the process at port {port} does not answer within {seconds} seconds: Connection refused"
         expect_lines("a process that does not start", printed, f"deploy/update: {fault}", f"{second} again: {fault}")
-        expect("the other process", library.menu(library.site.ports[0])["coastal-law"], "https://coastal.example.com/titles/pp")
+        expect("the other process", library.menu(library.site.ports[0])["coastal-law"],
+               "https://coastal.example.com/titles/pp")
         library.site.supervisors[1].is_down = False
         expect("the next run", (library.run()[0], library.weeks_served(), library.left_behind()), (0, {"A"}, []))
         library.input.deliver("B")
@@ -154,7 +162,8 @@ def test_processes():
         failing = f"sh -c 'if [ PORT = {port} ]; then echo no unit >&2; exit 5; fi; exec {library.restart}'"
         library.input.deliver("B")
         status, printed = library.run(restart=failing)
-        expect("a restart that fails", (status, library.weeks_served(), "status 5, no unit" in printed), (3, {"A"}, True))
+        expect("a restart that fails", (status, library.weeks_served(), "status 5, no unit" in printed),
+               (3, {"A"}, True))
 
 
 def test_killed_commands():
@@ -167,7 +176,8 @@ def test_killed_commands():
                 file.write(KILLED.format(command=command, program=PROGRAM))
             os.chmod(program, 0o755)
             got, printed = library.run("--program", program)
-            expect(f"{command} is killed: {printed}", (got, library.current(), library.weeks_served(), library.left_behind()),
+            expect(f"{command} is killed: {printed}",
+                   (got, library.current(), library.weeks_served(), library.left_behind()),
                    (status, first, {"A"}, []))
             expect_lines(f"{command} is killed", printed, f"{first} stays in use")
 

@@ -13,7 +13,8 @@ FEW_MOMENTS = [(name, number / 3) for number in range(3) for name in STAGES]
 
 
 def served(name, library):
-    """After a run was killed, a complete version is in use, and each process serves week A or B. Returns the week in use."""
+    """After a run was killed, a complete version is in use, and each process serves week A or B. Returns the week in
+    use."""
     text = os.readlink(library.path("current"))
     expect(f"{name}: the link", os.path.dirname(text) == "versions" and len(library.names()) == 5)
     weeks = library.weeks_served()
@@ -102,8 +103,10 @@ def test_killed():
         expect(f"kills in each stage: {stages}", {"making", "trying", "restarting"} <= set(stages))
         library.input.deliver(OTHER[week])
         status, printed = library.run()
-        expect(f"the run after all: {printed}", (status, library.weeks_served(), library.left_behind()), (0, {OTHER[week]}, []))
-    # Where a kill leaves no process for a moment, the page says so with status 503. It never says that there are no links.
+        expect(f"the run after all: {printed}", (status, library.weeks_served(), library.left_behind()),
+               (0, {OTHER[week]}, []))
+    # Where a kill leaves no process for a moment, the page says so with status 503. It never says that there are no
+    # links.
     wrong = [fault for fault in reader.faults if fault[1] != 503]
     expect("meanwhile each request has a good reply, or 503", (wrong[:3], reader.requests > 100), ([], True))
     expect(f"{len(reader.faults)} of {reader.requests} requests have 503", len(reader.faults) * 20 < reader.requests)

@@ -26,7 +26,8 @@ class Supervisor(threading.Thread):
                 if self.is_down:
                     raise FileNotFoundError
                 self.child = subprocess.Popen([PROGRAM, "serve", "registry.tsv", str(self.port), "1000000"],
-                                              cwd=self.library.path("current"), stdout=subprocess.DEVNULL, stderr=subprocess.DEVNULL)
+                                              cwd=self.library.path("current"), stdout=subprocess.DEVNULL,
+                                              stderr=subprocess.DEVNULL)
                 self.say(self.child.pid)
                 self.child.wait()
             except OSError:
@@ -104,7 +105,8 @@ class Library:
 
     def begin(self, *options, before=PYTHON, **how):
         """Starts a run."""
-        return subprocess.Popen([*before, *self.words(*options, **how)], stdout=subprocess.PIPE, stderr=subprocess.PIPE, text=True)
+        return subprocess.Popen([*before, *self.words(*options, **how)], stdout=subprocess.PIPE, stderr=subprocess.PIPE,
+                                text=True)
 
     def run(self, *options, **how):
         """The status of a run and all that it says."""
@@ -134,7 +136,8 @@ class Library:
             peer.close()
 
     def weeks_served(self):
-        """The weeks whose menu the ports give; an unknown menu, or None if a port gives no reply within five seconds."""
+        """The weeks whose menu the ports give; an unknown menu, or None if a port gives no reply within five
+        seconds."""
         def reply_of(port):
             try:
                 menu = self.menu(port)
@@ -145,8 +148,8 @@ class Library:
         return {(wait_until(lambda: reply_of(port), 5) or (None,))[0] for port in self.site.ports}
 
     def left_behind(self):
-        """Names in the library that only a run has, and processes of a run that has ended. These get a signal as it ends,
-        and two seconds to follow it."""
+        """Names in the library that only a run has, and processes of a run that has ended. These get a signal as it
+        ends, and two seconds to follow it."""
         names = [name for name in os.listdir(self.folder) if name not in ("current", "versions", "lock")]
         names += [name for name in self.versions() if name.endswith(".new")]
         wait_until(lambda: not self.processes_of_runs(), 2)
@@ -208,7 +211,8 @@ class Reader(threading.Thread):
             self.requests += 1
             try:
                 reply = self.library.site.get(f"/find.json?{QUERY}")
-                links = {link["target"]: link["url"] for group in json.loads(reply.text).get("groups", ()) for link in group["links"]}
+                links = {link["target"]: link["url"] for group in json.loads(reply.text).get("groups", ())
+                         for link in group["links"]}
                 week = week_of(links) if reply.status == 200 else None
                 self.weeks.add(week)
                 if week not in MENUS:

@@ -18,8 +18,8 @@ def killed_at(library, number, *options, **how):
 
 
 def test_killed_at_renames():
-    """SIGKILL directly before and after each rename and link of a run that ends well, those of `openlink compile` too, and of
-    one that goes back, from its first own rename on. The next run puts it right."""
+    """SIGKILL directly before and after each rename and link of a run that ends well, those of `openlink compile` too,
+    and of one that goes back, from its first own rename on. The next run puts it right."""
     for name, options, first, expected in (("forward", {}, 0, 20), ("back", {"restart": "true"}, 10, 24)):
         with Library(probes=5) as library:
             week, number, moments = "A", first, None
@@ -30,7 +30,8 @@ def test_killed_at_renames():
                 number += 1
                 status, printed = library.run()
                 week = OTHER[week]
-                expect(f"{name}, the run after {number - 1}: {printed}", (status, library.weeks_served(), library.left_behind()),
+                expect(f"{name}, the run after {number - 1}: {printed}",
+                       (status, library.weeks_served(), library.left_behind()),
                        (0, {week}, []))
             expect(f"{name}: moments", (moments, number), (expected, expected + 1))
 
