@@ -94,7 +94,7 @@ def test_rules(program):
         program.write("rules", rules)
         if isinstance(outcome, int):
             program.prints(["compile", "rules", "code"], f"{outcome} bytes")
-            program.expect("bytes of the file", len(program.read("code")), outcome)
+            program.expect("bytes of the file", len(program.read("code") or b""), outcome)
             program.expect("verify", program.run(["verify", "code"])[0], 0)
         else:
             program.fails(["compile", "rules", "none"], 3, f"compile: {outcome}")
