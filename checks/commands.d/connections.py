@@ -1,13 +1,14 @@
 """Connections of a service whose peers send much at once, read late or never, send nothing, or go away."""
 import socket, struct, time
-from service import Service, reply_of, request_of
+from service import PATIENCE, Service, reply_of, request_of
 from targets import DATE_RULES, write_alpha, write_registry
+from patience import best_of_three, patience
 
 REQUEST = request_of("/x")
 NOT_FOUND = reply_of(404, "not found\n")
 
-# How long a read or a write of the service may take, in seconds, and how much longer a busy machine may make it.
-WAIT, SLACK = 2, 6
+# How long a read or a write of the service may take, in seconds.
+WAIT = 2
 
 
 def connect(service, room=None):
@@ -15,7 +16,7 @@ def connect(service, room=None):
     peer = socket.socket()
     if room:
         peer.setsockopt(socket.SOL_SOCKET, socket.SO_RCVBUF, room)
-    peer.settimeout(30)
+    peer.settimeout(patience(PATIENCE))
     peer.connect(("127.0.0.1", service.port))
     return peer
 
@@ -29,6 +30,12 @@ def rest(peer):
     except ConnectionError:
         pass
     return received
+
+
+def fault_of_wait(since):
+    """What is wrong with a time-out of the service that began at a moment or later, and is over; None if nothing is."""
+    waited = time.monotonic() - since
+    return None if WAIT * 0.9 < waited < WAIT + patience(2) else f"a time-out of {waited:.2f} s"
 
 
 def expect_served(program, service):
@@ -70,34 +77,48 @@ MANY = 100
 
 def test_a_peer_that_reads_late(program):
     page = write_long(program, MANY)
-    with Service(program, 1) as service, connect(service, 4096) as peer:
-        program.runs += 1
-        peer.sendall(LONG_REQUEST)
-        # By now a first write has taken as many bytes as the system keeps, and then no more within its time-out.
-        time.sleep(WAIT * 1.4)
-        program.expect("the whole page", rest(peer), page)
+
+    def fault_of():
+        with Service(program, 1) as service, connect(service, 4096) as peer:
+            peer.sendall(LONG_REQUEST)
+            peer.recv(1, socket.MSG_PEEK)
+            # The first write has begun. By the end of this pause it has taken as many bytes as the system keeps, and
+            # then no more within its time-out, and the time-out of the second write is not over.
+            time.sleep(WAIT * 1.4)
+            received = rest(peer)
+        return None if received == page else f"{len(received)} bytes of {len(page)}, or others"
+
+    program.runs += 1
+    program.expect("the whole page", best_of_three(fault_of), None)
 
 
 def test_a_peer_that_does_not_read(program):
     write_long(program, MANY)
-    with Service(program, 2) as service, connect(service, 4096) as peer:
-        peer.sendall(LONG_REQUEST)
-        start = time.monotonic()
-        expect_served(program, service)
-        waited = time.monotonic() - start
-        program.expect(f"the time-out of a write, not {waited} s", WAIT * 0.9 < waited < WAIT + SLACK)
+
+    def fault_of():
+        with Service(program, 2) as service, connect(service, 4096) as peer:
+            start = time.monotonic()
+            peer.sendall(LONG_REQUEST)
+            peer.recv(1, socket.MSG_PEEK)
+            expect_served(program, service)
+            return fault_of_wait(start)
+
+    program.expect("the time-out of a write", best_of_three(fault_of), None)
 
 
 def test_a_peer_that_sends_nothing(program):
     write_alpha(program)
     for sent in b"", REQUEST[:20]:
-        with Service(program, 2) as service, connect(service) as peer:
-            peer.sendall(sent)
-            start = time.monotonic()
-            program.expect("what a peer gets whose head does not end", rest(peer), b"")
-            waited = time.monotonic() - start
-            program.expect(f"the time-out of a read, not {waited} s", WAIT * 0.9 < waited < WAIT + SLACK)
-            expect_served(program, service)
+        def fault_of():
+            with Service(program, 2) as service, connect(service) as peer:
+                start = time.monotonic()
+                peer.sendall(sent)
+                program.expect("what a peer gets whose head does not end", rest(peer), b"")
+                fault = fault_of_wait(start)
+                expect_served(program, service)
+                return fault
+
+        program.expect("the time-out of a read", best_of_three(fault_of), None)
 
 
 def test_peers_that_go_away(program):
@@ -112,11 +133,16 @@ def test_peers_that_go_away(program):
 
 
 def test_one_exchange_a_connection(program):
+    """The service closes the connection after its reply. It does not wait for another request until its time-out."""
     write_alpha(program)
-    with Service(program, 1) as service, connect(service) as peer:
-        program.runs += 1
-        peer.sendall(REQUEST)
-        start = time.monotonic()
-        program.expect("the one reply", rest(peer), NOT_FOUND)
-        waited = time.monotonic() - start
-        program.expect(f"the end of the connection at once, not after {waited} s", waited < WAIT * 0.5)
+
+    def fault_of():
+        with Service(program, 1) as service, connect(service) as peer:
+            peer.sendall(REQUEST)
+            start = time.monotonic()
+            program.expect("the one reply", rest(peer), NOT_FOUND)
+            waited = time.monotonic() - start
+        return None if waited < WAIT * 0.9 else f"it ends after {waited:.2f} s"
+
+    program.runs += 1
+    program.expect("the end of the connection at once", best_of_three(fault_of), None)

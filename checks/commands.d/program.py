@@ -1,6 +1,9 @@
 """The built program, run in a temporary folder, and what it gives there."""
 import os, subprocess, sys, tempfile
 
+sys.path.insert(0, os.path.join(os.path.dirname(os.path.dirname(os.path.abspath(__file__))), "shared"))
+from patience import patience
+
 PATH = os.path.abspath("crates/openlink/out/openlink")
 
 
@@ -47,7 +50,7 @@ class Program:
     def run(self, arguments, **how):
         """The status, standard output and standard error."""
         self.runs += 1
-        how = {"cwd": self.folder, "stdin": subprocess.DEVNULL, "capture_output": True, "timeout": 60, **how}
+        how = {"cwd": self.folder, "stdin": subprocess.DEVNULL, "capture_output": True, "timeout": patience(60), **how}
         done = subprocess.run([PATH, *arguments], **how)
         return done.returncode, done.stdout, done.stderr
 

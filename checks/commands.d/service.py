@@ -1,8 +1,9 @@
 """The service of the file `registry`: requests to it, a connection for each, and the whole replies that it sends."""
 import socket, subprocess
 from program import PATH, as_bytes
+from patience import patience
 
-# The seconds after which a service that does not answer, or does not end, is given up.
+# The seconds on an idle machine after which a service that does not answer, or does not end, is given up.
 PATIENCE = 30
 
 PHRASES = {
@@ -29,7 +30,7 @@ class Service:
 
     def __exit__(self, *_):
         try:
-            printed, faults = self.process.communicate(timeout=PATIENCE)
+            printed, faults = self.process.communicate(timeout=patience(PATIENCE))
             self.program.expect("how the service ends", (self.process.returncode, printed, faults), (0, b"", b""))
         except subprocess.TimeoutExpired:
             self.program.differ(f"the service did not end after {self.count} connections")
@@ -41,7 +42,7 @@ class Service:
         self.program.runs += 1
         received = b""
         try:
-            with socket.create_connection(("127.0.0.1", self.port), PATIENCE) as peer:
+            with socket.create_connection(("127.0.0.1", self.port), patience(PATIENCE)) as peer:
                 peer.sendall(as_bytes(request))
                 peer.shutdown(socket.SHUT_WR)
                 while piece := peer.recv(65536):
