@@ -48,7 +48,8 @@ fn each_call_fails_in_turn(rt: HostRuntime) -> Result<(), Fail> {
         let mut files = memory(rt.alloc())?;
         files.fail_after(calls);
         let mut keys = SystemKeys::new(&rt);
-        let printed = match load_registry(rt.alloc(), &mut files, &mut keys, PATH) {
+        let loaded = load_registry(rt.alloc(), &mut files, &mut keys, PATH);
+        let printed = match &loaded {
             Ok(_) => String::new(rt.alloc()),
             Err(RegistryError::NoMemory) => return Err(AllocError.into()),
             Err(fault) => format!(in rt.alloc(); "{fault}")?,
