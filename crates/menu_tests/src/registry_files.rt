@@ -3,11 +3,13 @@
 use crate::codes::FAIL_CODE;
 use files_in_memory::{Content, Memory};
 use kbart_rows::{Keys, SystemKeys};
+use registry::Registry;
 use registry_file::{RegistryError, load_registry};
 use std::alloc::{AllocError, Global};
 use std::cell::Cell;
 use std::hash::{BuildHasher, Hasher};
 use std::io;
+use std::process::Abort;
 use std::random::RandomSource;
 use std::test::Fail;
 
@@ -42,6 +44,23 @@ const FAULTS: [&str; 6] = [
     "",
 ];
 
+/// Compares the fault, as it is printed, with the expected one; the empty text means no fault.
+fn compare<R: Abort + AllocGlobal>(
+    rt: &R,
+    loaded: Result<Registry, RegistryError>,
+    expected: &str,
+) -> Result<(), Fail> {
+    let Err(fault) = loaded else {
+        return Ok(assert!(rt; expected.is_empty(), "{expected}"));
+    };
+    if matches!(&fault, RegistryError::NoMemory) {
+        return Err(AllocError.into());
+    }
+    let printed = format!(in rt.alloc(); "{fault}")?;
+    assert_eq!(rt; printed.as_str(), expected);
+    Ok(())
+}
+
 #[test]
 fn each_call_fails_in_turn(rt: HostRuntime) -> Result<(), Fail> {
     for (calls, expected) in FAULTS.iter().enumerate() {
@@ -49,12 +68,7 @@ fn each_call_fails_in_turn(rt: HostRuntime) -> Result<(), Fail> {
         files.fail_after(calls);
         let mut keys = SystemKeys::new(&rt);
         let loaded = load_registry(rt.alloc(), &mut files, &mut keys, PATH);
-        let printed = match &loaded {
-            Ok(_) => String::new(rt.alloc()),
-            Err(RegistryError::NoMemory) => return Err(AllocError.into()),
-            Err(fault) => format!(in rt.alloc(); "{fault}")?,
-        };
-        assert_eq!(rt; printed.as_str(), *expected);
+        compare(&rt, loaded, expected)?;
     }
     Ok(())
 }
