@@ -48,7 +48,7 @@ class Run:
         return STAGES.index(name)
 
     def wait_for(self, stage):
-        """Waits until it comes to a stage, or ends."""
+        """Waits until it reaches a stage, or ends."""
         wait_until(lambda: self.child.poll() is not None or self.stage() >= stage, 60)
 
     def end_after(self, seconds, number):
