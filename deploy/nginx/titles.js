@@ -1,0 +1,67 @@
+// The key of a title, by which two ways to write it are compared. The update makes the same keys for the index, by its
+// file titles.py, where the rules have their comments; fold.json, the table that both need, is made by that file too.
+import languages from './languages.js';
+
+const is = languages.is;
+const own = languages.own;
+const MOST_CHARACTERS = 500;
+const TAG = /<\/?[A-Za-z][A-Za-z0-9:-]{0,19}(?: [^<>]{0,200})?\/?>/g;
+const ENTITY = /&(?:#([0-9]{1,7})|#[xX]([0-9A-Fa-f]{1,6})|([A-Za-z][A-Za-z0-9]{1,9}));/g;
+const SPACES = /[\x00-\x20\x7f-\xa0\u2000-\u200a\u2028\u2029\u202f\u205f\u3000]+/g;
+const APOSTROPHES = "'`\\xb4\\u02b9-\\u02bd\\u2018\\u2019\\u201b\\u2032\\uff07";
+const REMOVED = new RegExp('[' + APOSTROPHES
+    + '\\xad\\u0300-\\u036f\\u200b-\\u200f\\u202a-\\u202e\\u2060-\\u2064\\ufeff]+', 'g');
+const BETWEEN = '\\x00-/:-@\\[-`{-\\xbf\\xd7\\xf7\\u02c2-\\u02df\\u2000-\\u206f\\u207a-\\u207e\\u208a-\\u208e'
+    + '\\u20a0-\\u20cf\\u2100-\\u214f\\u2190-\\u2bff\\u2e00-\\u2e7f\\u3000-\\u3004\\u3008-\\u303f\\u30fb'
+    + '\\uff00-\\uff0f\\uff1a-\\uff20\\uff3b-\\uff40\\uff5b-\\uff65\\ufffd';
+const SEPARATORS = new RegExp('[' + BETWEEN + ']+', 'g');
+const LEADING = new RegExp('^[' + BETWEEN + APOSTROPHES + ']+');
+const ELIDED = new RegExp('^(?:gl|un|l)[' + APOSTROPHES + '] *(?=[aeiouhy])');
+const ARTICLES = set('the a an der die das den dem des ein eine einen einem einer eines le la les un une el lo los las '
+    + 'una unos unas il i gli uno');
+const END = / *(?:[:=].*| [-\u2013\u2014] .*|[(\[][^()\[\]]*[)\]] *)$/;
+
+function set(names) {
+    return names.split(' ').reduce((all, name) => { all[name] = true; return all; }, Object.create(null));
+}
+function tableOf(name) { return typeof fold === 'undefined' ? {} : fold[name]; }
+
+function character(entity, decimal, hexadecimal, name) {
+    if (name) return own(tableOf('entities'), name) || own(tableOf('entities'), name.toLowerCase()) || entity;
+    const code = decimal ? parseInt(decimal, 10) : parseInt(hexadecimal, 16);
+    return (code > 0 && code < 0xd800) || (code > 0xdfff && code < 0x110000) ? String.fromCodePoint(code) : entity;
+}
+
+// A title without markup; some sources escape it twice.
+function plain(title) {
+    let text = title;
+    if (text.indexOf('&') >= 0) text = text.replace(ENTITY, character).replace(ENTITY, character);
+    if (text.indexOf('<') >= 0) text = text.replace(TAG, '');
+    return text.replace(SPACES, ' ').replace(/^ | $/g, '');
+}
+
+function folded(text) {
+    const letters = tableOf('letters');
+    return text.replace(/[\x80-\uffff]/g, (char) => own(letters, char) || char);
+}
+function wordsIn(text) { return text.replace(REMOVED, '').replace(SEPARATORS, ' ').split(' ').filter(Boolean); }
+
+// The words of a title, small, without marks, apostrophes, punctuation and its leading article.
+function wordsOf(title) {
+    let text = plain(title.slice(0, MOST_CHARACTERS)).toLowerCase().split('&').join(' and ');
+    if (is(/[\x80-\uffff]/, text)) text = folded(text);
+    text = text.replace(LEADING, '');
+    if (is(ELIDED, text)) return wordsIn(text.replace(ELIDED, ''));
+    const words = wordsIn(text);
+    return words.length > 1 && ARTICLES[words[0]] === true ? words.slice(1) : words;
+}
+function keyOf(title) { return wordsOf(title).join(' '); }
+
+// The key without the subtitle, or without brackets at the end; '' if there are none.
+function shortKey(title) {
+    const text = plain(title.slice(0, MOST_CHARACTERS));
+    const short = text.replace(END, '');
+    return short !== text ? keyOf(short) : '';
+}
+
+export default { plain: plain, wordsOf: wordsOf, keyOf: keyOf, shortKey: shortKey };

@@ -1,0 +1,91 @@
+"""The index of a version: its titles by number, by title and by word, for the front door. docs/INDEX.md describes the
+files. Run as a program it makes the index of a version that has none: index.py VERSION."""
+import collections, os, sys
+import title_list, word_sets
+from identifiers import standard
+from index_files import bucket, write, write_lines
+from title_groups import Titles
+from titles import short_key
+
+FORMAT = 1  # another number makes a new version, although its tables are the same
+DIGITS = 3  # of the names in keys/
+MOST_LINES = 50  # of a key
+
+
+def format_text(has_list):
+    return f"{FORMAT} {'list' if has_list else 'no list'}\n"
+
+
+def make(folder, tables, has_list=True):
+    """Makes the index of tables, pairs of a target's name and its table as it came, in a folder that does not exist."""
+    titles = Titles()
+    for target, table in tables:
+        titles.add_table(target, table)
+    found, related = titles.finish()
+    del titles
+    os.mkdir(folder)
+    write(folder, "format", format_text(has_list).encode())
+    write_keys(os.path.join(folder, "keys"), found, related)
+    if has_list:
+        for kind in "jb":
+            ordered = title_list.ordered(title for title in found if kind_of(title) == kind)
+            pages = title_list.pages_of(ordered)
+            digits = word_sets.digits_for(len(ordered))
+            title_list.write_pages(os.path.join(folder, "list", kind), pages, len(ordered), digits)
+            word_sets.write_words(os.path.join(folder, "words", kind), pages, digits)
+
+
+def kind_of(title):
+    return "j" if title.is_journal else "b"
+
+
+def write_keys(folder, titles, related):
+    os.makedirs(folder)
+    buckets = collections.defaultdict(bytearray)
+    for title in titles:
+        for key, line in lines_of(title, related.get(title)):
+            buckets[bucket(key, DIGITS)] += f"{key}\t{line}\n".encode()
+    while buckets:
+        name, text = buckets.popitem()
+        write_lines(folder, name, few_of_each_key(sorted(text[:-1].split(b"\n"))))
+
+
+def lines_of(title, related):
+    """Pairs of a key of a title and the other cells of its line."""
+    cells = f"{kind_of(title)}\t{title.name}\t{' '.join(title.forms)}"
+    if title.key:
+        yield f"={title.key}", cells
+    short = short_key(title.name)
+    if short and short != title.key:
+        yield f"~{short}", cells
+    cells += f"\t{title.coverage_text()}{related_text(*related) if related else ''}"
+    for number in title.numbers():
+        yield number, cells
+
+
+def related_text(earlier, later):
+    return "".join(f"\t{sign}{standard(title.forms[0])} {title.name}"
+                   for sign, titles in (("<", earlier), (">", later)) for title in titles)
+
+
+def few_of_each_key(lines):
+    """At most MOST_LINES of each key, of sorted lines."""
+    last, count = b"", 0
+    for line in lines:
+        key = line[:line.index(b"\t")]
+        last, count = (key, count + 1) if key == last else (key, 1)
+        if count <= MOST_LINES:
+            yield line
+
+
+if __name__ == "__main__":
+    version = sys.argv[1]
+    with open(os.path.join(version, "registry.tsv"), encoding="utf-8") as registry:
+        names = [line.split("\t")[0] for line in registry if line.strip()]
+
+    def received():
+        for name in names:
+            with open(os.path.join(version, "received", f"{name}.txt"), "rb") as file:
+                yield name, file.read()
+
+    make(os.path.join(version, "index"), received())
