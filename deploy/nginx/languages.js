@@ -1,8 +1,9 @@
 // The language of the reader's page, and its texts. An operator edits nothing here: the texts of a language are in
 // words/, and targets.json says which languages are offered.
 //
-// It runs in njs 0.7.9 and later, as find.js does; what that version lacks is said there. Each file of words is an
-// object that openlink.conf loads: words/pt-BR.json is `words_pt_BR`.
+// Each file of words is an object that openlink.conf loads: words/pt-BR.json is `words_pt_BR`. text.js says in which
+// njs it runs.
+import texts from './text.js';
 
 const MOST_BYTES = 500;  // of a header; browsers send less than 200
 const MOST_RANGES = 20;
@@ -13,10 +14,9 @@ const RANGE = /^(\*|[a-z]{1,8}(?:-[a-z0-9]{1,8})*)\s*(?:;\s*q=(0(?:\.\d{0,3})?|1
 const RIGHT_TO_LEFT = new RegExp('^(?!.*-latn)(?:(?:ar|arc|ckb|dv|fa|he|nqo|ps|sd|syr|ug|ur|yi)(?:-|$)'
     + '|.*-(?:arab|hebr|nkoo|syrc|thaa)(?:-|$))', 'i');
 
-const HAS = Object.prototype.hasOwnProperty;
-function own(object, key) { return object && HAS.call(object, key) ? object[key] : undefined; }
-function is(form, text) { return text.search(form) >= 0; }
-function isObject(value) { return typeof value === 'object' && value !== null; }
+const own = texts.own;
+const is = texts.is;
+const isObject = texts.isObject;
 
 // ---------------------------------------------------------------- Accept-Language
 // The ranges of a header in their order, each with its quality. Those of another form are left out, and the rest of a
@@ -103,4 +103,4 @@ function candidates(name, site) {
         .concat([textIn(text, site.main), ofFile(site.main)]);
 }
 
-export default { own: own, is: is, chosen: chosen, siteIn: siteIn, textOf: textOf, candidates: candidates };
+export default { chosen: chosen, siteIn: siteIn, textOf: textOf, candidates: candidates };

@@ -1,27 +1,21 @@
-// The reader's page and its JSON: the citation of a request, and the links of a menu in the groups of targets.json. All
-// text of a request or a file is escaped here where it is put into HTML. An operator edits nothing here.
-//
-// It runs in njs 0.7.9 and later, as find.js does; what that version lacks is said there.
+// The reader's page and its JSON: the citation of a request, and the links of a menu in the groups of targets.json.
+// All text of a request or a file is escaped here where it is put into HTML. An operator edits nothing here. text.js
+// says in which njs it runs.
 import languages from './languages.js';
+import texts from './text.js';
 
-const own = languages.own;
-const is = languages.is;
+const own = texts.own;
+const is = texts.is;
+const clean = texts.clean;
+const escape = texts.escape;
+const isWeb = texts.isWeb;
 const NONE = [];
 
-// Text without control characters and noncharacters, which neither HTML nor a header field may hold.
-const CONTROLS = /[\u0000-\u001f\u007f-\u009f\u2028\u2029\ufdd0-\ufdef\ufffe\uffff]/g;
-function clean(value) {
-    const text = is(CONTROLS, value) ? value.replace(CONTROLS, ' ') : value;
-    return (is(/\s\s/, text) ? text.replace(/\s+/g, ' ') : text).trim();
-}
 function textOr(value, other) { return typeof value === 'string' && clean(value) !== '' ? clean(value) : other; }
 function word(site, name) {
     return languages.candidates(name, site).map((text) => textOr(text, '')).filter(Boolean)[0] || '';
 }
 function filled(site, name, value) { return word(site, name).split('{}').join(value); }
-const ENTITIES = { '&': '&amp;', '<': '&lt;', '>': '&gt;', '"': '&quot;', "'": '&#39;' };
-function escape(text) { return is(/[&<>"']/, text) ? text.replace(/[&<>"']/g, (c) => ENTITIES[c]) : text; }
-function isWeb(link) { return is(/^https?:\/\/[\x21-\x7e]+$/i, link); }
 
 function authorOf(q, site) {
     const authors = q.all('rft.au').map(clean).filter(Boolean);
@@ -156,7 +150,7 @@ function faultOf(status, site) {
 }
 
 export default {
-    clean: clean, word: word, filled: filled, escape: escape, citationOf: citationOf, citationHtml: citationHtml,
+    word: word, filled: filled, citationOf: citationOf, citationHtml: citationHtml,
     faultHtml: faultHtml, documentOf: documentOf,
     groupsOf: groupsOf, shownGroups: shownGroups, pageOf: pageOf, faultOf: faultOf
 };

@@ -3,18 +3,20 @@
 // into HTML, and quoted where it is put into a command. An operator edits nothing here: targets.json names the folder
 // of the registry if it is not the one below.
 //
-// Only the server for staff loads this file, so no request of a reader meets code that reads files. It runs in njs
-// 0.7.9 and later, as find.js does; what that version lacks is said there.
+// Only the server for staff loads this file, so no request of a reader meets code that reads files. text.js says in
+// which njs it runs.
 import fs from 'fs';
-import door from './find.js';
-import languages from './languages.js';
+import exchange from './exchange.js';
+import openurl from './openurl.js';
 import pages from './pages.js';
+import program from './program.js';
+import texts from './text.js';
 
 const FOLDER = '/etc/openlink/current';  // that of openlink@.service
 const RULES = ['rules/', 'received/'];   // folders of rule files in it
-const own = languages.own;
-const is = languages.is;
-const escape = pages.escape;
+const own = texts.own;
+const is = texts.is;
+const escape = texts.escape;
 
 // ---------------------------------------------------------------- The registry
 function folderOf(site) { return typeof site.folder === 'string' ? site.folder.replace(/\/$/, '') : FOLDER; }
@@ -143,13 +145,13 @@ function pageOf(q, replies, site) {
 }
 
 async function why(r) {
-    const site = door.siteOf(r);
-    const q = door.queryOf(door.argsOf(r));
-    const replies = await door.askBoth(r, '/_report', q);
-    door.sendPage(r, replies.status === 200 ? 200 : door.faultStatus(replies), pageOf(q, replies, site), site);
+    const site = exchange.siteOf(r);
+    const q = openurl.queryOf(exchange.argsOf(r));
+    const replies = await program.askBoth(r, '/_report', q);
+    exchange.sendPage(r, replies.status === 200 ? 200 : program.faultStatus(replies), pageOf(q, replies, site), site);
 }
 
 export default {
     registryOf: registryOf, commandOf: commandOf, quotedQuery: quotedQuery, reasonsOf: reasonsOf,
-    why: door.guarded(why)
+    why: exchange.guarded(why)
 };
