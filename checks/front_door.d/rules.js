@@ -8,11 +8,13 @@ import pages from './pages.js';
 import program from './program.js';
 import staff from './why.js';
 import cases from './cases.js';
+import folding from './fold.js';
 import sample from './sample.js';
 
 const FORMATS = {
     J: 'info:ofi/fmt:kev:mtx:journal', B: 'info:ofi/fmt:kev:mtx:book', D: 'info:ofi/fmt:kev:mtx:dissertation'
 };
+globalThis.fold = folding;
 let count = 0;
 let failures = 0;
 

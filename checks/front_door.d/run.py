@@ -35,6 +35,8 @@ def test_rules(folder):
             sample.append(file.read().strip())
     with open(f"{folder}/sample.js", "w") as file:
         file.write(f"export default {json.dumps(sample)};\n")
+    with open("deploy/nginx/fold.json") as table, open(f"{folder}/fold.js", "w") as file:
+        file.write(f"export default {table.read()};\n")
     with open(f"{folder}/package.json", "w") as file:
         file.write('{"type": "module"}\n')
     for command in (["njs", "-p", folder, f"{folder}/rules.js"], ["node", f"{folder}/rules.js"]):

@@ -1,9 +1,10 @@
 // The key of a title, by which two ways to write it are compared. The update makes the same keys for the index, by its
 // file titles.py, where the rules have their comments; fold.json, the table that both need, is made by that file too.
-import languages from './languages.js';
+import texts from './text.js';
 
-const is = languages.is;
-const own = languages.own;
+const is = texts.is;
+const own = texts.own;
+const set = texts.set;
 const MOST_CHARACTERS = 500;
 const TAG = /<\/?[A-Za-z][A-Za-z0-9:-]{0,19}(?: [^<>]{0,200})?\/?>/g;
 const ENTITY = /&(?:#([0-9]{1,7})|#[xX]([0-9A-Fa-f]{1,6})|([A-Za-z][A-Za-z0-9]{1,9}));/g;
@@ -21,9 +22,6 @@ const ARTICLES = set('the a an der die das den dem des ein eine einen einem eine
     + 'una unos unas il i gli uno');
 const END = / *(?:[:=].*| [-\u2013\u2014] .*|[(\[][^()\[\]]*[)\]] *)$/;
 
-function set(names) {
-    return names.split(' ').reduce((all, name) => { all[name] = true; return all; }, Object.create(null));
-}
 function tableOf(name) { return typeof fold === 'undefined' ? {} : fold[name]; }
 
 // njs 0.7.9 throws if a text of 32, 64, .. characters is not ASCII and the last match of a global form ends with it.
