@@ -8,7 +8,7 @@ const set = texts.set;
 const MOST_CHARACTERS = 500;
 const TAG = /<\/?[A-Za-z][A-Za-z0-9:-]{0,19}(?: [^<>]{0,200})?\/?>/g;
 const ENTITY = /&(?:#([0-9]{1,7})|#[xX]([0-9A-Fa-f]{1,6})|([A-Za-z][A-Za-z0-9]{1,9}));/g;
-const SPACES = /[\x00-\x20\x7f-\xa0\u2000-\u200a\u2028\u2029\u202f\u205f\u3000]+/g;
+const SPACES = /[\x00-\x20\x7f-\xa0\u1680\u2000-\u200a\u2028\u2029\u202f\u205f\u3000]+/g;
 const APOSTROPHES = "'`\\xb4\\u02b9-\\u02bd\\u2018\\u2019\\u201b\\u2032\\uff07";
 const REMOVED = new RegExp('[' + APOSTROPHES
     + '\\xad\\u0300-\\u036f\\u200b-\\u200f\\u202a-\\u202e\\u2060-\\u2064\\ufeff]+', 'g');
@@ -24,6 +24,9 @@ const END = / *(?:[:=].*| [-\u2013\u2014] .*|[(\[][^()\[\]]*[)\]] *)$/;
 
 function tableOf(name) { return typeof fold === 'undefined' ? {} : fold[name]; }
 
+// njs 0.7.9 throws if a text of 32, 64, .. characters is not ASCII and the last match of a global form ends with it.
+function replaced(text, form, by) { return (text.length % 32 === 0 ? text + ' ' : text).replace(form, by); }
+
 function character(entity, decimal, hexadecimal, name) {
     if (name) return own(tableOf('entities'), name) || own(tableOf('entities'), name.toLowerCase()) || entity;
     const code = decimal ? parseInt(decimal, 10) : parseInt(hexadecimal, 16);
@@ -33,16 +36,18 @@ function character(entity, decimal, hexadecimal, name) {
 // A title without markup; some sources escape it twice.
 function plain(title) {
     let text = title;
-    if (text.indexOf('&') >= 0) text = text.replace(ENTITY, character).replace(ENTITY, character);
-    if (text.indexOf('<') >= 0) text = text.replace(TAG, '');
-    return text.replace(SPACES, ' ').replace(/^ | $/g, '');
+    if (text.indexOf('&') >= 0) text = replaced(replaced(text, ENTITY, character), ENTITY, character);
+    if (text.indexOf('<') >= 0) text = replaced(text, TAG, '');
+    return replaced(text, SPACES, ' ').trim();
 }
 
 function folded(text) {
     const letters = tableOf('letters');
-    return text.replace(/[\x80-\uffff]/g, (char) => own(letters, char) || char);
+    return replaced(text, /[\x80-\uffff]/g, (char) => own(letters, char) || char);
 }
-function wordsIn(text) { return text.replace(REMOVED, '').replace(SEPARATORS, ' ').split(' ').filter(Boolean); }
+function wordsIn(text) {
+    return replaced(replaced(text, REMOVED, ''), SEPARATORS, ' ').split(' ').filter(Boolean);
+}
 
 // The words of a title, small, without marks, apostrophes, punctuation and its leading article.
 function wordsOf(title) {
@@ -62,4 +67,4 @@ function shortKey(title) {
     return short !== text ? keyOf(short) : '';
 }
 
-export default { plain: plain, wordsOf: wordsOf, keyOf: keyOf, shortKey: shortKey };
+export default { plain: plain, replaced: replaced, wordsOf: wordsOf, keyOf: keyOf, shortKey: shortKey };

@@ -5,7 +5,7 @@ import html.entities, json, re, unicodedata
 MOST_CHARACTERS = 500
 TAG = re.compile(r"</?[A-Za-z][A-Za-z0-9:-]{0,19}(?: [^<>]{0,200})?/?>")
 ENTITY = re.compile(r"&(?:#([0-9]{1,7})|#[xX]([0-9A-Fa-f]{1,6})|([A-Za-z][A-Za-z0-9]{1,9}));")
-SPACES = re.compile("[\x00-\x20\x7f-\xa0\u2000-\u200a\u2028\u2029\u202f\u205f\u3000]+")
+SPACES = re.compile("[\x00-\x20\x7f-\xa0\u1680\u2000-\u200a\u2028\u2029\u202f\u205f\u3000]+")
 APOSTROPHES = "'`\xb4\u02b9-\u02bd\u2018\u2019\u201b\u2032\uff07"
 # What is removed within a word: marks, soft hyphens, characters without a width, and apostrophes.
 REMOVED = re.compile(f"[{APOSTROPHES}\xad\u0300-\u036f\u200b-\u200f\u202a-\u202e\u2060-\u2064\ufeff]+")
