@@ -3,12 +3,12 @@ files. Run as a program it makes the index of a version that has none: index.py 
 import collections, os, sys
 import title_list, word_sets
 from identifiers import standard
-from index_files import bucket, write, write_lines
+from index_files import digest, write, write_lines
 from title_groups import Titles
 from titles import short_key
 
 FORMAT = 1  # another number makes a new version, although its tables are the same
-DIGITS = 3  # of the names in keys/
+DIGITS, KEY_DIGITS = 3, 16  # of an MD5 sum: in the names of keys/, and before the end of the key of a title
 MOST_LINES = 50  # of a key
 
 
@@ -43,24 +43,24 @@ def write_keys(folder, titles, related):
     os.makedirs(folder)
     buckets = collections.defaultdict(bytearray)
     for title in titles:
-        for key, line in lines_of(title, related.get(title)):
-            buckets[bucket(key, DIGITS)] += f"{key}\t{line}\n".encode()
+        for name, line in lines_of(title, related.get(title)):
+            buckets[name] += f"{line}\n".encode()
     while buckets:
         name, text = buckets.popitem()
         write_lines(folder, name, few_of_each_key(sorted(text[:-1].split(b"\n"))))
 
 
 def lines_of(title, related):
-    """Pairs of a key of a title and the other cells of its line."""
+    """The lines of a title, each after the name of its file."""
     cells = f"{kind_of(title)}\t{title.name}\t{' '.join(title.forms)}"
-    if title.key:
-        yield f"={title.key}", cells
     short = short_key(title.name)
-    if short and short != title.key:
-        yield f"~{short}", cells
+    for sign, key in (("=", title.key), ("~", short if short != title.key else "")):
+        if key:
+            digits = digest(sign + key)
+            yield digits[:DIGITS], f"{sign}{digits[DIGITS:KEY_DIGITS]}\t{cells}"
     cells += f"\t{title.coverage_text()}{related_text(*related) if related else ''}"
     for number in title.numbers():
-        yield number, cells
+        yield digest(number)[:DIGITS], f"{number}\t{cells}"
 
 
 def related_text(earlier, later):

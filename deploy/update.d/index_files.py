@@ -4,20 +4,15 @@ import hashlib, os
 MOST_BYTES = 4 << 20  # lines beyond them are left out; nginx gives the front door at most 8 MiB of a file
 
 
-def bucket(text, digits):
-    """The name of the file that has the lines of a text."""
-    return hashlib.md5(text.encode(), usedforsecurity=False).hexdigest()[:digits]
+def digest(text):
+    """The MD5 sum of a text: its first digits are the name of the file that has its lines."""
+    return hashlib.md5(text.encode(), usedforsecurity=False).hexdigest()
 
 
-def within(lines, most=MOST_BYTES):
-    """The first of these lines, in bytes, that have their place in a file."""
-    kept = []
-    for line in lines:
-        most -= len(line) + 1
-        if most < 0:
-            break
-        kept.append(line)
-    return kept
+def text_of(lines):
+    """Lines, in bytes, as the text of a file."""
+    text = b"".join(line + b"\n" for line in lines)
+    return text if len(text) <= MOST_BYTES else text[:text.rindex(b"\n", 0, MOST_BYTES) + 1]
 
 
 def write(folder, name, data):
@@ -27,4 +22,4 @@ def write(folder, name, data):
 
 def write_lines(folder, name, lines):
     """Writes lines, in bytes, each after a line end, so that the front door can look for the end of any."""
-    write(folder, name, b"\n" + b"".join(line + b"\n" for line in within(lines)))
+    write(folder, name, b"\n" + text_of(lines))

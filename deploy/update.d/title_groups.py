@@ -2,7 +2,7 @@
 import collections, functools
 from identifiers import standard
 from title_rows import ONLINE, PRINT, rows_of
-from titles import MOST_CHARACTERS, article_and_key, plain
+from titles import article_and_key
 
 MOST_NUMBERS = 40
 MOST_ROWS = 200
@@ -14,7 +14,7 @@ class Title:
     __slots__ = ("name", "article", "key", "is_journal", "columns", "forms", "coverage", "left_out", "into")
 
     def __init__(self, name):
-        self.name = plain(name[:MOST_CHARACTERS])
+        self.name = name
         self.article, self.key = parts_of(name)
         self.is_journal, self.columns, self.forms, self.coverage = False, 0, [], []
         self.left_out = frozenset()  # targets with too many rows
@@ -32,7 +32,8 @@ class Title:
                 self.forms.append(form)
         room = MOST_ROWS - len(self.coverage)
         self.coverage += coverage[:room]
-        self.left_out |= {entry.partition(" ")[0] for entry in coverage[room:]}
+        if len(coverage) > room:
+            self.left_out |= {entry.partition(" ")[0] for entry in coverage[room:]}
 
     def take(self, other):
         """Joins another title to this one."""
@@ -41,6 +42,8 @@ class Title:
         self.left_out |= other.left_out
 
     def coverage_text(self):
+        if not self.left_out:
+            return ";".join(self.coverage)
         return ";".join(entry for entry in self.coverage if entry.partition(" ")[0] not in self.left_out)
 
 
@@ -72,18 +75,18 @@ class Titles:
 
     def add(self, row):
         """Adds a row to its title."""
-        key, numbers = parts_of(row.title)[1], [standard(form) for form in row.numbers]
-        by_number = self.several.get(key)
-        if by_number is None:
-            title = self.alone.setdefault(key, None) or Title(row.title)
-            if title.forms and not {*numbers}.intersection(title.numbers()):
+        key = parts_of(row.title)[1]
+        by_number, title = self.several.get(key), self.alone.get(key)
+        if title is None and by_number is None:
+            title = self.alone[key] = Title(row.title)
+        else:
+            numbers = [standard(form) for form in row.numbers]
+            if by_number is None and not {*numbers}.intersection(title.numbers()):
                 by_number = self.several[key] = dict.fromkeys(title.numbers(), title)
                 del self.alone[key]
-            else:
-                self.alone[key] = title
-        if by_number is not None:
-            title = self.joined(by_number, numbers) or Title(row.title)
-            by_number.update(dict.fromkeys(numbers, title))
+            if by_number is not None:
+                title = self.joined(by_number, numbers) or Title(row.title)
+                by_number.update(dict.fromkeys(numbers, title))
         title.add(row.numbers, row.columns, row.is_journal, [row.coverage])
         return title
 

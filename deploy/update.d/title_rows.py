@@ -1,7 +1,7 @@
 """The rows of a holdings table that have a title and a number, as the index has them."""
 import dataclasses, re
 from identifiers import form_of, is_issn
-from titles import plain
+from titles import MOST_CHARACTERS, plain
 
 PRINT, ONLINE = 1, 2
 COLUMNS = ("publication_title", "print_identifier", "online_identifier", "date_first_issue_online",
@@ -50,10 +50,13 @@ def row_of(target, number, cells):
         if form:
             columns |= column
             forms += [form] * (form not in forms)
-    if not forms or not plain(title):
+    title = plain(title)[:MOST_CHARACTERS] if forms else ""
+    if not title:
         return None
-    return Row(title, forms, columns, is_journal(kind, forms),
-               f"{target} {number} {date_in(first)} {date_in(last)} {embargo_in(embargo)}", title_id, preceding_id)
+    coverage = f"{target} {number} {date_in(first)} {date_in(last)} {embargo_in(embargo)}"
+    while coverage.endswith(f" {NONE}"):
+        coverage = coverage[:-2]
+    return Row(title, forms, columns, is_journal(kind, forms), coverage, title_id, preceding_id)
 
 
 def is_journal(kind, forms):
@@ -63,11 +66,12 @@ def is_journal(kind, forms):
 
 def date_in(cell):
     """A date as the provider gives it; its year, if it has another form."""
-    text = cell.strip()
-    found = None if DATE.fullmatch(text) else YEAR.search(text)
-    return text if DATE.fullmatch(text) else found[0] if found else NONE
+    if not cell or DATE.fullmatch(cell):
+        return cell or NONE
+    found = DATE.fullmatch(cell.strip()) or YEAR.search(cell)
+    return found[0] if found else NONE
 
 
 def embargo_in(cell):
     text = cell.replace(" ", "").upper()
-    return text.replace(";", ",") if EMBARGO.fullmatch(text) else NONE
+    return text.replace(";", ",") if text and EMBARGO.fullmatch(text) else NONE

@@ -1,7 +1,7 @@
 """The titles that have a word, for the search: for each word, and for each beginning of many words, the places of its
 titles in the list."""
 import array, collections, os, sys
-from index_files import MOST_BYTES, bucket, within, write
+from index_files import MOST_BYTES, digest, text_of, write
 from title_list import PAGE
 
 MOST_LETTERS = 60  # of a word
@@ -15,17 +15,19 @@ def digits_for(titles):
 
 
 def words_in(title):
-    words = {word[:MOST_LETTERS] for word in title.key.split(" ")}
-    return {word for word in words | {title.article} if len(word) > 1}
+    return {word[:MOST_LETTERS] for word in (*title.key.split(" "), title.article) if len(word) > 1}
 
 
 def places_by_head(pages):
     """The words of all titles, by their first letters, each with its places in ascending order."""
-    heads = collections.defaultdict(dict)
+    found = collections.defaultdict(lambda: array.array("I"))
     for number, (_, titles) in enumerate(pages):
         for place, title in enumerate(titles, PAGE * number):
             for word in words_in(title):
-                heads[word[:HEAD]].setdefault(word, array.array("I")).append(place)
+                found[word].append(place)
+    heads = collections.defaultdict(dict)
+    for word, places in found.items():
+        heads[word[:HEAD]][word] = places
     return heads
 
 
@@ -66,12 +68,12 @@ def write_words(folder, pages, digits):
     os.makedirs(folder)
     files, last = collections.defaultdict(list), PAGE * len(pages) - 1
     for head, (word, places, has_all) in all_lines(pages):
-        files[bucket(head, digits)].append((word.encode(), places, has_all))
+        files[digest(head)[:digits]].append((word.encode(), places, has_all))
     for name, lines in files.items():
-        write(folder, name, text_of(sorted(lines, key=lambda line: line[0]), last // 8 + 1))
+        write(folder, name, data_of(sorted(lines, key=lambda line: line[0]), last // 8 + 1))
 
 
-def text_of(lines, most):
+def data_of(lines, most):
     """The bytes of a file: its lines, and then the places of those that have all, in the shorter of two forms. They take
     at most `most` bytes for a line."""
     texts, sets, size = [], [], 0
@@ -86,7 +88,7 @@ def text_of(lines, most):
         texts.append(b"%b\t%d\t%b%d" % (word, len(places), b"@" if is_list else b"#", size))
         sets.append(data)
         size += len(data)
-    text = b"".join(line + b"\n" for line in within(texts))
+    text = text_of(texts)
     length = len(text) + 2
     while len(b"%d\n" % length) + len(text) != length:
         length += 1
