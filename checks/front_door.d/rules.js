@@ -3,8 +3,8 @@
 // that counts.
 import door from './find.js';
 import languages from './languages.js';
+import menus from './menu.js';
 import openurl from './openurl.js';
-import pages from './pages.js';
 import program from './program.js';
 import staff from './why.js';
 import cases from './cases.js';
@@ -88,22 +88,25 @@ function testLimits() {
 }
 
 function testMenus() {
-    expect('menus are joined', program.joined('a\tx\nb\ty\n', 'b\tz\nc\tw\n'), 'a\tx\nb\ty\nc\tw');
+    const joined = program.joined(['a\tx\nb\ty\n', 'b\tz\nc\tw', 'd\tv\nc\tu\n']);
+    expect('menus are joined', joined.text, 'a\tx\nb\ty\nc\tw\nd\tv');
+    expect('the menu of each target', JSON.stringify(joined.sources), '{"a":0,"b":0,"c":1,"d":2}');
     const reports = ['a\tlink 0\nb\tno row\nc\tno link\nd\tno row\n', 'a\tno row\nb\tlink 2\nc\tlink 1\nd\tno row\n'];
-    expect('reports are joined', program.joinedReports(reports[0], reports[1]),
-        'a\tlink 0\nb\tlink 2\nc\tno link\nd\tno row\n');
+    expect('reports are joined', program.joinedReports(reports),
+        'a\tlink 0\nb\tlink 2\nc\tlink 1\nd\tno row\n');
     const site = { groups: [{ name: 'A' }, { name: 'B', onlyWithout: 'A' }],
-        targets: { b: { group: 'B', label: 'Bee', note: 'n' }, constructor: {} } };
+        targets: { a: {}, b: { group: 'B', label: 'Bee', note: 'n' }, constructor: {} } };
     const listed = function (menu) {
-        return JSON.stringify(pages.shownGroups(pages.groupsOf(menu, languages.siteIn(site, ''))));
+        return JSON.stringify(menus.shownGroups(menus.groupsOf(menu, languages.siteIn(site, ''))));
     };
     expect('a group that another one hides', listed('b\thttp://b/\na\thttp://a/\n'),
         '[{"name":"A","links":[{"target":"a","label":"a","url":"http://a/"}]}]');
     expect('a group alone', listed('b\thttp://b/\n'),
         '[{"name":"B","links":[{"target":"b","label":"Bee","url":"http://b/","note":"n"}]}]');
     expect('links that are none', listed('a\tjavascript:x\na\thttp://a/ b\na\thttp://\u00e9/\nx\n'), '[]');
-    expect('names of every object',
-        listed('constructor\thttp://c/\ntoString\thttp://t/\n').split('"target"').length, 3);
+    expect('names of every object', listed('toString\thttp://t/\nconstructor\thttp://c/\n'),
+        '[{"name":"A","links":[{"target":"constructor","label":"constructor","url":"http://c/"}]},'
+        + '{"name":"More","links":[{"target":"toString","label":"toString","url":"http://t/"}]}]');
 }
 
 // A header, the languages that are offered, and the one that is chosen.
@@ -137,8 +140,8 @@ function testHeaders() {
 
 // The languages that a site offers and the texts that a page has in them.
 function testWords() {
-    globalThis.words_en = { heading: 'Find', links: 'Links', nothing: 'Nothing' };
-    globalThis.words_de = { heading: 'Finden', links: 3, nothing: '  ' };
+    globalThis.words_en = { heading: 'Find', group: 'Links', nothing: 'Nothing' };
+    globalThis.words_de = { heading: 'Finden', group: 3, nothing: '  ' };
     globalThis.words_pt_BR = {};
     globalThis.words_he = {};
     const site = function (targets, header) { return languages.siteIn(targets, header); };
@@ -152,20 +155,20 @@ function testWords() {
     expect('the direction',
         site({ languages: ['he', 'en'] }, '').dir + ' ' + site({ languages: ['he', 'en'] }, 'en').dir, 'rtl ltr');
     const heading = function (words, header) {
-        const menu = 'a\thttp://a/\n';  // no group is named, so there is one with the word `links`
-        return pages.groupsOf(menu, site({ languages: ['en', 'de'], words: words }, header))[0].name;
+        const menu = 'a\thttp://a/\n';  // no group is named, so there is one with the word `group`
+        return menus.groupsOf(menu, site({ languages: ['en', 'de'], words: words }, header))[0].name;
     };
     expect('a word', heading({}, 'en'), 'Links');
     expect('a word that is no text', heading({}, 'de'), 'Links');
-    globalThis.words_de.links = 'Verweise';
+    globalThis.words_de.group = 'Verweise';
     expect('a word in another language', heading({}, 'de'), 'Verweise');
-    expect('a word of the site', heading({ links: 'A' }, 'en') + ' ' + heading({ links: 'A' }, 'de'), 'A Verweise');
-    const both = { links: { en: 'A', de: 'B' } };
+    expect('a word of the site', heading({ group: 'A' }, 'en') + ' ' + heading({ group: 'A' }, 'de'), 'A Verweise');
+    const both = { group: { en: 'A', de: 'B' } };
     expect('words of the site', heading(both, 'en') + ' ' + heading(both, 'de'), 'A B');
     expect('a word of the site for one language',
-        heading({ links: { de: 'B' } }, 'en') + ' ' + heading({ links: { en: 'A' } }, 'de'), 'Links Verweise');
-    delete globalThis.words_de.links;
-    expect('a plain word for all languages', heading({ links: 'A' }, 'de'), 'A');
+        heading({ group: { de: 'B' } }, 'en') + ' ' + heading({ group: { en: 'A' } }, 'de'), 'Links Verweise');
+    delete globalThis.words_de.group;
+    expect('a plain word for all languages', heading({ group: 'A' }, 'de'), 'A');
     const labels = {
         languages: ['en', 'de'], groups: [{ name: 'G', label: { de: 'H' } }],
         targets: {
@@ -174,7 +177,7 @@ function testWords() {
     };
     const menu = 'a\thttp://a/\nb\thttp://b/\nc\thttp://c/\n';
     const listed = function (header) {
-        const group = pages.shownGroups(pages.groupsOf(menu, site(labels, header)))[0];
+        const group = menus.shownGroups(menus.groupsOf(menu, site(labels, header)))[0];
         return group.name + ' ' + group.label + ': '
             + group.links.map(function (it) { return it.label + ' ' + it.note; }).join(', ');
     };
@@ -222,13 +225,13 @@ function testReasons() {
     const report = function (i) {
         return REASONS.map(function (it, n) { return 't' + n + '\t' + it[i] + '\n'; }).join('');
     };
-    staff.reasonsOf([report(0), report(1)]).forEach(function (it, n) {
+    program.reasonsOf([report(0), report(1)]).forEach(function (it, n) {
         expect('the query of ' + REASONS[n].join(', '), it.name + ' ' + it.reasons.join(', ') + ' ' + it.used,
             't' + n + ' ' + REASONS[n][0] + ', ' + REASONS[n][1] + ' ' + REASONS[n][2]);
     });
-    expect('a target that the second report lacks', JSON.stringify(staff.reasonsOf(['a\tno row\n', ''])),
+    expect('a target that the second report lacks', JSON.stringify(program.reasonsOf(['a\tno row\n', ''])),
         '[{"name":"a","reasons":["no row",""],"used":0}]');
-    expect('no report', staff.reasonsOf(['', '']).length, 0);
+    expect('no report', program.reasonsOf(['', '']).length, 0);
 }
 
 // A reply to a subrequest of nginx. The status 'cut' is that of a reply that a process has not written to its end: 200,
@@ -246,6 +249,7 @@ function requestWith(uri, statuses) {
         variables: { request_uri: uri }, rawVariables: { args: Buffer.from('issn=2901-0012') }, headersIn: {},
         headersOut: {}, method: 'GET', requested: 0, places: [],
         subrequest: function (place, options) {
+            if (place.slice(0, 7) === '/index/') return Promise.resolve({ status: 204 });  // there is no index
             const status = statuses[this.requested++];
             this.places.push(place + ' ' + options.args);
             if (status < 0) throw new Error('no\nreply');

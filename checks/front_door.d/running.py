@@ -80,6 +80,7 @@ class Site:
             subprocess.run(["examples/library/build", PROGRAM, self.folder], check=True, stdout=subprocess.DEVNULL)
         else:
             self.write_registry()
+        self.write_index()
         self.write_configuration()
 
     def path(self, name):
@@ -103,6 +104,17 @@ class Site:
                                stdout=subprocess.DEVNULL)
                 registry.write(f"{name}\t{code}\ttables/{os.path.basename(table)}\n")
 
+    def write_index(self):
+        """The index of the version in use, as the update makes it of the tables that the registry names."""
+        os.makedirs(self.path("current/received"))
+        shutil.copy(self.path("registry.tsv"), self.path("current"))
+        with open(self.path("registry.tsv")) as registry:
+            for line in registry:
+                name, _, table = line.rstrip("\n").split("\t")
+                path = os.path.join(self.program_folder or ".", table)
+                shutil.copy(path, self.path(f"current/received/{name}.txt"))
+        subprocess.run([sys.executable, "-B", "deploy/update.d/index.py", self.path("current")], check=True)
+
     def write_configuration(self):
         """The site as it is copied, with the paths and ports of this folder."""
         with open("deploy/nginx/openlink.conf") as file:
@@ -111,7 +123,7 @@ class Site:
         text, count = re.subn(r"(    server 127\.0\.0\.1:\d+ max_fails=0;\n)+", servers, text)
         assert count == 1, "openlink.conf has no list of processes"
         for old, new in (("/etc/nginx/openlink/", self.path("openlink/")), ("/var/log/nginx/", self.path("log/")),
-                         ("listen 80;", f"listen 127.0.0.1:{self.port};"),
+                         ("/etc/openlink/current", self.path("current")), ("listen 80;", f"listen 127.0.0.1:{self.port};"),
                          ("127.0.0.1:8079", f"127.0.0.1:{self.report_port}")):
             assert old in text, f"openlink.conf has no {old}"
             text = text.replace(old, new)

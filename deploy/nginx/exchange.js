@@ -9,7 +9,18 @@ const own = texts.own;
 const ASCII = /^[\x21-\x7e]*$/;
 
 function targetsOf() { return typeof targets === 'undefined' ? {} : targets; }
-function siteOf(r) { return languages.siteIn(targetsOf(), String(r.headersIn['Accept-Language'] || '')); }
+const LANGUAGE = /(?:^|&)lang=([a-z]{2,8}(?:-[a-z0-9]{1,8})*)(?=&|$)/i;
+// The site in the reader's language. `path` and `args` are the page's own address without the language.
+function siteOf(r) {
+    const sent = r.uri === '/fault' ? '' : sentBy(r);
+    const asked = is(LANGUAGE, sent) ? LANGUAGE.exec(sent)[1] : undefined;
+    const site = languages.siteIn(targetsOf(), String(r.headersIn['Accept-Language'] || ''), asked);
+    site.path = r.uri === '/fault' ? '' : r.uri;
+    site.args = withoutLanguage(sent);
+    site.hasList = r.variables.openlink_list !== 'off';
+    return site;
+}
+function withoutLanguage(args) { return is(LANGUAGE, args) ? args.replace(LANGUAGE, '').replace(/^&/, '') : args; }
 function send(r, status, type, text) {
     r.headersOut['Content-Type'] = type;
     r.return(status, text);
@@ -23,13 +34,14 @@ function sendIn(r, site, status, type, text) {
 function sendPage(r, status, text, site) { sendIn(r, site, status, 'text/html; charset=utf-8', text); }
 function sendJson(r, status, data, site) { sendIn(r, site, status, 'application/json', JSON.stringify(data) + '\n'); }
 function sendFault(r, status, site) {
-    if (/^\/find\.json(?:\?|$)/.test(String(r.variables.request_uri))) sendJson(r, status, { error: status }, site);
+    if (is(/^\/find\.json(?:\?|$)/, String(r.variables.request_uri))) sendJson(r, status, { error: status }, site);
     else sendPage(r, status, pages.faultOf(status, site), site);
 }
 
 // The query of the address and of a form, as ASCII. Every other byte is escaped, line ends first of all: a subrequest's
 // arguments reach the program as they are.
-function argsOf(r) {
+function argsOf(r) { return withoutLanguage(sentBy(r)); }
+function sentBy(r) {
     let bytes = r.rawVariables.args || Buffer.from('');
     const isForm = is(/^application\/x-www-form-urlencoded\b/i, String(r.headersIn['Content-Type']));
     if (r.method === 'POST' && isForm && r.requestBuffer) {
@@ -50,7 +62,7 @@ function guarded(handler) {
             await handler(r);
         } catch (e) {
             const message = texts.clean(String(e.message));
-            r.variables.openlink_found = 'exception:' + message.replace(/[^\w.]/g, '_').slice(0, 60);
+            r.variables.openlink_found = 'exception:' + texts.replaced(message, /[^\w.]/g, '_').slice(0, 60);
             sendFault(r, 503, languages.siteIn({ languages: own(targetsOf(), 'languages') }, ''));
         }
     };

@@ -1,25 +1,28 @@
 // The front door of the link resolver: reads an OpenURL of any source, asks the program for its menu, and replies with
 // the reader's page, JSON or a redirect. An operator edits nothing here: labels are in targets.json, the page's texts
 // in words/. text.js says in which njs it runs.
+import citation from './citation.js';
+import completion from './completion.js';
 import exchange from './exchange.js';
+import form from './form.js';
+import index from './index.js';
+import lists from './lists.js';
+import menu from './menu.js';
 import openurl from './openurl.js';
-import pages from './pages.js';
 import program from './program.js';
-
-const queryOf = (r) => openurl.queryOf(exchange.argsOf(r));
+import query from './query.js';
+import texts from './text.js';
 
 // Asks the program, unless the query is empty, and gives the query and the groups to `reply`.
 async function answer(r, q, reply) {
     const site = exchange.siteOf(r);
-    let menu = '';
-    r.variables.openlink_source = q.first('rfr_id').replace(/[^\w:.\/-]/g, '_').slice(0, 60);
-    if (q.pairs.length > 0) {
-        const replies = await program.askBoth(r, '/_menu', q);
-        if (replies.status !== 200) return exchange.sendFault(r, program.faultStatus(replies), site);
-        menu = program.joined(replies.texts[0], replies.texts[1]);
-    }
-    const groups = pages.groupsOf(menu, site);
-    if (q.pairs.length > 0) logLinks(r, groups);
+    r.variables.openlink_source = texts.replaced(q.first('rfr_id').slice(0, 60), /[^\w:.\/-]/g, '_').slice(0, 60);
+    if (q.pairs.length === 0) return reply(r, q, menu.groupsOf('', site), site);
+    const menus = await program.menusOf(r, q);
+    if (menus.status !== 200) return exchange.sendFault(r, program.faultStatus(menus), site);
+    const groups = menu.groupsOf(menus.text, site);
+    menu.describe(groups, menus, site);
+    logLinks(r, groups);
     reply(r, q, groups, site);
 }
 
@@ -28,33 +31,83 @@ function logTargets(r, links) { r.variables.openlink_targets = links.map((link) 
 // Writes to the log how many links there are, and the targets that the reader sees.
 function logLinks(r, groups) {
     r.variables.openlink_found = groups[0].links.length + '/' + linksOf(groups).length;
-    logTargets(r, linksOf(pages.shownGroups(groups)));
+    logTargets(r, linksOf(menu.shownGroups(groups)));
 }
 
-function replyPage(r, q, groups, site) { exchange.sendPage(r, 200, pages.pageOf(q, groups, site), site); }
-function replyJson(r, q, groups, site) {
-    exchange.sendJson(r, 200, { citation: pages.citationOf(q, site), groups: pages.shownGroups(groups) }, site);
+function replyPage(r, q, groups, site) {
+    exchange.sendPage(r, 200, q.pairs.length === 0 ? form.formOf(q, site) : menu.pageOf(q, groups, site), site);
 }
-function find(r) { return answer(r, queryOf(r), replyPage); }
-function json(r) { return answer(r, queryOf(r), replyJson); }
-// The first link, if there is one alone in the first group or `first=1` asks for it; otherwise the page.
-function go(r) {
-    const q = queryOf(r);
+function replyJson(r, q, groups, site) { exchange.sendJson(r, 200, menu.dataOf(q, groups, site), site); }
+async function find(r) {
+    const q = await completion.queryOf(r);
+    return answer(r, q, replyPage);
+}
+async function json(r) {
+    const q = await completion.queryOf(r);
+    return answer(r, q, replyJson);
+}
+// The first link, if there is one alone in the first group or `first=1` asks for it; otherwise the page, and so if the
+// request may mean several titles.
+async function go(r) {
+    const q = await completion.queryOf(r);
     const isFirst = q.first('first') === '1';
     q.drop('first');
     return answer(r, q, function (r, q, groups, site) {
         const links = groups[0].links;
-        if (links.length !== 1 && !(isFirst && links.length > 0)) return replyPage(r, q, groups, site);
+        const isOne = links.length === 1 || (isFirst && links.length > 0);
+        if (!isOne || q.maybe.length > 0) return replyPage(r, q, groups, site);
         logTargets(r, links.slice(0, 1));
         r.return(302, links[0].url);
     });
 }
 
+// The form, filled in with what is known of the request.
+async function cite(r) {
+    const site = exchange.siteOf(r);
+    const q = await completion.queryOf(r);
+    exchange.sendPage(r, 200, form.formOf(q, site), site);
+}
+async function ris(r) {
+    const site = exchange.siteOf(r);
+    const q = await completion.queryOf(r);
+    r.headersOut['Content-Disposition'] = 'attachment; filename="citation.ris"';
+    const text = citation.risOf(q, openurl.kindOf(q), site);
+    exchange.send(r, 200, 'application/x-research-info-systems; charset=utf-8', text);
+}
+
+// Journals and books by letter, and those that a search finds.
+const LIST = /^\/(journals|books)(?:\/([^\/]{1,20})\/(\d{1,5}))?\/?$/;
+const MOST_SOUGHT = 200;
+const NO_LETTERS = { count: 0, letters: [] };
+async function list(r) {
+    const site = exchange.siteOf(r);
+    const found = LIST.exec(r.uri);
+    if (!site.hasList || found === null) return exchange.sendFault(r, 404, site);
+    const kind = found[1] === 'books' ? 'b' : 'j';
+    if (found[2] !== undefined) return letter(r, kind, found[2], Number(found[3]), site);
+    const text = texts.clean(new query.Query(exchange.argsOf(r)).first('q').slice(0, MOST_SOUGHT));
+    if (text !== '') {
+        const titles = await index.search(r, kind, text);
+        return exchange.sendPage(r, 200, lists.searchOf(kind, text, titles, site), site);
+    }
+    const letters = await index.lettersOf(r, kind);
+    exchange.sendPage(r, 200, lists.startOf(kind, letters || NO_LETTERS, site), site);
+}
+async function letter(r, kind, name, page, site) {
+    const found = await index.lettersOf(r, kind);
+    const letters = found || NO_LETTERS;
+    const it = letters.letters.filter((one) => one.letter === name)[0];
+    if (it === undefined || page < 1 || page > it.pages) return exchange.sendFault(r, 404, site);
+    const titles = await index.pageOf(r, kind, it.page + page - 1);
+    exchange.sendPage(r, 200, lists.letterOf(kind, letters, it, page, titles, site), site);
+}
+
 // For the operator: why each target has a link or none, for a query of any source.
 async function report(r) {
-    const replies = await program.askBoth(r, '/_report', queryOf(r));
+    const q = await completion.queryOf(r);
+    const replies = await program.askAll(r, '/_report', program.queriesOf(q));
     if (replies.status !== 200) return exchange.sendFault(r, program.faultStatus(replies), exchange.siteOf(r));
-    exchange.send(r, 200, 'text/plain; charset=utf-8', program.joinedReports(replies.texts[0], replies.texts[1]));
+    exchange.send(r, 200, 'text/plain; charset=utf-8', program.joinedReports(replies.texts));
 }
 
 // The page in place of nginx's own text.
@@ -62,5 +115,6 @@ function fault(r) { exchange.sendFault(r, Number(r.variables.status) || 503, exc
 
 export default {
     find: exchange.guarded(find), json: exchange.guarded(json), go: exchange.guarded(go),
+    cite: exchange.guarded(cite), ris: exchange.guarded(ris), list: exchange.guarded(list),
     report: exchange.guarded(report), fault: exchange.guarded(fault)
 };

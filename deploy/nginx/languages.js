@@ -76,11 +76,19 @@ function offered(targets) {
     return languages.length > 0 ? languages : ['en'];
 }
 
-// What is in targets.json, for a reader whose browser sends this header.
-function siteIn(targets, header) {
+// What a language calls itself.
+function nameOf(language) {
+    const name = own(wordsIn(language), 'language');
+    return typeof name === 'string' && name !== '' ? name : language;
+}
+
+// What is in targets.json, for a reader whose browser sends this header, or who has chosen one of the languages.
+function siteIn(targets, header, asked) {
     const languages = offered(targets);
-    const language = chosen(header, languages);
+    const isChosen = asked !== undefined && languages.indexOf(asked) >= 0;
+    const language = isChosen ? asked : chosen(header, languages);
     return { language: language, main: languages[0], dir: is(RIGHT_TO_LEFT, language) ? 'rtl' : 'ltr',
+        languages: languages, chosen: isChosen ? asked : '',
         words: own(targets, 'words'), groups: own(targets, 'groups'), targets: own(targets, 'targets'),
         folder: own(targets, 'folder') };
 }
@@ -103,4 +111,4 @@ function candidates(name, site) {
         .concat([textIn(text, site.main), ofFile(site.main)]);
 }
 
-export default { chosen: chosen, siteIn: siteIn, textOf: textOf, candidates: candidates };
+export default { chosen: chosen, nameOf: nameOf, siteIn: siteIn, textOf: textOf, candidates: candidates };

@@ -7,7 +7,7 @@ const DASHES = /[\u00ad\u2010-\u2015\u2043\u2212\ufe58\ufe63\uff0d]/g;
 const SPACES = /[\u00a0\u2000-\u200b\u202f\u205f\u3000\ufeff]/g;
 function plain(value) {
     const text = value.slice(0, 200);
-    return (is(/^[ -~]*$/, text) ? text : text.replace(DASHES, '-').replace(SPACES, ' ')).trim();
+    return (is(/^[ -~]*$/, text) ? text : texts.replaced(texts.replaced(text, DASHES, '-'), SPACES, ' ')).trim();
 }
 const ISSN = { form: /(?<![\d-])\d{4}[- ]?\d{3}[\dX](?![\d-])/gi, write: issn };
 const ISBN = { form: /(?<!\d)(?:97[89](?:[- ]?\d){10}|\d(?:[- ]?\d){8}[- ]?[\dX])(?!\d)/gi, write: isbn13 };
@@ -26,7 +26,7 @@ function numbersIn(values, kind, count) {
     const found = [];
     values.forEach((value) => {
         const text = plain(value);
-        if (is(kind.form, text)) text.match(kind.form).forEach((it) => {
+        if (is(kind.form, text)) texts.padded(text).match(kind.form).forEach((it) => {
             const number = kind.write(it.split('-').join('').split(' ').join('').toUpperCase());
             if (found.length < count && found.indexOf(number) < 0) found.push(number);
         });

@@ -9,6 +9,9 @@ const HAS = Object.prototype.hasOwnProperty;
 function own(object, key) { return object && HAS.call(object, key) ? object[key] : undefined; }
 function is(form, text) { return text.search(form) >= 0; }
 function isObject(value) { return typeof value === 'object' && value !== null; }
+// njs 0.7.9 throws if a text of 32, 64, .. characters is not ASCII and the last match of a global form ends with it.
+function padded(text) { return text.length > 0 && text.length % 32 === 0 ? text + ' ' : text; }
+function replaced(text, form, by) { return padded(text).replace(form, by); }
 // The names of a list as an object without a prototype, so that no text of a request finds anything else in it.
 function set(names) {
     return names.split(' ').reduce((all, name) => { all[name] = true; return all; }, Object.create(null));
@@ -17,13 +20,17 @@ function set(names) {
 // Text without control characters and noncharacters, which neither HTML nor a header field may hold.
 const CONTROLS = /[\u0000-\u001f\u007f-\u009f\u2028\u2029\ufdd0-\ufdef\ufffe\uffff]/g;
 function clean(value) {
-    const text = is(CONTROLS, value) ? value.replace(CONTROLS, ' ') : value;
-    return (is(/\s\s/, text) ? text.replace(/\s+/g, ' ') : text).trim();
+    const text = is(CONTROLS, value) ? replaced(value, CONTROLS, ' ') : value;
+    return (is(/\s\s/, text) ? replaced(text, /\s+/g, ' ') : text).trim();
 }
-const ENTITIES = { '&': '&amp;', '<': '&lt;', '>': '&gt;', '"': '&quot;', "'": '&#39;' };
-function escape(text) { return is(/[&<>"']/, text) ? text.replace(/[&<>"']/g, (c) => ENTITIES[c]) : text; }
+// By `split`, since a long address may have thousands of them.
+const ENTITIES = [['&', '&amp;'], ['<', '&lt;'], ['>', '&gt;'], ['"', '&quot;'], ["'", '&#39;']];
+function escape(text) {
+    if (!is(/[&<>"']/, text)) return text;
+    return ENTITIES.reduce((all, it) => all.indexOf(it[0]) < 0 ? all : all.split(it[0]).join(it[1]), text);
+}
 function isWeb(link) { return is(/^https?:\/\/[\x21-\x7e]+$/i, link); }
 
 export default {
-    own: own, is: is, isObject: isObject, set: set, clean: clean, escape: escape, isWeb: isWeb
+    own: own, is: is, isObject: isObject, set: set, padded: padded, replaced: replaced, clean: clean, escape: escape, isWeb: isWeb
 };

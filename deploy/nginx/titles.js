@@ -5,6 +5,7 @@ import texts from './text.js';
 const is = texts.is;
 const own = texts.own;
 const set = texts.set;
+const replaced = texts.replaced;
 const MOST_CHARACTERS = 500;
 const TAG = /<\/?[A-Za-z][A-Za-z0-9:-]{0,19}(?: [^<>]{0,200})?\/?>/g;
 const ENTITY = /&(?:#([0-9]{1,7})|#[xX]([0-9A-Fa-f]{1,6})|([A-Za-z][A-Za-z0-9]{1,9}));/g;
@@ -24,8 +25,6 @@ const END = / *(?:[:=].*| [-\u2013\u2014] .*|[(\[][^()\[\]]*[)\]] *)$/;
 
 function tableOf(name) { return typeof fold === 'undefined' ? {} : fold[name]; }
 
-// njs 0.7.9 throws if a text of 32, 64, .. characters is not ASCII and the last match of a global form ends with it.
-function replaced(text, form, by) { return (text.length % 32 === 0 ? text + ' ' : text).replace(form, by); }
 
 function character(entity, decimal, hexadecimal, name) {
     if (name) return own(tableOf('entities'), name) || own(tableOf('entities'), name.toLowerCase()) || entity;
@@ -67,4 +66,4 @@ function shortKey(title) {
     return short !== text ? keyOf(short) : '';
 }
 
-export default { plain: plain, replaced: replaced, wordsOf: wordsOf, keyOf: keyOf, shortKey: shortKey };
+export default { plain: plain, wordsOf: wordsOf, keyOf: keyOf, shortKey: shortKey };
