@@ -81,7 +81,8 @@ class Titles:
             title = self.alone[key] = Title(row.title)
         else:
             numbers = [standard(form) for form in row.numbers]
-            if by_number is None and not {*numbers}.intersection(title.numbers()):
+            # From the last row after which a title has all its numbers, or if there is another title.
+            if by_number is None and (len(title.forms) >= MOST_NUMBERS - 1 or not {*numbers} & {*title.numbers()}):
                 by_number = self.several[key] = dict.fromkeys(title.numbers(), title)
                 del self.alone[key]
             if by_number is not None:
