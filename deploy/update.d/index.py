@@ -1,6 +1,6 @@
 """The index of a version: its titles by number, by title and by word, for the front door. docs/INDEX.md describes the
-files. Run as a program it makes the index of a version that has none: index.py VERSION."""
-import collections, os, sys
+files."""
+import collections, os
 import title_list, word_sets
 from identifiers import standard
 from index_files import digest, write, write_lines
@@ -12,19 +12,19 @@ DIGITS, KEY_DIGITS = 3, 16  # of an MD5 sum: in the names of keys/, and before t
 MOST_LINES = 50  # of a key
 
 
-def format_text(has_list):
-    return f"{FORMAT} {'list' if has_list else 'no list'}\n"
+def begin(folder, has_list):
+    """Makes the folder of an index, with the format in which it will be."""
+    os.mkdir(folder)
+    write(folder, "format", f"{FORMAT} {'list' if has_list else 'no list'}\n".encode())
 
 
-def make(folder, tables, has_list=True):
-    """Makes the index of tables, pairs of a target's name and its table as it came, in a folder that does not exist."""
+def make(folder, has_list, tables):
+    """Makes the index of tables, pairs of a target's name and its table as it came, in its folder."""
     titles = Titles()
     for target, table in tables:
         titles.add_table(target, table)
     found, related = titles.finish()
     del titles
-    os.mkdir(folder)
-    write(folder, "format", format_text(has_list).encode())
     write_keys(os.path.join(folder, "keys"), found, related)
     if has_list:
         for kind in "jb":
@@ -76,16 +76,3 @@ def few_of_each_key(lines):
         last, count = (key, count + 1) if key == last else (key, 1)
         if count <= MOST_LINES:
             yield line
-
-
-if __name__ == "__main__":
-    version = sys.argv[1]
-    with open(os.path.join(version, "registry.tsv"), encoding="utf-8") as registry:
-        names = [line.split("\t")[0] for line in registry if line.strip()]
-
-    def received():
-        for name in names:
-            with open(os.path.join(version, "received", f"{name}.txt"), "rb") as file:
-                yield name, file.read()
-
-    make(os.path.join(version, "index"), received())

@@ -5,9 +5,10 @@
     received/NAME.txt
     code/NAME.olk          the compiled rules
     tables/NAME.txt        the table with its moving walls
+    index/                 the index of titles, for the front door
 """
 import dataclasses, filecmp, os
-import holdings
+import holdings, index
 from outcome import Failure, Refused
 from program import is_allowed
 
@@ -52,8 +53,10 @@ def kept(version, name):
 class Maker:
     """Makes one version in a folder, of the targets of a list and an older version (None: there is none)."""
 
-    def __init__(self, folder, older, program, today, report):
+    def __init__(self, folder, older, program, today, report, has_list=True):
+        """With an index that has the list of titles, or has not."""
         self.folder, self.older, self.program, self.today, self.report = folder, older, program, today, report
+        self.has_list = has_list
         self.names, self.kept, self.left_out = [], [], []
         for part in ("received", "code", "tables"):
             os.mkdir(os.path.join(folder, part))
@@ -68,6 +71,12 @@ class Maker:
             raise Failure("no target is left")
         lines = [f"{name}\tcode/{name}.olk\ttables/{name}.txt\n" for name in self.names]
         self.write("registry.tsv", "".join(lines).encode())
+        index.begin(os.path.join(self.folder, "index"), self.has_list)
+
+    def make_index(self):
+        """Makes the index of the version, which takes longest. The tables are those that came, without moving walls."""
+        index.make(os.path.join(self.folder, "index"), self.has_list,
+                   ((name, content(os.path.join(self.folder, f"received/{name}.txt"))) for name in self.names))
 
     def names_before(self):
         """The names of the targets of the older version."""
@@ -185,8 +194,8 @@ def names_in(version):
 
 
 def is_same(one, other):
-    """Whether two versions serve the same."""
-    parts = ["registry.tsv"] + [f"{part}/{name}" for part in ("code", "tables", "received")
-                                for name in os.listdir(os.path.join(one, part))]
+    """Whether two versions serve the same. The first may have no index yet, but its format."""
+    parts = ["registry.tsv", "index/format"] + [f"{part}/{name}" for part in ("code", "tables", "received")
+                                                for name in os.listdir(os.path.join(one, part))]
     return all(os.path.isfile(os.path.join(other, part))
                and filecmp.cmp(os.path.join(one, part), os.path.join(other, part), shallow=False) for part in parts)
