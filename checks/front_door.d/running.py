@@ -123,7 +123,8 @@ class Site:
         text, count = re.subn(r"(    server 127\.0\.0\.1:\d+ max_fails=0;\n)+", servers, text)
         assert count == 1, "openlink.conf has no list of processes"
         for old, new in (("/etc/nginx/openlink/", self.path("openlink/")), ("/var/log/nginx/", self.path("log/")),
-                         ("/etc/openlink/current", self.path("current")), ("listen 80;", f"listen 127.0.0.1:{self.port};"),
+                         ("/etc/openlink/current", self.path("current")),
+                         ("listen 80;", f"listen 127.0.0.1:{self.port};"),
                          ("127.0.0.1:8079", f"127.0.0.1:{self.report_port}")):
             assert old in text, f"openlink.conf has no {old}"
             text = text.replace(old, new)

@@ -54,8 +54,8 @@ function setKind(q, found) {
 
 // The ISBN in the DOI of a chapter or a book.
 function isbnInDoi(q) {
-    const doi = q.first('x.doi');
-    return is(/\/97[89]/, doi) ? numbers.numbersIn([doi.replace(/^[^\/]*\//, '').replace(/_.*$/, '')], numbers.ISBN, 1) : NONE;
+    const name = q.first('x.doi').replace(/^[^\/]*\//, '').replace(/_.*$/, '');
+    return is(/^97[89]/, name) ? numbers.numbersIn([name], numbers.ISBN, 1) : NONE;
 }
 function numbersAsked(q) {
     return [q.first('x.issn'), q.first('x.eissn')].concat(q.isbns).filter(Boolean);

@@ -15,8 +15,10 @@ const FIELDS = [
 
 function fieldHtml(q, field, site) {
     const value = texts.clean(field[1].split(' ').map((key) => q.first(key)).filter(Boolean)[0] || '').slice(0, 300);
-    return '<p><label for="' + field[0] + '">' + escape(word(site, field[0] + 'Field')) + '</label> <input id="' + field[0]
-        + '" name="' + field[0] + '" maxlength="300" value="' + escape(value) + '"></p>';
+    const name = field[0];
+    const label = '<label for="' + name + '">' + escape(word(site, name + 'Field')) + '</label>';
+    return '<p>' + label + ' <input id="' + name + '" name="' + name + '" maxlength="300" value="' + escape(value)
+        + '"></p>';
 }
 function formOf(q, site) {
     const heading = word(site, 'form');

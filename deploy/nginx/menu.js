@@ -83,8 +83,8 @@ function noteHtml(note) { return note ? '<p>' + escape(note) + '</p>' : ''; }
 function numberText(number, site) { return filled(site, is(/-/, number) ? 'issn' : 'isbn', number); }
 function linkHtml(link, site) {
     const edition = link.edition ? filled(site, 'edition', numberText(link.edition, site)) : '';
-    return '<li>' + pages.anchor(link.url, link.label) + noteHtml(edition) + noteHtml(link.covered) + noteHtml(link.note)
-        + '</li>';
+    const notes = [edition, link.covered, link.note].map(noteHtml).join('');
+    return '<li>' + pages.anchor(link.url, link.label) + notes + '</li>';
 }
 
 // The link by which a reader sends the request to the library. `{}` in the library's address is the place of the
@@ -102,16 +102,17 @@ function problemHtml(q, site) {
 function actionsHtml(q, site) {
     if (q.args === '' || q.args.length > MOST_ARGS) return [];
     const link = (path, name) => '<li>' + pages.anchor(pages.addressOf(path, q.args, site), word(site, name)) + '</li>';
-    return ['<ul class="actions">', link('/cite', 'change'), link('/find.ris', 'ris'), link('/find', 'permanent'), '</ul>'];
+    return ['<ul class="actions">', link('/cite', 'change'), link('/find.ris', 'ris'), link('/find', 'permanent'),
+        '</ul>'];
 }
 
 // What is said of a request without full text: only what is certain.
 const NOTICES = { number: 'nothing', title: 'unknownTitle', identifier: 'numberAlone', nothing: 'incomplete' };
 function noticeHtml(q, groups, site) {
     if (groups[0].links.length > 0 || q.maybe.length > 0 || q.pairs.length === 0) return [];
-    const isForm = q.knowledge !== 'number' && q.args.length <= MOST_ARGS;
-    return [pages.notice(NOTICES[q.knowledge] || 'incomplete', site)]
-        .concat(isForm ? ['<p>' + pages.anchor(pages.addressOf('/cite', q.args, site), word(site, 'complete')) + '</p>'] : []);
+    const text = pages.notice(NOTICES[q.knowledge] || 'incomplete', site);
+    if (q.knowledge === 'number' || q.args.length > MOST_ARGS) return [text];
+    return [text, '<p>' + pages.anchor(pages.addressOf('/cite', q.args, site), word(site, 'complete')) + '</p>'];
 }
 function foundHtml(q, site) {
     if (!q.byTitle) return [];
@@ -136,7 +137,8 @@ function relatedHtml(q, site) {
 function pageOf(q, groups, site) {
     const cited = citation.citationOf(q, site);
     const heading = word(site, 'heading');
-    let body = [citation.citationHtml(cited, site)].concat(foundHtml(q, site), noticeHtml(q, groups, site), maybeHtml(q, site));
+    let body = [citation.citationHtml(cited, site)].concat(foundHtml(q, site), noticeHtml(q, groups, site),
+        maybeHtml(q, site));
     shownGroups(groups).forEach((g) => {
         body = body.concat(['<h2>' + escape(g.label || g.name) + '</h2>', '<ul>'],
             g.links.map((link) => linkHtml(link, site)), ['</ul>']);

@@ -50,15 +50,15 @@ function languagesHtml(site) {
     return site.languages.filter((language) => language !== site.language).map((language) => {
         const address = addressOf(site.path, site.args, { chosen: language });
         const name = languages.nameOf(language);
-        return '<li><a href="' + escape(address) + '" hreflang="' + language + '" lang="' + language + '">' + escape(name)
-            + '</a></li>';
+        return '<li><a href="' + escape(address) + '" hreflang="' + language + '" lang="' + language + '">'
+            + escape(name) + '</a></li>';
     });
 }
 function footerHtml(site) {
     const link = (path, name) => '<li>' + anchor(addressOf(path, '', site), word(site, name)) + '</li>';
-    const own = site.path && !site.isForStaff ? [link('/find', 'form')]
-        .concat(site.hasList ? [link('/journals', 'journals'), link('/books', 'books')] : []) : [];
-    const items = own.concat(helpHtml(site), linksHtml(site), languagesHtml(site));
+    const lists = site.hasList ? [link('/journals', 'journals'), link('/books', 'books')] : [];
+    const pages = site.path && !site.isForStaff ? [link('/find', 'form')].concat(lists) : [];
+    const items = pages.concat(helpHtml(site), linksHtml(site), languagesHtml(site));
     return items.length > 0 ? ['<footer>', '<ul>'].concat(items, ['</ul>', '</footer>']) : [];
 }
 

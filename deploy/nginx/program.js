@@ -31,7 +31,8 @@ function queriesOf(q) {
 // other.
 async function askAll(r, place, queries) {
     const replies = await Promise.all(queries.map((query) => ask(r, place, query)));
-    const status = replies.map((reply) => reply.status).reduce((a, b) => a === 200 || (b !== 200 && b > a) ? b : a, 200);
+    const others = replies.map((reply) => reply.status).filter((status) => status !== 200);
+    const status = others.length === 0 ? 200 : others.reduce((a, b) => Math.max(a, b));
     return { queries: queries, status: status, texts: replies.map((reply) => reply.text) };
 }
 

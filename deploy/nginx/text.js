@@ -32,5 +32,6 @@ function escape(text) {
 function isWeb(link) { return is(/^https?:\/\/[\x21-\x7e]+$/i, link); }
 
 export default {
-    own: own, is: is, isObject: isObject, set: set, padded: padded, replaced: replaced, clean: clean, escape: escape, isWeb: isWeb
+    own: own, is: is, isObject: isObject, set: set, padded: padded, replaced: replaced, clean: clean,
+    escape: escape, isWeb: isWeb
 };

@@ -18,7 +18,8 @@ function word(site, name) {
 // A word with a value, or several in their order, in the places of `{}`.
 function filled(site, name, values) {
     const list = Array.isArray(values) ? values : [values];
-    return word(site, name).split('{}').map((part, i) => i === 0 ? part : list[Math.min(i, list.length) - 1] + part).join('');
+    const valueAt = (i) => list[Math.min(i, list.length - 1)];
+    return word(site, name).split('{}').map((part, i) => i === 0 ? part : valueAt(i - 1) + part).join('');
 }
 function inLanguage(value, site) { return textOr(languages.textOf(value, site), ''); }
 function labelOf(site, target) {
