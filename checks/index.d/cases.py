@@ -69,8 +69,8 @@ def test_numbers():
 
 def test_rows():
     """Rows are counted as the program counts them, and cells read as it reads them."""
-    lines = ["", "\t".join((*COLUMNS, COLUMNS[0])), "", "Tides\t2901-0012\t\t1990", "", "", "No number", "\t", "Waves\t2908-0142",
-             "Nets\t2915-0272" + "\t" * 7 + "\tanother title\ttoo many cells"]
+    lines = ["", "\t".join((*COLUMNS, COLUMNS[0])), "", "Tides\t2901-0012\t\t1990", "", "", "No number", "\t",
+             "Waves\t2908-0142", "Nets\t2915-0272" + "\t" * 7 + "\tanother title\ttoo many cells"]
     expected = {"2901-0012": "one 0 1990", "2908-0142": "one 3", "2915-0272": "one 4"}
     for name, end in (("LF", "\n"), ("CR LF", "\r\n"), ("CR", "\r")):
         with Index({"one": b"\xef\xbb\xbf" + end.join(lines).encode()}) as found:
@@ -86,7 +86,8 @@ def test_cells():
     """Dates and embargoes as a provider writes them, and titles with markup."""
     cells = [("1995-03-01", "2000", "P1Y", "1995-03-01 2000 P1Y"), ("03/1995", "", "R10Y;P30D", "1995 - R10Y,P30D"),
              (" 1995-03 ", "1995-3-1", "p18m", "1995-03 1995 P18M"), ("12345", "19951", "", ""),
-             ("", "", "one year", ""), ("", "", "R5Y; P6M", "- - R5Y,P6M"), ("unknown", "2004-12-31", "P1Y;", "- 2004-12-31")]
+             ("", "", "one year", ""), ("", "", "R5Y; P6M", "- - R5Y,P6M"),
+             ("unknown", "2004-12-31", "P1Y;", "- 2004-12-31")]
     rows = [journal(f"Title {number}", f"300{number}-0000", "", first, last, embargo)
             for number, (first, last, embargo, _) in enumerate(cells)]
     with Index({"t": table(*rows)}) as found:
@@ -106,27 +107,31 @@ def test_cells():
 
 def test_related():
     """Earlier and later titles, within a table."""
-    with Index({"one": table(journal("Old", "2901-0012", title_id="o"), journal("New", "2908-0142", title_id="n", preceding="o"),
-                             journal("New", "2908-0142", title_id="n", preceding="o"), journal("Last", "2915-0272", preceding="n"),
-                             journal("Self", "2922-0408", title_id="s", preceding="s"), journal("Lone", "2929-0538", preceding="x"),
-                             book("Part", "1234560106", "").__add__(("p", "o"))),
-                "two": table(journal("Other", "2936-0668", preceding="o"))}) as found:
-        for number, expected in [("2901-0012", [">2908-0142 New", ">9781234560102 Part"]),
-                                 ("2908-0142", ["<2901-0012 Old", ">2915-0272 Last"]), ("2915-0272", ["<2908-0142 New"]),
-                                 ("9781234560102", ["<2901-0012 Old"]), ("2922-0408", []), ("2929-0538", []), ("2936-0668", [])]:
+    one = table(
+        journal("Old", "2901-0012", title_id="o"), journal("New", "2908-0142", title_id="n", preceding="o"),
+        journal("New", "2908-0142", title_id="n", preceding="o"), journal("Last", "2915-0272", preceding="n"),
+        journal("Self", "2922-0408", title_id="s", preceding="s"), journal("Lone", "2929-0538", preceding="x"),
+        (*book("Part", "1234560106"), "p", "o"))
+    with Index({"one": one, "two": table(journal("Other", "2936-0668", preceding="o"))}) as found:
+        for number, expected in [
+                ("2901-0012", [">2908-0142 New", ">9781234560102 Part"]),
+                ("2908-0142", ["<2901-0012 Old", ">2915-0272 Last"]), ("2915-0272", ["<2908-0142 New"]),
+                ("9781234560102", ["<2901-0012 Old"]), ("2922-0408", []), ("2929-0538", []), ("2936-0668", [])]:
             expect(f"titles before and after {number}", found.of_key(number)[0][4:], expected)
 
 
 def test_short_keys():
-    with Index({"one": table(journal("Acta: X", "2901-0012"), journal("Acta: Y", "2908-0142"), journal("Acta", "2915-0272"),
-                             journal("Acta (Online)", "2922-0408"), journal("The (Online)", "2929-0538"))}) as found:
-        expect("titles of a short key", [cells[1] for cells in found.of_key("~acta")], ["Acta (Online)", "Acta: X", "Acta: Y"])
+    with Index({"one": table(journal("Acta: X", "2901-0012"), journal("Acta: Y", "2908-0142"),
+                             journal("Acta", "2915-0272"), journal("Acta (Online)", "2922-0408"))}) as found:
+        expect("titles of a short key", [cells[1] for cells in found.of_key("~acta")],
+               ["Acta (Online)", "Acta: X", "Acta: Y"])
         expect("the title of that key", [cells[1] for cells in found.of_key("=acta")], ["Acta"])
 
 
 def test_list():
     """Letters in their order, each with pages of its own."""
-    names = ["Zoo", "The Ant", "Älter", "Bee", "Émile", "1848", "42 Days", "Ωmega", "Журнал", "中国", "...", "Ant Hill", "Ants"]
+    names = ["Zoo", "The Ant", "Älter", "Bee", "Émile", "1848", "42 Days", "Ωmega", "Журнал", "中国", "...", "Ant Hill",
+             "Ants"]
     rows = [journal(name, f"30{number:02}-0000") for number, name in enumerate(names)]
     rows += [journal(f"Crab {number:03}", f"31{number:02}-0000") for number in range(99)]
     rows += [journal("Crab 099", "3199-0000"), journal("Crab 100", "3200-0000"), book("Book", "9781234560102")]
@@ -141,9 +146,11 @@ def test_list():
         expect("a line", found.page("j", 6), [["Zoo", "3000-0000", "one 0"]])
         expect("books", (found.letters("b"), found.page("b", 0)),
                (([1, 1], {"b": (0, 1, 1)}), [["Book", "9781234560102", "one 114"]]))
-        for start, expected in [("an", ["Ant Hill", "Ants", "The Ant"]), ("ants", ["Ants"]), ("the", ["The Ant"]), ("alte", ["Älter"]),
-                                ("жур", ["Журнал"]), ("中国", ["中国"]), ("antsy", []), ("qq", []), ("42", ["42 Days"])]:
-            expect(f"words that begin with {start}", sorted(listed[place] for place in found.places("j", start)), expected)
+        for start, expected in [
+                ("an", ["Ant Hill", "Ants", "The Ant"]), ("ants", ["Ants"]), ("the", ["The Ant"]), ("alte", ["Älter"]),
+                ("жур", ["Журнал"]), ("中国", ["中国"]), ("antsy", []), ("qq", []), ("42", ["42 Days"])]:
+            expect(f"words that begin with {start}", sorted(listed[place] for place in found.places("j", start)),
+                   expected)
         expect("a frequent word", (len(found.places("j", "cr")), len(found.places("j", "crab"))), (101, 101))
         expect("a form for the halving", list(check_form(found)), [])
     with Index({"one": table(*rows)}, has_list=False) as found:
@@ -154,9 +161,9 @@ def test_list():
 def test_limits():
     """Hostile tables: the index stays small, and nothing takes time that grows with the square of the rows."""
     many = 3000
-    chained = [journal("Chain", f"{1000000 + number}0"[:8], f"{1000001 + number}0"[:8]) for number in range(many)]
-    with Index({"chain": table(*chained), "rows": table(*[journal("Rows", "2901-0012", "", str(1000 + number)) for number in range(201)]),
-                "few": table(journal("Rows", "2901-0012")),
+    with Index({"chain": table(*[journal("Chain", f"{1000000 + number}0", f"{1000001 + number}0")
+                                 for number in range(many)]),
+                "rows": table(*[journal("Rows", "2901-0012")] * 201), "few": table(journal("Rows", "2901-0012")),
                 "same": table(*[journal(f"Title {number}", "0000-0000") for number in range(many)]),
                 "names": table(*[journal("Name", f"{5000000 + number}X") for number in range(many)])}) as found:
         expect("numbers of a title", len(found.of_key("=chain")[0][2].split(" ")), 40)
@@ -165,14 +172,21 @@ def test_limits():
         expect("titles of a key", len(found.of_key("=name")), 50)
         expect("they are all in the list", len(found.listed("j")), 2 + 2 * many)
         expect("a form for the halving", list(check_form(found)), [])
-    with Index({"rows": table(*[journal("Rows", "2901-0012")] * 150), "more": table(*[journal("Rows", "2901-0012")] * 100)}) as found:
+    row = journal("Rows", "2901-0012")
+    with Index({"rows": table(*[row] * 150), "more": table(*[row] * 100)}) as found:
         expect("a target whose rows have no room", found.coverage_of("2901-0012"),
                [";".join(f"rows {number}" for number in range(150))])
-    letters = "abcdefghijklmnopqrstuvwxyz"
-    long = [journal(" ".join("zz" + "".join(letters[(number >> bit) % 26] for bit in range(0, 60)) for _ in range(6)), f"{6000000 + number}0")
-            for number in range(many)]
-    with Index({"long": table(*long)}) as found:
-        expect("long words", list(check_form(found)), [])
 
 
-TESTS = [test_titles, test_numbers, test_rows, test_cells, test_related, test_short_keys, test_list, test_limits]
+def test_large_files():
+    """Lines for which the front door cannot read a file are left out of it."""
+    words = [f"zzz{'abcdefghij'[number % 10]}{number:053}" for number in range(64000)]
+    rows = [journal(" ".join(words[start:start + 8]), f"{3000000 + start}0") for start in range(0, len(words), 8)]
+    with Index({"t": table(*rows)}) as found:
+        expect("a form for the halving", list(check_form(found)), [])
+        longest = max(int(found.bytes("words", "j", name).partition(b"\n")[0]) for name in found.names("words", "j"))
+        expect(f"the text of a file of words ends at its limit: {longest}", (4 << 20) - 80 < longest <= (4 << 20) + 8)
+
+
+TESTS = [test_titles, test_numbers, test_rows, test_cells, test_related, test_short_keys, test_list, test_limits,
+         test_large_files]

@@ -46,8 +46,8 @@ CASES = [
     ("A" * 499 + " é", "a" * 499, ""),
     ("A" * 600 + ": b", "a" * 500, ""),
 ]
-PIECES = [*" '’:=()[]-–—&;<>/#xliugnABCXYZabcßéÉàñЙйΣςσ\u0301\u00ad\u200b１Ⅳﬁ漢語😀", "&amp;", "&eacute;", "&#39;", "&#x2019;",
-          "<i>", "</i>", "the ", "The ", "L'", "l’", "un'", "Die ", " : ", " - "]
+PIECES = [*" '’:=()[]-–—&;<>/#xliugnABCXYZabcßéÉàñЙйΣςσ\u0301\u00ad\u200b１Ⅳﬁ漢語😀", "&amp;", "&eacute;", "&#39;",
+          "&#x2019;", "<i>", "</i>", "the ", "The ", "L'", "l’", "un'", "Die ", " : ", " - "]
 SCRIPT = """import titles from 'titles.js';
 import fs from 'fs';
 globalThis.fold = JSON.parse(fs.readFileSync('fold.json'));
@@ -76,7 +76,8 @@ def texts():
     found += [f"a{chr(code)}b" for code in codes if not 0xd800 <= code < 0xe000]
     # Texts of 32 characters and of their multiples, since njs has found their ends hard.
     found += ["".join(source.choices(PIECES, k=source.randrange(1, 25))) for _ in range(4000)]
-    found += [text for length in (32, 64, 96) for text in ("é" * length, "a" * (length - 1) + "é", "é" * (length - 1) + "–")]
+    for length in (32, 64, 96):
+        found += ["é" * length, "a" * (length - 1) + "é", "é" * (length - 1) + "–", "ab" * (length // 2 - 1) + "é&amp;"]
     return [text.replace("\n", " ") for text in found]
 
 

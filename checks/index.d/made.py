@@ -133,7 +133,8 @@ def test_made_titles():
         expected, lines = {}, list(lines_of(found))
         for name, key, names, *cells in reference.lines():
             expected.setdefault((name, key, *cells), []).append(names)
-        missing = [line for line in lines if not any(line[2] in names for names in expected.get((*line[:2], *line[3:]), ()))]
+        missing = [(name, key, title, *cells) for name, key, title, *cells in lines
+                   if not any(title in names for names in expected.get((name, key, *cells), ()))]
         expect("each line is one of the reference", missing[:3], [])
         expect("so many lines", len(lines), len(reference.lines()))
         for kind in "jb":
@@ -142,7 +143,8 @@ def test_made_titles():
 
 def check_list(found, kind, titles):
     listed = found.listed(kind)
-    expect(f"titles in the list {kind}", sorted(map(key_of, listed.values())), sorted(title[0]["key"] for title in titles))
+    expect(f"titles in the list {kind}", sorted(map(key_of, listed.values())),
+           sorted(title[0]["key"] for title in titles))
     expect(f"their number {kind}", found.letters(kind)[0][0], len(titles))
     for letter, (first, pages, count) in found.letters(kind)[1].items():
         keys = [key_of(line[0]) for number in range(first, first + pages) for line in found.page(kind, number)]

@@ -8,8 +8,8 @@ ISBN_13 = re.compile(r"97[89]\d{10}", re.A)
 
 
 def form_of(cell):
-    """The number in a cell in the form that finds its row: an ISSN with its hyphen, or an ISBN of ten or thirteen digits;
-    '' if there is none."""
+    """The number in a cell in the form that finds its row: an ISSN with its hyphen, or an ISBN of ten or thirteen
+    digits; '' if there is none."""
     text = cell.replace("-", "").replace(" ", "").upper()
     if ISSN.fullmatch(text):
         return f"{text[:4]}-{text[4:]}"

@@ -74,7 +74,7 @@ class Maker:
         index.begin(os.path.join(self.folder, "index"), self.has_list)
 
     def make_index(self):
-        """Makes the index of the version, which takes longest. The tables are those that came, without moving walls."""
+        """Makes the index, which takes longest. Its tables are those that came, without moving walls."""
         index.make(os.path.join(self.folder, "index"), self.has_list,
                    ((name, content(os.path.join(self.folder, f"received/{name}.txt"))) for name in self.names))
 
