@@ -2,6 +2,7 @@
 import http.client, json, os, random, re, shutil, signal, socket, subprocess, sys, tempfile
 
 sys.path.insert(0, os.path.join(os.path.dirname(os.path.dirname(os.path.abspath(__file__))), "shared"))
+from library_index import write_index
 from patience import patience, wait_until
 
 PROGRAM = os.path.abspath("crates/openlink/out/openlink")
@@ -80,7 +81,7 @@ class Site:
             subprocess.run(["examples/library/build", PROGRAM, self.folder], check=True, stdout=subprocess.DEVNULL)
         else:
             self.write_registry()
-        self.write_index()
+        write_index(self.path("registry.tsv"), self.program_folder or ".", self.path("current"))
         self.write_configuration()
 
     def path(self, name):
@@ -103,17 +104,6 @@ class Site:
                 subprocess.run([PROGRAM, "compile", self.path(f"rules/{name}.rules"), self.path(code)], check=True,
                                stdout=subprocess.DEVNULL)
                 registry.write(f"{name}\t{code}\ttables/{os.path.basename(table)}\n")
-
-    def write_index(self):
-        """The index of the version in use, as the update makes it of the tables that the registry names."""
-        os.makedirs(self.path("current/received"))
-        shutil.copy(self.path("registry.tsv"), self.path("current"))
-        with open(self.path("registry.tsv")) as registry:
-            for line in registry:
-                name, _, table = line.rstrip("\n").split("\t")
-                path = os.path.join(self.program_folder or ".", table)
-                shutil.copy(path, self.path(f"current/received/{name}.txt"))
-        subprocess.run([sys.executable, "-B", "deploy/update.d/index.py", self.path("current")], check=True)
 
     def write_configuration(self):
         """The site as it is copied, with the paths and ports of this folder."""

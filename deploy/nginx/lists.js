@@ -65,7 +65,7 @@ function lettersHtml(kind, found, shown, site) {
     return navigation('letters', found.letters.map((it) => {
         const name = letterName(it.letter, site);
         const address = pages.addressOf(letterPath(kind, it.letter, 1), '', site);
-        return it.letter === shown ? '<li><strong aria-current="page">' + escape(name) + '</strong></li>'
+        return it.letter === shown ? '<li><strong>' + escape(name) + '</strong></li>'
             : '<li>' + pages.anchor(address, name) + '</li>';
     }), site);
 }
