@@ -58,6 +58,12 @@ class FrontDoor(Site):
     def write_registry(self):
         """The library has one."""
 
+    def version(self):
+        return self.library.path("current")
+
+    def write_version(self):
+        """The update makes it."""
+
     def start_process(self, port):
         self.supervisors.append(Supervisor(self.library, port))
 
