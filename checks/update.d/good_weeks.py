@@ -103,7 +103,7 @@ def test_warnings():
         status, printed = library.run()
         expect("a warning", status, 1)
         expect_lines("a warning", printed,
-                     f"  {library.input.path('book-house.txt')}: rows without an identifier 1, first 2")
+                     f"  {library.input.path('book-house.txt')}: rows without an identifier 1, first 3")
         library.input.allowed["book-house"] = "rows 0; rows without an identifier"
         library.input.write_list()
         expect("it is allowed", library.run()[0], 0)

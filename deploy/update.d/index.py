@@ -1,6 +1,6 @@
 """The index of a version: its titles by number, by title and by word, for the front door. docs/INDEX.md describes the
-files."""
-import collections, os
+files. Run as a program it makes the index of the tables that a registry names: index.py REGISTRY FOLDER"""
+import collections, os, sys
 import title_list, word_sets
 from identifiers import standard
 from index_files import digest, write, write_lines
@@ -76,3 +76,17 @@ def few_of_each_key(lines):
         last, count = (key, count + 1) if key == last else (key, 1)
         if count <= MOST_LINES:
             yield line
+
+
+def tables_of(registry):
+    """Yields the name and the table of each target of a registry, whose paths are relative to the present folder."""
+    with open(registry, encoding="utf-8") as lines:
+        cells = [line.rstrip("\r\n").split("\t") for line in lines if line.strip()]
+    for name, _, path in cells:
+        with open(path, "rb") as table:
+            yield name, table.read()
+
+
+if __name__ == "__main__":
+    begin(sys.argv[2], True)
+    make(sys.argv[2], True, tables_of(sys.argv[1]))
