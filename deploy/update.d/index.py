@@ -2,7 +2,6 @@
 files. Run as a program it makes the index of the tables that a registry names: index.py REGISTRY FOLDER"""
 import collections, os, sys
 import title_list, word_sets
-from identifiers import standard
 from index_files import digest, write, write_lines
 from title_groups import Titles
 from titles import short_key
@@ -52,7 +51,7 @@ def write_keys(folder, titles, related):
 
 def lines_of(title, related):
     """The lines of a title, each after the name of its file."""
-    cells = f"{kind_of(title)}\t{title.name}\t{' '.join(title.forms)}"
+    cells = f"{kind_of(title)}\t{title.name}\t{title.forms}"
     short = short_key(title.name)
     for sign, key in (("=", title.key), ("~", short if short != title.key else "")):
         if key:
@@ -64,7 +63,7 @@ def lines_of(title, related):
 
 
 def related_text(earlier, later):
-    return "".join(f"\t{sign}{standard(title.forms[0])} {title.name}"
+    return "".join(f"\t{sign}{title.numbers()[0]} {title.name}"
                    for sign, titles in (("<", earlier), (">", later)) for title in titles)
 
 
