@@ -74,7 +74,7 @@ class FrontDoor(Site):
 
 
 class Library:
-    def __init__(self, names=SMALL, processes=2, probes=30, folder=None):
+    def __init__(self, names=SMALL, processes=2, probes=33, folder=None):
         """A library in use in week A."""
         self.room = tempfile.mkdtemp(prefix="update.", dir="/dev/shm" if os.access("/dev/shm", os.W_OK) else None)
         os.chmod(self.room, 0o755)  # nginx reads the index as a user of its own
