@@ -29,7 +29,8 @@ def test_weeks():
         first = library.current()
         library.input.replace("coastal-law.txt", "Papers on Piers", "Papers on Quays")
         status, printed = library.run()
-        expect("a probe whose title has gone", (status, library.current(), targets(library)), (3, first, ["coastal-law"]))
+        expect("a probe whose title has gone", (status, library.current(), targets(library)),
+               (3, first, ["coastal-law"]))
         expect_lines("a probe whose title has gone", printed, "  missing coastal-law: no row")
         library.input.write("probes.tsv", b"title=papers+on+quays&volume=5&date=1994\tcoastal-law\n")
         status, printed = library.run()
