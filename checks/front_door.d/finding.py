@@ -1,4 +1,4 @@
-"""Tests of what the front door takes from the index of the version: titles, numbers and coverage, lists and searches; and
+"""Tests of what the front door takes from the index of the version: titles, numbers, coverage, lists and searches; and
 of the form, RIS, languages, logo and links. The library is the sample."""
 import html, json, re
 from urllib.parse import quote
@@ -135,7 +135,8 @@ def test_coverage(it):
     saltmarsh = it.site.get("/find?issn=3020-2353&date=1995", headers=GERMAN).text
     it.expect("a wall", "AggregateNet</a><p>ab 1990, ohne die letzten 18 Monate</p>" in saltmarsh)
     loan = it.link("issn=2992-183X&atitle=x", "interlibrary-loan")
-    it.expect("a target for every request", (loan["label"], loan.get("coverage")), ("Request by interlibrary loan", None))
+    it.expect("a target for every request", (loan["label"], loan.get("coverage")),
+              ("Request by interlibrary loan", None))
 
 
 def test_certain(it):
@@ -223,12 +224,12 @@ def test_lists(it):
 
 
 def test_hostile(it):
-    for target in ("/journals?q=", "/books?q=", "/cite?atitle=", "/find.ris?atitle=", "/find.ris?rft.au=", "/find?title=",
-                   "/find?lang=", "/journals/a/1?lang=", "/cite?genre="):
+    for target in ("/journals?q=", "/books?q=", "/cite?atitle=", "/find.ris?atitle=", "/find.ris?rft.au=",
+                   "/find?title=", "/find?lang=", "/journals/a/1?lang=", "/cite?genre="):
         reply = it.site.get(target + quote(HOSTILE))
         is_page = "ris" not in target
-        it.expect(f"hostile {target}", (reply.status, is_page and re.findall("<script|<img", reply.text)),
-                  (200, [] if is_page else False))
+        found = re.findall("<script|<img", reply.text) if is_page else []
+        it.expect(f"hostile {target}", (reply.status, found), (200, []))
         it.expect(f"hostile {target}: control characters",
                   re.findall("[\x00-\x09\x0b\x0c\x0e-\x1f\x7f-\x9f\ufffe\u2028]", reply.text), [])
         if "ris" in target:

@@ -2,7 +2,7 @@
 import glob, json, os, re, shutil, socket, subprocess, sys, tempfile, time
 from urllib.parse import quote
 from running import FOR_EVERY_REQUEST, Site, free_ports
-import cut_short, finding, restarts, speed, staff, targets
+import cut_short, finding, lookups, restarts, speed, staff, targets
 from patience import patience, wait_until
 
 HERE = os.path.dirname(os.path.abspath(__file__))
@@ -465,6 +465,10 @@ def test_finding(site):
     finding.test(site, expect, tidy)
 
 
+def test_lookups(site):
+    lookups.test(site, expect, tidy)
+
+
 def test_limit(site):
     """Twenty requests of one address at a time; the next one gets a page with status 429. Each of the twenty has passed
     the limit once nginx asks for its body, which does not come."""
@@ -580,7 +584,7 @@ def main():
         expect("nginx -t", (status, text if status else ""), (0, ""))
         site.start()
         for test in (test_requests, test_page, test_json, test_languages, test_go, test_hostile, test_form,
-                     test_passed_on, test_staff, test_finding, test_faults,
+                     test_passed_on, test_staff, test_finding, test_lookups, test_faults,
                      test_limit, test_hostile_labels, test_restarts, test_cut_short, test_logs):
             test(site)
     finally:

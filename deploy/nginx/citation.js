@@ -8,7 +8,7 @@ const word = words.word;
 const filled = words.filled;
 
 function authorOf(q, site) {
-    const authors = q.all('rft.au').map(clean).filter(Boolean);
+    const authors = q.has('rft.au') ? q.all('rft.au').map(clean).filter(Boolean) : [];
     const given = clean(q.first('rft.aufirst') || q.first('rft.auinit') || q.first('rft.auinit1'));
     const last = clean(q.first('rft.aulast'));
     if (authors.length > 3) return filled(site, 'others', authors.slice(0, 3).join('; '));
@@ -18,16 +18,16 @@ function authorOf(q, site) {
 
 // What the page and the JSON say of a request, and the keys that it is taken from.
 const CITED = {
-    title: 'rft.atitle rft.btitle rft.title', journal: 'rft.jtitle rft.stitle rft.btitle rft.title', year: 'rft.date',
-    volume: 'rft.volume', issue: 'rft.issue', pages: 'rft.pages rft.spage rft.artnum',
-    doi: 'x.doi', pmid: 'x.pmid', issn: 'x.issn', isbn: 'x.isbn'
+    title: ['rft.atitle', 'rft.btitle', 'rft.title'], journal: ['rft.jtitle', 'rft.stitle', 'rft.btitle', 'rft.title'],
+    year: ['rft.date'], volume: ['rft.volume'], issue: ['rft.issue'], pages: ['rft.pages', 'rft.spage', 'rft.artnum'],
+    doi: ['x.doi'], pmid: ['x.pmid'], issn: ['x.issn'], isbn: ['x.isbn']
 };
 function citationOf(q, site) {
     const citation = {};
     const author = authorOf(q, site);
     if (author !== '') citation.author = author;
     Object.keys(CITED).forEach((name) => {
-        const found = CITED[name].split(' ').map((key) => clean(q.first(key))).filter(Boolean);
+        const found = CITED[name].map((key) => q.first(key)).filter(Boolean).map(clean).filter(Boolean);
         if (found.length > 0) citation[name] = name === 'year' ? found[0].slice(0, 4) : found[0];
     });
     if (citation.journal === citation.title) delete citation.journal;

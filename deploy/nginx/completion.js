@@ -110,9 +110,10 @@ function furtherQueries(q, known) {
 
 // The titles that a request may mean, if its numbers are not known: those of its title, and those without a subtitle.
 async function addMaybe(r, q) {
+    if (q.titles.length > 0) return;
     const title = titleAsked(q);
     const key = titles.keyOf(title);
-    if (key === '' || q.titles.length > 0) return;
+    if (key === '') return;
     const exact = q.exact || await titlesOfKey(r, q, ['=' + key]);
     const short = titles.shortKey(title);
     const keys = ['~' + key].concat(short ? ['=' + short, '~' + short] : NONE);

@@ -13,14 +13,15 @@ const LANGUAGE = /(?:^|&)lang=([a-z]{2,8}(?:-[a-z0-9]{1,8})*)(?=&|$)/i;
 // The site in the reader's language. `path` and `args` are the page's own address without the language.
 function siteOf(r) {
     const sent = r.uri === '/fault' ? '' : sentBy(r);
-    const asked = is(LANGUAGE, sent) ? LANGUAGE.exec(sent)[1] : undefined;
+    const asked = hasLanguage(sent) ? LANGUAGE.exec(sent)[1] : undefined;
     const site = languages.siteIn(targetsOf(), String(r.headersIn['Accept-Language'] || ''), asked);
     site.path = r.uri === '/fault' ? '' : r.uri;
     site.args = withoutLanguage(sent);
     site.hasList = r.variables.openlink_list !== 'off';
     return site;
 }
-function withoutLanguage(args) { return is(LANGUAGE, args) ? args.replace(LANGUAGE, '').replace(/^&/, '') : args; }
+function hasLanguage(args) { return args.indexOf('lang=') >= 0 && is(LANGUAGE, args); }
+function withoutLanguage(args) { return hasLanguage(args) ? args.replace(LANGUAGE, '').replace(/^&/, '') : args; }
 function send(r, status, type, text) {
     r.headersOut['Content-Type'] = type;
     r.return(status, text);
@@ -42,9 +43,13 @@ function sendFault(r, status, site) {
 // arguments reach the program as they are.
 function argsOf(r) { return withoutLanguage(sentBy(r)); }
 function sentBy(r) {
+    if (r.sent === undefined) r.sent = bytesToText(r);
+    return r.sent;
+}
+function bytesToText(r) {
     let bytes = r.rawVariables.args || Buffer.from('');
-    const isForm = is(/^application\/x-www-form-urlencoded\b/i, String(r.headersIn['Content-Type']));
-    if (r.method === 'POST' && isForm && r.requestBuffer) {
+    const isForm = (type) => is(/^application\/x-www-form-urlencoded\b/i, type);
+    if (r.method === 'POST' && isForm(String(r.headersIn['Content-Type'])) && r.requestBuffer) {
         bytes = bytes.length > 0 ? Buffer.concat([bytes, Buffer.from('&'), r.requestBuffer]) : r.requestBuffer;
     }
     const text = bytes.toString();

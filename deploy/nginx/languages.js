@@ -11,8 +11,8 @@ const MOST_LANGUAGES = 100;
 const TAG = /^[a-z]{2,8}(?:-[a-z0-9]{1,8})*$/i;
 const RANGE = /^(\*|[a-z]{1,8}(?:-[a-z0-9]{1,8})*)\s*(?:;\s*q=(0(?:\.\d{0,3})?|1(?:\.0{0,3})?)\s*)?$/i;
 // Languages and scripts that are read from right to left.
-const RIGHT_TO_LEFT = new RegExp('^(?!.*-latn)(?:(?:ar|arc|ckb|dv|fa|he|nqo|ps|sd|syr|ug|ur|yi)(?:-|$)'
-    + '|.*-(?:arab|hebr|nkoo|syrc|thaa)(?:-|$))', 'i');
+const LANGUAGES_RTL = ' ar arc ckb dv fa he nqo ps sd syr ug ur yi ';
+const SCRIPTS_RTL = ' arab hebr nkoo syrc thaa ';
 
 const own = texts.own;
 const is = texts.is;
@@ -76,6 +76,12 @@ function offered(targets) {
     return languages.length > 0 ? languages : ['en'];
 }
 
+function isRightToLeft(language) {
+    const parts = language.toLowerCase().split('-').map((part) => ' ' + part + ' ');
+    return parts.indexOf(' latn ') < 0 && (LANGUAGES_RTL.indexOf(parts[0]) >= 0
+        || parts.slice(1).some((part) => SCRIPTS_RTL.indexOf(part) >= 0));
+}
+
 // What a language calls itself.
 function nameOf(language) {
     const name = own(wordsIn(language), 'language');
@@ -87,7 +93,7 @@ function siteIn(targets, header, asked) {
     const languages = offered(targets);
     const isChosen = asked !== undefined && languages.indexOf(asked) >= 0;
     const language = isChosen ? asked : chosen(header, languages);
-    return { language: language, main: languages[0], dir: is(RIGHT_TO_LEFT, language) ? 'rtl' : 'ltr',
+    return { language: language, main: languages[0], dir: isRightToLeft(language) ? 'rtl' : 'ltr',
         languages: languages, chosen: isChosen ? asked : '',
         words: own(targets, 'words'), groups: own(targets, 'groups'), targets: own(targets, 'targets'),
         folder: own(targets, 'folder') };
@@ -101,14 +107,15 @@ function textOf(value, site) {
     return text === undefined ? textIn(value, site.main) : text;
 }
 
-// The texts that a word may have, in the order of preference: those of targets.json come before those of the files, but
-// a plain text there is in the default language.
-function candidates(name, site) {
-    const text = own(site.words, name);
-    const ofFile = (language) => own(wordsIn(language), name);
+function textAt(value) { return typeof value === 'string' ? value.trim() : ''; }
+function inFile(name, language) { return textAt(own(wordsIn(language), name)); }
+// The text of a word, '' if there is none. Those of targets.json come before those of the files, but a plain text there
+// is in the default language.
+function wordOf(name, site) {
+    const text = site.words === undefined ? undefined : own(site.words, name);
     const isOther = site.language !== site.main && !isObject(text);
-    return (isOther ? [ofFile(site.language)] : [textIn(text, site.language), ofFile(site.language)])
-        .concat([textIn(text, site.main), ofFile(site.main)]);
+    return (text !== undefined && !isOther && textAt(textIn(text, site.language))) || inFile(name, site.language)
+        || (text !== undefined && textAt(textIn(text, site.main))) || inFile(name, site.main);
 }
 
-export default { chosen: chosen, nameOf: nameOf, siteIn: siteIn, textOf: textOf, candidates: candidates };
+export default { chosen: chosen, nameOf: nameOf, siteIn: siteIn, textOf: textOf, wordOf: wordOf };

@@ -80,7 +80,7 @@ function describe(groups, menus, site) {
 }
 
 function noteHtml(note) { return note ? '<p>' + escape(note) + '</p>' : ''; }
-function numberText(number, site) { return filled(site, is(/-/, number) ? 'issn' : 'isbn', number); }
+function numberText(number, site) { return filled(site, number.indexOf('-') >= 0 ? 'issn' : 'isbn', number); }
 function linkHtml(link, site) {
     const edition = link.edition ? filled(site, 'edition', numberText(link.edition, site)) : '';
     const notes = [edition, link.covered, link.note].map(noteHtml).join('');

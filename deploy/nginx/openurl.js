@@ -38,13 +38,14 @@ function version(q) { ['ctx_ver', 'url_ver'].forEach((key) => { correct(q, key, 
 
 // The form has one field for ISSN or ISBN, and one for DOI or PubMed number.
 function fields(q) {
+    if (!q.has('number') && !q.has('identifier')) return;
     const isIsbn = numbers.numbersIn([q.first('number')], numbers.ISBN, 1).length > 0;
     q.copy('number', isIsbn ? 'rft.isbn' : 'rft.issn');
     q.copy('identifier', is(/^\s*\d{1,9}\s*$/, q.first('identifier')) ? 'pmid' : 'id');
 }
 
 function oldKeys(q) {
-    query.OLD_KEYS.forEach((key) => { if (q.given[key]) q.copy(key, 'rft.' + key); });
+    query.OLD_KEYS.split(' ').forEach((key) => { if (q.given[key]) q.copy(key, 'rft.' + key); });
     q.copy('pid', 'rft_dat');
     if (!q.has('sid') || q.has('rfr_id')) return;
     q.add('rfr_id', 'info:sid/' + q.first('sid').replace(/^info:sid\//, ''));
@@ -133,8 +134,9 @@ function readable(value) {
 }
 function markup(q) {
     WRITTEN.forEach((key) => {
+        if (!q.has(key)) return;
         const values = q.all(key);
-        if (!values.some((value) => is(/[<&%+]/, value))) return;
+        if (!values.some((value) => ['<', '&', '%', '+'].some((char) => value.indexOf(char) >= 0))) return;
         const read = values.map(readable);
         if (read.every((value, i) => value === values[i])) return;
         q.drop(key);
@@ -147,9 +149,9 @@ const IDENTIFIERS = [
     ['x.doi', 'info:doi/',
         /^(?:(?:info:doi[\/:]|doi:|(?:https?:\/\/)?(?:dx\.|www\.)?doi\.org\/)\s*){0,3}(10\.[\d.]{4,20}\/\S+)$/i],
     ['x.pmid', 'info:pmid/', /^(?:info:pmid[\/:]|pmid:)\s*(\d{1,9})$/i],
+    ['x.pmid', 'info:pmid/', /^https?:\/\/(?:www\.)?pubmed\.gov\/(?:\?term=)?(\d+)\b/i],
     ['x.pmid', 'info:pmid/',
-        new RegExp('^(?:info:pmid[/:]|pmid:)?https?://(?:www\\.)?(?:pubmed\\.gov|(?:pubmed\\.)?ncbi\\.nlm\\.nih\\.gov'
-            + '(?:/pubmed)?)/(?:\\?term=)?(\\d+)\\b', 'i')],
+        /^https?:\/\/(?:www\.|pubmed\.)?ncbi\.nlm\.nih\.gov\/(?:pubmed\/)?(?:\?term=)?(\d+)\b/i],
     ['x.oclc', 'info:oclcnum/',
         /^(?:info:oclcnum[\/:]|oclc(?:num)?:|https?:\/\/\w*\.?worldcat\.org\/oclc\/)(?:\(\w+\))?(?:oc\w)?(\d+)$/i],
     ['rft.issn', 'urn:ISSN:', /^(?:urn:)?issn[: ]\s*(\d{4}-?\d{3}[\dx])$/i],
@@ -164,6 +166,7 @@ function identifierIn(value, key) {
     if (text.indexOf('%') >= 0) {
         try { text = decodeURIComponent(text); } catch (e) { /* not encoded twice */ }
     }
+    if (is(/^(?:info:)?pmid[\/:]http/i, text)) text = text.slice(text.indexOf('http'));
     if ((key === 'pmid' || key === 'rft.pmid') && is(/^\d{1,9}$/, text)) text = 'pmid:' + text;
     if (key === 'rft.identifier' && is(/^\d{4}-\d{3}[\dx]$/i, text)) text = 'issn:' + text;
     if (key === 'rft.identifier' && is(/^(?:97[89]-?)?(?:\d-?){9}[\dx]$/i, text)) text = 'isbn:' + text;
@@ -201,10 +204,16 @@ function issnsOf(q) { return numbers.numbersIn(q.all('rft.issn').concat(q.all('r
 function isbnsOf(q) {
     return numbers.numbersIn(q.all('rft.isbn').concat(q.all('rft.eisbn')), numbers.ISBN, MOST_ISBNS);
 }
-function hasNumber(q) { return issnsOf(q).length > 0 || isbnsOf(q).length > 0; }
-function isxns(q) {
-    const issns = issnsOf(q);
+// Whether a request has a number before the rules of WRITING. What was read is kept for them if nothing is added.
+function hasNumber(q) {
+    q.issnsRead = issnsOf(q);
     q.isbns = isbnsOf(q);
+    return q.issnsRead.length > 0 || q.isbns.length > 0;
+}
+function isxns(q) {
+    const isRead = q.issnsRead && (q.issnsRead.length > 0 || q.isbns.length > 0);
+    const issns = isRead ? q.issnsRead : issnsOf(q);
+    if (!isRead) q.isbns = isbnsOf(q);
     const found = { issn: issns[0], eissn: issns[1], isbn: q.isbns[0] };
     Object.keys(found).forEach((name) => {
         if (found[name]) ['rft.', 'x.'].forEach((form) => { q.lead(form + name, found[name]); });
@@ -222,16 +231,16 @@ function date(q) {
 const WORD = '(?:(?:vol(?:ume)?s?|bd|band|tom[eo]?|jg|jahrgang|nos?|nr|num(?:ber)?|n[\u00b0\u00ba]|iss(?:ue)?|heft|pt'
     + '|part)[.:]?\\s*|[vtnh][.:\\s]\\s*)';
 const COUNT = '([a-z]{0,3}\\d+[a-z]{0,3}(?:[-\\/\u2013]\\d+[a-z]{0,3})?)';
-const ONE = new RegExp('^' + WORD + '?' + COUNT + '[.,]?$', 'i');
-const BOTH = new RegExp('^' + WORD + '?' + COUNT + '\\s*(?:\\(\\s*' + WORD + '?' + COUNT + '\\s*\\)|[,;]?\\s*'
+const ONE = texts.lazy('^' + WORD + '?' + COUNT + '[.,]?$', 'i');
+const BOTH = texts.lazy('^' + WORD + '?' + COUNT + '\\s*(?:\\(\\s*' + WORD + '?' + COUNT + '\\s*\\)|[,;]?\\s*'
     + WORD + COUNT + ')$', 'i');
 function volume(q) {
     ['rft.volume', 'rft.issue'].forEach((key) => {
+        if (!q.has(key) || String(Number(q.first(key))) === q.first(key)) return;
         const text = numbers.plain(q.first(key));
-        if (is(/^\d*$/, text)) return;
-        if (is(ONE, text)) q.lead(key, ONE.exec(text)[1]);
-        if (!is(BOTH, text)) return;
-        const found = BOTH.exec(text);
+        if (is(ONE(), text)) q.lead(key, ONE().exec(text)[1]);
+        if (!is(BOTH(), text)) return;
+        const found = BOTH().exec(text);
         const values = { 'rft.volume': found[1], 'rft.issue': found[2] || found[3] };
         const other = key === 'rft.volume' ? 'rft.issue' : 'rft.volume';
         q.lead(key, values[key]);

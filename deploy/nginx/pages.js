@@ -62,14 +62,20 @@ function footerHtml(site) {
     return items.length > 0 ? ['<footer>', '<ul>'].concat(items, ['</ul>', '</footer>']) : [];
 }
 
+// Characters that HTML may not hold; those of requests are gone before, those of the library's own texts go here.
+const CONTROLS = /[\u0000-\u0009\u000b-\u001f\u007f-\u009f\u2028\u2029\ufdd0-\ufdef\ufffe\uffff]/g;
 function documentOf(title, heading, body, site) {
+    const text = linesOf(title, heading, body, site).join('\n');
+    return is(CONTROLS, text) ? texts.replaced(text, CONTROLS, ' ') : text;
+}
+function linesOf(title, heading, body, site) {
     const library = escape(word(site, 'library'));
     return ['<!DOCTYPE html>', '<html lang="' + site.language + '" dir="' + site.dir + '">', '<head>',
         '<meta charset="utf-8">', '<meta name="viewport" content="width=device-width, initial-scale=1">',
         '<title>' + escape(title) + (library && ' – ' + library) + '</title>',
         '<link rel="stylesheet" href="/menu.css">',
         '</head>', '<body>', headerHtml(site), '<main>', '<h1>' + escape(heading) + '</h1>'].filter(Boolean)
-        .concat(body, ['</main>'], footerHtml(site), ['</body>', '</html>', '']).join('\n');
+        .concat(body, ['</main>'], footerHtml(site), ['</body>', '</html>', '']);
 }
 
 const FAULTS = { 403: 'refused', 404: 'missing', 405: 'refused', 413: 'tooLong', 414: 'tooLong', 429: 'busy' };

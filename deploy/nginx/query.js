@@ -3,7 +3,6 @@ import encodings from './encodings.js';
 import texts from './text.js';
 
 const is = texts.is;
-const set = texts.set;
 const NONE = [];
 const MOST_PAIRS = 300;
 const MOST_BYTES = 12000;
@@ -20,33 +19,37 @@ const PREFIX = /^(?:info:[\w-]+[\/:]|urn:\w+:|(?:doi|pmid|oclc):|(?:https?:\/\/)
 function encode(text) { return is(UNRESERVED, text) ? text : encodeURIComponent(text); }
 
 // The columns of a KBART table. An empty cell is undefined, so a request that could write one would choose the link.
-const COLUMNS = set('publication_title print_identifier online_identifier date_first_issue_online num_first_vol_online '
-    + 'num_first_issue_online date_last_issue_online num_last_vol_online num_last_issue_online title_url first_author '
-    + 'title_id embargo_info coverage_depth notes publisher_name publication_type date_monograph_published_print '
-    + 'date_monograph_published_online monograph_volume monograph_edition first_editor parent_publication_title_id '
-    + 'preceding_publication_title_id access_type');
+const COLUMNS = ' ' + ('publication_title print_identifier online_identifier date_first_issue_online '
+    + 'num_first_vol_online num_first_issue_online date_last_issue_online num_last_vol_online '
+    + 'num_last_issue_online title_url first_author title_id embargo_info coverage_depth notes '
+    + 'publisher_name publication_type date_monograph_published_print date_monograph_published_online '
+    + 'monograph_volume monograph_edition first_editor parent_publication_title_id '
+    + 'preceding_publication_title_id access_type') + ' ';
 
 // The keys that find rows, with their forms in OpenURL 0.1. The program ignores '-' and spaces in their values.
-const NUMBER_KEYS = set('rft.issn rft.eissn rft.isbn issn eissn isbn');
+const NUMBER_KEYS = ' rft.issn rft.eissn rft.isbn issn eissn isbn ';
 function isDropped(key, value) {
-    return value.trim() === '' || key.slice(0, 2) === 'x.' || COLUMNS[key] === true
+    return value.trim() === '' || key.slice(0, 2) === 'x.' || isIn(COLUMNS, key)
         || (key === 'rft_id' && is(PREFIX, value))
-        || (NUMBER_KEYS[key] === true && is(ANY, value));
+        || (isIn(NUMBER_KEYS, key) && is(ANY, value));
 }
 
-// The keys of OpenURL in both versions, of Dublin Core, and of the form of the site.
-const OLD_KEYS = ('genre issn eissn isbn eisbn volume issue spage epage pages artnum date year atitle jtitle btitle '
-    + 'stitle au aulast aufirst auinit auinit1 aucorp part ssn quarter sici coden').split(' ');
-const KEYS = set(OLD_KEYS.concat(OLD_KEYS.map((key) => 'rft.' + key), ('title sid pid id doi pmid number identifier '
-    + 'ctx_ver ctx_enc url_ver url_ctx_fmt rft_id rft_dat rft_val_fmt rfr_id rft.title rft.doi rft.pmid rft.identifier '
-    + 'rft.creator rft.source rft.type rft.place rft.pub rft.edition rft.series').split(' ')).join(' '));
+// The keys of OpenURL 0.1, and those that it shares with 1.0 behind `rft.`; then all others that a rule reads. As text,
+// since nginx would make a table of them for each request.
+const OLD_KEYS = 'genre issn eissn isbn eisbn volume issue spage epage pages artnum date year atitle jtitle btitle '
+    + 'stitle au aulast aufirst auinit auinit1 aucorp part ssn quarter sici coden';
+const KEYS = ' ' + OLD_KEYS + ' title sid pid id doi pmid number identifier creator source type ctx_ver ctx_enc '
+    + 'url_ver url_ctx_fmt rft_id rft_dat rft_val_fmt rfr_id ';
+function isIn(names, key) { return names.indexOf(' ' + key + ' ') >= 0 && key.indexOf(' ') < 0; }
+function isKey(key) { return isIn(KEYS, key.slice(0, 4) === 'rft.' ? key.slice(4) : key); }
 
 // A base URL may end with a question mark, or with a query of its own, before the source adds another one.
 const SECOND_QUERY = /^((?:[\w.]+=[\w.:-]*&)*[\w.]+=[\w.:-]*)\?+([\w.]+)(?==)/;
 function withoutBase(args) {
     const text = args.charAt(0) === '?' ? args.replace(/^\?+/, '') : args;
-    const found = is(SECOND_QUERY, text.slice(0, 500)) ? SECOND_QUERY.exec(text) : null;
-    if (found === null || KEYS[found[2].toLowerCase()] !== true) return text;
+    const isSecond = text.indexOf('?') > 0 && is(SECOND_QUERY, text.slice(0, 500));
+    const found = isSecond ? SECOND_QUERY.exec(text) : null;
+    if (found === null || !isKey(found[2].toLowerCase())) return text;
     return found[1] + '&' + text.slice(found[0].length - found[2].length);
 }
 
@@ -62,7 +65,7 @@ function piecesOf(args) {
     let count = 0;
     pieces.forEach((piece) => {
         const isPart = joined.length > 0 && count < MOST_REJOINED && is(ENTITY, piece) && !is(PAIR, piece)
-            && KEYS[piece.replace(/^(?:amp;)+/i, '').toLowerCase()] !== true;
+            && !isKey(piece.replace(/^(?:amp;)+/i, '').toLowerCase());
         if (isPart && ++count) joined[joined.length - 1] += '%26' + piece;
         else joined.push(piece);
     });
@@ -108,8 +111,8 @@ Query.prototype.decode = function (raw) {
 // A key of OpenURL in small letters, however it is written.
 function nameOf(text) {
     const name = text.charAt(0) === '?' ? text.replace(/^\?+/, '') : text;
-    const small = is(/[A-Z]/, name) ? name.toLowerCase() : name;
-    return KEYS[small] === true ? small : name;
+    const small = name.toLowerCase();
+    return small !== name && isKey(small) ? small : name;
 }
 
 // Reads one pair and returns whether it has a value.

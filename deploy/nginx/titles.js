@@ -11,14 +11,14 @@ const TAG = /<\/?[A-Za-z][A-Za-z0-9:-]{0,19}(?: [^<>]{0,200})?\/?>/g;
 const ENTITY = /&(?:#([0-9]{1,7})|#[xX]([0-9A-Fa-f]{1,6})|([A-Za-z][A-Za-z0-9]{1,9}));/g;
 const SPACES = /[\x00-\x20\x7f-\xa0\u1680\u2000-\u200a\u2028\u2029\u202f\u205f\u3000]+/g;
 const APOSTROPHES = "'`\\xb4\\u02b9-\\u02bd\\u2018\\u2019\\u201b\\u2032\\uff07";
-const REMOVED = new RegExp('[' + APOSTROPHES
+const REMOVED = texts.lazy('[' + APOSTROPHES
     + '\\xad\\u0300-\\u036f\\u200b-\\u200f\\u202a-\\u202e\\u2060-\\u2064\\ufeff]+', 'g');
 const BETWEEN = '\\x00-/:-@\\[-`{-\\xbf\\xd7\\xf7\\u02c2-\\u02df\\u2000-\\u206f\\u207a-\\u207e\\u208a-\\u208e'
     + '\\u20a0-\\u20cf\\u2100-\\u214f\\u2190-\\u2bff\\u2e00-\\u2e7f\\u3000-\\u3004\\u3008-\\u303f\\u30fb'
     + '\\uff00-\\uff0f\\uff1a-\\uff20\\uff3b-\\uff40\\uff5b-\\uff65\\ufffd';
-const SEPARATORS = new RegExp('[' + BETWEEN + ']+', 'g');
-const LEADING = new RegExp('^[' + BETWEEN + APOSTROPHES + ']+');
-const ELIDED = new RegExp('^(?:gl|un|l)[' + APOSTROPHES + '] *(?=[aeiouhy])');
+const SEPARATORS = texts.lazy('[' + BETWEEN + ']+', 'g');
+const LEADING = texts.lazy('^[' + BETWEEN + APOSTROPHES + ']+');
+const ELIDED = texts.lazy('^(?:gl|un|l)[' + APOSTROPHES + '] *(?=[aeiouhy])');
 const ARTICLES = set('the a an der die das den dem des ein eine einen einem einer eines le la les un une el lo los las '
     + 'una unos unas il i gli uno');
 const END = / *(?:[:=].*| [-\u2013\u2014] .*|[(\[][^()\[\]]*[)\]] *)$/;
@@ -45,15 +45,15 @@ function folded(text) {
     return replaced(text, /[\x80-\uffff]/g, (char) => own(letters, char) || char);
 }
 function wordsIn(text) {
-    return replaced(replaced(text, REMOVED, ''), SEPARATORS, ' ').split(' ').filter(Boolean);
+    return replaced(replaced(text, REMOVED(), ''), SEPARATORS(), ' ').split(' ').filter(Boolean);
 }
 
 // The words of a title, small, without marks, apostrophes, punctuation and its leading article.
 function wordsOf(title) {
     let text = plain(title.slice(0, MOST_CHARACTERS)).toLowerCase().split('&').join(' and ');
     if (is(/[\x80-\uffff]/, text)) text = folded(text);
-    text = text.replace(LEADING, '');
-    if (is(ELIDED, text)) return wordsIn(text.replace(ELIDED, ''));
+    text = text.replace(LEADING(), '');
+    if (is(ELIDED(), text)) return wordsIn(text.replace(ELIDED(), ''));
     const words = wordsIn(text);
     return words.length > 1 && ARTICLES[words[0]] === true ? words.slice(1) : words;
 }

@@ -6,12 +6,15 @@ import texts from './text.js';
 const own = texts.own;
 const clean = texts.clean;
 
-function textOr(value, other) { return typeof value === 'string' && clean(value) !== '' ? clean(value) : other; }
+function textOr(value, other) {
+    const text = typeof value === 'string' ? clean(value) : '';
+    return text !== '' ? text : other;
+}
 function memory(site, name) { return site[name] || (site[name] = Object.create(null)); }
 function word(site, name) {
     const known = memory(site, 'knownWords');
     if (known[name] === undefined) {
-        known[name] = languages.candidates(name, site).map((text) => textOr(text, '')).filter(Boolean)[0] || '';
+        known[name] = languages.wordOf(name, site);
     }
     return known[name];
 }
