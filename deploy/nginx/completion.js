@@ -54,6 +54,7 @@ function setKind(q, found) {
 
 // The ISBN in the DOI of a chapter or a book.
 function isbnInDoi(q) {
+    if (!q.has('x.doi')) return NONE;
     const name = q.first('x.doi').replace(/^[^\/]*\//, '').replace(/_.*$/, '');
     return is(/^97[89]/, name) ? numbers.numbersIn([name], numbers.ISBN, 1) : NONE;
 }
