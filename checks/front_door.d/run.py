@@ -515,7 +515,7 @@ def test_probes(folder):
         site.start()
         with open("examples/library/probes.tsv", "rb") as probes:
             text = probes.read()
-        expect("probes of the sample library", len(re.findall(rb"^[^#\n].*\t", text, re.M)), 30)
+        expect("probes of the sample library", len(re.findall(rb"^[^#\n].*\t", text, re.M)), 33)
         expect("they hold", tried(text), (0, "", ""))
         expect("they hold with line ends of Windows", tried(text.replace(b"\n", b"\r\n")), (0, "", ""))
         listed = b"\ttidal-press aggregate-net catalogue web-search"

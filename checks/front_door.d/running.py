@@ -81,7 +81,7 @@ class Site:
             subprocess.run(["examples/library/build", PROGRAM, self.folder], check=True, stdout=subprocess.DEVNULL)
         else:
             self.write_registry()
-        write_index(self.path("registry.tsv"), self.program_folder or ".", self.path("current"))
+        self.write_version()
         self.write_configuration()
 
     def path(self, name):
@@ -105,6 +105,13 @@ class Site:
                                stdout=subprocess.DEVNULL)
                 registry.write(f"{name}\t{code}\ttables/{os.path.basename(table)}\n")
 
+    def version(self):
+        """The folder of the version in use, of which nginx serves the index."""
+        return self.path("current")
+
+    def write_version(self):
+        write_index(self.path("registry.tsv"), self.program_folder or ".", self.version())
+
     def write_configuration(self):
         """The site as it is copied, with the paths and ports of this folder."""
         with open("deploy/nginx/openlink.conf") as file:
@@ -113,7 +120,7 @@ class Site:
         text, count = re.subn(r"(    server 127\.0\.0\.1:\d+ max_fails=0;\n)+", servers, text)
         assert count == 1, "openlink.conf has no list of processes"
         for old, new in (("/etc/nginx/openlink/", self.path("openlink/")), ("/var/log/nginx/", self.path("log/")),
-                         ("/etc/openlink/current", self.path("current")),
+                         ("/etc/openlink/current", self.version()),
                          ("listen 80;", f"listen 127.0.0.1:{self.port};"),
                          ("127.0.0.1:8079", f"127.0.0.1:{self.report_port}")):
             assert old in text, f"openlink.conf has no {old}"

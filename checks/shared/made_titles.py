@@ -1,14 +1,14 @@
-"""Tables of made titles, as like those of providers as they need to be: words as frequent as in real titles, numbers with
-check digits, and years. The same number gives the same tables."""
-import random
+"""Tables of made titles, as like those of providers as a test needs: words as frequent as in texts, numbers with check
+digits, and years. The same seed gives the same tables."""
+import itertools, random
 
 HEADER = ("publication_title\tprint_identifier\tonline_identifier\tdate_first_issue_online\tnum_first_vol_online\t"
           "num_first_issue_online\tdate_last_issue_online\tnum_last_vol_online\tnum_last_issue_online\ttitle_url\t"
           "first_author\ttitle_id\tembargo_info\tcoverage_depth\tnotes\tpublisher_name\tpublication_type")
-FREQUENT = ("of the and in for on to an a journal international research studies review science annals proceedings "
-            "handbook introduction history theory applications european american new advances der die und la de").split()
-SYLLABLES = ("an ber co da el fra go hi in jo ka lu me no or pra qui re so ta ul ve wa xe yo zu tion ment logy graph ics "
-             "ism ity er ing al ä é ö").split()
+FREQUENT = ("of the and in for on to an a journal international research studies review science annals handbook "
+            "proceedings introduction history theory applications european american new advances der die und").split()
+SYLLABLES = ("an ber co da el fra go hi in jo ka lu me no or pra qui re so ta ul ve wa xe yo zu tion ment logy graph "
+             "ics ism ity er ing al ä é ö").split()
 
 
 def words(source, count):
@@ -34,12 +34,8 @@ class Made:
     def __init__(self, seed=1, vocabulary=60000):
         self.source = random.Random(seed)
         self.words = words(self.source, vocabulary)
-        # A word is as frequent as in texts: the tenth has a tenth of the places of the first.
-        self.weights = [sum(1 / rank for rank in range(1, 2))]
-        total, self.sums = 0.0, []
-        for rank in range(1, len(self.words) + 1):
-            total += 1 / rank
-            self.sums.append(total)
+        # The tenth word has a tenth of the places of the first.
+        self.sums = list(itertools.accumulate(1 / rank for rank in range(1, len(self.words) + 1)))
 
     def title(self):
         chosen = self.source.choices(self.words, cum_weights=self.sums, k=self.source.randrange(2, 10))

@@ -29,7 +29,8 @@ def test_full_disk():
             with Library(folder=os.path.join(folder, "library")) as library:
                 rooms = (0, 16, 64, 120, 180, 240, 300, 360, 420, 480)
                 statuses = fill(library, rooms, lambda room: fill_bytes(folder, room * 1024))
-                expect(f"a full disk: {statuses}", (set(statuses[:-1]), len(statuses) > 4, statuses[-1]), ({4}, True, 0))
+                expect(f"a full disk: {statuses}", (set(statuses[:-1]), len(statuses) > 4, statuses[-1]),
+                       ({4}, True, 0))
 
 
 def test_no_file_left():
@@ -41,7 +42,8 @@ def test_no_file_left():
                 return
             with Library(folder=os.path.join(folder, "library")) as library:
                 statuses = fill(library, (0, 20, 40, 80, 100, 110, 120, 130), lambda room: fill_files(folder, room))
-                expect(f"no file left: {statuses}", (set(statuses[:-1]), len(statuses) > 4, statuses[-1]), ({4}, True, 0))
+                expect(f"no file left: {statuses}", (set(statuses[:-1]), len(statuses) > 4, statuses[-1]),
+                       ({4}, True, 0))
             with Library(folder=os.path.join(folder, "other")) as library:
                 library.input.deliver("B")
                 first, filler = library.current(), os.path.join(folder, "filler")

@@ -122,7 +122,7 @@ async function addMaybe(r, q) {
     q.maybe = q.maybe.slice(0, MOST_MAYBE);
 }
 async function titlesOfKey(r, q, keys) {
-    const all = await index.titlesOfAll(r, keys);
+    const all = keys.length === 1 ? await index.titlesOf(r, keys[0]) : await index.titlesOfAll(r, keys);
     return ofKind(q, all);
 }
 

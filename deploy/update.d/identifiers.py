@@ -8,12 +8,12 @@ ISBN_13 = re.compile(r"97[89]\d{10}", re.A)
 
 
 def form_of(cell):
-    """The number in a cell in the form that finds its row: an ISSN with its hyphen, or an ISBN of ten or thirteen digits;
-    '' if there is none."""
+    """The number in a cell in the form that finds its row: an ISSN with its hyphen, or an ISBN of ten or thirteen
+    digits; '' if there is none."""
     text = cell.replace("-", "").replace(" ", "").upper()
-    if ISSN.fullmatch(text):
-        return f"{text[:4]}-{text[4:]}"
-    return text if ISBN_13.fullmatch(text) or ISBN_10.fullmatch(text) else ""
+    if len(text) == 8:
+        return f"{text[:4]}-{text[4:]}" if ISSN.fullmatch(text) else ""
+    return text if len(text) > 8 and (ISBN_13.fullmatch(text) or ISBN_10.fullmatch(text)) else ""
 
 
 def is_issn(form):

@@ -1,8 +1,7 @@
 """The index of a version: its titles by number, by title and by word, for the front door. docs/INDEX.md describes the
-files."""
-import collections, os
+files. Run as a program it makes the index of the tables that a registry names: index.py REGISTRY FOLDER"""
+import collections, os, sys
 import title_list, word_sets
-from identifiers import standard
 from index_files import digest, write, write_lines
 from title_groups import Titles
 from titles import short_key
@@ -52,7 +51,7 @@ def write_keys(folder, titles, related):
 
 def lines_of(title, related):
     """The lines of a title, each after the name of its file."""
-    cells = f"{kind_of(title)}\t{title.name}\t{' '.join(title.forms)}"
+    cells = f"{kind_of(title)}\t{title.name}\t{title.forms}"
     short = short_key(title.name)
     for sign, key in (("=", title.key), ("~", short if short != title.key else "")):
         if key:
@@ -64,7 +63,7 @@ def lines_of(title, related):
 
 
 def related_text(earlier, later):
-    return "".join(f"\t{sign}{standard(title.forms[0])} {title.name}"
+    return "".join(f"\t{sign}{title.numbers()[0]} {title.name}"
                    for sign, titles in (("<", earlier), (">", later)) for title in titles)
 
 
@@ -76,3 +75,17 @@ def few_of_each_key(lines):
         last, count = (key, count + 1) if key == last else (key, 1)
         if count <= MOST_LINES:
             yield line
+
+
+def tables_of(registry):
+    """Yields the name and the table of each target of a registry, whose paths are relative to the present folder."""
+    with open(registry, encoding="utf-8") as lines:
+        cells = [line.rstrip("\r\n").split("\t") for line in lines if line.strip()]
+    for name, _, path in cells:
+        with open(path, "rb") as table:
+            yield name, table.read()
+
+
+if __name__ == "__main__":
+    begin(sys.argv[2], True)
+    make(sys.argv[2], True, tables_of(sys.argv[1]))

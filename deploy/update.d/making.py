@@ -53,15 +53,14 @@ def kept(version, name):
 class Maker:
     """Makes one version in a folder, of the targets of a list and an older version (None: there is none)."""
 
-    def __init__(self, folder, older, program, today, report, has_list=True):
-        """With an index that has the list of titles, or has not."""
+    def __init__(self, folder, older, program, today, report):
         self.folder, self.older, self.program, self.today, self.report = folder, older, program, today, report
-        self.has_list = has_list
         self.names, self.kept, self.left_out = [], [], []
         for part in ("received", "code", "tables"):
             os.mkdir(os.path.join(folder, part))
 
-    def make(self, targets):
+    def make(self, targets, has_list):
+        """Makes all but the index, which has the list of titles, or has not."""
         for target in targets:
             self.add(target)
         for name in self.names_before():
@@ -71,11 +70,11 @@ class Maker:
             raise Failure("no target is left")
         lines = [f"{name}\tcode/{name}.olk\ttables/{name}.txt\n" for name in self.names]
         self.write("registry.tsv", "".join(lines).encode())
-        index.begin(os.path.join(self.folder, "index"), self.has_list)
+        index.begin(os.path.join(self.folder, "index"), has_list)
 
-    def make_index(self):
-        """Makes the index of the version, which takes longest. The tables are those that came, without moving walls."""
-        index.make(os.path.join(self.folder, "index"), self.has_list,
+    def make_index(self, has_list):
+        """Makes the index, which takes longest. Its tables are those that came, without moving walls."""
+        index.make(os.path.join(self.folder, "index"), has_list,
                    ((name, content(os.path.join(self.folder, f"received/{name}.txt"))) for name in self.names))
 
     def names_before(self):
@@ -153,8 +152,7 @@ class Maker:
 
     def reasons_against(self, target, old, new):
         """Writes the new files of a target, and returns why they cannot be used."""
-        table = f"tables/{target.name}.txt"
-        rejections = self.put(target, new)
+        table, rejections = f"tables/{target.name}.txt", self.put(target, new)
         reasons = rejections + self.doubts(target.table, target.allowed, "inspect", table)
         if not new.has_code and not rejections:
             lint = self.doubts(target.rules, target.allowed, "lint", f"received/{target.name}.rules", table)

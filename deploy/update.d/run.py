@@ -31,12 +31,11 @@ class Run:
         new = library.begin()
         unfinished = library.version(f"{new}.new")
         older, program = old and library.version(old), Program(self.program, unfinished)
-        maker = Maker(unfinished, older, program, datetime.date.today(), report,
-                      self.site.has_list)
-        maker.make(targets)
+        maker = Maker(unfinished, older, program, datetime.date.today(), report)
+        maker.make(targets, self.site.has_list)
         if old and making.is_same(unfinished, library.version(old)):
             return self.say_end(maker, f"nothing new: {old} stays in use")
-        maker.make_index()
+        maker.make_index(self.site.has_list)
         with self.front_door(probes) as door:
             links = self.try_version(probes, door, unfinished, old)
             if is_trial:

@@ -11,29 +11,37 @@ parts_of = functools.lru_cache(maxsize=1024)(article_and_key)  # the next row of
 
 
 class Title:
+    """Its forms of numbers and its coverage are texts, since lists of a quarter of a million titles are large."""
     __slots__ = ("name", "article", "key", "is_journal", "columns", "forms", "coverage", "left_out", "into")
 
     def __init__(self, name):
         self.name = name
         self.article, self.key = parts_of(name)
-        self.is_journal, self.columns, self.forms, self.coverage = False, 0, [], []
+        self.is_journal, self.columns, self.forms, self.coverage = False, 0, "", ""
         self.left_out = frozenset()  # targets with too many rows
         self.into = None             # the title that this one was joined to
 
     def numbers(self):
         """Its numbers in their standard form."""
-        return list(dict.fromkeys(map(standard, self.forms)))
+        return list(dict.fromkeys(map(standard, self.forms.split(" "))))
+
+    def count(self):
+        return self.forms.count(" ") + 1
 
     def add(self, forms, columns, is_journal, coverage):
+        """Adds rows: forms of numbers, separated by spaces, and entries of the coverage, separated by semicolons."""
         self.is_journal |= is_journal
         self.columns |= columns
-        for form in forms:
-            if form not in self.forms and len(self.forms) < MOST_NUMBERS:
-                self.forms.append(form)
-        room = MOST_ROWS - len(self.coverage)
-        self.coverage += coverage[:room]
-        if len(coverage) > room:
-            self.left_out |= {entry.partition(" ")[0] for entry in coverage[room:]}
+        if self.forms != forms:
+            every = dict.fromkeys(f"{self.forms} {forms}".split())
+            self.forms = " ".join(list(every)[:MOST_NUMBERS])
+        if not self.coverage:
+            self.coverage = coverage
+            return
+        entries = f"{self.coverage};{coverage}".split(";")
+        self.coverage = ";".join(entries[:MOST_ROWS])
+        if len(entries) > MOST_ROWS:
+            self.left_out |= {entry.partition(" ")[0] for entry in entries[MOST_ROWS:]}
 
     def take(self, other):
         """Joins another title to this one."""
@@ -43,8 +51,8 @@ class Title:
 
     def coverage_text(self):
         if not self.left_out:
-            return ";".join(self.coverage)
-        return ";".join(entry for entry in self.coverage if entry.partition(" ")[0] not in self.left_out)
+            return self.coverage
+        return ";".join(entry for entry in self.coverage.split(";") if entry.partition(" ")[0] not in self.left_out)
 
 
 def root(title):
@@ -81,13 +89,14 @@ class Titles:
             title = self.alone[key] = Title(row.title)
         else:
             numbers = [standard(form) for form in row.numbers]
-            if by_number is None and not {*numbers}.intersection(title.numbers()):
+            # From the last row after which a title has all its numbers, or if there is another title.
+            if by_number is None and (title.count() >= MOST_NUMBERS - 1 or not {*numbers} & {*title.numbers()}):
                 by_number = self.several[key] = dict.fromkeys(title.numbers(), title)
                 del self.alone[key]
             if by_number is not None:
                 title = self.joined(by_number, numbers) or Title(row.title)
                 by_number.update(dict.fromkeys(numbers, title))
-        title.add(row.numbers, row.columns, row.is_journal, [row.coverage])
+        title.add(" ".join(row.numbers), row.columns, row.is_journal, row.coverage)
         return title
 
     def joined(self, by_number, numbers):

@@ -52,4 +52,4 @@ def write_pages(folder, pages, count, digits):
 
 
 def line_of(title):
-    return f"{title.name}\t{' '.join(title.forms)}\t{title.coverage_text()}"
+    return f"{title.name}\t{title.forms}\t{title.coverage_text()}"

@@ -74,8 +74,8 @@ def write_words(folder, pages, digits):
 
 
 def data_of(lines, most):
-    """The bytes of a file: its lines, and then the places of those that have all, in the shorter of two forms. They take
-    at most `most` bytes for a line."""
+    """The bytes of a file: its lines, and then the places of those that have all, in the shorter of two forms. A line's
+    places take at most `most` bytes."""
     texts, sets, size = [], [], 0
     for word, places, has_all in lines:
         if not has_all:
