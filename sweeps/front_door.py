@@ -4,11 +4,12 @@
 addresses of 127.0.0.0/8 are free, /etc/nginx is a copy with deploy/nginx in it, and every process ends with the script.
 It needs root. `Door` starts nginx and the processes of the program, with the sample library.
 """
-import os, re, resource, shutil, signal, subprocess, sys, tempfile, threading, time
+import os, re, resource, shutil, signal, socket, subprocess, sys, tempfile, threading, time
 
 TOP = os.path.dirname(os.path.dirname(os.path.abspath(__file__)))
 sys.path.insert(0, f"{TOP}/checks/shared")
 from library_index import write_index
+from patience import wait_until
 INSIDE = "FRONT_DOOR_NAMESPACES"
 
 
@@ -94,6 +95,14 @@ def hostile_lists():
             "/find.ris?" + "rft.au=%C3%A9&" * 560]
 
 
+def listens(port):
+    try:
+        socket.create_connection(("127.0.0.1", port), 5).close()
+        return True
+    except OSError:
+        return False
+
+
 class Door:
     """nginx and a supervised process of the program on each port of the site's upstream."""
 
@@ -150,7 +159,8 @@ class Door:
         hard = min(524288, resource.getrlimit(resource.RLIMIT_NOFILE)[1])
         words = ["prlimit", f"--nofile=1024:{hard}", "nginx", "-g", "daemon off;"]
         self.nginx = subprocess.Popen(on_cores(self.servers, *words))
-        time.sleep(0.7)
+        for port in (80, *self.ports):
+            assert wait_until(lambda: listens(port)), f"nothing listens at port {port}"
         assert self.nginx.poll() is None, "nginx did not start"
 
     def stop_nginx(self):

@@ -22,13 +22,15 @@ const CITED = {
     year: ['rft.date'], volume: ['rft.volume'], issue: ['rft.issue'], pages: ['rft.pages', 'rft.spage', 'rft.artnum'],
     doi: ['x.doi'], pmid: ['x.pmid'], issn: ['x.issn'], isbn: ['x.isbn']
 };
+const NAMES = Object.keys(CITED);
 function citationOf(q, site) {
     const citation = {};
     const author = authorOf(q, site);
     if (author !== '') citation.author = author;
-    Object.keys(CITED).forEach((name) => {
-        const found = CITED[name].map((key) => q.first(key)).filter(Boolean).map(clean).filter(Boolean);
-        if (found.length > 0) citation[name] = name === 'year' ? found[0].slice(0, 4) : found[0];
+    NAMES.forEach((name) => {
+        let found = '';
+        for (let i = 0; found === '' && i < CITED[name].length; i++) found = clean(q.first(CITED[name][i]));
+        if (found !== '') citation[name] = name === 'year' ? found.slice(0, 4) : found;
     });
     if (citation.journal === citation.title) delete citation.journal;
     return citation;

@@ -54,6 +54,7 @@ function setKind(q, found) {
 
 // The ISBN in the DOI of a chapter or a book.
 function isbnInDoi(q) {
+    if (!q.has('x.doi')) return NONE;
     const name = q.first('x.doi').replace(/^[^\/]*\//, '').replace(/_.*$/, '');
     return is(/^97[89]/, name) ? numbers.numbersIn([name], numbers.ISBN, 1) : NONE;
 }
@@ -121,7 +122,7 @@ async function addMaybe(r, q) {
     q.maybe = q.maybe.slice(0, MOST_MAYBE);
 }
 async function titlesOfKey(r, q, keys) {
-    const all = await index.titlesOfAll(r, keys);
+    const all = keys.length === 1 ? await index.titlesOf(r, keys[0]) : await index.titlesOfAll(r, keys);
     return ofKind(q, all);
 }
 

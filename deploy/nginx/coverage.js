@@ -23,16 +23,17 @@ function textOf(row, site) {
     const years = first && last ? (first === last ? first : words.filled(site, 'between', [first, last]))
         : first ? words.filled(site, 'since', first) : last ? words.filled(site, 'until', last) : '';
     const embargo = given(row.embargo);
-    const parts = embargo === '' ? [] : embargo.split(',').filter((part) => is(PART, part));
+    if (embargo === '') return years;
+    const parts = embargo.split(',').filter((part) => is(PART, part));
     return [years].concat(parts.map((part) => embargoText(part, site))).filter(Boolean).join(', ');
 }
 // The same as `from`, `to` and `embargo`; undefined if nothing is known.
 function dataOf(row) {
     const data = {};
-    [['from', row.first], ['to', row.last], ['embargo', row.embargo]].forEach((it) => {
-        if (given(it[1]) !== '') data[it[0]] = it[1];
-    });
-    return Object.keys(data).length > 0 ? data : undefined;
+    if (given(row.first) !== '') data.from = row.first;
+    if (given(row.last) !== '') data.to = row.last;
+    if (given(row.embargo) !== '') data.embargo = row.embargo;
+    return data.from || data.to || data.embargo ? data : undefined;
 }
 
 export default { textOf: textOf, dataOf: dataOf };

@@ -41,6 +41,8 @@ function monthIn(text) {
 
 // The date in a text; '' if no year can be read.
 function dateOf(value) {
+    const year = Number(value);
+    if (String(year) === value && year >= 1000 && year < 3000) return value;  // the usual form, without a search
     const text = plain(value);
     for (let i = 0; i < DATES.length; i++) {
         if (is(DATES[i][0], text)) return DATES[i][1](DATES[i][0].exec(text), text);

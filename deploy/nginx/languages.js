@@ -14,6 +14,7 @@ const RANGE = /^(\*|[a-z]{1,8}(?:-[a-z0-9]{1,8})*)\s*(?:;\s*q=(0(?:\.\d{0,3})?|1
 const LANGUAGES_RTL = ' ar arc ckb dv fa he nqo ps sd syr ug ur yi ';
 const SCRIPTS_RTL = ' arab hebr nkoo syrc thaa ';
 
+const HAS = Object.prototype.hasOwnProperty;
 const own = texts.own;
 const is = texts.is;
 const isObject = texts.isObject;
@@ -94,7 +95,8 @@ function siteIn(targets, header, asked) {
     const isChosen = asked !== undefined && languages.indexOf(asked) >= 0;
     const language = isChosen ? asked : chosen(header, languages);
     return { language: language, main: languages[0], dir: isRightToLeft(language) ? 'rtl' : 'ltr',
-        languages: languages, chosen: isChosen ? asked : '',
+        known: Object.create(null), languages: languages, chosen: isChosen ? asked : '',
+        file: wordsIn(language), mainFile: wordsIn(languages[0]),
         words: own(targets, 'words'), groups: own(targets, 'groups'), targets: own(targets, 'targets'),
         folder: own(targets, 'folder') };
 }
@@ -108,14 +110,15 @@ function textOf(value, site) {
 }
 
 function textAt(value) { return typeof value === 'string' ? value.trim() : ''; }
-function inFile(name, language) { return textAt(own(wordsIn(language), name)); }
+function inFile(name, words) { return words && HAS.call(words, name) ? textAt(words[name]) : ''; }
 // The text of a word, '' if there is none. Those of targets.json come before those of the files, but a plain text there
 // is in the default language.
 function wordOf(name, site) {
-    const text = site.words === undefined ? undefined : own(site.words, name);
+    const text = own(site.words, name);
+    if (text === undefined) return inFile(name, site.file) || inFile(name, site.mainFile);
     const isOther = site.language !== site.main && !isObject(text);
-    return (text !== undefined && !isOther && textAt(textIn(text, site.language))) || inFile(name, site.language)
-        || (text !== undefined && textAt(textIn(text, site.main))) || inFile(name, site.main);
+    return (!isOther && textAt(textIn(text, site.language))) || inFile(name, site.file)
+        || textAt(textIn(text, site.main)) || inFile(name, site.mainFile);
 }
 
 export default { chosen: chosen, nameOf: nameOf, siteIn: siteIn, textOf: textOf, wordOf: wordOf };

@@ -72,8 +72,9 @@ function describe(groups, menus, site) {
         const numbers = own(menus.editions, link.target);
         const row = own(menus.rows, link.target);
         if (numbers) link.edition = numbers.join(', ');
-        if (row && coverage.dataOf(row)) {
-            link.coverage = coverage.dataOf(row);
+        const data = row ? coverage.dataOf(row) : undefined;
+        if (data) {
+            link.coverage = data;
             link.covered = coverage.textOf(row, site);
         }
     }); });
@@ -83,7 +84,7 @@ function noteHtml(note) { return note ? '<p>' + escape(note) + '</p>' : ''; }
 function numberText(number, site) { return filled(site, number.indexOf('-') >= 0 ? 'issn' : 'isbn', number); }
 function linkHtml(link, site) {
     const edition = link.edition ? filled(site, 'edition', numberText(link.edition, site)) : '';
-    const notes = [edition, link.covered, link.note].map(noteHtml).join('');
+    const notes = noteHtml(edition) + noteHtml(link.covered) + noteHtml(link.note);
     return '<li>' + pages.anchor(link.url, link.label) + notes + '</li>';
 }
 

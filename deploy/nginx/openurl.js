@@ -69,8 +69,9 @@ function kindAsked(q) {
     const kind = own(KINDS, q.first('rft.genre').trim().toLowerCase());
     if (kind) return kind === 'journal' ? 'j' : 'b';
     const format = (q.given.rft_val_fmt || NONE)[0] || '';
-    if (is(/:journal$/, format)) return 'j';
-    if (is(/:(?:book|dissertation)$/, format)) return 'b';
+    const name = format.slice(format.lastIndexOf(':') + 1);
+    if (name === 'journal') return 'j';
+    if (name === 'book' || name === 'dissertation') return 'b';
     const has = (key) => q.given[key] !== undefined || q.given['rft.' + key] !== undefined;
     return has('btitle') ? 'b' : has('jtitle') || has('stitle') ? 'j' : '';
 }

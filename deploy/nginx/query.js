@@ -81,6 +81,7 @@ function Query(args) {
     this.added = Object.create(null);
     this.addedKeys = [];
     this.copied = Object.create(null);
+    this.encoded = Object.create(null);
     this.isbns = NONE;
     this.encoding = encodings.declaredIn(args);
     this.decodedTexts = 0;
@@ -164,6 +165,15 @@ Query.prototype.set = function (key, value) {
 
 function partsOf(pairs) { return pairs.map((pair) => pair.text); }
 
+// The pairs of a key that rules have added; a key of a rule needs no escape. Both queries of a request have them.
+function encodedOf(q, key) {
+    const known = q.encoded[key];
+    if (known !== undefined && known.values === q.added[key]) return known.texts;
+    const texts = q.added[key].map((value) => key + '=' + encode(value));
+    q.encoded[key] = { values: q.added[key], texts: texts };
+    return texts;
+}
+
 // The query as text, with `first` before it and without the keys of `omitted`. If it is too long, those pairs are left
 // out that a rule has copied or replaced, then pairs from the end.
 Query.prototype.text = function (first, omitted) {
@@ -171,7 +181,7 @@ Query.prototype.text = function (first, omitted) {
     const front = first === '' ? [] : [first];
     q.addedKeys.forEach((key) => {
         if (omitted[key] === true) return;
-        q.added[key].forEach((value) => { front.push(encode(key) + '=' + encode(value)); });
+        encodedOf(q, key).forEach((text) => { front.push(text); });
     });
     const pairs = q.pairs.filter((pair) => omitted[pair.key] !== true);
     let parts = front.concat(partsOf(pairs));

@@ -2,9 +2,9 @@
 //
 // The module runs in njs 0.7.9 and later. That version lacks for-of, destructuring, spread, default parameters and
 // classes. It frees no memory before the reply is sent, and `test`, `exec`, `match` and `replace` take 5 KB where
-// nothing matches, but `search` takes none: so it goes first. A function expression in an array literal turns its index
-// into a text, and `await` in arguments is no syntax. A preloaded array has no methods. Each use of a regular expression
-// costs 10 microseconds, however short the text, so what every request passes has few.
+// nothing matches, but `search` takes none: so it goes first. A function expression in an array literal turns its
+// index into a text, and `await` in arguments is no syntax. A preloaded array has no methods. Each use of a regular
+// expression costs 10 microseconds, however short the text, so what every request passes has few.
 
 const HAS = Object.prototype.hasOwnProperty;
 function own(object, key) { return object && HAS.call(object, key) ? object[key] : undefined; }
@@ -34,6 +34,7 @@ function clean(value) {
 // By `split`, since a long address may have thousands of them.
 const ENTITIES = [['&', '&amp;'], ['<', '&lt;'], ['>', '&gt;'], ['"', '&quot;'], ["'", '&#39;']];
 function escape(text) {
+    if (!is(/[&<>"']/, text)) return text;
     let all = text;
     for (let i = 0; i < ENTITIES.length; i++) {
         if (all.indexOf(ENTITIES[i][0]) >= 0) all = all.split(ENTITIES[i][0]).join(ENTITIES[i][1]);

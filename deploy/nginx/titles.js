@@ -44,17 +44,24 @@ function folded(text) {
     const letters = tableOf('letters');
     return replaced(text, /[\x80-\uffff]/g, (char) => own(letters, char) || char);
 }
-function wordsIn(text) {
-    return replaced(replaced(text, REMOVED(), ''), SEPARATORS(), ' ').split(' ').filter(Boolean);
+// A title in ASCII needs less of these forms, and the whole ones are slow to make.
+const ASCII_LEADING = /^[\x00-/:-@\[-`{-\x7f]+/;
+const ASCII_SEPARATORS = /[\x00-/:-@\[-`{-\x7f]+/g;
+const ASCII_ELIDED = /^(?:gl|un|l)['`] *(?=[aeiouhy])/;
+function wordsIn(text, isAscii) {
+    const joined = isAscii ? text.split("'").join('').split('`').join('') : replaced(text, REMOVED(), '');
+    return replaced(joined, isAscii ? ASCII_SEPARATORS : SEPARATORS(), ' ').split(' ').filter(Boolean);
 }
 
 // The words of a title, small, without marks, apostrophes, punctuation and its leading article.
 function wordsOf(title) {
     let text = plain(title.slice(0, MOST_CHARACTERS)).toLowerCase().split('&').join(' and ');
-    if (is(/[\x80-\uffff]/, text)) text = folded(text);
-    text = text.replace(LEADING(), '');
-    if (is(ELIDED(), text)) return wordsIn(text.replace(ELIDED(), ''));
-    const words = wordsIn(text);
+    const isAscii = !is(/[\x80-\uffff]/, text);
+    if (!isAscii) text = folded(text);
+    text = text.replace(isAscii ? ASCII_LEADING : LEADING(), '');
+    const elided = isAscii ? ASCII_ELIDED : ELIDED();
+    if (is(elided, text)) return wordsIn(text.replace(elided, ''), isAscii);
+    const words = wordsIn(text, isAscii);
     return words.length > 1 && ARTICLES[words[0]] === true ? words.slice(1) : words;
 }
 function keyOf(title) { return wordsOf(title).join(' '); }

@@ -4,25 +4,18 @@ import languages from './languages.js';
 import texts from './text.js';
 
 const own = texts.own;
-const clean = texts.clean;
 
-function textOr(value, other) {
-    const text = typeof value === 'string' ? clean(value) : '';
-    return text !== '' ? text : other;
-}
+function textOr(value, other) { return (typeof value === 'string' && value.trim()) || other; }
 function memory(site, name) { return site[name] || (site[name] = Object.create(null)); }
 function word(site, name) {
-    const known = memory(site, 'knownWords');
-    if (known[name] === undefined) {
-        known[name] = languages.wordOf(name, site);
-    }
-    return known[name];
+    const text = site.known[name];
+    return text !== undefined ? text : (site.known[name] = languages.wordOf(name, site));
 }
 // A word with a value, or several in their order, in the places of `{}`.
 function filled(site, name, values) {
-    const list = Array.isArray(values) ? values : [values];
-    const valueAt = (i) => list[Math.min(i, list.length - 1)];
-    return word(site, name).split('{}').map((part, i) => i === 0 ? part : valueAt(i - 1) + part).join('');
+    const parts = word(site, name).split('{}');
+    if (!Array.isArray(values)) return parts.join(values);
+    return parts.map((part, i) => i === 0 ? part : values[Math.min(i, values.length) - 1] + part).join('');
 }
 function inLanguage(value, site) { return textOr(languages.textOf(value, site), ''); }
 function labelOf(site, target) {
