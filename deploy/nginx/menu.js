@@ -102,7 +102,8 @@ function problemHtml(q, site) {
 // What the reader can do with the request: change it, take it along, come back to it.
 function actionsHtml(q, site) {
     if (q.args === '' || q.args.length > MOST_ARGS) return [];
-    const link = (path, name) => '<li>' + pages.anchor(pages.addressOf(path, q.args, site), word(site, name)) + '</li>';
+    const args = escape(pages.addressOf('', q.args, site));
+    const link = (path, name) => '<li><a href="' + path + args + '">' + escape(word(site, name)) + '</a></li>';
     return ['<ul class="actions">', link('/cite', 'change'), link('/find.ris', 'ris'), link('/find', 'permanent'),
         '</ul>'];
 }

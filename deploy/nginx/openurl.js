@@ -66,6 +66,10 @@ function kindOf(q) {
 
 // The kinds of title that a request says it wants: `j`, `b`, or '' if it may be either.
 function kindAsked(q) {
+    if (q.kind === undefined) q.kind = kindIn(q);
+    return q.kind;
+}
+function kindIn(q) {
     const kind = own(KINDS, q.first('rft.genre').trim().toLowerCase());
     if (kind) return kind === 'journal' ? 'j' : 'b';
     const format = (q.given.rft_val_fmt || NONE)[0] || '';

@@ -16,9 +16,8 @@ function anchor(url, text) { return '<a href="' + escape(url) + '">' + escape(te
 function notice(name, site) { return '<p class="nothing">' + escape(word(site, name)) + '</p>'; }
 // An address of the site, which keeps the language that the reader has chosen.
 function addressOf(path, args, site) {
-    const language = site.chosen ? 'lang=' + site.chosen : '';
-    const parts = [args, language].filter(Boolean).join('&');
-    return path + (parts === '' ? '' : '?' + parts);
+    if (!site.chosen) return args ? path + '?' + args : path;
+    return path + '?' + (args ? args + '&' : '') + 'lang=' + site.chosen;
 }
 
 function headerHtml(site) {

@@ -4,7 +4,6 @@ import texts from './text.js';
 
 const is = texts.is;
 const own = texts.own;
-const set = texts.set;
 const replaced = texts.replaced;
 const MOST_CHARACTERS = 500;
 const TAG = /<\/?[A-Za-z][A-Za-z0-9:-]{0,19}(?: [^<>]{0,200})?\/?>/g;
@@ -19,8 +18,8 @@ const BETWEEN = '\\x00-/:-@\\[-`{-\\xbf\\xd7\\xf7\\u02c2-\\u02df\\u2000-\\u206f\
 const SEPARATORS = texts.lazy('[' + BETWEEN + ']+', 'g');
 const LEADING = texts.lazy('^[' + BETWEEN + APOSTROPHES + ']+');
 const ELIDED = texts.lazy('^(?:gl|un|l)[' + APOSTROPHES + '] *(?=[aeiouhy])');
-const ARTICLES = set('the a an der die das den dem des ein eine einen einem einer eines le la les un une el lo los las '
-    + 'una unos unas il i gli uno');
+const ARTICLES = ' the a an der die das den dem des ein eine einen einem einer eines le la les un une el lo los las '
+    + 'una unos unas il i gli uno ';
 const END = / *(?:[:=].*| [-\u2013\u2014] .*|[(\[][^()\[\]]*[)\]] *)$/;
 
 function tableOf(name) { return typeof fold === 'undefined' ? {} : fold[name]; }
@@ -62,7 +61,7 @@ function wordsOf(title) {
     const elided = isAscii ? ASCII_ELIDED : ELIDED();
     if (is(elided, text)) return wordsIn(text.replace(elided, ''), isAscii);
     const words = wordsIn(text, isAscii);
-    return words.length > 1 && ARTICLES[words[0]] === true ? words.slice(1) : words;
+    return words.length > 1 && ARTICLES.indexOf(' ' + words[0] + ' ') >= 0 ? words.slice(1) : words;
 }
 function keyOf(title) { return wordsOf(title).join(' '); }
 
