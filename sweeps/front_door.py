@@ -4,9 +4,12 @@
 addresses of 127.0.0.0/8 are free, /etc/nginx is a copy with deploy/nginx in it, and every process ends with the script.
 It needs root. `Door` starts nginx and the processes of the program, with the sample library.
 """
-import os, re, resource, shutil, signal, subprocess, sys, tempfile, threading, time
+import os, re, resource, shutil, signal, socket, subprocess, sys, tempfile, threading, time
 
 TOP = os.path.dirname(os.path.dirname(os.path.abspath(__file__)))
+sys.path.insert(0, f"{TOP}/checks/shared")
+from library_index import write_index
+from patience import wait_until
 INSIDE = "FRONT_DOOR_NAMESPACES"
 
 
@@ -76,7 +79,28 @@ def hostile_queries(size=7900):
         "letters in `rft.pages`": same("x", "", "rft.pages="),
         "seasons in `date`": same("Winter+2012%2F", "", "date="),
         "tags in `title`": same("%3Cb%3E", "", "title="),
+        "words of a title": same("tidal+%C3%A9", "+", "title="),
+        "entities in a title": same("%26eacute%3B", "", "rft.jtitle="),
+        "a title encoded twice": same("%2541", "", "rft.jtitle="),
+        "Dublin Core": same("rft.source=Annals+of+Tidal+Studies,+vol.+1", start="rft_val_fmt=info:ofi/fmt:kev:mtx:dc&"),
+        "keys in capitals": same("RFT.ISSN=2901-0012"),
+        "entities that split values": same("amp;x", start="atitle=a&"),
     }
+
+
+def hostile_lists():
+    """Addresses of lists and searches, the long ones of about 7,900 bytes."""
+    return ["/journals?q=an+of+ti+st+co+la", "/books?q=" + "a+" * 3900, "/journals?q=" + "%C3%A9t+" * 1100,
+            "/journals?q=" + "2901-0012+" * 780, "/journals/a/1", "/books", "/find", "/cite?title=" + "x+" * 3900,
+            "/find.ris?" + "rft.au=%C3%A9&" * 560]
+
+
+def listens(port):
+    try:
+        socket.create_connection(("127.0.0.1", port), 5).close()
+        return True
+    except OSError:
+        return False
 
 
 class Door:
@@ -92,6 +116,7 @@ class Door:
         os.chdir(TOP)
         build = ["examples/library/build", self.program, f"{self.folder}/library"]
         subprocess.run(build, check=True, stdout=subprocess.DEVNULL)
+        write_index(f"{self.folder}/library/registry.tsv", TOP, f"{self.folder}/version")
         self.install(os.path.abspath(site), worker_connections)
         self.processes = {port: None for port in self.ports}
         for port in self.ports:
@@ -103,7 +128,8 @@ class Door:
         for part in ("conf.d", "sites-enabled", "openlink"):
             shutil.rmtree(f"{etc}/{part}", ignore_errors=True)
             os.mkdir(f"{etc}/{part}")
-        shutil.copy(f"{site}/openlink.conf", f"{etc}/conf.d")
+        with open(f"{site}/openlink.conf") as conf, open(f"{etc}/conf.d/openlink.conf", "w") as file:
+            file.write(conf.read().replace("/etc/openlink/current", f"{self.folder}/version"))
         shutil.copytree(site, f"{etc}/openlink", dirs_exist_ok=True)
         with open(f"{etc}/nginx.conf", "r+") as file:
             text = re.sub(r"worker_connections \d+", f"worker_connections {worker_connections}", file.read())
@@ -133,7 +159,8 @@ class Door:
         hard = min(524288, resource.getrlimit(resource.RLIMIT_NOFILE)[1])
         words = ["prlimit", f"--nofile=1024:{hard}", "nginx", "-g", "daemon off;"]
         self.nginx = subprocess.Popen(on_cores(self.servers, *words))
-        time.sleep(0.7)
+        for port in (80, *self.ports):
+            assert wait_until(lambda: listens(port)), f"nothing listens at port {port}"
         assert self.nginx.poll() is None, "nginx did not start"
 
     def stop_nginx(self):
@@ -157,6 +184,11 @@ class Door:
 
     def seconds_of_program(self):
         return sum(processor_seconds(pid) for pid in self.program_pids())
+
+    def unmount(self):
+        """Makes place for another site."""
+        for place in ("/run", "/var/lib/nginx", "/var/log/nginx", "/etc/nginx"):
+            subprocess.run(["umount", place], check=True)
 
     def end(self):
         self.ended = True

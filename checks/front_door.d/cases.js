@@ -139,4 +139,109 @@ const ENCODINGS = [
     ['no escape', 'rft_val_fmt=x&rft.atitle=100%', '']
 ];
 
-export default { SEPARATORS, DROPPED, VERSIONS, OLD, IDENTIFIERS, NUMBERS, DATES, PAGES, ENCODINGS };
+const PREFIXES = [
+    ['an address as a DOI', 'rft_val_fmt=x&rft_id=info:doi/https://doi.org/10.5555/a', 'x.doi=10.5555/a'],
+    ['an old address as a DOI', 'rft_val_fmt=x&id=doi:http://dx.doi.org/10.5555/a.',
+        'x.doi=10.5555/a rft_id=info:doi/10.5555/a'],
+    ['escaped', 'rft_val_fmt=x&rft_id=info%3Adoi%2Fhttps%3A%2F%2Fdoi.org%2F10.5555%2Fa%28b%29', 'x.doi=10.5555/a(b)'],
+    ['two forms of a prefix', 'rft_val_fmt=x&rft_id=info:doi/doi:10.5555/a', 'x.doi=10.5555/a'],
+    ['an address of PubMed', 'rft_val_fmt=x&rft_id=info:pmid/https://pubmed.ncbi.nlm.nih.gov/7/', 'x.pmid=7'],
+    ['prefixes alone', 'rft_val_fmt=x&rft_id=info:doi/https://doi.org/', '', 'rft_val_fmt=x']
+];
+
+const CORE = [
+    ['an article', 'rft_val_fmt=info:ofi/fmt:kev:mtx:dc&rft.title=Storm+surges&rft.creator=Smith&rft.creator=Li'
+        + '&rft.source=Annals+of+Tidal+Studies&rft.identifier=https://doi.org/10.5555/a', 'rft.au=Smith rft.au=Li'
+        + ' rft.jtitle=Annals+of+Tidal+Studies rft.atitle=Storm+surges x.doi=10.5555/a rft_id=info:doi/10.5555/a'],
+    ['the parts of a source', 'rft_val_fmt=info:ofi/fmt:kev:mtx:dc&rft.title=Storm+surges&rft.source=2901-0012'
+        + '&rft.source=Annals+of+Tidal+Studies;+Vol.+12+No.+3+(2003);+101-118', 'rft.issn=2901-0012'
+        + ' rft.jtitle=Annals+of+Tidal+Studies rft.volume=12 rft.issue=3 rft.pages=101-118 rft.atitle=Storm+surges'
+        + ' x.issn=2901-0012 rft.spage=101'],
+    ['a book', 'rft_val_fmt=info:ofi/fmt:kev:mtx:dc&rft.title=Harbours&rft.type=Book'
+        + '&rft.identifier=ISBN+978-1-234-56010-2', 'rft.genre=Book rft.btitle=Harbours'
+        + ' rft_id=urn:ISBN:978-1-234-56010-2 rft.isbn=9781234560102 x.isbn=9781234560102'],
+    ['no format', 'rft.title=Silt&rft.creator=Berg&rft.identifier=2901-0012', 'rft.au=Berg rft_val_fmt=J'
+        + ' rft_id=urn:ISSN:2901-0012 rft.issn=2901-0012 x.issn=2901-0012'],
+    ['another format', 'rft_val_fmt=info:ofi/fmt:kev:mtx:book&rft.title=Silt&rft.source=Berg', '']
+];
+
+const QUESTION_MARKS = [
+    ['one', '?id=pmid:7&rft_val_fmt=x', 'x.pmid=7 rft_id=info:pmid/7', 'id=pmid:7&rft_val_fmt=x'],
+    ['two', '??rft_val_fmt=x&rft.volume=3', '', 'rft_val_fmt=x&rft.volume=3'],
+    ['escaped', '%3Frft_val_fmt=x&rft.volume=3', '', 'rft_val_fmt=x&rft.volume=3'],
+    ['a query of the base URL', 'inst=lib?rft_val_fmt=x&rft.volume=3', '', 'inst=lib&rft_val_fmt=x&rft.volume=3'],
+    ['within a value', 'rft_val_fmt=x&rft_id=https://e.org/?id=7&rft.atitle=Why?', '']
+];
+
+const CAPITALS = [
+    ['all', 'RFT_VAL_FMT=x&RFT.VOLUME=3&RFT.ISSUE=4', '', 'rft_val_fmt=x&rft.volume=3&rft.issue=4'],
+    ['OpenURL 0.1', 'ISSN=2901-0012&Volume=3&rft_val_fmt=x', 'rft.issn=2901-0012 rft.volume=3 x.issn=2901-0012',
+        'issn=2901-0012&volume=3&rft_val_fmt=x'],
+    ['ANY', 'rft_val_fmt=x&RFT.ISSN=ANY&Issn=any', '', 'rft_val_fmt=x'],
+    ['other keys', 'rft_val_fmt=x&rft.externalDocID=1&Foo=2', '']
+];
+
+const VOLUMES = [
+    ['words', 'rft_val_fmt=x&rft.volume=Vol.+53&rft.issue=No.+5', 'rft.volume=53 rft.issue=5'],
+    ['a part', 'rft_val_fmt=x&rft.issue=Pt+8', 'rft.issue=8'],
+    ['German words', 'rft_val_fmt=x&rft.volume=Bd.+12A&rft.issue=Heft+S1', 'rft.volume=12A rft.issue=S1'],
+    ['no space', 'volume=vol53&rft_val_fmt=x', 'rft.volume=53'],
+    ['the issue in the volume', 'rft_val_fmt=x&rft.volume=53(2)', 'rft.volume=53 rft.issue=2'],
+    ['the volume in the issue', 'rft_val_fmt=x&rft.issue=53+(2A)', 'rft.issue=2A rft.volume=53'],
+    ['an issue that the request has', 'rft_val_fmt=x&rft.volume=Vol.+53,+no.+2&rft.issue=3', 'rft.volume=53'],
+    ['letters', 'rft_val_fmt=x&rft.volume=12A&rft.issue=S1', ''],
+    ['several numbers', 'rft_val_fmt=x&rft.issue=nos.+5-6', 'rft.issue=5-6'],
+    ['other words', 'rft_val_fmt=x&rft.volume=12+Suppl+1&rft.issue=Special+issue', '']
+];
+
+const MARKUP = [
+    ['tags', 'rft_val_fmt=x&rft.atitle=The+%3Ci%3EZostera%3C/i%3E+in+H%3Csub%3E2%3C/sub%3EO',
+        'rft.atitle=The+Zostera+in+H2O', 'rft_val_fmt=x'],
+    ['entities', 'rft_val_fmt=x&rft.jtitle=R%26amp%3BD+%26lt%3B+caf%26eacute%3B', 'rft.jtitle=R&D+<+caf\u00e9',
+        'rft_val_fmt=x'],
+    ['entities, not escaped', 'rft_val_fmt=x&rft.jtitle=R&amp;D+Management&rft.atitle=Caf&eacute;s&rft.volume=3',
+        'rft.atitle=Caf\u00e9s rft.jtitle=R&D+Management', 'rft_val_fmt=x&rft.volume=3'],
+    ['tags that are not escaped', 'rft_val_fmt=x&rft.btitle=&lt;i&gt;Zostera&lt;/i&gt;', 'rft.btitle=Zostera',
+        'rft_val_fmt=x'],
+    ['names', 'rft_val_fmt=x&rft.aulast=O%26%2339%3BNeill&rft.au=%3Cb%3ELi%3C/b%3E&rft.au=Berg',
+        'rft.au=Li rft.au=Berg rft.aulast=O\'Neill', 'rft_val_fmt=x'],
+    ['OpenURL 0.1', 'atitle=%3Cb%3ETides%3C/b%3E&rft_val_fmt=x', 'rft.atitle=Tides'],
+    ['no markup', 'rft_val_fmt=x&rft.atitle=p%3C0.05+and+q%3E3+%26+so', '']
+];
+
+const TWICE = [
+    ['spaces', 'rft_val_fmt=x&rft.jtitle=Annals%2520of%2520Tidal%2520Studies', 'rft.jtitle=Annals+of+Tidal+Studies',
+        'rft_val_fmt=x'],
+    ['by a form', 'rft_val_fmt=x&rft.jtitle=Annals%2Bof%2BTidal%2BStudies', 'rft.jtitle=Annals+of+Tidal+Studies',
+        'rft_val_fmt=x'],
+    ['UTF-8', 'rft_val_fmt=x&rft.atitle=Caf%25C3%25A9', 'rft.atitle=Caf\u00e9', 'rft_val_fmt=x'],
+    ['Latin-1', 'rft_val_fmt=x&rft.atitle=Caf%25E9', 'rft.atitle=Caf\u00e9', 'rft_val_fmt=x'],
+    ['once', 'rft_val_fmt=x&rft.atitle=100%25+of+it&rft.btitle=C%2B%2B', '']
+];
+
+// Each has the bytes of one word in that encoding.
+const OTHER_ENCODINGS = [
+    ['windows-1250', 'L\u00f3d\u017a', '%4C%F3d%9F'], ['windows-1251', '\u041c\u043e\u0440\u0435', '%CC%EE%F0%E5'],
+    ['windows-1252', '\u201cCaf\u00e9\u201d', '%93Caf%E9%94'], ['cp1250', '\u0160t\u00ed', '%8At%ED'],
+    ['ISO-8859-2', '\u0141\u00f3d\u017a', '%A3%F3d%BC'], ['iso_8859-5', '\u041c\u043e\u0440\u0435', '%BC%DE%E0%D5'],
+    ['ISO-8859-15', '5 \u20ac', '5+%A4'], ['KOI8-R', '\u041c\u043e\u0440\u0435', '%ED%CF%D2%C5']
+].map((it) => [it[0], 'ctx_enc=info:ofi/enc:' + it[0] + '&rft_val_fmt=x&rft.atitle=' + it[2],
+    'ctx_enc=info:ofi/enc:UTF-8', 'rft_val_fmt=x&rft.atitle=' + encodeURIComponent(it[1])]);
+const UNKNOWN_ENCODINGS = [
+    ['Shift_JIS', 'ctx_enc=info:ofi/enc:Shift_JIS&rft_val_fmt=x&rft.atitle=%8AC%97m', '',
+        'ctx_enc=info:ofi/enc:Shift_JIS&rft_val_fmt=x'],
+    ['EUC-KR, and ASCII', 'ctx_enc=info%3Aofi%2Fenc%3AEUC-KR&rft_val_fmt=x&rft.atitle=Sea%20', ''],
+    ['GB2312, and UTF-8', 'ctx_enc=info:ofi/enc:GB2312&rft_val_fmt=x&rft.atitle=%E6%B5%B7', '']
+];
+
+const FIELDS = [
+    ['ISSN', 'number=2901-0012&rft_val_fmt=x', 'rft.issn=2901-0012 x.issn=2901-0012'],
+    ['ISBN', 'number=978-1-234-56010-2&rft_val_fmt=x', 'rft.isbn=9781234560102 x.isbn=9781234560102'],
+    ['DOI', 'identifier=10.5555/a&rft_val_fmt=x', 'id=10.5555/a x.doi=10.5555/a rft_id=info:doi/10.5555/a'],
+    ['PubMed', 'identifier=+99990001+&rft_val_fmt=x', 'pmid=+99990001+ x.pmid=99990001 rft_id=info:pmid/99990001']
+];
+
+export default {
+    SEPARATORS, DROPPED, VERSIONS, OLD, IDENTIFIERS, NUMBERS, DATES, PAGES, ENCODINGS, PREFIXES, CORE, QUESTION_MARKS,
+    CAPITALS, VOLUMES, MARKUP, TWICE, OTHER_ENCODINGS, UNKNOWN_ENCODINGS, FIELDS
+};

@@ -3,7 +3,7 @@ import http.client, json, signal, threading, time
 from patience import best_of_three, patience, wait_until
 
 READERS = 4
-# The seconds after which find.js asks once more, and after which openlink.conf leaves a process that does not reply.
+# The seconds after which program.js asks once more, and after which openlink.conf leaves a process that does not reply.
 ASKED_AGAIN, READ_TIMEOUT = 0.4, 3
 
 
@@ -71,8 +71,8 @@ def test_one_killed(site, path, expect):
 
 
 def test_all_restarted(site, path, expect):
-    """Only a request that begins before all processes listen again may fail, and none if they do so before find.js asks
-    again."""
+    """Only a request that begins before all processes listen again may fail, and none if they do so before program.js
+    asks again."""
     with Readers(site, path) as readers:
         killed = time.monotonic()
         kill_all(site)

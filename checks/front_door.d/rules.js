@@ -1,14 +1,20 @@
-// The unit tests of find.js and why.js: the cases of cases.js, requests of good form, limits, menus and commands. Runs
-// in njs and in node, in a folder with the module and sample.js, which run.py writes; prints each failure, and a last
-// line that counts.
+// The unit tests of the module: the cases of cases.js, requests of good form, limits, menus and commands. Runs in njs
+// and in node, in a folder with the module and sample.js, which run.py writes; prints each failure, and a last line
+// that counts.
 import door from './find.js';
+import languages from './languages.js';
+import menus from './menu.js';
+import openurl from './openurl.js';
+import program from './program.js';
 import staff from './why.js';
 import cases from './cases.js';
+import folding from './fold.js';
 import sample from './sample.js';
 
 const FORMATS = {
     J: 'info:ofi/fmt:kev:mtx:journal', B: 'info:ofi/fmt:kev:mtx:book', D: 'info:ofi/fmt:kev:mtx:dissertation'
 };
+globalThis.fold = folding;
 let count = 0;
 let failures = 0;
 
@@ -39,8 +45,8 @@ function testCases() {
             const added = it[2].split(' ').filter(Boolean).map(written);
             const kept = it.length > 3 ? it[3] : it[1];
             const expected = added.concat(kept === '' ? [] : [kept]).join('&');
-            expect(rule + ': ' + it[0], door.requestOf(it[1]), expected);
-            expect(rule + ': ' + it[0] + ', for any', door.anyOf(it[1]), other(expected));
+            expect(rule + ': ' + it[0], openurl.requestOf(it[1]), expected);
+            expect(rule + ': ' + it[0] + ', for any', openurl.anyOf(it[1]), other(expected));
         });
     });
 }
@@ -48,7 +54,7 @@ function testCases() {
 // The pairs of a request of good form come out unchanged and in order, after added ones.
 function testGoodForm() {
     sample.forEach(function (request) {
-        const out = door.requestOf(request);
+        const out = openurl.requestOf(request);
         expect('good form', out.slice(-request.length - 1), '&' + request);
         out.slice(0, -request.length - 1).split('&').forEach(function (pair) {
             expect('added to good form: ' + pair, /^(x\.(issn|eissn|isbn|doi|pmid)|rft\.(issn|isbn))=/.test(pair),
@@ -65,39 +71,42 @@ function repeated(text, times) {
 
 function testLimits() {
     const long = 'title=' + repeated('a', 7000) + '&issn=2901-0012&rft.genre=article';
-    const out = door.requestOf(long);
+    const out = openurl.requestOf(long);
     expect('a long title goes once',
         out.length < 12000 && /rft\.jtitle=a{7000}&/.test(out) && !/&title=/.test(out), true);
     expect('a long title keeps the rest', /^rft\.issn=2901-0012&.*&rft\.genre=article$/.test(out), true);
-    const tail = door.requestOf('rft_val_fmt=x&rft.volume=3&' + repeated('rft.au=' + repeated('b', 70) + '&', 200));
+    const tail = openurl.requestOf('rft_val_fmt=x&rft.volume=3&' + repeated('rft.au=' + repeated('b', 70) + '&', 200));
     expect('pairs at the end go',
         tail.length <= 12000 && tail.length > 11900 && /^rft_val_fmt=x&rft\.volume=3&/.test(tail), true);
-    expect('pairs are read up to 300', door.requestOf(repeated('a=1&', 400)).split('&').length, 301);
-    expect('nothing', door.requestOf('') + '|' + door.anyOf(''), '|rft.issn=ANY');
+    expect('pairs are read up to 300', openurl.requestOf(repeated('a=1&', 400)).split('&').length, 301);
+    expect('nothing', openurl.requestOf('') + '|' + openurl.anyOf(''), '|rft.issn=ANY');
     const hostile = ['%', '=', '&=', 'a', '%E9=%E9', repeated('%E9', 4000), '=' + repeated('%', 4000)];
     hostile.concat('title=' + repeated('%E9', 2600)).forEach(function (text) {
-        const sent = door.requestOf(text);
+        const sent = openurl.requestOf(text);
         expect('hostile: ' + text.slice(0, 20), /^[\x21-\x7e]*$/.test(sent) && sent.length <= 12000, true);
     });
 }
 
 function testMenus() {
-    expect('menus are joined', door.joined('a\tx\nb\ty\n', 'b\tz\nc\tw\n'), 'a\tx\nb\ty\nc\tw');
+    const joined = program.joined(['a\tx\nb\ty\n', 'b\tz\nc\tw', 'd\tv\nc\tu\n']);
+    expect('menus are joined', joined.text, 'a\tx\nb\ty\nc\tw\nd\tv');
+    expect('the menu of each target', JSON.stringify(joined.sources), '{"a":0,"b":0,"c":1,"d":2}');
     const reports = ['a\tlink 0\nb\tno row\nc\tno link\nd\tno row\n', 'a\tno row\nb\tlink 2\nc\tlink 1\nd\tno row\n'];
-    expect('reports are joined', door.joinedReports(reports[0], reports[1]),
-        'a\tlink 0\nb\tlink 2\nc\tno link\nd\tno row\n');
+    expect('reports are joined', program.joinedReports(reports),
+        'a\tlink 0\nb\tlink 2\nc\tlink 1\nd\tno row\n');
     const site = { groups: [{ name: 'A' }, { name: 'B', onlyWithout: 'A' }],
-        targets: { b: { group: 'B', label: 'Bee', note: 'n' }, constructor: {} } };
+        targets: { a: {}, b: { group: 'B', label: 'Bee', note: 'n' }, constructor: {} } };
     const listed = function (menu) {
-        return JSON.stringify(door.shownGroups(door.groupsOf(menu, door.siteIn(site, ''))));
+        return JSON.stringify(menus.shownGroups(menus.groupsOf(menu, languages.siteIn(site, ''))));
     };
     expect('a group that another one hides', listed('b\thttp://b/\na\thttp://a/\n'),
         '[{"name":"A","links":[{"target":"a","label":"a","url":"http://a/"}]}]');
     expect('a group alone', listed('b\thttp://b/\n'),
         '[{"name":"B","links":[{"target":"b","label":"Bee","url":"http://b/","note":"n"}]}]');
     expect('links that are none', listed('a\tjavascript:x\na\thttp://a/ b\na\thttp://\u00e9/\nx\n'), '[]');
-    expect('names of every object',
-        listed('constructor\thttp://c/\ntoString\thttp://t/\n').split('"target"').length, 3);
+    expect('names of every object', listed('toString\thttp://t/\nconstructor\thttp://c/\n'),
+        '[{"name":"A","links":[{"target":"constructor","label":"constructor","url":"http://c/"}]},'
+        + '{"name":"More","links":[{"target":"toString","label":"toString","url":"http://t/"}]}]');
 }
 
 // A header, the languages that are offered, and the one that is chosen.
@@ -120,20 +129,22 @@ const HEADERS = [
 ];
 
 function testHeaders() {
-    HEADERS.forEach(function (it) { expect('language for ' + it[0], door.chosen(it[0], it[1].split(' ')), it[2]); });
-    expect('500 bytes', door.chosen(repeated(' ', 498) + 'de', ['en', 'de']), 'de');
-    expect('a range that is cut', door.chosen(repeated(' ', 498) + 'de-AT', ['en', 'de']), 'en');
-    expect('commas', door.chosen(repeated(',', 8192), ['en', 'de']), 'en');
-    expect('ranges beyond the twentieth', door.chosen(repeated('fr,', 20) + 'de', ['en', 'de']), 'en');
+    HEADERS.forEach(function (it) {
+        expect('language for ' + it[0], languages.chosen(it[0], it[1].split(' ')), it[2]);
+    });
+    expect('500 bytes', languages.chosen(repeated(' ', 498) + 'de', ['en', 'de']), 'de');
+    expect('a range that is cut', languages.chosen(repeated(' ', 498) + 'de-AT', ['en', 'de']), 'en');
+    expect('commas', languages.chosen(repeated(',', 8192), ['en', 'de']), 'en');
+    expect('ranges beyond the twentieth', languages.chosen(repeated('fr,', 20) + 'de', ['en', 'de']), 'en');
 }
 
 // The languages that a site offers and the texts that a page has in them.
 function testWords() {
-    globalThis.words_en = { heading: 'Find', links: 'Links', nothing: 'Nothing' };
-    globalThis.words_de = { heading: 'Finden', links: 3, nothing: '  ' };
+    globalThis.words_en = { heading: 'Find', group: 'Links', nothing: 'Nothing' };
+    globalThis.words_de = { heading: 'Finden', group: 3, nothing: '  ' };
     globalThis.words_pt_BR = {};
     globalThis.words_he = {};
-    const site = function (targets, header) { return door.siteIn(targets, header); };
+    const site = function (targets, header) { return languages.siteIn(targets, header); };
     const chosen = function (list, header) { return site({ languages: list }, header).language; };
     expect('no languages', chosen(undefined, 'de'), 'en');
     const noLanguages = [3, {}, 'de', [], [3], ['fr'], ['de_', 7]];
@@ -144,20 +155,20 @@ function testWords() {
     expect('the direction',
         site({ languages: ['he', 'en'] }, '').dir + ' ' + site({ languages: ['he', 'en'] }, 'en').dir, 'rtl ltr');
     const heading = function (words, header) {
-        const menu = 'a\thttp://a/\n';  // no group is named, so there is one with the word `links`
-        return door.groupsOf(menu, site({ languages: ['en', 'de'], words: words }, header))[0].name;
+        const menu = 'a\thttp://a/\n';  // no group is named, so there is one with the word `group`
+        return menus.groupsOf(menu, site({ languages: ['en', 'de'], words: words }, header))[0].name;
     };
     expect('a word', heading({}, 'en'), 'Links');
     expect('a word that is no text', heading({}, 'de'), 'Links');
-    globalThis.words_de.links = 'Verweise';
+    globalThis.words_de.group = 'Verweise';
     expect('a word in another language', heading({}, 'de'), 'Verweise');
-    expect('a word of the site', heading({ links: 'A' }, 'en') + ' ' + heading({ links: 'A' }, 'de'), 'A Verweise');
-    const both = { links: { en: 'A', de: 'B' } };
+    expect('a word of the site', heading({ group: 'A' }, 'en') + ' ' + heading({ group: 'A' }, 'de'), 'A Verweise');
+    const both = { group: { en: 'A', de: 'B' } };
     expect('words of the site', heading(both, 'en') + ' ' + heading(both, 'de'), 'A B');
     expect('a word of the site for one language',
-        heading({ links: { de: 'B' } }, 'en') + ' ' + heading({ links: { en: 'A' } }, 'de'), 'Links Verweise');
-    delete globalThis.words_de.links;
-    expect('a plain word for all languages', heading({ links: 'A' }, 'de'), 'A');
+        heading({ group: { de: 'B' } }, 'en') + ' ' + heading({ group: { en: 'A' } }, 'de'), 'Links Verweise');
+    delete globalThis.words_de.group;
+    expect('a plain word for all languages', heading({ group: 'A' }, 'de'), 'A');
     const labels = {
         languages: ['en', 'de'], groups: [{ name: 'G', label: { de: 'H' } }],
         targets: {
@@ -166,7 +177,7 @@ function testWords() {
     };
     const menu = 'a\thttp://a/\nb\thttp://b/\nc\thttp://c/\n';
     const listed = function (header) {
-        const group = door.shownGroups(door.groupsOf(menu, site(labels, header)))[0];
+        const group = menus.shownGroups(menus.groupsOf(menu, site(labels, header)))[0];
         return group.name + ' ' + group.label + ': '
             + group.links.map(function (it) { return it.label + ' ' + it.note; }).join(', ');
     };
@@ -181,7 +192,7 @@ function testCommands() {
     expect('a registry', Object.keys(registry).join(), 'a,b part,constructor');
     const received = function (path) { return path === '/r/received/a.rules'; };
     const command = function (targets, name, query) {
-        return staff.commandOf(name, registry[name], door.siteIn(targets, ''), received) + ' '
+        return staff.commandOf(name, registry[name], languages.siteIn(targets, ''), received) + ' '
             + staff.quotedQuery(query);
     };
     expect('a command', command({}, 'a', 'rft.issn=2901-0012&x=1'),
@@ -214,13 +225,13 @@ function testReasons() {
     const report = function (i) {
         return REASONS.map(function (it, n) { return 't' + n + '\t' + it[i] + '\n'; }).join('');
     };
-    staff.reasonsOf([report(0), report(1)]).forEach(function (it, n) {
+    program.reasonsOf([report(0), report(1)]).forEach(function (it, n) {
         expect('the query of ' + REASONS[n].join(', '), it.name + ' ' + it.reasons.join(', ') + ' ' + it.used,
             't' + n + ' ' + REASONS[n][0] + ', ' + REASONS[n][1] + ' ' + REASONS[n][2]);
     });
-    expect('a target that the second report lacks', JSON.stringify(staff.reasonsOf(['a\tno row\n', ''])),
+    expect('a target that the second report lacks', JSON.stringify(program.reasonsOf(['a\tno row\n', ''])),
         '[{"name":"a","reasons":["no row",""],"used":0}]');
-    expect('no report', staff.reasonsOf(['', '']).length, 0);
+    expect('no report', program.reasonsOf(['', '']).length, 0);
 }
 
 // A reply to a subrequest of nginx. The status 'cut' is that of a reply that a process has not written to its end: 200,
@@ -238,6 +249,7 @@ function requestWith(uri, statuses) {
         variables: { request_uri: uri }, rawVariables: { args: Buffer.from('issn=2901-0012') }, headersIn: {},
         headersOut: {}, method: 'GET', requested: 0, places: [],
         subrequest: function (place, options) {
+            if (place.slice(0, 7) === '/index/') return Promise.resolve({ status: 204 });  // there is no index
             const status = statuses[this.requested++];
             this.places.push(place + ' ' + options.args);
             if (status < 0) throw new Error('no\nreply');

@@ -2,7 +2,7 @@
 import glob, json, os, re, shutil, socket, subprocess, sys, tempfile, time
 from urllib.parse import quote
 from running import FOR_EVERY_REQUEST, Site, free_ports
-import cut_short, restarts, speed, staff, targets
+import cut_short, finding, lookups, restarts, speed, staff, targets
 from patience import patience, wait_until
 
 HERE = os.path.dirname(os.path.abspath(__file__))
@@ -35,6 +35,8 @@ def test_rules(folder):
             sample.append(file.read().strip())
     with open(f"{folder}/sample.js", "w") as file:
         file.write(f"export default {json.dumps(sample)};\n")
+    with open("deploy/nginx/fold.json") as table, open(f"{folder}/fold.js", "w") as file:
+        file.write(f"export default {table.read()};\n")
     with open(f"{folder}/package.json", "w") as file:
         file.write('{"type": "module"}\n')
     for command in (["njs", "-p", folder, f"{folder}/rules.js"], ["node", f"{folder}/rules.js"]):
@@ -64,6 +66,10 @@ SLIPS = [
     (b'{"groups": [{"name": "A"}], "words": {"problemLink": "https://e.org/"}}', "words: problemLink is no address"),
     (b'{"groups": [{"name": "A"}], "words": {"problemLink": {"en": "a@e.org?body={}"}}}',
      "words: problemLink is no address"),
+    (b'{"groups": [{"name": "A"}], "words": {"logo": "../logo.svg"}}', "words: logo is no file name"),
+    (b'{"groups": [{"name": "A"}], "words": {"links": "x"}}', "words: links is not a list"),
+    (b'{"groups": [{"name": "A"}], "words": {"links": [{"label": "x"}]}}', "link 1 has no url"),
+    (b'{"groups": [{"name": "A"}], "words": {"links": [{"label": "x", "url": "e.org"}]}}', "link 1: url is no address"),
     (b'{"groups": [{"name": "A"}], "folder": "openlink"}', "folder is not an absolute path"),
     (b'{"groups": [{"name": "A"}], "folder": 3}', "folder is not an absolute path"),
     (b'{"groups": [{"name": "A"}], "targets": {"a": {"rules": {"en": "x"}}}}', 'target "a": rules is not a text'),
@@ -91,7 +97,8 @@ def test_targets():
     expect("targets.json", targets.faults_in("deploy/nginx/targets.json"), [])
     with open("deploy/nginx/targets.json") as file:
         site = json.load(file)
-    expect("targets.json has the library's words", set(site["words"]), set(targets.OF_THE_LIBRARY))
+    expect("targets.json has the library's words", set(site["words"]),
+           {"links", *targets.OF_THE_LIBRARY} - {"logo"})
     expect("it offers all languages", {f"{language}.json" for language in site["languages"]},
            set(os.listdir("deploy/nginx/words")))
     for data, fault in SLIPS:
@@ -143,8 +150,13 @@ def problem_link(query):
 
 
 def order_of(text):
-    """The headings, citation, notices and links of a page, in the order of the text."""
-    return re.findall(r'<(h1|h2|p class="\w+"|a href="[^"]*")>', text)
+    """The headings, citation, notices and links of a page before its end, in the order of the text."""
+    return re.findall(r'<(h1|h2|p class="\w+"|a href="[^"]*")>', text[:text.index("</main>")])
+
+
+def actions(query):
+    """The links to change a request, to take it along and to come back to it."""
+    return [f'a href="{path}?{query.replace("&", "&amp;")}"' for path in ("/cite", "/find.ris", "/find")]
 
 
 def test_page(site):
@@ -162,27 +174,31 @@ def test_page(site):
            'a href="https://press.example.com/2908-0142/12/3/101"', 'a href="https://aggregator.example.net/titles/17"',
            "h2",
            'a href="https://catalogue.example.org/search?index=number&amp;term=2901-0012"', "h2",
-           'a href="https://search.example.org/?q=Storm%20surges"', 'p class="problem"',
+           'a href="https://search.example.org/?q=Storm%20surges"', *actions(ARTICLE), 'p class="problem"',
            f'a href="{problem_link(ARTICLE)}"'])
     tar = "issn=3006-1962&atitle=Notes+on+tar&date=1921"
     reply = site.get(f"/find?{tar}")
     tidy("a page without full text", reply.text)
     expect("without full text", order_of(reply.text),
-           ["h1", 'p class="citation"', 'p class="nothing"', 'p class="help"',
-           'a href="https://library.example.edu/ask"', "h2",
+           ["h1", 'p class="citation"', 'p class="nothing"', "h2",
            'a href="https://loans.example.org/article?issn=3006-1962&amp;title=Notes%20on%20tar"', "h2",
-           'a href="https://search.example.org/?q=Notes%20on%20tar"', 'p class="problem"',
+           'a href="https://search.example.org/?q=Notes%20on%20tar"', *actions(tar), 'p class="problem"',
            f'a href="{problem_link(tar)}"'])
     expect("an identifier alone", "DOI 10.5555/a" in site.get("/find?id=doi:10.5555/a").text)
     expect("a PubMed number alone", "PubMed 7" in site.get("/find?id=pmid:7").text)
     for query in ("", "?", "?&&", "?rft.isbn="):
         reply = site.get(f"/find{query}")
-        expect(f"no reference: {query}", (reply.status, "No reference was given." in reply.text, "<h2>" in reply.text),
-               (200, True, False))
+        expect(f"no reference: {query}", (reply.status, "<h1>Find by citation</h1>" in reply.text,
+                                          "<h2>" in reply.text), (200, True, False))
     tidy("no reference", reply.text)
     reply = site.get("/find?rft.genre=unnamed&rft.atitle=x")
-    expect("a target without a label",
-           ">toString</a>" in reply.text and reply.text.index("toString") < reply.text.index("More about it"))
+    expect("a target that targets.json does not name", order_of(reply.text)[1:6],
+           ['p class="citation"', 'p class="nothing"', 'a href="/cite?rft.genre=unnamed&amp;rft.atitle=x"', "h2",
+            'a href="https://search.example.org/?q=x"'])
+    expect("it comes last", re.findall(r"<h2>(.*)</h2>", reply.text), ["More about it", "More"])
+    expect("it is no full text", site.get("/go?first=1&rft.genre=unnamed&rft.atitle=x").status, 200)
+    for query in (ARTICLE, "", "id=pmid:7"):
+        expect(f"help on the page of {query}", site.get(f"/find?{query}").text.count(">Ask a librarian</a>"), 1)
     expect("HEAD", (site.get(f"/find?{ARTICLE}", "HEAD").status, site.get(f"/find?{ARTICLE}", "HEAD").body), (200, b""))
     expect("style", site.get("/menu.css").headers["Content-Type"], "text/css")
 
@@ -197,12 +213,14 @@ def test_json(site):
                      "pages": "101", "issn": "2901-0012"},
         "groups": [
             {"name": "Full text", "links": [
-                {"target": "tidal-press", "label": "Tidal Press",
+                {"target": "tidal-press", "label": "Tidal Press", "coverage": {"from": "1995-03-01"},
                  "url": "https://press.example.com/2908-0142/12/3/101"},
                 {"target": "aggregate-net", "label": "AggregateNet",
+                 "coverage": {"from": "1992-03-01", "embargo": "P1Y"},
                  "url": "https://aggregator.example.net/titles/17"}]},
             {"name": "In the library", "links": [
                 {"target": "catalogue", "label": "Library catalogue",
+                 "coverage": {"from": "1992-03-01", "to": "1999-12-01"},
                  "url": "https://catalogue.example.org/search?index=number&term=2901-0012"}]},
             {"name": "More about it", "links": [
                 {"target": "web-search", "label": "Search the web",
@@ -243,10 +261,10 @@ def test_languages(site):
     expect("JSON in German", (group["name"], group["label"], group["links"][0]["label"]),
            ("In the library", "In der Bibliothek", "Bibliothekskatalog"))
     expect("headers of JSON", (reply.headers["Content-Language"], reply.headers["Vary"]), ("de", "Accept-Language"))
-    for target, method in (("/none", "GET"), ("/find", "DELETE")):
+    for target, method, title in (("/none", "GET", "Seite nicht gefunden"), ("/find", "DELETE", "Anfrage abgelehnt")):
         reply = site.get(target, method, headers={"Accept-Language": "de"})
         expect(f"a fault in German: {method}",
-               ("<h1>Diesen Titel finden</h1>" in reply.text, reply.headers["Content-Language"],
+               (f"<h1>{title}</h1>" in reply.text, reply.headers["Content-Language"],
                                                     reply.headers["Vary"]), (True, "de", "Accept-Language"))
     expect("a redirect has no language", site.get("/go?issn=2943-081X&date=2012").headers["Content-Language"], None)
     for name, reply in zip(("reader", "staff"), hebrew(site)):
@@ -371,6 +389,8 @@ def test_hostile_labels(site):
 
 def test_faults(site):
     form = {"Content-Type": "application/x-www-form-urlencoded"}
+    titles = {403: "Request refused", 404: "Page not found", 405: "Request refused", 413: "Request too long",
+              414: "Request too long"}
     for target, method, body, status in (("/none", "GET", None, 404), ("/find", "DELETE", None, 403),
                                          ("/go", "POST", b"", 403),
                                          ("/openurl", "POST", b"", 403), ("/report", "GET", None, 404),
@@ -381,11 +401,13 @@ def test_faults(site):
                                          ("/find?" + "a" * 9000, "GET", None, 414)):
         reply = site.get(target, method, body, form)
         expect(f"{method} {target[:20]}",
-               (reply.status, "<h1>Find this item</h1>" in reply.text, "nginx" in reply.text), (status, True, False))
+               (reply.status, f"<h1>{titles[status]}</h1>" in reply.text,
+                f"<title>{titles[status]} – Example University Library</title>" in reply.text, "nginx" in reply.text),
+               (status, True, True, False))
         tidy(f"{method} {target[:20]}", reply.text)
     expect("a long cookie", site.get("/find", headers={"Cookie": "a" * 9000}).status, 400)
     expect("a cookie", site.get("/find", headers={"Cookie": "a" * 7000}).status, 200)
-    expect("no request", b"<h1>Find this item</h1>" in site.send(b"\x01\x02\r\n\r\n"))
+    expect("no request", b"<h1>Request not readable</h1>" in site.send(b"\x01\x02\r\n\r\n"))
     reply = site.get("/find.json", "DELETE")
     expect("a fault as JSON", (reply.status, json.loads(reply.text)), (403, {"error": 403}))
     for path in ("/find", "/openurl"):
@@ -412,7 +434,7 @@ def test_form(site):
     longest = ("atitle=" + "%C3%A9" * 1300 + "&" + ARTICLE).encode()[:8192]
     expect("8 KB", site.get("/find", "POST", longest, form).status, 200)
     expect("another kind of body",
-           "No reference" in site.get("/find", "POST", ARTICLE.encode(), {"Content-Type": "text/plain"}).text)
+           "Find by citation" in site.get("/find", "POST", ARTICLE.encode(), {"Content-Type": "text/plain"}).text)
 
 
 def test_passed_on(site):
@@ -437,6 +459,14 @@ def test_passed_on(site):
 
 def test_staff(site):
     staff.test(site, FOR_EVERY_REQUEST, expect, tidy)
+
+
+def test_finding(site):
+    finding.test(site, expect, tidy)
+
+
+def test_lookups(site):
+    lookups.test(site, expect, tidy)
 
 
 def test_limit(site):
@@ -485,7 +515,7 @@ def test_probes(folder):
         site.start()
         with open("examples/library/probes.tsv", "rb") as probes:
             text = probes.read()
-        expect("probes of the sample library", len(re.findall(rb"^[^#\n].*\t", text, re.M)), 30)
+        expect("probes of the sample library", len(re.findall(rb"^[^#\n].*\t", text, re.M)), 33)
         expect("they hold", tried(text), (0, "", ""))
         expect("they hold with line ends of Windows", tried(text.replace(b"\n", b"\r\n")), (0, "", ""))
         listed = b"\ttidal-press aggregate-net catalogue web-search"
@@ -554,7 +584,7 @@ def main():
         expect("nginx -t", (status, text if status else ""), (0, ""))
         site.start()
         for test in (test_requests, test_page, test_json, test_languages, test_go, test_hostile, test_form,
-                     test_passed_on, test_staff, test_faults,
+                     test_passed_on, test_staff, test_finding, test_lookups, test_faults,
                      test_limit, test_hostile_labels, test_restarts, test_cut_short, test_logs):
             test(site)
     finally:

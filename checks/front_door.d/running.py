@@ -2,6 +2,7 @@
 import http.client, json, os, random, re, shutil, signal, socket, subprocess, sys, tempfile
 
 sys.path.insert(0, os.path.join(os.path.dirname(os.path.dirname(os.path.abspath(__file__))), "shared"))
+from library_index import write_index
 from patience import patience, wait_until
 
 PROGRAM = os.path.abspath("crates/openlink/out/openlink")
@@ -80,6 +81,7 @@ class Site:
             subprocess.run(["examples/library/build", PROGRAM, self.folder], check=True, stdout=subprocess.DEVNULL)
         else:
             self.write_registry()
+        self.write_version()
         self.write_configuration()
 
     def path(self, name):
@@ -103,6 +105,13 @@ class Site:
                                stdout=subprocess.DEVNULL)
                 registry.write(f"{name}\t{code}\ttables/{os.path.basename(table)}\n")
 
+    def version(self):
+        """The folder of the version in use, of which nginx serves the index."""
+        return self.path("current")
+
+    def write_version(self):
+        write_index(self.path("registry.tsv"), self.program_folder or ".", self.version())
+
     def write_configuration(self):
         """The site as it is copied, with the paths and ports of this folder."""
         with open("deploy/nginx/openlink.conf") as file:
@@ -111,6 +120,7 @@ class Site:
         text, count = re.subn(r"(    server 127\.0\.0\.1:\d+ max_fails=0;\n)+", servers, text)
         assert count == 1, "openlink.conf has no list of processes"
         for old, new in (("/etc/nginx/openlink/", self.path("openlink/")), ("/var/log/nginx/", self.path("log/")),
+                         ("/etc/openlink/current", self.version()),
                          ("listen 80;", f"listen 127.0.0.1:{self.port};"),
                          ("127.0.0.1:8079", f"127.0.0.1:{self.report_port}")):
             assert old in text, f"openlink.conf has no {old}"

@@ -5,7 +5,8 @@ import os, resource, subprocess
 
 TRIES = 5
 SECONDS = 20  # of processor time, after which a script that does not end is killed
-SCRIPT = """import door from './find.js';
+SCRIPT = """import languages from './languages.js';
+import openurl from './openurl.js';
 import sample from './sample.js';
 // All but the usual request have 8 KB, and so have the headers.
 const requests = {
@@ -32,8 +33,8 @@ REQUESTS = {"usual": (200, 5), "long": (100, 12), "many": (40, 26), "latin": (15
 HEADERS = {"commas": (400, 3), "ranges": (100, 8), "hyphens": (3000, 0.5), "spaces": (3000, 0.5), "stars": (300, 4)}
 CALLS = {
     "nothing": ("0", 0), "peer": ("peer()", 500),
-    **{name: (f"door.requestOf(requests.{name})", count) for name, (count, _) in REQUESTS.items()},
-    **{name: (f"door.chosen(headers.{name}, offered)", count) for name, (count, _) in HEADERS.items()},
+    **{name: (f"openurl.requestOf(requests.{name})", count) for name, (count, _) in REQUESTS.items()},
+    **{name: (f"languages.chosen(headers.{name}, offered)", count) for name, (count, _) in HEADERS.items()},
 }
 
 

@@ -11,6 +11,8 @@ TITLES = ["'", "''", "'; echo x; '", "O'Neill & Sons", '"', "`id`", "$(id)", "${
           "%2527", "%", "%2'7", "a\nb", "a\r\nb", "\t", "\x01\x1b[31m\x7f", "<script>alert(1)</script>",
           "</pre></code>", "&amp;&lt;", "é ü 漢字 \U0001f600", "\u202e\u2028", "-n", "!!", "#",
           "~", "*", "a=b", "{}", "$&", "--", "; rm -rf x", "|", ">x", "\x00"]
+# What the front door sends for those that have markup or are encoded twice.
+READ = {"%27": "'", "%2527": "%27", "<script>alert(1)</script>": "alert(1)", "&amp;&lt;": "&<"}
 
 
 def page_parts(text):
@@ -103,7 +105,8 @@ def test_hostile_titles(staff):
                 got = [value for key, value in parse_qsl(argument, keep_blank_values=True, errors="strict")
                        if key == "rft.atitle"]
                 # A title without a letter has no value; the front door leaves its pair out.
-                staff.expect(f"{name}: the title {title!r}", got[:1], [title] if title.strip() else [])
+                expected = READ.get(title, title)
+                staff.expect(f"{name}: the title {title!r}", got[:1], [expected] if expected.strip() else [])
     for raw in (b"'$(id)`\"\\<b>", b"\xe9'\xff", b"a'b%'%2'7"):
         head = b" HTTP/1.1\r\nHost: a\r\nConnection: close\r\n\r\n"
         reply = staff.site.send(b"GET /why?atitle=" + raw + b"&issn=2901-0012" + head, staff.site.report_port)
@@ -111,7 +114,7 @@ def test_hostile_titles(staff):
         argument = staff.arguments_of(commands["tidal-press"])[3]
         staff.expect(f"the raw bytes {raw}", (argument, b"<b>" in reply), (queries[0].replace("'", "%27"), False))
         title = dict(reversed(parse_qsl(argument)))["rft.atitle"]
-        expected = raw.decode("windows-1252") if raw[0] > 0x7f else unquote(raw.decode())
+        expected = raw.decode("windows-1252") if raw[0] > 0x7f else unquote(raw.decode()).replace("<b>", "")
         staff.expect(f"the title of {raw}", title, expected)
 
 

@@ -3,7 +3,8 @@ import glob, json, os, re
 
 SAMPLE = "deploy/nginx/words/en.json"
 # Texts that depend on the library, so no file of a language has them.
-OF_THE_LIBRARY = ("library", "help", "helpLink", "problemLink")
+OF_THE_LIBRARY = ("library", "help", "helpLink", "problemLink", "logo")
+LOGO = r"[\w-]{1,60}\.(svg|png|jpg|gif|webp)"
 # Names of groups, and paths, which are the same in all languages.
 PLAIN = ("name", "group", "onlyWithout", "rules")
 TAG = r"[A-Za-z]{2,8}(-[A-Za-z0-9]{1,8})*"
@@ -94,6 +95,28 @@ def problem_link(site, faults):
             faults.append("words: problemLink is no address of http, https or mailto with {} for the request")
 
 
+def logo_and_links(site, languages, faults):
+    """Takes `links` from the words, and adds a fault for each link, or logo, that the page would leave out."""
+    found = site.get("words") if isinstance(site.get("words"), dict) else {}
+    logo = found.get("logo")
+    for text in logo.values() if isinstance(logo, dict) else [logo]:
+        if isinstance(text, str) and not re.fullmatch(LOGO, text, re.ASCII):
+            faults.append("words: logo is no file name that ends with .svg, .png, .jpg, .gif or .webp")
+    links = found.pop("links", [])
+    if not isinstance(links, list):
+        faults.append("words: links is not a list of links")
+        return
+    for number, link in enumerate(links, 1):
+        texts(f"link {number}", link, ("label", "url"), languages, faults)
+        for name in ("label", "url") if isinstance(link, dict) else ():
+            if name not in link:
+                faults.append(f"link {number} has no {name}")
+        url = link.get("url") if isinstance(link, dict) else None
+        for text in url.values() if isinstance(url, dict) else [url]:
+            if isinstance(text, str) and not re.fullmatch(r"(?i)https?://[!-~]+", text):
+                faults.append(f"link {number}: url is no address of http or https")
+
+
 def faults_of(data, loaded=None):
     """Faults of a targets.json; `loaded` has the languages that have a file of words."""
     faults = []
@@ -103,6 +126,7 @@ def faults_of(data, loaded=None):
     faults += [f"unknown name {json.dumps(name)}" for name in site
                if name not in ("languages", "words", "groups", "targets", "folder")]
     languages = languages_of(site, loaded, faults)
+    logo_and_links(site, languages, faults)
     texts("words", site.get("words", {}), words(), languages, faults)
     problem_link(site, faults)
     if not str(site.get("folder", "/")).startswith("/"):

@@ -95,7 +95,7 @@ def test_lists():
                 ("targets.tsv", targets.replace(b"\t", b" "),
                  "line 2: not a name, a rule file, a table and allowed warnings, with tabs between them"),
                 ("targets.tsv", b"", "0 targets, and 1 to 256 are possible"),
-                ("probes.tsv", probes + b"issn=1\n", "line 31 is not a query, a tab, and names of targets or none")):
+                ("probes.tsv", probes + b"issn=1\n", "line 34 is not a query, a tab, and names of targets or none")):
             library.input.write("targets.tsv", targets)
             library.input.write(file, data)
             status, printed = library.run()
@@ -115,7 +115,7 @@ def test_probes():
                (3, first, {"A"}, [first]))
         expect_lines("a lost link", printed, "  missing coastal-law: no link", f"{first} stays in use",
                      "  loses coastal-law https://coastal.example.com/journals/rcl",
-                     "deploy/update: 1 of 30 probes differ with the new version")
+                     "deploy/update: 1 of 33 probes differ with the new version")
         library.input.deliver("B")
         status, printed = library.run(restart="true")
         expect("processes that were not restarted",

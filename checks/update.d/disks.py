@@ -21,30 +21,33 @@ def disk(library, options):
 def test_full_disk():
     """Less and less room, until nothing can be made: then the version before is served and nothing is left."""
     with Library() as aside:
-        with disk(aside, "size=1m") as folder:
+        with disk(aside, "size=2m") as folder:
             if folder is None:
                 print("checks/update: no tmpfs can be mounted here: files of limited size are tried, and no full disk",
                       file=sys.stderr)
                 return test_file_limit(aside)
             with Library(folder=os.path.join(folder, "library")) as library:
-                statuses = fill(library, (0, 4, 16, 40, 64, 84, 96), lambda room: fill_bytes(folder, room * 1024))
-                expect("a full disk", (set(statuses[:4]), len(statuses) > 4), ({4}, True))
+                rooms = (0, 16, 64, 120, 180, 240, 300, 360, 420, 480)
+                statuses = fill(library, rooms, lambda room: fill_bytes(folder, room * 1024))
+                expect(f"a full disk: {statuses}", (set(statuses[:-1]), len(statuses) > 4, statuses[-1]),
+                       ({4}, True, 0))
 
 
 def test_no_file_left():
     """A disk that has room for more bytes, but only for some files; and one that is filled while processes are
     restarted, so that not even a link to the version before can be made."""
     with Library() as aside:
-        with disk(aside, "size=8m,nr_inodes=500") as folder:
+        with disk(aside, "size=8m,nr_inodes=1000") as folder:
             if folder is None:
                 return
             with Library(folder=os.path.join(folder, "library")) as library:
-                statuses = fill(library, (0, 20, 28, 31, 34, 37, 40), lambda room: fill_files(folder, room))
-                expect("no file left", (set(statuses[:3]), len(statuses) > 3), ({4}, True))
+                statuses = fill(library, (0, 20, 40, 80, 100, 110, 120, 130), lambda room: fill_files(folder, room))
+                expect(f"no file left: {statuses}", (set(statuses[:-1]), len(statuses) > 4, statuses[-1]),
+                       ({4}, True, 0))
             with Library(folder=os.path.join(folder, "other")) as library:
                 library.input.deliver("B")
                 first, filler = library.current(), os.path.join(folder, "filler")
-                fills = f"mkdir {filler}; touch $(seq -f {filler}/%g 500) 2>/dev/null; exit 9"
+                fills = f"mkdir {filler}; touch $(seq -f {filler}/%g 1000) 2>/dev/null; exit 9"
                 status, printed = library.run(restart=f"sh -c '{fills}'")
                 expect(f"a disk that is filled meanwhile: {printed}",
                        (status, library.current(), library.weeks_served()), (3, first, {"A"}))

@@ -58,6 +58,12 @@ class FrontDoor(Site):
     def write_registry(self):
         """The library has one."""
 
+    def version(self):
+        return self.library.path("current")
+
+    def write_version(self):
+        """The update makes it."""
+
     def start_process(self, port):
         self.supervisors.append(Supervisor(self.library, port))
 
@@ -68,9 +74,10 @@ class FrontDoor(Site):
 
 
 class Library:
-    def __init__(self, names=SMALL, processes=2, probes=30, folder=None):
+    def __init__(self, names=SMALL, processes=2, probes=33, folder=None):
         """A library in use in week A."""
         self.room = tempfile.mkdtemp(prefix="update.", dir="/dev/shm" if os.access("/dev/shm", os.W_OK) else None)
+        os.chmod(self.room, 0o755)  # nginx reads the index as a user of its own
         self.folder = folder or os.path.join(self.room, "library")
         os.makedirs(self.folder, exist_ok=True)
         self.input = Input(os.path.join(self.room, "input"), names, probes)

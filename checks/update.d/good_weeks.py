@@ -12,7 +12,7 @@ def test_good_week():
     with Library(ALL, processes=4) as library:
         status, printed = library.first
         expect("the first version", (status, library.names(), library.weeks_served()), (0, ALL, {"A"}))
-        expect_lines("the first version", printed, "tidal-press: new, 3 rows", "30 probes hold",
+        expect_lines("the first version", printed, "tidal-press: new, 3 rows", "33 probes hold",
                      f"{library.current()} is in use")
         first = library.current()
         library.input.deliver("B")
@@ -20,7 +20,7 @@ def test_good_week():
             status, printed = library.run()
         expect("a good week", (status, library.weeks_served(), reader.faults), (0, {"B"}, []))
         expect_lines("a good week", printed, "tidal-press: 1 row added, 0 gone", "coastal-law: rules changed",
-                     "30 probes hold")
+                     "33 probes hold")
         expect("nothing else has changed", re.findall(r"^([\w-]+): ", printed, re.M), ["tidal-press", "coastal-law"])
         moved = [line for line in printed.splitlines() if " is now " in line]
         expect("links that lead elsewhere", moved, ["  coastal-law https://coastal.example.com/journals/rcl is now "
@@ -103,7 +103,7 @@ def test_warnings():
         status, printed = library.run()
         expect("a warning", status, 1)
         expect_lines("a warning", printed,
-                     f"  {library.input.path('book-house.txt')}: rows without an identifier 1, first 2")
+                     f"  {library.input.path('book-house.txt')}: rows without an identifier 1, first 3")
         library.input.allowed["book-house"] = "rows 0; rows without an identifier"
         library.input.write_list()
         expect("it is allowed", library.run()[0], 0)

@@ -3,7 +3,7 @@ the name of one, it runs this one alone, prints how long each test takes, and la
 import importlib, subprocess, sys, time
 from counting import counts
 
-MODULES = ("good_weeks", "bad_weeks", "disks", "ends", "renames")
+MODULES = ("good_weeks", "bad_weeks", "index_weeks", "disks", "ends", "renames")
 
 
 def run(module):

@@ -1,8 +1,9 @@
 // The language of the reader's page, and its texts. An operator edits nothing here: the texts of a language are in
 // words/, and targets.json says which languages are offered.
 //
-// It runs in njs 0.7.9 and later, as find.js does; what that version lacks is said there. Each file of words is an
-// object that openlink.conf loads: words/pt-BR.json is `words_pt_BR`.
+// Each file of words is an object that openlink.conf loads: words/pt-BR.json is `words_pt_BR`. text.js says in which
+// njs it runs.
+import texts from './text.js';
 
 const MOST_BYTES = 500;  // of a header; browsers send less than 200
 const MOST_RANGES = 20;
@@ -10,13 +11,13 @@ const MOST_LANGUAGES = 100;
 const TAG = /^[a-z]{2,8}(?:-[a-z0-9]{1,8})*$/i;
 const RANGE = /^(\*|[a-z]{1,8}(?:-[a-z0-9]{1,8})*)\s*(?:;\s*q=(0(?:\.\d{0,3})?|1(?:\.0{0,3})?)\s*)?$/i;
 // Languages and scripts that are read from right to left.
-const RIGHT_TO_LEFT = new RegExp('^(?!.*-latn)(?:(?:ar|arc|ckb|dv|fa|he|nqo|ps|sd|syr|ug|ur|yi)(?:-|$)'
-    + '|.*-(?:arab|hebr|nkoo|syrc|thaa)(?:-|$))', 'i');
+const LANGUAGES_RTL = ' ar arc ckb dv fa he nqo ps sd syr ug ur yi ';
+const SCRIPTS_RTL = ' arab hebr nkoo syrc thaa ';
 
 const HAS = Object.prototype.hasOwnProperty;
-function own(object, key) { return object && HAS.call(object, key) ? object[key] : undefined; }
-function is(form, text) { return text.search(form) >= 0; }
-function isObject(value) { return typeof value === 'object' && value !== null; }
+const own = texts.own;
+const is = texts.is;
+const isObject = texts.isObject;
 
 // ---------------------------------------------------------------- Accept-Language
 // The ranges of a header in their order, each with its quality. Those of another form are left out, and the rest of a
@@ -76,11 +77,26 @@ function offered(targets) {
     return languages.length > 0 ? languages : ['en'];
 }
 
-// What is in targets.json, for a reader whose browser sends this header.
-function siteIn(targets, header) {
+function isRightToLeft(language) {
+    const parts = language.toLowerCase().split('-').map((part) => ' ' + part + ' ');
+    return parts.indexOf(' latn ') < 0 && (LANGUAGES_RTL.indexOf(parts[0]) >= 0
+        || parts.slice(1).some((part) => SCRIPTS_RTL.indexOf(part) >= 0));
+}
+
+// What a language calls itself.
+function nameOf(language) {
+    const name = own(wordsIn(language), 'language');
+    return typeof name === 'string' && name !== '' ? name : language;
+}
+
+// What is in targets.json, for a reader whose browser sends this header, or who has chosen one of the languages.
+function siteIn(targets, header, asked) {
     const languages = offered(targets);
-    const language = chosen(header, languages);
-    return { language: language, main: languages[0], dir: is(RIGHT_TO_LEFT, language) ? 'rtl' : 'ltr',
+    const isChosen = asked !== undefined && languages.indexOf(asked) >= 0;
+    const language = isChosen ? asked : chosen(header, languages);
+    return { language: language, main: languages[0], dir: isRightToLeft(language) ? 'rtl' : 'ltr',
+        known: Object.create(null), languages: languages, chosen: isChosen ? asked : '',
+        file: wordsIn(language), mainFile: wordsIn(languages[0]),
         words: own(targets, 'words'), groups: own(targets, 'groups'), targets: own(targets, 'targets'),
         folder: own(targets, 'folder') };
 }
@@ -93,14 +109,16 @@ function textOf(value, site) {
     return text === undefined ? textIn(value, site.main) : text;
 }
 
-// The texts that a word may have, in the order of preference: those of targets.json come before those of the files, but
-// a plain text there is in the default language.
-function candidates(name, site) {
+function textAt(value) { return typeof value === 'string' ? value.trim() : ''; }
+function inFile(name, words) { return words && HAS.call(words, name) ? textAt(words[name]) : ''; }
+// The text of a word, '' if there is none. Those of targets.json come before those of the files, but a plain text there
+// is in the default language.
+function wordOf(name, site) {
     const text = own(site.words, name);
-    const ofFile = (language) => own(wordsIn(language), name);
+    if (text === undefined) return inFile(name, site.file) || inFile(name, site.mainFile);
     const isOther = site.language !== site.main && !isObject(text);
-    return (isOther ? [ofFile(site.language)] : [textIn(text, site.language), ofFile(site.language)])
-        .concat([textIn(text, site.main), ofFile(site.main)]);
+    return (!isOther && textAt(textIn(text, site.language))) || inFile(name, site.file)
+        || textAt(textIn(text, site.main)) || inFile(name, site.mainFile);
 }
 
-export default { own: own, is: is, chosen: chosen, siteIn: siteIn, textOf: textOf, candidates: candidates };
+export default { chosen: chosen, nameOf: nameOf, siteIn: siteIn, textOf: textOf, wordOf: wordOf };

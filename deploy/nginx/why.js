@@ -1,20 +1,24 @@
-// The page for staff: the two queries that a request becomes, the program's report on each, and for each target the
+// The page for staff: the queries that a request becomes, the program's report on each, and for each target the
 // command that explains its link or why it has none. All text of a request or a file is escaped here where it is put
 // into HTML, and quoted where it is put into a command. An operator edits nothing here: targets.json names the folder
 // of the registry if it is not the one below.
 //
-// Only the server for staff loads this file, so no request of a reader meets code that reads files. It runs in njs
-// 0.7.9 and later, as find.js does; what that version lacks is said there.
+// Only the server for staff loads this file, so no request of a reader meets code that reads files. text.js says in
+// which njs it runs.
 import fs from 'fs';
-import door from './find.js';
-import languages from './languages.js';
+import citation from './citation.js';
+import completion from './completion.js';
+import exchange from './exchange.js';
 import pages from './pages.js';
+import program from './program.js';
+import texts from './text.js';
+import words from './words.js';
 
 const FOLDER = '/etc/openlink/current';  // that of openlink@.service
 const RULES = ['rules/', 'received/'];   // folders of rule files in it
-const own = languages.own;
-const is = languages.is;
-const escape = pages.escape;
+const own = texts.own;
+const is = texts.is;
+const escape = texts.escape;
 
 // ---------------------------------------------------------------- The registry
 function folderOf(site) { return typeof site.folder === 'string' ? site.folder.replace(/\/$/, '') : FOLDER; }
@@ -68,35 +72,19 @@ function commandOf(name, target, site, isFile) {
         .join(' ');
 }
 
-// ---------------------------------------------------------------- Reports
-function isLink(reason) { return is(/^link /, reason); }
-
-// The reason of each target for both queries, in the order of the registry, and which of the two queries the target
-// gets: 0, or 1 if only the second one finds a link, or a row. /find takes the target's link from the same one.
-function reasonsOf(reports) {
-    const lines = reports.map((text) => text.split('\n').filter((line) => line.indexOf('\t') > 0)
-        .map((line) => ({ name: line.slice(0, line.indexOf('\t')), reason: line.slice(line.indexOf('\t') + 1) })));
-    const seconds = Object.create(null);
-    lines[1].forEach((it) => { seconds[it.name] = it.reason; });
-    return lines[0].map((it) => {
-        const reasons = [it.reason, seconds[it.name] || ''];
-        const isSecond = !isLink(reasons[0]) && (isLink(reasons[1])
-            || (reasons[0] === 'no row' && reasons[1] !== 'no row' && reasons[1] !== ''));
-        return { name: it.name, reasons: reasons, used: isSecond ? 1 : 0 };
-    });
-}
-
 // ---------------------------------------------------------------- HTML
-const QUERIES = ['query1', 'query2'];
 function heading(level, text) { return '<' + level + '>' + escape(text) + '</' + level + '>'; }
 function paragraph(text) { return text === '' ? '' : '<p>' + escape(text) + '</p>'; }
 // What the program reads or writes is English, from left to right.
 function code(text) { return '<code lang="en" dir="ltr">' + escape(text) + '</code>'; }
 
+function queryName(i, site) { return words.filled(site, 'query', String(i + 1)); }
 function queriesHtml(queries, site) {
-    const word = (name) => pages.word(site, name);
-    return QUERIES.map((name, i) => [heading('h2', word(name)), paragraph(word(name + 'Note')),
-        '<pre dir="ltr">' + escape(queries[i]) + '</pre>'].filter(Boolean).join('\n'));
+    return queries.map((query, i) => {
+        const note = i === 0 ? 'query1Note' : i < queries.length - 1 ? 'queryFurtherNote' : 'query2Note';
+        return [heading('h2', queryName(i, site)), paragraph(words.word(site, note)),
+            '<pre dir="ltr">' + escape(query) + '</pre>'].filter(Boolean).join('\n');
+    });
 }
 
 function rowHtml(it) {
@@ -105,9 +93,9 @@ function rowHtml(it) {
     return '<tr><th scope="row"><a href="#target-' + name + '">' + name + '</a></th><td>' + cells.join('</td><td>')
         + '</td></tr>';
 }
-function reportsHtml(reasons, site) {
-    const names = ['target'].concat(QUERIES).map((name) => escape(pages.word(site, name)));
-    return [heading('h2', pages.word(site, 'reports')), paragraph(pages.word(site, 'reportsNote')), '<table>',
+function reportsHtml(reasons, queries, site) {
+    const names = [words.word(site, 'target')].concat(queries.map((query, i) => queryName(i, site))).map(escape);
+    return [heading('h2', words.word(site, 'reports')), paragraph(words.word(site, 'reportsNote')), '<table>',
         '<thead><tr><th scope="col">' + names.join('</th><th scope="col">') + '</th></tr></thead>', '<tbody>']
         .filter(Boolean).concat(reasons.map(rowHtml), ['</tbody>', '</table>']);
 }
@@ -115,41 +103,42 @@ function reportsHtml(reasons, site) {
 // `last` has the last argument for each query as HTML: to escape a long one for each target would take seconds.
 function targetHtml(it, registry, last, site) {
     const target = registry === null ? undefined : registry[it.name];
-    const report = escape(pages.word(site, QUERIES[it.used])) + ': ' + code(it.reasons[it.used]);
+    const report = escape(queryName(it.used, site)) + ': ' + code(it.reasons[it.used]);
     const command = target ? escape(commandOf(it.name, target, site, isFile)) + ' ' + last[it.used] : '';
     return ['<h3 id="target-' + escape(it.name) + '">' + escape(it.name) + '</h3>', '<p>' + report + '</p>',
         target ? '<pre dir="ltr" class="command">' + command + '</pre>'
-            : registry !== null ? paragraph(pages.filled(site, 'notInRegistry', registryPath(site))) : '']
+            : registry !== null ? paragraph(words.filled(site, 'notInRegistry', registryPath(site))) : '']
         .filter(Boolean).join('\n');
 }
 function commandsHtml(reasons, queries, site) {
     const registry = readRegistry(site);
     const last = queries.map((query) => escape(quotedQuery(query)));
-    const note = registry === null ? pages.filled(site, 'noRegistry', registryPath(site))
-        : pages.word(site, 'commandsNote');
-    return [heading('h2', pages.word(site, 'commands')), paragraph(note)]
+    const note = registry === null ? words.filled(site, 'noRegistry', registryPath(site))
+        : words.word(site, 'commandsNote');
+    return [heading('h2', words.word(site, 'commands')), paragraph(note)]
         .concat(reasons.map((it) => targetHtml(it, registry, last, site)));
 }
 
-// The page for a request and the replies to both its queries. It has no reports if the program did not answer.
+// The page for a request and the replies to its queries. It has no reports if the program did not answer.
 function pageOf(q, replies, site) {
-    const title = pages.word(site, 'why');
-    const reasons = reasonsOf(replies.texts);
+    const title = words.word(site, 'why');
+    const reasons = program.reasonsOf(replies.texts);
     const found = replies.status !== 200 ? [pages.faultHtml(replies.status, site)]
-        : reportsHtml(reasons, site).concat(commandsHtml(reasons, replies.queries, site));
-    const body = [pages.citationHtml(pages.citationOf(q, site), site)]
+        : reportsHtml(reasons, replies.queries, site).concat(commandsHtml(reasons, replies.queries, site));
+    const body = [citation.citationHtml(citation.citationOf(q, site), site)]
         .concat(queriesHtml(replies.queries, site), found);
     return pages.documentOf(title, title, body, site);
 }
 
 async function why(r) {
-    const site = door.siteOf(r);
-    const q = door.queryOf(door.argsOf(r));
-    const replies = await door.askBoth(r, '/_report', q);
-    door.sendPage(r, replies.status === 200 ? 200 : door.faultStatus(replies), pageOf(q, replies, site), site);
+    const site = exchange.siteOf(r);
+    site.isForStaff = true;
+    const q = await completion.queryOf(r);
+    const replies = await program.askAll(r, '/_report', program.queriesOf(q));
+    exchange.sendPage(r, replies.status === 200 ? 200 : program.faultStatus(replies), pageOf(q, replies, site), site);
 }
 
 export default {
-    registryOf: registryOf, commandOf: commandOf, quotedQuery: quotedQuery, reasonsOf: reasonsOf,
-    why: door.guarded(why)
+    registryOf: registryOf, commandOf: commandOf, quotedQuery: quotedQuery,
+    why: exchange.guarded(why)
 };

@@ -33,6 +33,7 @@ DOOR = """    upstream door{port} {{
         listen 127.0.0.1:{port};
         location = /find.json {{ js_content door.json; }}
         location = /report.txt {{ js_content door.report; }}
+        location /index/ {{ internal; root "{version}"; try_files $uri =204; }}
         location = /_menu {{ internal; proxy_pass http://door{port}/openurl.txt; }}
         location = /_report {{ internal; proxy_pass http://door{port}/report; }}
     }}
@@ -40,7 +41,8 @@ DOOR = """    upstream door{port} {{
 
 
 class Site:
-    """What the site of the front door (openlink.conf) says: its module, its texts, and the ports of the processes."""
+    """What the site of the front door (openlink.conf) says: its module, its texts, the ports of the processes, and
+    whether it has the list of titles."""
 
     def __init__(self, path):
         self.path = path
@@ -51,6 +53,7 @@ class Site:
             text = ""
         self.ports = [int(port) for port in re.findall(r"^\s*server\s+127\.0\.0\.1:(\d+)", text, re.M)]
         self.module_lines = re.findall(r"^\s*(js_(?:path|import|preload_object|var)\s[^;]*;)", text, re.M)
+        self.has_list = not re.search(r"^\s*js_var\s+\$openlink_list\s+off\s*;", text, re.M)
 
 
 def modules_of(nginx):
@@ -80,24 +83,24 @@ class FrontDoor:
             children.stop(self.child)
         shutil.rmtree(self.folder, ignore_errors=True)
 
-    def add_door(self, ports):
-        """The address of a door to the processes at these ports."""
+    def add_door(self, ports, version):
+        """The address of a door to the processes at these ports, which serve the version in a folder."""
         port = children.free_port()
         servers = "".join(f"        server 127.0.0.1:{it} max_fails=0;\n" for it in ports)
-        self.doors.append((port, servers))
+        self.doors.append({"port": port, "servers": servers, "version": version})
         return f"http://127.0.0.1:{port}"
 
     def start(self):
         os.mkdir(self.folder)
         os.chmod(self.folder, 0o755)
         path, log = f"{self.folder}/nginx.conf", f"{self.folder}/start.log"
-        doors = "".join(DOOR.format(port=port, servers=servers) for port, servers in self.doors)
+        doors = "".join(DOOR.format(**door) for door in self.doors)
         with open(path, "w", encoding="utf-8") as file:
             file.write(CONFIGURATION.format(module=self.module, folder=self.folder, doors=doors,
                                             module_lines="\n    ".join(self.site.module_lines)))
         self.child = children.start([self.nginx, "-e", log, "-p", self.folder, "-c", path], self.folder,
                                     stdout=subprocess.DEVNULL, stderr=subprocess.DEVNULL)
-        if not all(children.wait_for(port, self.child, SECONDS) for port, _ in self.doors):
+        if not all(children.wait_for(door["port"], self.child, SECONDS) for door in self.doors):
             printed = " ".join(text for text in map(read, (log, f"{self.folder}/error.log")) if text)
             raise Failure(f"the front door for probes does not start: {printed or 'nginx gives no reason'}", DEVICE)
 

@@ -5,9 +5,10 @@
     received/NAME.txt
     code/NAME.olk          the compiled rules
     tables/NAME.txt        the table with its moving walls
+    index/                 the index of titles, for the front door
 """
 import dataclasses, filecmp, os
-import holdings
+import holdings, index
 from outcome import Failure, Refused
 from program import is_allowed
 
@@ -58,7 +59,8 @@ class Maker:
         for part in ("received", "code", "tables"):
             os.mkdir(os.path.join(folder, part))
 
-    def make(self, targets):
+    def make(self, targets, has_list):
+        """Makes all but the index, which has the list of titles, or has not."""
         for target in targets:
             self.add(target)
         for name in self.names_before():
@@ -68,6 +70,12 @@ class Maker:
             raise Failure("no target is left")
         lines = [f"{name}\tcode/{name}.olk\ttables/{name}.txt\n" for name in self.names]
         self.write("registry.tsv", "".join(lines).encode())
+        index.begin(os.path.join(self.folder, "index"), has_list)
+
+    def make_index(self, has_list):
+        """Makes the index, which takes longest. Its tables are those that came, without moving walls."""
+        index.make(os.path.join(self.folder, "index"), has_list,
+                   ((name, content(os.path.join(self.folder, f"received/{name}.txt"))) for name in self.names))
 
     def names_before(self):
         """The names of the targets of the older version."""
@@ -144,8 +152,7 @@ class Maker:
 
     def reasons_against(self, target, old, new):
         """Writes the new files of a target, and returns why they cannot be used."""
-        table = f"tables/{target.name}.txt"
-        rejections = self.put(target, new)
+        table, rejections = f"tables/{target.name}.txt", self.put(target, new)
         reasons = rejections + self.doubts(target.table, target.allowed, "inspect", table)
         if not new.has_code and not rejections:
             lint = self.doubts(target.rules, target.allowed, "lint", f"received/{target.name}.rules", table)
@@ -185,8 +192,8 @@ def names_in(version):
 
 
 def is_same(one, other):
-    """Whether two versions serve the same."""
-    parts = ["registry.tsv"] + [f"{part}/{name}" for part in ("code", "tables", "received")
-                                for name in os.listdir(os.path.join(one, part))]
+    """Whether two versions serve the same. The first may have no index yet, but its format."""
+    parts = ["registry.tsv", "index/format"] + [f"{part}/{name}" for part in ("code", "tables", "received")
+                                                for name in os.listdir(os.path.join(one, part))]
     return all(os.path.isfile(os.path.join(other, part))
                and filecmp.cmp(os.path.join(one, part), os.path.join(other, part), shallow=False) for part in parts)

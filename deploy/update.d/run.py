@@ -32,9 +32,10 @@ class Run:
         unfinished = library.version(f"{new}.new")
         older, program = old and library.version(old), Program(self.program, unfinished)
         maker = Maker(unfinished, older, program, datetime.date.today(), report)
-        maker.make(targets)
+        maker.make(targets, self.site.has_list)
         if old and making.is_same(unfinished, library.version(old)):
             return self.say_end(maker, f"nothing new: {old} stays in use")
+        maker.make_index(self.site.has_list)
         with self.front_door(probes) as door:
             links = self.try_version(probes, door, unfinished, old)
             if is_trial:
@@ -63,10 +64,11 @@ class Run:
         if not probes.list:
             with Trial(self.program, unfinished, port):
                 return None
-        trial, running = door.add_door([port]), door.add_door(self.processes.ports)
-        door.running = running
+        trial = door.add_door([port], unfinished)
+        door.running = door.add_door(self.processes.ports, self.library.path("current"))
+        older = door.add_door([port], self.library.version(old)) if old else None
         door.start()
-        before = self.links_before(probes, trial, port, old)
+        before = self.links_before(probes, older, port, old)
         with Trial(self.program, unfinished, port):
             differing = probes.differences(trial)
             links = probes.links(trial)
@@ -78,13 +80,13 @@ class Run:
             raise Failure(f"{len(differing)} of {len(probes.list)} probes differ with the new version")
         return links
 
-    def links_before(self, probes, trial, port, old):
+    def links_before(self, probes, older, port, old):
         """The links that the version in use has for each probe, or None if it cannot be served."""
         if old is None:
             return None
         try:
             with Trial(self.program, self.library.version(old), port):
-                return probes.links(trial)
+                return probes.links(older)
         except Failure as failure:
             report(f"the links of the version in use are not known: {failure}")
             return None

@@ -1,0 +1,75 @@
+// What a request is for, as data, as HTML and as RIS. text.js says in which njs it runs.
+import texts from './text.js';
+import words from './words.js';
+
+const clean = texts.clean;
+const escape = texts.escape;
+const word = words.word;
+const filled = words.filled;
+
+function authorOf(q, site) {
+    const authors = q.has('rft.au') ? q.all('rft.au').map(clean).filter(Boolean) : [];
+    const given = clean(q.first('rft.aufirst') || q.first('rft.auinit') || q.first('rft.auinit1'));
+    const last = clean(q.first('rft.aulast'));
+    if (authors.length > 3) return filled(site, 'others', authors.slice(0, 3).join('; '));
+    if (authors.length > 0) return authors.join('; ');
+    return last === '' ? clean(q.first('rft.aucorp')) : given === '' ? last : last + ', ' + given;
+}
+
+// What the page and the JSON say of a request, and the keys that it is taken from.
+const CITED = {
+    title: ['rft.atitle', 'rft.btitle', 'rft.title'], journal: ['rft.jtitle', 'rft.stitle', 'rft.btitle', 'rft.title'],
+    year: ['rft.date'], volume: ['rft.volume'], issue: ['rft.issue'], pages: ['rft.pages', 'rft.spage', 'rft.artnum'],
+    doi: ['x.doi'], pmid: ['x.pmid'], issn: ['x.issn'], isbn: ['x.isbn']
+};
+const NAMES = Object.keys(CITED);
+function citationOf(q, site) {
+    const citation = {};
+    const author = authorOf(q, site);
+    if (author !== '') citation.author = author;
+    NAMES.forEach((name) => {
+        let found = '';
+        for (let i = 0; found === '' && i < CITED[name].length; i++) found = clean(q.first(CITED[name][i]));
+        if (found !== '') citation[name] = name === 'year' ? found.slice(0, 4) : found;
+    });
+    if (citation.journal === citation.title) delete citation.journal;
+    return citation;
+}
+
+function citationHtml(c, site) {
+    const text = (value) => value ? '<bdi>' + escape(value) + '</bdi>' : '';
+    const named = (name) => c[name] ? text(filled(site, name, c[name])) : '';
+    const parts = [text(c.author), c.title ? '<strong>' + text(c.title) + '</strong>' : '',
+        c.journal ? '<cite>' + text(c.journal) + '</cite>' : '', text(c.year)]
+        .concat(['volume', 'issue', 'pages', 'doi', 'pmid', 'issn', 'isbn'].map(named)).filter(Boolean);
+    return '<p class="citation">' + (parts.length > 0 ? parts.join(', ') : escape(word(site, 'noCitation'))) + '</p>';
+}
+
+// `clean` leaves no line end in a value, so no value begins a field of its own.
+const TYPES = { journal: 'JOUR', book: 'BOOK', dissertation: 'THES' };
+const FIELDS = [['TI', 'title'], ['T2', 'journal'], ['PY', 'year'], ['VL', 'volume'], ['IS', 'issue'], ['SP', 'first'],
+    ['EP', 'last'], ['SN', 'number'], ['DO', 'doi']];
+function authorsOf(q) {
+    const authors = q.all('rft.au');
+    const name = [q.first('rft.aulast'), q.first('rft.aufirst') || q.first('rft.auinit')].filter(Boolean).join(', ');
+    return authors.length > 0 ? authors : [name || q.first('rft.aucorp')];
+}
+function risOf(q, kind, site) {
+    const c = citationOf(q, site);
+    const isChapter = kind === 'book' && q.has('rft.atitle');
+    c.first = q.first('rft.spage');
+    c.last = q.first('rft.epage');
+    c.number = c.issn || c.isbn;
+    const lines = [isChapter ? 'TY  - CHAP' : 'TY  - ' + TYPES[kind]];
+    const put = (tag, value) => {
+        const text = clean(String(value || '')).slice(0, 1000);
+        if (text !== '') lines.push(tag + '  - ' + text);
+    };
+    authorsOf(q).forEach((name) => { put('AU', name); });
+    if (!c.title) c.title = c.journal;
+    FIELDS.forEach((field) => { if (field[1] !== 'journal' || c.journal !== c.title) put(field[0], c[field[1]]); });
+    if (c.pmid) put('AN', 'PMID ' + c.pmid);
+    return lines.concat(['ER  - ', '']).join('\r\n');
+}
+
+export default { citationOf: citationOf, citationHtml: citationHtml, risOf: risOf };

@@ -1,0 +1,39 @@
+// What a target has of a title, as text and as data, from the row of its table: the dates as the provider gives them.
+// text.js says in which njs it runs.
+import texts from './text.js';
+import words from './words.js';
+
+const is = texts.is;
+const PART = /^([RP])(\d{1,5})([YMD])$/;
+const UNITS = { Y: 'Year', M: 'Month', D: 'Day' };
+
+function given(cell) { return cell === undefined || cell === '-' ? '' : cell; }
+function yearOf(cell) { return given(cell).slice(0, 4); }
+function embargoText(part, site) {
+    const found = PART.exec(part);
+    if (found === null) return '';
+    const name = (found[1] === 'P' ? 'without' : 'only') + UNITS[found[3]] + (Number(found[2]) === 1 ? '' : 's');
+    return words.filled(site, name, found[2]);
+}
+
+// For example `since 1995, without the last 12 months`; '' if nothing is known.
+function textOf(row, site) {
+    const first = yearOf(row.first);
+    const last = yearOf(row.last);
+    const years = first && last ? (first === last ? first : words.filled(site, 'between', [first, last]))
+        : first ? words.filled(site, 'since', first) : last ? words.filled(site, 'until', last) : '';
+    const embargo = given(row.embargo);
+    if (embargo === '') return years;
+    const parts = embargo.split(',').filter((part) => is(PART, part));
+    return [years].concat(parts.map((part) => embargoText(part, site))).filter(Boolean).join(', ');
+}
+// The same as `from`, `to` and `embargo`; undefined if nothing is known.
+function dataOf(row) {
+    const data = {};
+    if (given(row.first) !== '') data.from = row.first;
+    if (given(row.last) !== '') data.to = row.last;
+    if (given(row.embargo) !== '') data.embargo = row.embargo;
+    return data.from || data.to || data.embargo ? data : undefined;
+}
+
+export default { textOf: textOf, dataOf: dataOf };

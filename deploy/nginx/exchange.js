@@ -1,0 +1,79 @@
+// What a reader sends and gets: the query of an address and a form, and replies in the reader's language. text.js says
+// in which njs it runs.
+import languages from './languages.js';
+import pages from './pages.js';
+import texts from './text.js';
+
+const is = texts.is;
+const own = texts.own;
+const ASCII = /^[\x21-\x7e]*$/;
+
+function targetsOf() { return typeof targets === 'undefined' ? {} : targets; }
+const LANGUAGE = /(?:^|&)lang=([a-z]{2,8}(?:-[a-z0-9]{1,8})*)(?=&|$)/i;
+// The site in the reader's language. `path` and `args` are the page's own address without the language.
+function siteOf(r) {
+    const sent = r.uri === '/fault' ? '' : sentBy(r);
+    const asked = hasLanguage(sent) ? LANGUAGE.exec(sent)[1] : undefined;
+    const site = languages.siteIn(targetsOf(), String(r.headersIn['Accept-Language'] || ''), asked);
+    site.path = r.uri === '/fault' ? '' : r.uri;
+    site.args = withoutLanguage(sent);
+    site.hasList = r.variables.openlink_list !== 'off';
+    return site;
+}
+function hasLanguage(args) { return args.indexOf('lang=') >= 0 && is(LANGUAGE, args); }
+function withoutLanguage(args) { return hasLanguage(args) ? args.replace(LANGUAGE, '').replace(/^&/, '') : args; }
+function send(r, status, type, text) {
+    r.headersOut['Content-Type'] = type;
+    r.return(status, text);
+}
+// Sends a text in the reader's language, which another reader may not get from a cache.
+function sendIn(r, site, status, type, text) {
+    r.headersOut['Content-Language'] = site.language;
+    r.headersOut.Vary = 'Accept-Language';
+    send(r, status, type, text);
+}
+function sendPage(r, status, text, site) { sendIn(r, site, status, 'text/html; charset=utf-8', text); }
+function sendJson(r, status, data, site) { sendIn(r, site, status, 'application/json', JSON.stringify(data) + '\n'); }
+function sendFault(r, status, site) {
+    if (is(/^\/find\.json(?:\?|$)/, String(r.variables.request_uri))) sendJson(r, status, { error: status }, site);
+    else sendPage(r, status, pages.faultOf(status, site), site);
+}
+
+// The query of the address and of a form, as ASCII. Every other byte is escaped, line ends first of all: a subrequest's
+// arguments reach the program as they are.
+function argsOf(r) { return withoutLanguage(sentBy(r)); }
+function sentBy(r) {
+    if (r.sent === undefined) r.sent = bytesToText(r);
+    return r.sent;
+}
+function bytesToText(r) {
+    let bytes = r.rawVariables.args || Buffer.from('');
+    const isForm = (type) => is(/^application\/x-www-form-urlencoded\b/i, type);
+    if (r.method === 'POST' && isForm(String(r.headersIn['Content-Type'])) && r.requestBuffer) {
+        bytes = bytes.length > 0 ? Buffer.concat([bytes, Buffer.from('&'), r.requestBuffer]) : r.requestBuffer;
+    }
+    const text = bytes.toString();
+    if (is(ASCII, text)) return text;
+    return bytes.toString('hex').replace(/../g, (hex) => {
+        const byte = parseInt(hex, 16);
+        return byte > 0x20 && byte < 0x7f ? String.fromCharCode(byte) : '%' + hex;
+    });
+}
+
+// An exception would close the connection without a byte. The page has no words of targets.json: they may be the cause.
+function guarded(handler) {
+    return async function (r) {
+        try {
+            await handler(r);
+        } catch (e) {
+            const message = texts.clean(String(e.message));
+            r.variables.openlink_found = 'exception:' + texts.replaced(message, /[^\w.]/g, '_').slice(0, 60);
+            sendFault(r, 503, languages.siteIn({ languages: own(targetsOf(), 'languages') }, ''));
+        }
+    };
+}
+
+export default {
+    argsOf: argsOf, siteOf: siteOf, send: send, sendPage: sendPage, sendJson: sendJson, sendFault: sendFault,
+    guarded: guarded
+};

@@ -1,0 +1,197 @@
+// The query of a request while the rules of openurl.js work on it. text.js says in which njs it runs.
+import encodings from './encodings.js';
+import texts from './text.js';
+
+const is = texts.is;
+const NONE = [];
+const MOST_PAIRS = 300;
+const MOST_BYTES = 12000;
+const MOST_VALUES = 20;  // of one key
+const MOST_REJOINED = 50;
+const ASCII = /^[\x21-\x7e]*$/;
+const UNRESERVED = /^[\w.~-]*$/;
+const NO_ESCAPE = /^[\x21-\x24\x26-\x2a\x2c-\x7e]*$/;
+const HIGH = /%[89a-f]/i;
+const STRAY = /%(?![0-9a-f]{2})/i;
+const ANY = /^[- ]*a[- ]*n[- ]*y[- ]*$/i;
+const PREFIX = /^(?:info:[\w-]+[\/:]|urn:\w+:|(?:doi|pmid|oclc):|(?:https?:\/\/)?(?:dx\.|www\.)?doi\.org\/)+\s*$/i;
+
+function encode(text) { return is(UNRESERVED, text) ? text : encodeURIComponent(text); }
+
+// The columns of a KBART table. An empty cell is undefined, so a request that could write one would choose the link.
+const COLUMNS = ' ' + ('publication_title print_identifier online_identifier date_first_issue_online '
+    + 'num_first_vol_online num_first_issue_online date_last_issue_online num_last_vol_online '
+    + 'num_last_issue_online title_url first_author title_id embargo_info coverage_depth notes '
+    + 'publisher_name publication_type date_monograph_published_print date_monograph_published_online '
+    + 'monograph_volume monograph_edition first_editor parent_publication_title_id '
+    + 'preceding_publication_title_id access_type') + ' ';
+
+// The keys that find rows, with their forms in OpenURL 0.1. The program ignores '-' and spaces in their values.
+const NUMBER_KEYS = ' rft.issn rft.eissn rft.isbn issn eissn isbn ';
+function isDropped(key, value) {
+    return value.trim() === '' || key.slice(0, 2) === 'x.' || isIn(COLUMNS, key)
+        || (key === 'rft_id' && is(PREFIX, value))
+        || (isIn(NUMBER_KEYS, key) && is(ANY, value));
+}
+
+// The keys of OpenURL 0.1, and those that it shares with 1.0 behind `rft.`; then all others that a rule reads. As text,
+// since nginx would make a table of them for each request.
+const OLD_KEYS = 'genre issn eissn isbn eisbn volume issue spage epage pages artnum date year atitle jtitle btitle '
+    + 'stitle au aulast aufirst auinit auinit1 aucorp part ssn quarter sici coden';
+const KEYS = ' ' + OLD_KEYS + ' title sid pid id doi pmid number identifier creator source type ctx_ver ctx_enc '
+    + 'url_ver url_ctx_fmt rft_id rft_dat rft_val_fmt rfr_id ';
+function isIn(names, key) { return names.indexOf(' ' + key + ' ') >= 0 && key.indexOf(' ') < 0; }
+function isKey(key) { return isIn(KEYS, key.slice(0, 4) === 'rft.' ? key.slice(4) : key); }
+
+// A base URL may end with a question mark, or with a query of its own, before the source adds another one.
+const SECOND_QUERY = /^((?:[\w.]+=[\w.:-]*&)*[\w.]+=[\w.:-]*)\?+([\w.]+)(?==)/;
+function withoutBase(args) {
+    const text = args.charAt(0) === '?' ? args.replace(/^\?+/, '') : args;
+    const isSecond = text.indexOf('?') > 0 && is(SECOND_QUERY, text.slice(0, 500));
+    const found = isSecond ? SECOND_QUERY.exec(text) : null;
+    if (found === null || !isKey(found[2].toLowerCase())) return text;
+    return found[1] + '&' + text.slice(found[0].length - found[2].length);
+}
+
+// The pairs of a query. `&amp;` between two of them is `&`; within a value, an entity that was not escaped has split
+// it.
+const ENTITY = /^(?:[a-z]{2,8}\d{0,2}|#\d{1,7}|#x[\da-f]{1,6});/i;
+const PAIR = /^(?:amp;)*[\w.?]+=/i;
+function piecesOf(args) {
+    const isOld = args.indexOf('&') < 0 && args.indexOf(';') >= 0;
+    const pieces = (isOld ? args.replace(/;(?=[\w.]+=)/g, '&') : args).split('&');
+    if (args.indexOf('&') < 0 || args.indexOf(';') < 0) return pieces;
+    const joined = [];
+    let count = 0;
+    pieces.forEach((piece) => {
+        const isPart = joined.length > 0 && count < MOST_REJOINED && is(ENTITY, piece) && !is(PAIR, piece)
+            && !isKey(piece.replace(/^(?:amp;)+/i, '').toLowerCase());
+        if (isPart && ++count) joined[joined.length - 1] += '%26' + piece;
+        else joined.push(piece);
+    });
+    return joined;
+}
+
+// `args` is the request as it was sent, `pairs` its pairs, `given` their values by key, `added` the values that the
+// rules put before them, `addedKeys` the keys of these in their order, `isbns` all ISBNs. Each pair is read once.
+function Query(args) {
+    this.args = args;
+    this.pairs = [];
+    this.given = Object.create(null);
+    this.added = Object.create(null);
+    this.addedKeys = [];
+    this.copied = Object.create(null);
+    this.encoded = Object.create(null);
+    this.isbns = NONE;
+    this.encoding = encodings.declaredIn(args);
+    this.decodedTexts = 0;
+    const pieces = piecesOf(withoutBase(args));
+    for (let i = 0, count = 0; i < pieces.length && count < MOST_PAIRS; i++) {
+        let piece = pieces[i];
+        while (piece.slice(0, 4).toLowerCase() === 'amp;') piece = piece.slice(4);
+        if (this.read(piece)) count++;
+    }
+}
+
+// In the encoding that the request declares. A text that is not UTF-8, though it should be, is read as windows-1252; it
+// is '' if the encoding is unknown. A '%' of no escape is a '%'.
+Query.prototype.decode = function (raw) {
+    const text = raw.indexOf('+') < 0 ? raw : raw.split('+').join(' ');
+    if (text.indexOf('%') < 0) return text;
+    const isUnicode = this.encoding === '' || this.encoding === 'unicode' || this.encoding === 'unknown';
+    if (isUnicode || !is(HIGH, raw)) {
+        try {
+            return decodeURIComponent(is(STRAY, text) ? text.replace(/%(?![0-9a-f]{2})/gi, '%25') : text);
+        } catch (e) { /* not UTF-8 */ }
+    }
+    if (this.encoding === 'unknown') return '';
+    this.decodedTexts++;
+    return encodings.decoded(text, isUnicode ? 'windows-1252' : this.encoding);
+};
+
+// A key of OpenURL in small letters, however it is written.
+function nameOf(text) {
+    const name = text.charAt(0) === '?' ? text.replace(/^\?+/, '') : text;
+    const small = name.toLowerCase();
+    return small !== name && isKey(small) ? small : name;
+}
+
+// Reads one pair and returns whether it has a value.
+Query.prototype.read = function (raw) {
+    const at = raw.indexOf('=');
+    if (at < 0 || at === raw.length - 1) return false;
+    const before = this.decodedTexts;
+    const hasEscapes = !is(NO_ESCAPE, raw);
+    const sent = hasEscapes ? this.decode(raw.slice(0, at)) : raw.slice(0, at);
+    const key = nameOf(sent);
+    const value = hasEscapes ? this.decode(raw.slice(at + 1)) : raw.slice(at + 1);
+    if (isDropped(key, value)) return true;
+    const isKept = key === sent && (!hasEscapes || (this.decodedTexts === before && is(ASCII, raw)));
+    this.pairs.push({ key: key, text: isKept ? raw : encode(key) + '=' + encode(value) });
+    (this.given[key] = this.given[key] || []).push(value);
+    return true;
+};
+
+Query.prototype.first = function (key) { return (this.added[key] || this.given[key] || NONE)[0] || ''; };
+Query.prototype.has = function (key) { return this.first(key) !== ''; };
+// All values of a key, of a hostile request the first ones.
+Query.prototype.all = function (key) {
+    return (this.added[key] || NONE).concat(this.given[key] || NONE).slice(0, MOST_VALUES);
+};
+
+// Gives a key values before the request's: these, one more, or one that is the first of all, which counts.
+Query.prototype.put = function (key, values) {
+    if (!this.added[key]) this.addedKeys.push(key);
+    this.added[key] = values;
+};
+Query.prototype.add = function (key, value) { this.put(key, (this.added[key] || NONE).concat([value])); };
+Query.prototype.lead = function (key, value) { if (this.first(key) !== value) this.put(key, [value]); };
+// Gives a key the values of another one, if it has none.
+Query.prototype.copy = function (from, to) {
+    if (!this.has(from) || this.has(to)) return;
+    this.put(to, this.all(from));
+    this.copied[from] = true;
+};
+Query.prototype.drop = function (key) {
+    this.pairs = this.pairs.filter((pair) => pair.key !== key);
+    this.addedKeys = this.addedKeys.filter((added) => added !== key);
+    delete this.given[key];
+    delete this.added[key];
+};
+Query.prototype.set = function (key, value) {
+    this.drop(key);
+    this.add(key, value);
+};
+
+function partsOf(pairs) { return pairs.map((pair) => pair.text); }
+
+// The pairs of a key that rules have added; a key of a rule needs no escape. Both queries of a request have them.
+function encodedOf(q, key) {
+    const known = q.encoded[key];
+    if (known !== undefined && known.values === q.added[key]) return known.texts;
+    const texts = q.added[key].map((value) => key + '=' + encode(value));
+    q.encoded[key] = { values: q.added[key], texts: texts };
+    return texts;
+}
+
+// The query as text, with `first` before it and without the keys of `omitted`. If it is too long, those pairs are left
+// out that a rule has copied or replaced, then pairs from the end.
+Query.prototype.text = function (first, omitted) {
+    const q = this;
+    const front = first === '' ? [] : [first];
+    q.addedKeys.forEach((key) => {
+        if (omitted[key] === true) return;
+        encodedOf(q, key).forEach((text) => { front.push(text); });
+    });
+    const pairs = q.pairs.filter((pair) => omitted[pair.key] !== true);
+    let parts = front.concat(partsOf(pairs));
+    if (parts.join('&').length > MOST_BYTES) {
+        const isNeeded = (pair) => !q.copied[pair.key] && (!q.added[pair.key] || pair.key === 'rft_id');
+        parts = front.concat(partsOf(pairs.filter(isNeeded)));
+    }
+    let length = parts.join('&').length;
+    while (length > MOST_BYTES) length -= parts.pop().length + 1;
+    return parts.join('&');
+};
+
+export default { Query: Query, OLD_KEYS: OLD_KEYS, NONE: NONE };

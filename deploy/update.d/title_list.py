@@ -1,0 +1,55 @@
+"""The list of titles, by letter, in pages."""
+import os
+from index_files import write_lines
+
+PAGE = 50  # titles
+DIGITS_LETTER, OTHER = "0-9", "other"
+LAST_ALPHABET = "\u06ff"  # those after Arabic have no letters of their own here
+
+
+def letter_of(key):
+    """The letter under which a key is: that of its first character."""
+    first = key[:1]
+    if first.isdigit() and first.isascii():
+        return DIGITS_LETTER
+    return first if first.isalpha() and first <= LAST_ALPHABET else OTHER
+
+
+def order_of(letter):
+    """a to z, digits, other alphabets, and last what is no letter."""
+    if letter == OTHER:
+        return 3, ""
+    if letter == DIGITS_LETTER:
+        return 1, ""
+    return (0 if letter.isascii() else 2), letter
+
+
+def ordered(titles):
+    return sorted(titles, key=lambda title: (order_of(letter_of(title.key)), title.key, title.name))
+
+
+def pages_of(titles):
+    """Pages of titles in their order, each with its letter."""
+    pages = []
+    for title in titles:
+        letter = letter_of(title.key)
+        if not pages or pages[-1][0] != letter or len(pages[-1][1]) == PAGE:
+            pages.append((letter, []))
+        pages[-1][1].append(title)
+    return pages
+
+
+def write_pages(folder, pages, count, digits):
+    """Writes the pages of `count` titles, and the letters; `digits` is the number of digits of the names of words."""
+    os.makedirs(folder)
+    letters = {}
+    for number, (letter, titles) in enumerate(pages):
+        write_lines(folder, str(number), [line_of(title).encode() for title in titles])
+        letters.setdefault(letter, []).append((number, len(titles)))
+    lines = [f"{letter}\t{numbers[0][0]}\t{len(numbers)}\t{sum(size for _, size in numbers)}"
+             for letter, numbers in letters.items()]
+    write_lines(folder, "letters", [line.encode() for line in (f"{count}\t{digits}", *lines)])
+
+
+def line_of(title):
+    return f"{title.name}\t{title.forms}\t{title.coverage_text()}"
