@@ -250,6 +250,9 @@ def test_words(it):
               [f"/find?title=Annals+of+Tidal+Studies&{ARTICLE}&lang=en"])
     why = it.site.get("/why?lang=de&issn=2901-0012", port=it.site.report_port)
     it.expect("no language for the program", "lang=" in why.text.split("<h2>")[1], False)
+    long = it.site.get("/find?issn=2901-0012&atitle=" + "x" * 3500).text
+    it.expect("a long request is not repeated", ("x" * 3500 in long, "/cite?" in long, "lang=de" in long),
+              (True, False, False))
     it.expect("another language", it.site.get("/find?lang=fr").headers["Content-Language"], "en")
     it.expect("a switch on the list", '<a href="/journals/a/1?lang=de"' in it.site.get("/journals/a/1").text)
     with open(it.site.path("openlink/logo.svg"), "w") as file:

@@ -13,7 +13,7 @@ const escape = texts.escape;
 const word = words.word;
 const filled = words.filled;
 const NONE = [];
-const MOST_ARGS = 7900;  // of an address that nginx reads
+const MOST_ARGS = pages.MOST_ARGS;
 
 function emptyGroups(site) {
     const groups = [];

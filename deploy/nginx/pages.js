@@ -10,6 +10,9 @@ const is = texts.is;
 const escape = texts.escape;
 const isWeb = texts.isWeb;
 const word = words.word;
+// A longer request is none of a source. Its page has no links that repeat it, which would be most of its bytes and
+// time.
+const MOST_ARGS = 3000;
 const LOGO = /^[\w-]{1,60}\.(?:svg|png|jpg|gif|webp)$/;
 
 function anchor(url, text) { return '<a href="' + escape(url) + '">' + escape(text) + '</a>'; }
@@ -45,7 +48,7 @@ function linksHtml(site) {
 }
 // The same page in the other languages. A page of a fault has no address of its own.
 function languagesHtml(site) {
-    if (!site.path || site.languages.length < 2) return [];
+    if (!site.path || site.languages.length < 2 || site.args.length > MOST_ARGS) return [];
     return site.languages.filter((language) => language !== site.language).map((language) => {
         const address = addressOf(site.path, site.args, { chosen: language });
         const name = languages.nameOf(language);
@@ -86,5 +89,6 @@ function faultOf(status, site) {
 }
 
 export default {
-    anchor: anchor, notice: notice, addressOf: addressOf, documentOf: documentOf, faultHtml: faultHtml, faultOf: faultOf
+    MOST_ARGS: MOST_ARGS, anchor: anchor, notice: notice, addressOf: addressOf, documentOf: documentOf,
+    faultHtml: faultHtml, faultOf: faultOf
 };

@@ -28,10 +28,11 @@ const COLUMNS = ' ' + ('publication_title print_identifier online_identifier dat
 
 // The keys that find rows, with their forms in OpenURL 0.1. The program ignores '-' and spaces in their values.
 const NUMBER_KEYS = ' rft.issn rft.eissn rft.isbn issn eissn isbn ';
+function isColumn(key) { return (key.indexOf('_') >= 0 || key === 'notes') && isIn(COLUMNS, key); }
 function isDropped(key, value) {
-    return value.trim() === '' || key.slice(0, 2) === 'x.' || isIn(COLUMNS, key)
+    return value.trim() === '' || key.slice(0, 2) === 'x.' || isColumn(key)
         || (key === 'rft_id' && is(PREFIX, value))
-        || (isIn(NUMBER_KEYS, key) && is(ANY, value));
+        || (key.slice(-1) === 'n' && isIn(NUMBER_KEYS, key) && is(ANY, value));
 }
 
 // The keys of OpenURL 0.1, and those that it shares with 1.0 behind `rft.`; then all others that a rule reads. As text,
