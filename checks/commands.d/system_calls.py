@@ -1,15 +1,15 @@
 """System calls of the program that fail, or that a check counts: a filter of the calls of x86-64 (seccomp)."""
-import array, ctypes, errno, fcntl, select, socket, struct, threading
+import array, ctypes, errno, fcntl, select, socket, struct, threading, time
 from patience import patience
 
 # Numbers of calls: `fsync` and `fdatasync`; `fchmod`, `chmod` and `fchmodat`; `rename`, `renameat` and `renameat2`;
-# `getrandom`; `accept` and `accept4`; `sendto`, `sendmsg`, `write` and `writev`.
+# `getrandom`; `accept` and `accept4`; `sendto`, `write` and `writev`.
 STORE = (74, 75)
 SET_MODE = (91, 90, 268)
 RENAME = (82, 264, 316)
 RANDOM = (318,)
 ACCEPT = (43, 288)
-SEND = (44, 46, 1, 20)
+SEND = (44, 1, 20)
 
 # What a filter answers: the call fails with EIO, or another process decides (SECCOMP_RET_ERRNO, .._USER_NOTIF).
 FAIL = 0x00050000 | errno.EIO
@@ -39,11 +39,11 @@ def without(calls):
 
 
 class Watch:
-    """Counts these calls of the program that is started with `how`, until it ends. The first of them can be made to
-    fail."""
+    """The times at which the program that is started with `how` makes one of these calls, until it ends. The first of
+    them can be made to fail."""
 
     def __init__(self, calls, fails_first=False):
-        self.calls, self.fails_first, self.count = calls, fails_first, 0
+        self.calls, self.fails_first, self.times = calls, fails_first, []
         self.how = {"preexec_fn": self.begin}
 
     def begin(self):
@@ -77,8 +77,8 @@ class Watch:
         call = bytearray(80)
         try:
             fcntl.ioctl(told, 0xC0502100, call)
-            self.count += 1
-            fails = self.fails_first and self.count == 1
+            self.times.append(time.monotonic())
+            fails = self.fails_first and len(self.times) == 1
             fcntl.ioctl(told, 0xC0182101, call[:8] + struct.pack("qiI", 0, -errno.EIO * fails, not fails))
         except FileNotFoundError:
             pass  # The program was killed meanwhile.
