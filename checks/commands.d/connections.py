@@ -74,6 +74,9 @@ def write_long(program, count):
 # A page of this number of links has six megabytes, more than the system keeps for a peer that does not read.
 MANY = 100
 
+# The line of the service, the heads and bodies of two replies, and some writes of which the system takes a part.
+MOST_WRITES = 12
+
 
 def test_a_peer_that_reads_late(program):
     page = write_long(program, MANY)
@@ -100,7 +103,9 @@ def test_a_peer_that_does_not_read(program):
             peer.sendall(LONG_REQUEST)
             peer.recv(1, socket.MSG_PEEK)
             expect_served(program, service)
-        # A write that has taken some bytes ends with its time-out too, and the next one begins.
+        # A write that has taken some bytes ends with its time-out too, and the next one begins. One that has taken none
+        # is the last.
+        program.expect(f"{len(watch.times)} writes, which are few", len(watch.times) <= MOST_WRITES)
         return fault_of_wait(max(end - start for start, end in zip(watch.times, watch.times[1:])))
 
     program.expect("the time-out of a write", best_of_three(fault_of), None)

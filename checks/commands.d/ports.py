@@ -1,6 +1,6 @@
 """The port of a service: which it takes and from when on; and connections that cannot be accepted."""
 import errno, os, random, resource, socket, subprocess
-from connections import NOT_FOUND, REQUEST
+from connections import NOT_FOUND, REQUEST, connect, rest
 from patience import patience, wait_until
 from program import PATH
 from system_calls import ACCEPT, Watch
@@ -51,12 +51,13 @@ class Serving:
             self.program.differ(f"{what}: it does not end")
 
     def reply(self):
-        with socket.create_connection(("127.0.0.1", self.port), patience(30)) as peer:
-            peer.sendall(REQUEST)
-            received = b""
-            while piece := peer.recv(65536):
-                received += piece
-        return received
+        """What a peer gets, or why it gets nothing."""
+        try:
+            with connect(self) as peer:
+                peer.sendall(REQUEST)
+                return rest(peer)
+        except OSError as fault:
+            return fault
 
 
 def test_high_ports(program):
@@ -113,7 +114,7 @@ def test_the_port_is_taken_after_the_registry(program):
                 program.expect("where the service listens", line, listening)
                 if status == 0:
                     program.expect("the reply", service.reply(), NOT_FOUND)
-                service.process.wait(patience(30))
+                wait_until(lambda: service.process.poll() is not None)
                 program.expect(f"the status after {name}", service.process.returncode, status)
         os.remove(f"{program.folder}/{name}")
         program.write(name, content)
@@ -138,6 +139,8 @@ def test_no_second_attempt_to_accept(program):
     write_alpha(program)
     port = free_port()
     with Watch(ACCEPT, fails_first=True) as watch, Serving(program, port, 1, **watch.how) as service:
-        listening, fault = f"listening 127.0.0.1:{port}\n", f"openlink: device: 127.0.0.1:{port}\n"
-        service.ends("a service that cannot accept once", 4, listening.encode(), fault.encode())
-    program.expect("the attempts to accept", len(watch.times), 1)
+        wait_until(lambda: service.process.poll() is not None or len(watch.times) > 1)
+        program.expect("the attempts to accept", len(watch.times), 1)
+        if service.process.poll() is not None:
+            listening, fault = f"listening 127.0.0.1:{port}\n", f"openlink: device: 127.0.0.1:{port}\n"
+            service.ends("a service that cannot accept once", 4, listening.encode(), fault.encode())

@@ -2,6 +2,7 @@
 
 use files::{FileError, ReadError};
 use kbart_rows::{NoKeys, TableError};
+use printed_text::PrintedPath;
 use registry::AddErrorKind;
 use std::alloc::AllocError;
 use thiserror::Error;
@@ -39,7 +40,7 @@ pub struct TargetError {
 #[derive(Debug, Drop, Error)]
 pub enum TargetFault {
     /// The file at the path could not be read.
-    #[error("device: {0}")]
+    #[error("device: {}", PrintedPath(.0))]
     Device(String),
     /// The verifier rejects the code.
     #[error("load: {0}")]
