@@ -16,11 +16,17 @@ impl<'a> fmt::Display for PrintedPath<'a> {
     ghost output = { λ path. Some (flat_map path_char (chars path.0.now)) };
 
     fn fmt<W: fmt::Write>(&self, f: &mut fmt::Formatter<W>) -> fmt::Result {
-        for c in self.0.chars() {
-            write_path_char(f, c)?;
-        }
-        Ok(())
+        write_path(f, self.0)
     }
+}
+
+fn write_path<W: fmt::Write>(f: &mut fmt::Formatter<W>, path: &str) -> fmt::Result
+    ensures { WritesOnOk W.write_str_gives f.old result (flat_map path_char (chars path.now)) f.new }
+{
+    for c in path.chars() {
+        write_path_char(f, c)?;
+    }
+    Ok(())
 }
 
 fn write_path_char<W: fmt::Write>(f: &mut fmt::Formatter<W>, c: char) -> fmt::Result
