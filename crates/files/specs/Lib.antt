@@ -4,3 +4,4 @@ pub mod Modes
 pub mod Failures
 pub mod Placing
 pub mod Errors
+pub mod Paths

@@ -1,8 +1,8 @@
 -- How texts are printed: which bytes are printed as they are, which are escaped, and where a long text is cut.
 use Rattle.std.proofs.Common.{◌≡◌, ◌++◌, [], ◌∷◌, refl, codes}
-use Rattle.std.specs.List.{flat_map, repeat}
+use Rattle.std.specs.List.{repeat}
 use Rattle.std.specs.Fmt.{digits}
-use Rattle.printed_text.specs.Printed.{path_char, quoted, shortened, visible}
+use Rattle.printed_text.specs.Printed.{quoted, shortened, visible}
 
 marks_and_backslashes : quoted (codes "a\"b\\c 'd'") ≡ codes "\"a\\x22b\\x5cc 'd'\""
 unfolding digits
@@ -35,9 +35,3 @@ sixty_escaped_bytes = refl
 visible_marks : visible (codes "x is \"a\\b\"" ++ 0x0a ∷ 0x7f ∷ []) ≡ codes "x is \"a\\b\"\\x0a\\x7f"
 unfolding digits
 visible_marks = refl
-
--- on both sides of each end of the control characters of ASCII, and a letter beyond ASCII
-path_with_control_characters : flat_map path_char (0 ∷ 0x0a ∷ 0x1f ∷ 0x20 ∷ 0x5c ∷ 0x7e ∷ 0x7f ∷ 0x80 ∷ 0xe9 ∷ [])
-    ≡ codes "\\x00\\x0a\\x1f \\~\\x7f" ++ 0xc2 ∷ 0x80 ∷ 0xc3 ∷ 0xa9 ∷ []
-unfolding digits lib.Utf8.encode
-path_with_control_characters = refl

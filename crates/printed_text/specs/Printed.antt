@@ -1,6 +1,5 @@
 -- How texts of unknown bytes are printed.
-use Rattle.std.specs.Prelude.{ℕ, ◌/◌, ◌%◌, Bool, false, ◌&&◌, ◌==◌, not, nat_le, [], ◌∷◌, ◌++◌, take, length, codes, encode_utf8, if◌then◌else◌}
-use Rattle.std.specs.Char.{is_ascii_control}
+use Rattle.std.specs.Prelude.{ℕ, ◌/◌, ◌%◌, Bool, false, ◌&&◌, ◌==◌, not, nat_le, [], ◌∷◌, ◌++◌, take, length, codes, if◌then◌else◌}
 use Rattle.std.specs.List.{flat_map}
 use Rattle.std.specs.Fmt.{digits}
 use Rattle.text_model.specs.Texts.{Text}
@@ -31,10 +30,6 @@ byte_text b = if is_plain b then (b ∷ []) else escape b
 -- how a byte is printed without quotation marks
 abbrev pub visible_byte : ℕ → Text
 visible_byte b = if is_visible b then (b ∷ []) else escape b
-
--- how a character of a path is printed: the control characters of ASCII, 00 to 1F and 7F, are escaped
-abbrev pub path_char : ℕ → Text
-path_char c = if is_ascii_control c then escape c else encode_utf8 c
 
 -- a text between quotation marks
 abbrev pub quoted : Text → Text

@@ -1,4 +1,4 @@
-//! Unknown bytes and paths as printable text, and what a command finds in the files that it examines.
+//! Unknown bytes as printable text, and what a command finds in the files that it examines.
 //!
 //! ```rust
 //! let mut line = String::new(alloc);
@@ -8,9 +8,7 @@
 #![tactic(auto)]
 
 mod findings;
-mod paths;
 mod quoting;
 
 pub use findings::Findings;
-pub use paths::PrintedPath;
 pub use quoting::{MAX_SHOWN, push_quoted, push_shortened, push_visible};

@@ -1,8 +1,7 @@
 //! Why a registry file could not be loaded.
 
-use files::{FileError, ReadError};
+use files::{FileError, PrintedPath, ReadError};
 use kbart_rows::{NoKeys, TableError};
-use printed_text::PrintedPath;
 use registry::AddErrorKind;
 use std::alloc::AllocError;
 use thiserror::Error;

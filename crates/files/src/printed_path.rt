@@ -1,9 +1,9 @@
-//! Paths in errors.
+//! Paths as errors print them.
 
 ghost use Rattle.std.specs.Prelude.{Some, chars};
 ghost use Rattle.std.specs.Fmt.{WritesOnOk};
 ghost use Rattle.std.specs.List.{flat_map};
-ghost use Rattle.printed_text.specs.Printed.{path_char};
+ghost use Rattle.files.specs.Paths.{path_char};
 
 use std::fmt;
 

@@ -1,7 +1,7 @@
 use Rattle.std.specs.Fmt.{HasWritten, IsPlainFormatter}
 use Rattle.std.specs.List.{flat_map}
-use Rattle.printed_text.specs.Printed.{path_char}
-use Rattle.printed_text.proofs.paths.write_path.Given as goal
+use Rattle.files.specs.Paths.{path_char}
+use Rattle.files.proofs.printed_path.write_path.Given as goal
 
 -- the characters so far are written
 abbrev pub invariant-loop-c : goal.invariant-loop-c
