@@ -1,4 +1,5 @@
-"""System calls of the program that fail, or that a check counts: a filter of the calls of x86-64 (seccomp)."""
+"""System calls of the program that fail, or that a check counts: a filter of the calls of x86-64 (seccomp). Counting
+needs Linux 5.5."""
 import array, ctypes, errno, fcntl, select, socket, struct, threading, time
 from patience import patience
 
