@@ -1,6 +1,7 @@
 """Connections of a service whose peers send much at once, read late or never, send nothing, or go away."""
 import socket, struct, time
 from service import PATIENCE, Service, reply_of, request_of
+from system_calls import SEND, Watch
 from targets import DATE_RULES, write_alpha, write_registry
 from patience import best_of_three, patience
 
@@ -32,10 +33,9 @@ def rest(peer):
     return received
 
 
-def fault_of_wait(since):
-    """What is wrong with a time-out of the service that began at a moment or later, and is over; None if nothing is."""
-    waited = time.monotonic() - since
-    return None if WAIT * 0.9 < waited < WAIT + patience(2) else f"a time-out of {waited:.2f} s"
+def fault_of_wait(waited):
+    """What is wrong with a time-out of the service that took these seconds; None if nothing is."""
+    return None if WAIT * 0.9 < waited < WAIT * 1.5 else f"a time-out of {waited:.2f} s"
 
 
 def expect_served(program, service):
@@ -74,6 +74,9 @@ def write_long(program, count):
 # A page of this number of links has six megabytes, more than the system keeps for a peer that does not read.
 MANY = 100
 
+# The line of the service, the heads and bodies of two replies, and some writes of which the system takes a part.
+MOST_WRITES = 12
+
 
 def test_a_peer_that_reads_late(program):
     page = write_long(program, MANY)
@@ -96,12 +99,14 @@ def test_a_peer_that_does_not_read(program):
     write_long(program, MANY)
 
     def fault_of():
-        with Service(program, 2) as service, connect(service, 4096) as peer:
-            start = time.monotonic()
+        with Watch(SEND) as watch, Service(program, 2, **watch.how) as service, connect(service, 4096) as peer:
             peer.sendall(LONG_REQUEST)
             peer.recv(1, socket.MSG_PEEK)
             expect_served(program, service)
-            return fault_of_wait(start)
+        # A write that has taken some bytes ends with its time-out too, and the next one begins. One that has taken none
+        # is the last.
+        program.expect(f"{len(watch.times)} writes, which are few", len(watch.times) <= MOST_WRITES)
+        return fault_of_wait(max(end - start for start, end in zip(watch.times, watch.times[1:])))
 
     program.expect("the time-out of a write", best_of_three(fault_of), None)
 
@@ -114,7 +119,7 @@ def test_a_peer_that_sends_nothing(program):
                 start = time.monotonic()
                 peer.sendall(sent)
                 program.expect("what a peer gets whose head does not end", rest(peer), b"")
-                fault = fault_of_wait(start)
+                fault = fault_of_wait(time.monotonic() - start)
                 expect_served(program, service)
                 return fault
 

@@ -2,7 +2,7 @@
 and what a failure leaves."""
 import os, resource, signal, stat
 from assembler import LIST_FILE
-from system_calls import RENAME, STORE, without
+from system_calls import RENAME, SET_MODE, STORE, without
 
 # A command without its last argument, the path that it writes; the number of bytes written there; and the first of
 # them.
@@ -15,9 +15,13 @@ def write_sources(program):
 
 
 def kind_of(path):
-    """What a path leads to: its kind, its device number and its inode."""
-    found = os.stat(path)
-    return found.st_mode, found.st_rdev, found.st_ino
+    """What is at a path: its kind, its device number, its inode, and where it leads if it is a link."""
+    found = os.lstat(path)
+    return found.st_mode, found.st_rdev, found.st_ino, os.readlink(path) if os.path.islink(path) else None
+
+
+def mode_of(program, name):
+    return stat.S_IMODE(os.lstat(f"{program.folder}/{name}").st_mode)
 
 
 def places(program, command, name, size, first):
@@ -38,16 +42,25 @@ def add_device(program):
     return "device"
 
 
+# A symbolic link, and where it leads: to a folder, a file, another link, nothing, itself, an open file.
+LINKS = [
+    ("to_folder", "folder"), ("to_file", "kept"), ("to_link", "to_file"), ("to_none", "none"),
+    ("to_itself", "to_itself"), ("to_output", "/proc/self/fd/1"),
+]
+
+
 def test_no_regular_file(program):
-    """A folder, a FIFO, a device, and a link to one of them, are refused and stay."""
+    """A folder, a FIFO, a device, and any symbolic link, are refused and stay."""
     write_sources(program)
+    program.write("kept", "what was there")
     os.mkdir(f"{program.folder}/folder")
     os.mkfifo(f"{program.folder}/fifo")
     device = add_device(program)
-    os.symlink("folder", f"{program.folder}/to_folder")
-    os.symlink(device, f"{program.folder}/to_device")
+    for name, target in LINKS + [("to_device", device)]:
+        os.symlink(target, f"{program.folder}/{name}")
+    links = [name for name, _ in LINKS]
     for command, _, _ in COMMANDS:
-        for name in "folder", "fifo", device, "to_folder", "to_device", ".", "/proc/self/cwd":
+        for name in ["folder", "fifo", device, *links, "to_device", ".", "/proc/self/cwd"]:
             path = os.path.join(program.folder, name)
             before = kind_of(path)
             program.fails(command + [name], 4, f"device: {name}")
@@ -55,18 +68,49 @@ def test_no_regular_file(program):
             program.expect(f"{name}.new exists", os.path.lexists(f"{path}.new"), False)
 
 
-def test_symbolic_links(program):
-    """A link to a file, or to none, is itself replaced; what it leads to stays as it is."""
+def test_links_among_the_folders(program):
+    """They are followed."""
+    write_sources(program)
+    os.mkdir(f"{program.folder}/folder")
+    os.symlink("folder", f"{program.folder}/to_folder")
+    os.symlink("to_folder", f"{program.folder}/to_link")
+    for command, size, first in COMMANDS:
+        for _ in "a new file", "a file that is replaced":
+            places(program, command, "to_link/code", size, first)
+        program.expect("the file in the folder", len(program.read("folder/code") or b""), size)
+        os.remove(f"{program.folder}/folder/code")
+
+
+def test_modes(program):
+    """A file that is replaced keeps its mode. A new file has that of any other new file."""
     write_sources(program)
     for command, size, first in COMMANDS:
-        program.write("kept", "what was there")
-        os.symlink("kept", f"{program.folder}/to_file")
-        os.symlink("none", f"{program.folder}/to_none")
-        for name in "to_file", "to_none":
-            places(program, command, name, size, first)
-            os.remove(f"{program.folder}/{name}")
-        program.expect("the file that a link led to", program.read("kept"), b"what was there")
-        program.expect("none exists", program.has("none"), False)
+        for mode in 0o600, 0o640, 0o444, 0o755, 0o000:
+            program.write("code", "the old file")
+            os.chmod(f"{program.folder}/code", mode)
+            program.prints(command + ["code"], f"{size} bytes")
+            program.expect(f"the mode {mode:o}", mode_of(program, "code"), mode)
+            os.remove(f"{program.folder}/code")
+        for mask, mode in (0o027, 0o640), (0o000, 0o666):
+            given = program.run(command + ["code"], preexec_fn=lambda: os.umask(mask))
+            program.expect("a new file", given, (0, f"{size} bytes\n".encode(), b""))
+            program.expect(f"its mode with the mask {mask:o}", mode_of(program, "code"), mode)
+            os.remove(f"{program.folder}/code")
+
+
+def test_a_mode_that_is_not_set(program):
+    """The old file stays, with its mode, and the new one is removed."""
+    write_sources(program)
+    for command, size, _ in COMMANDS:
+        program.write("code", "the old file")
+        os.chmod(f"{program.folder}/code", 0o640)
+        given = program.run(command + ["code"], **without(SET_MODE))
+        program.expect(f"{command} without setting modes", given, (4, b"", b"openlink: device: code\n"))
+        program.expect("code", (program.read("code"), mode_of(program, "code")), (b"the old file", 0o640))
+        program.expect("code.new is there", program.has("code.new"), False)
+        given = program.run(command + ["none"], **without(SET_MODE))
+        program.expect("a new file needs no such call", given, (0, f"{size} bytes\n".encode(), b""))
+        os.remove(f"{program.folder}/none")
 
 
 def test_a_file_beside_the_path(program):
@@ -137,13 +181,16 @@ def test_a_file_that_is_not_renamed(program):
 
 
 def test_a_command_that_is_killed(program):
-    """It leaves the old file, and its part of the new one beside it, which has to be removed by hand."""
+    """It leaves the old file, and its part of the new one beside it, which has to be removed by hand. The part has the
+    mode of the old file, so that nobody else can read it."""
     write_sources(program)
     for command, size, first in COMMANDS:
         program.write("code", "the old file")
+        os.chmod(f"{program.folder}/code", 0o600)
         status = program.run(command + ["code"], **with_room(16, signal.SIG_DFL))[0]
         program.expect("how it ends", status, -signal.SIGXFSZ)
         program.expect("the part of the new file", (program.read("code.new") or b"")[:4], first)
+        program.expect("its mode", mode_of(program, "code.new"), 0o600)
         program.expect("code", program.read("code"), b"the old file")
         program.fails(command + ["code"], 4, "device: code")
         os.remove(f"{program.folder}/code.new")

@@ -47,11 +47,11 @@ class Program:
         if got != expected:
             self.differ(f"{what}: got {str(got)[:600]!r}, wanted {str(expected)[:600]!r}")
 
-    def run(self, arguments, **how):
-        """The status, standard output and standard error."""
+    def run(self, arguments, name=PATH, **how):
+        """The status, standard output and standard error. The program learns that this is its own path."""
         self.runs += 1
         how = {"cwd": self.folder, "stdin": subprocess.DEVNULL, "capture_output": True, "timeout": patience(60), **how}
-        done = subprocess.run([PATH, *arguments], **how)
+        done = subprocess.run([name, *arguments], executable=PATH, **how)
         return done.returncode, done.stdout, done.stderr
 
     def gives(self, arguments, status, printed, fault):

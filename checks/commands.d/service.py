@@ -16,12 +16,12 @@ NO_LINKS = "<!DOCTYPE html>\n<title>Links</title>\n<p>No links</p>\n"
 class Service:
     """`serve registry 0 COUNT`, which is to end, without a fault, once it has served that number of connections."""
 
-    def __init__(self, program, count):
-        self.program, self.count = program, count
+    def __init__(self, program, count, **how):
+        self.program, self.count, self.how = program, count, how
 
     def __enter__(self):
         pipe, arguments = subprocess.PIPE, [PATH, "serve", "registry", "0", str(self.count)]
-        how = {"cwd": self.program.folder, "stdin": subprocess.DEVNULL, "stdout": pipe, "stderr": pipe}
+        how = {"cwd": self.program.folder, "stdin": subprocess.DEVNULL, "stdout": pipe, "stderr": pipe, **self.how}
         self.process = subprocess.Popen(arguments, **how)
         line = self.process.stdout.readline().decode()
         self.program.expect("where the service listens", line.rpartition(":")[0], "listening 127.0.0.1")

@@ -10,7 +10,7 @@ pub data Found : Type 0 where
   Unfinished : Found
   -- a regular file of these bytes, which are stored
   File : Text → Found
-  -- something that is not a regular file, such as a folder or a device
+  -- something that is not a regular file, such as a folder, a device or a symbolic link
   Other : Found
 
 -- what is known about each path

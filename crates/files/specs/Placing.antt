@@ -3,6 +3,7 @@ use Rattle.std.specs.Prelude.{◌≡◌, ◌≢◌, ◌⊎◌, ◌++◌, codes}
 use Rattle.text_model.specs.Texts.{Text}
 use Rattle.files.specs.Found.{Disk, Other, IsFile, IsFree}
 use Rattle.files.specs.Changes.{ChangesOnly}
+use Rattle.files.specs.Modes.{Modes, IsKeptMode}
 use Rattle.files.specs.Failures.{HasFailed, HasFailedAt}
 use Rattle.files.specs.declared.call.FileCall.{FileCall}
 use Rattle.files.specs.declared.call.FileCall.TheVariants.{Remove}
@@ -27,3 +28,12 @@ pub record IsAsBefore {F : Type 0} (fails : F → FileCall → Text → F → Ty
 -- a call failed at the path, or at that of the new file
 abbrev pub IsPlaceFailure : {F : Type 0} → (F → FileCall → Text → F → Type 0) → Text → Type 0
 IsPlaceFailure fails path = HasFailedAt fails path ⊎ HasFailedAt fails (beside path)
+
+-- no call was made, or a call ran out of memory at the path or at that of the new file
+abbrev pub IsPlaceShortage : {F : Type 0} → (F → FileCall → Text → F → Type 0) → F → Text → F → Type 0
+IsPlaceShortage runs_out old path new = (new ≡ old) ⊎ HasFailedAt runs_out path ⊎ HasFailedAt runs_out (beside path)
+
+-- the file at the path has the mode of the file that was there, and no mode has changed at other paths, except at that of the new file
+pub record KeepsModes (old : Modes) (path : Text) (new : Modes) : Type 0 where
+  pub kept : IsKeptMode (old path) (new path)
+  pub others : (other : Text) → other ≢ path → other ≢ beside path → new other ≡ old other

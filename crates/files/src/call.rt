@@ -7,6 +7,7 @@ pub enum FileCall {
     Read,
     Check,
     Create,
+    SetMode,
     Write,
     Keep,
     /// The path that contracts name is the first of the two.

@@ -7,6 +7,7 @@ mod call;
 mod error;
 mod files;
 mod placing;
+mod printed_path;
 mod reading;
 mod system;
 
@@ -14,5 +15,6 @@ pub use call::FileCall;
 pub use error::{FileError, ReadError};
 pub use files::Files;
 pub use placing::place;
+pub use printed_path::PrintedPath;
 pub use reading::read_whole;
 pub use system::SystemFiles;

@@ -4,7 +4,7 @@ ghost use Rattle.std.specs.Prelude.{◌≡◌, ◌≤◌, ◌<◌, ◌+◌, ◌^
 ghost use Rattle.files.specs.Found.{Absent, Gives, IsLong};
 ghost use Rattle.files.specs.Changes.{Unchanged};
 ghost use Rattle.files.specs.declared.call.FileCall.TheVariants.{Read};
-ghost use Rattle.files.specs.declared.error.FileError.TheVariants.{Failed};
+ghost use Rattle.files.specs.declared.error.FileError.TheVariants.{Failed, NoMemory};
 ghost use Rattle.files.specs.declared.error.ReadError.TheVariants.{TooLong, File};
 
 use crate::error::ReadError;
@@ -26,6 +26,7 @@ pub fn read_whole<F: Files>(
     ensures absent { F.at files.old path.now ≡ Absent → result ≡ Err (File Failed) }
     ensures same { Unchanged (F.at files.old) (F.at files.new) }
     ensures failed { result ≡ Err (File Failed) → F.fails files.old Read path.now files.new }
+    ensures ran_out { result ≡ Err (File NoMemory) → F.runs_out files.old Read path.now files.new }
 {
     let front = files.read(alloc, path, limit)?;
     if front.len() > limit {

@@ -5,8 +5,9 @@
 use crate::error::FileError;
 use crate::files::Files;
 use std::alloc::Global;
-use std::fs::{self, File, OpenFile};
+use std::fs::{self, File, OpenFile, Permissions};
 use std::io::{ErrorKind, Read, Write};
+use std::os::unix::fs::{MetadataExt, PermissionsExt};
 use std::rt;
 
 /// The files of the system. Paths are UTF-8, and relative ones start from the folder in which the program runs.
@@ -23,13 +24,18 @@ impl<'a, R: rt::Files> SystemFiles<'a, R> {
 }
 
 impl<'a, R: rt::Files> Files for SystemFiles<'a, R> {
+    ghost use Rattle.std.specs.Prelude.{None};
     ghost use Rattle.files.specs.Found.{NotTold};
 
     type Draft = R::File;
 
     ghost at = { λ _ _. NotTold };
 
+    ghost mode_at = { λ _ _. None };
+
     ghost fails = { λ _ _ _ _. Unit {0} };
+
+    ghost runs_out = { λ _ _ _ _. Unit {0} };
 
     ghost drafted = { λ _ _ _. Unit {0} };
 
@@ -41,18 +47,22 @@ impl<'a, R: rt::Files> Files for SystemFiles<'a, R> {
         Ok(front)
     }
 
-    /// A symbolic link counts as what it leads to, and a path at which nothing is found is a place for a file.
-    fn check_place(&mut self, path: &str) -> Result<(), FileError> {
-        match fs::metadata(self.rt, path) {
-            Ok(found) if found.is_file() => Ok(()),
+    /// A symbolic link is not a regular file, whatever it leads to. Those among the folders of the path are followed.
+    fn check_place(&mut self, path: &str) -> Result<Option<u32>, FileError> {
+        match fs::symlink_metadata(self.rt, path) {
+            Ok(found) if found.is_file() => Ok(Some(found.mode())),
             Ok(_) => Err(FileError::Failed),
-            Err(e) if e.kind() == ErrorKind::NotFound => Ok(()),
+            Err(e) if e.kind() == ErrorKind::NotFound => Ok(None),
             Err(e) => Err(FileError::from(e)),
         }
     }
 
     fn create(&mut self, path: &str) -> Result<R::File, FileError> {
         Ok(File::create_new(self.rt, path)?)
+    }
+
+    fn set_mode(&mut self, draft: &R::File, mode: u32) -> Result<(), FileError> {
+        Ok(draft.set_permissions(Permissions::from_mode(mode))?)
     }
 
     fn write(&mut self, draft: &mut R::File, bytes: &[u8]) -> Result<(), FileError> {

@@ -86,15 +86,20 @@ impl Memory {
 }
 
 impl Files for Memory {
-    ghost use Rattle.std.specs.Prelude.{◌≡◌, string_bytes};
+    ghost use Rattle.std.specs.Prelude.{◌≡◌, None, string_bytes};
     ghost use Rattle.files_in_memory.specs.InMemory.{disk_of};
 
     type Draft = MemoryDraft;
 
     ghost at = { disk_of };
 
+    // Files in memory have no mode.
+    ghost mode_at = { λ _ _. None };
+
     // Contracts do not see which calls failed.
     ghost fails = { λ _ _ _ _. Unit {0} };
+
+    ghost runs_out = { λ _ _ _ _. Unit {0} };
 
     ghost drafted = { λ draft path bytes. (path ≡ string_bytes draft.path) × (bytes ≡ draft.bytes.items) };
 
@@ -109,11 +114,11 @@ impl Files for Memory {
         }
     }
 
-    fn check_place(&mut self, path: &str) -> Result<(), FileError> {
+    fn check_place(&mut self, path: &str) -> Result<Option<u32>, FileError> {
         self.call()?;
         match self.files.get(path) {
             Some(Content::Other) => Err(FileError::Failed),
-            _ => Ok(()),
+            _ => Ok(None),
         }
     }
 
@@ -129,6 +134,10 @@ impl Files for Memory {
             path,
             bytes: Vec::new(self.alloc),
         })
+    }
+
+    fn set_mode(&mut self, _draft: &MemoryDraft, _mode: u32) -> Result<(), FileError> {
+        self.call()
     }
 
     fn write(&mut self, draft: &mut MemoryDraft, bytes: &[u8]) -> Result<(), FileError> {

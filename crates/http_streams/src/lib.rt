@@ -7,6 +7,7 @@
 //! connections that a listener accepted and closed.
 #![tactic(auto)]
 
+mod calls;
 mod error;
 mod listener;
 mod ports;

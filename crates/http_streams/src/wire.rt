@@ -1,13 +1,11 @@
 //! Streams over a socket.
 
-ghost use Rattle.std.specs.Prelude.{◌≡◌, ◌<◌, None, Some, IfOk, IfSome};
+ghost use Rattle.std.specs.Prelude.{◌≡◌, None, Some, IfSome};
 ghost use Rattle.std.specs.Duration.{as_nanos};
-ghost use Rattle.std.specs.Io.{ReadsAtMost, WritesAtMost};
-ghost use Rattle.std.specs.Io.KnownBytes.{ReadConsumes, WriteAppends};
 
+use crate::calls::{read_from, write_to};
 use crate::stream::{Failed, Input, Output};
 use crate::tally::Tally;
-use std::io::{Read, Write};
 use std::marker::Model;
 use std::net::TcpStream;
 use std::time::Duration;
@@ -157,28 +155,5 @@ impl Output for TimedWire {
                 Err(Failed)
             }
         }
-    }
-}
-
-/// One read of a reader.
-fn read_from<R: Read>(reader: &mut R, room: &mut [u8]) -> Result<usize, Failed>
-    ensures within { ReadsAtMost result room.new }
-    ensures read { ReadConsumes (R.remaining reader.old) (R.remaining reader.new) result room.new }
-{
-    match reader.read(room) {
-        Ok(n) => Ok(n),
-        Err(_) => Err(Failed),
-    }
-}
-
-/// One write of a writer. A write of no bytes counts as failed, since it would be repeated for ever.
-fn write_to<W: Write>(writer: &mut W, bytes: &[u8]) -> Result<usize, Failed>
-    ensures within { WritesAtMost result bytes.now }
-    ensures some { IfOk result (λ n. 0 < n) }
-    ensures written { WriteAppends (W.contents writer.old) (W.contents writer.new) result bytes.now }
-{
-    match writer.write(bytes) {
-        Ok(0) | Err(_) => Err(Failed),
-        Ok(n) => Ok(n),
     }
 }

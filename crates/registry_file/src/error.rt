@@ -1,6 +1,6 @@
 //! Why a registry file could not be loaded.
 
-use files::{FileError, ReadError};
+use files::{FileError, PrintedPath, ReadError};
 use kbart_rows::{NoKeys, TableError};
 use registry::AddErrorKind;
 use std::alloc::AllocError;
@@ -39,7 +39,7 @@ pub struct TargetError {
 #[derive(Debug, Drop, Error)]
 pub enum TargetFault {
     /// The file at the path could not be read.
-    #[error("device: {0}")]
+    #[error("device: {}", PrintedPath(.0))]
     Device(String),
     /// The verifier rejects the code.
     #[error("load: {0}")]
