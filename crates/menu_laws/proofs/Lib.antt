@@ -1,0 +1,5 @@
+pub mod CutLines
+pub mod MenuLines
+pub mod ShareLemmas
+pub mod SameRuns
+pub mod SameRows

@@ -1,0 +1,11 @@
+//! Laws of menus that a library can rely on: what one target, one key of a request and one update of a table can
+//! change, and how much work a request is. Each law is the contract of a function with an empty body.
+#![tactic(auto)]
+
+mod requests;
+mod targets;
+mod text;
+
+pub use requests::{code_reads_its_names_alone, readers_keys_stay_out};
+pub use targets::{targets_are_independent, targets_have_their_shares};
+pub use text::text_is_read_as_its_links;
