@@ -1,3 +1,4 @@
 pub mod Lines
 pub mod Shares
 pub mod Keys
+pub mod Updates

@@ -5,7 +5,9 @@
 mod requests;
 mod targets;
 mod text;
+mod updates;
 
 pub use requests::{code_reads_its_names_alone, readers_keys_stay_out};
 pub use targets::{targets_are_independent, targets_have_their_shares};
 pub use text::text_is_read_as_its_links;
+pub use updates::{appended_rows_keep_links, other_rows_change_numbers_alone};
