@@ -1,0 +1,3 @@
+pub mod ClosedHeads
+pub mod OneEnd
+pub mod OneReply

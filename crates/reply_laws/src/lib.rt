@@ -1,0 +1,6 @@
+//! Laws of the replies of the HTTP front. Each law is the contract of a function with an empty body.
+#![tactic(auto)]
+
+mod pieces;
+
+pub use pieces::pieces_do_not_matter;
