@@ -5,3 +5,5 @@ pub mod SameRuns
 pub mod SameRows
 pub mod RowsInOrder
 pub mod UpdatedTargets
+pub mod SmallRows
+pub mod RunSteps

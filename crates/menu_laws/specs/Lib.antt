@@ -2,3 +2,4 @@ pub mod Lines
 pub mod Shares
 pub mod Keys
 pub mod Updates
+pub mod Work

@@ -6,8 +6,10 @@ mod requests;
 mod targets;
 mod text;
 mod updates;
+mod work;
 
 pub use requests::{code_reads_its_names_alone, readers_keys_stay_out};
 pub use targets::{targets_are_independent, targets_have_their_shares};
 pub use text::text_is_read_as_its_links;
 pub use updates::{appended_rows_keep_links, other_rows_change_numbers_alone};
+pub use work::{rows_over_requests_are_small, work_of_a_request_is_bounded};
