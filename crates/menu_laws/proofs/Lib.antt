@@ -7,3 +7,5 @@ pub mod RowsInOrder
 pub mod UpdatedTargets
 pub mod SmallRows
 pub mod RunSteps
+pub mod NormalNumbers
+pub mod CleanTables

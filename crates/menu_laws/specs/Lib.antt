@@ -3,3 +3,4 @@ pub mod Shares
 pub mod Keys
 pub mod Updates
 pub mod Work
+pub mod OneKey

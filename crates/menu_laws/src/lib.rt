@@ -3,12 +3,14 @@
 #![tactic(auto)]
 
 mod requests;
+mod tables;
 mod targets;
 mod text;
 mod updates;
 mod work;
 
 pub use requests::{code_reads_its_names_alone, readers_keys_stay_out};
+pub use tables::clean_tables_have_no_dead_row;
 pub use targets::{targets_are_independent, targets_have_their_shares};
 pub use text::text_is_read_as_its_links;
 pub use updates::{appended_rows_keep_links, other_rows_change_numbers_alone};
