@@ -1,3 +1,4 @@
 pub mod ClosedHeads
 pub mod OneEnd
 pub mod OneReply
+pub mod ServedFiles

@@ -65,7 +65,7 @@ module _ (laws : LawsOfRoutes) where
       laws.one_route others at other without_body other_only
       (subst (λ (bytes : List ℕ). IsRouted bytes at without_body) (sym is) (routed_further bytes more at without_body closed a)) b
 
-  same_route : (sent bytes others : List ℕ) (at other : RouteValue) (without_body other_only : Bool) → IsPart sent bytes → IsPart sent others
+  pub same_route : (sent bytes others : List ℕ) (at other : RouteValue) (without_body other_only : Bool) → IsPart sent bytes → IsPart sent others
       → IsRouted bytes at without_body → IsRouted others other other_only → (at ≡ other) × (without_body ≡ other_only)
   same_route sent bytes others at other without_body other_only x y a b = by_length (cases_lt (length others) (length bytes))
     where
@@ -100,6 +100,7 @@ pub record IsAnswered (menus : Menus) (sent : List ℕ) (status : ℕ) (reply : 
   pub without_body : Bool
   pub value : ReplyValue
   pub routed : IsRouted bytes at without_body
+  pub replied : IsReply menus bytes status reply
   pub replies : IsReplyTo menus at value
   pub status_is : status ≡ value.status
   pub reply_is : reply ≡ printed value without_body
@@ -114,6 +115,7 @@ by_route menus sent bytes _ _ part other (front at without_body value routed rep
       without_body = without_body;
       value = value;
       routed = routed;
+      replied = front at without_body value routed replies;
       replies = replies;
       status_is = refl;
       reply_is = refl;
@@ -135,7 +137,7 @@ all_written (Some old) (Some new) bytes reply blank is writes =
     let all = same_Some new reply is in
     sym (sym all ∙ writes ∙ ap (λ (front : List ℕ). front ++ bytes) none)
 
-answered : (menus : Menus) (sent : List ℕ) (status : ℕ) (reply : List ℕ) → status ≢ unavailable.status → Gets menus sent status reply
+pub answered : (menus : Menus) (sent : List ℕ) (status : ℕ) (reply : List ℕ) → status ≢ unavailable.status → Gets menus sent status reply
     → IsAnswered menus sent status reply
 answered menus sent status reply other h =
     let whole = all_written h.before.written h.after.written h.exchange.0 reply h.blank h.written h.exchange.2.written in
