@@ -1,104 +1,21 @@
--- What code does depends only on what the names of its table denote.
-use Rattle.std.proofs.Common.{◌≡◌, ℕ, zero, suc, List, [], ◌∷◌, Option, Some, None, true, refl, sym, ap, ◌∙◌, subst, slice_get}
-use Rattle.std.specs.Prelude.{◌&&◌, All}
-use Rattle.std.proofs.lemmas.Bool.{and_parts, false≢true}
+-- What code ends with depends only on what the names of its table denote.
+use Rattle.std.proofs.Common.{◌≡◌, ℕ, zero, suc, List, [], ◌∷◌, Option, Some, sym, ◌∙◌, subst, slice_get}
+use Rattle.std.specs.Prelude.{◌↔◌, All}
 use Rattle.std.proofs.lemmas.List.Elements.{All-head, All-tail}
+use Rattle.std.proofs.lemmas.Option.{same_Some}
 use Rattle.environment_model.specs.Environment.{Environment, text_of, members_of}
 use Rattle.code_model.specs.Code.{Code, Name}
-use Rattle.code_model.specs.Operands.{Register, TextName, ListName}
-use Rattle.code_model.specs.declared.code.Instruction.{Instruction}
-use Rattle.code_model.specs.declared.code.Instruction.TheVariants as instruction
-use Rattle.machine_model.specs.Operands.{has_right_operands, is_right, is_in_table, has_table_kind, names_text, names_list, name_at, text_of_name}
-use Rattle.machine_model.specs.Values as value
-use Rattle.machine_model.specs.Values.{text_or_undefined}
-use Rattle.machine_model.specs.States.{Frame, State, Running, Ended, on, holding}
-use Rattle.machine_model.specs.Step.{Move, MovesTo, Does, halt, fail, jump, text, list}
-use Rattle.machine_model.specs.Step.{const, number, no_number, undefined, defined, empty, not_empty, no_member}
-use Rattle.machine_model.specs.Step.{a_member, equal, different, less, not_less, emit, put_text, cut_text, no_turn, enter, first_turn, later_turn, next_member}
-use Rattle.machine_model.specs.Step.{leave, count, Step}
-use Rattle.machine_model.specs.Runs.{After, HasOutcome, Outcome}
+use Rattle.machine_model.specs.Next.{state_after}
+use Rattle.machine_model.specs.Runs.{After, HasOutcome, IsStuck, Outcome}
 use Rattle.machine_model.specs.Runs as outcome
+use Rattle.machine_model.specs.States.{Frame, Running, State}
+use Rattle.machine_model.specs.Step.{Step}
+use Rattle.rule_menus.proofs.SameRuns.{AgreeOn, same_states}
 use Rattle.menu_laws.specs.Keys.{DenoteTheSame}
 
--- each name of the table denotes the same text and the same members
-abbrev pub AgreeOn : Code → Environment → Environment → Type 0
-AgreeOn c v w = (k : ℕ) (name : Name) → slice_get c.names k ≡ Some name
-    → (text_of v name.text ≡ text_of w name.text) × (members_of v name.text ≡ members_of w name.text)
-
--- ---- the names of instructions are in the table
-
-text_in_table : (c : Code) (a b : ℕ) → has_right_operands c (instruction.Text a b) ≡ true → names_text (slice_get c.names b) ≡ true
-unfolding has_right_operands
-text_in_table c a b right =
-    let second = (and_parts (is_right c (TextName b)) true (and_parts (is_right c (Register a)) (is_right c (TextName b) && true) right).1).0 in
-    (and_parts (is_in_table c (TextName b)) (has_table_kind c (TextName b)) second).1
-
-list_in_table : (c : Code) (a b : ℕ) → has_right_operands c (instruction.List a b) ≡ true → names_list (slice_get c.names b) ≡ true
-unfolding has_right_operands
-list_in_table c a b right =
-    let second = (and_parts (is_right c (ListName b)) true (and_parts (is_right c (Register a)) (is_right c (ListName b) && true) right).1).0 in
-    (and_parts (is_in_table c (ListName b)) (has_table_kind c (ListName b)) second).1
-
--- ---- steps
-
-module _ (c : Code) (v w : Environment) (agree : AgreeOn c v w) where
-  text_same : (a b : ℕ) → has_right_operands c (instruction.Text a b) ≡ true → text_of v (name_at c b) ≡ text_of w (name_at c b)
-  text_same a b right = by_name (slice_get c.names b) refl
-    where
-      by_name : (o : Option Name) → slice_get c.names b ≡ o → text_of v (text_of_name o) ≡ text_of w (text_of_name o)
-      by_name None none = absurd (false≢true (ap names_text (sym none) ∙ text_in_table c a b right))
-      by_name (Some name) at = (agree b name at).0
-
-  members_same : (a b : ℕ) → has_right_operands c (instruction.List a b) ≡ true → members_of v (name_at c b) ≡ members_of w (name_at c b)
-  members_same a b right = by_name (slice_get c.names b) refl
-    where
-      by_name : (o : Option Name) → slice_get c.names b ≡ o → members_of v (text_of_name o) ≡ members_of w (text_of_name o)
-      by_name None none = absurd (false≢true (ap names_list (sym none) ∙ list_in_table c a b right))
-      by_name (Some name) at = (agree b name at).1
-
-  same_move : (s : Frame) (i : Instruction) (m : Move) → has_right_operands c i ≡ true → Does c v s i m → Does c w s i m
-  same_move s _ _ right halt = halt
-  same_move s _ _ right fail = fail
-  same_move s _ _ right (jump d) = jump d
-  same_move s _ _ right (text a b) =
-      subst (λ o. Does c w s (instruction.Text a b) (MovesTo (on (holding a (text_or_undefined o) s)))) (sym (text_same a b right)) (text a b)
-  same_move s _ _ right (list a b) =
-      subst (λ ts. Does c w s (instruction.List a b) (MovesTo (on (holding a (value.List ts) s)))) (sym (members_same a b right)) (list a b)
-  same_move s _ _ right (const a b) = const a b
-  same_move s _ _ right (number a b d n t h k) = number a b d n t h k
-  same_move s _ _ right (no_number a b d t h k) = no_number a b d t h k
-  same_move s _ _ right (undefined a d h) = undefined a d h
-  same_move s _ _ right (defined a d t h) = defined a d t h
-  same_move s _ _ right (empty a d h) = empty a d h
-  same_move s _ _ right (not_empty a d b t h) = not_empty a d b t h
-  same_move s _ _ right (no_member a d h) = no_member a d h
-  same_move s _ _ right (a_member a d t ts h) = a_member a d t ts h
-  same_move s _ _ right (equal a b d t h k) = equal a b d t h k
-  same_move s _ _ right (different a b d t u h k ne) = different a b d t u h k ne
-  same_move s _ _ right (less a b d m n h k lt) = less a b d m n h k lt
-  same_move s _ _ right (not_less a b d m n h k le) = not_less a b d m n h k le
-  same_move s _ _ right (emit b) = emit b
-  same_move s _ _ right (put_text a m t h) = put_text a m t h
-  same_move s _ _ right (cut_text a n m t h) = cut_text a n m t h
-  same_move s _ _ right (no_turn a b d h lt k) = no_turn a b d h lt k
-  same_move s _ _ right (enter a b d t ts h lt k) = enter a b d t ts h lt k
-  same_move s _ _ right (first_turn b l h k) = first_turn b l h k
-  same_move s _ _ right (later_turn b l h k) = later_turn b l h k
-  same_move s _ _ right (next_member l t ts h e k) = next_member l t ts h e k
-  same_move s _ _ right (leave l h e k) = leave l h e k
-  same_move s _ _ right (count a b ts h) = count a b ts h
-
-  pub same_step : (old new : State) → Step c v old new → Step c w old new
-  same_step (Ended end) new step = absurd step
-  same_step (Running s) new step = (step.0, step.1, step.2, same_move s step.0 step.2 step.1.right step.3, step.4)
-
-  -- the states after each number of steps are the same
-  pub same_states : (k : ℕ) (s : State) → After c v k s → After c w k s
-  unfolding After
-  same_states zero s after = after
-  same_states (suc k) s after = (after.0, same_states k after.0 after.1, same_step after.0 s after.2)
-
--- ---- outcomes
+-- the state after a number of steps is the one that is computed
+abbrev pub StatesAreDecided : Type 0
+StatesAreDecided = (c : Code) (v : Environment) (k : ℕ) (s : State) → After c v k s ↔ (state_after c v k ≡ Some s)
 
 each_entry : (P : Name → Type 0) (names : List Name) (k : ℕ) (name : Name) → All P names → slice_get names k ≡ Some name → P name
 each_entry P [] k name all at = absurd (cc)
@@ -112,12 +29,20 @@ agree_on c v w same k name at =
 turned : (c : Code) (v w : Environment) → AgreeOn c v w → AgreeOn c w v
 turned c v w agree k name at = let both = agree k name at in (sym both.0, sym both.1)
 
-pub same_outcome : (c : Code) (v w : Environment) (o : Outcome) → DenoteTheSame c v w → HasOutcome c v o → HasOutcome c w o
-same_outcome c v w (outcome.Link link) same has = (has.0, same_states c v w (agree_on c v w same) has.0 _ has.1)
-same_outcome c v w outcome.NoLink same has = (has.0, same_states c v w (agree_on c v w same) has.0 _ has.1)
-same_outcome c v w (outcome.Stuck place) same has =
+-- where a run is stuck, so is the other
+still_stuck : StatesAreDecided → (c : Code) (v w : Environment) (k : ℕ) (s : Frame) → AgreeOn c v w → After c v k (Running s) → IsStuck c v (Running s)
+    → IsStuck c w (Running s)
+unfolding After
+still_stuck decided c v w k s agree after stuck new step =
+    let next : After c v (suc k) new = same_states c w v (turned c v w agree) (suc k) new (Running s, same_states c v w agree k (Running s) after, step) in
+    let same : next.0 ≡ Running s =
+    same_Some next.0 (Running s) (sym ((decided c v k next.0).0 next.1) ∙ (decided c v k (Running s)).0 after) in
+    stuck new (subst (λ (old : State). Step c v old new) same next.2)
+
+pub same_outcome : StatesAreDecided → (c : Code) (v w : Environment) (o : Outcome) → DenoteTheSame c v w → HasOutcome c v o → HasOutcome c w o
+same_outcome decided c v w (outcome.Link link) same has = (has.0, same_states c v w (agree_on c v w same) has.0 _ has.1)
+same_outcome decided c v w outcome.NoLink same has = (has.0, same_states c v w (agree_on c v w same) has.0 _ has.1)
+same_outcome decided c v w (outcome.Stuck place) same has =
     let agree = agree_on c v w same in
-    let stuck = has.1 in (
-      has.0,
-      (stuck.0, same_states c v w agree has.0 _ stuck.1, stuck.2, λ new step. stuck.3 new (same_step c w v (turned c v w agree) (Running stuck.0) new step)),
-    )
+    let end = has.1 in
+    (has.0, (end.0, same_states c v w agree has.0 _ end.1, end.2, still_stuck decided c v w has.0 end.0 agree end.1 end.3))

@@ -10,7 +10,7 @@ ghost use Rattle.registry.specs.Entries.{entry_of};
 ghost use Rattle.registry.specs.Targets.{TargetValue};
 ghost use Rattle.menu_laws.specs.Keys.{DenoteTheSame, HaveSameValues, IsWithinBudget};
 
-use machine_laws::course_is_decided;
+use machine_laws::{course_is_decided, states_after_steps_are_decided};
 use registry::laws::fates_are_decided;
 use row_laws::{requests_by_keys, rows_shadow_requests};
 
@@ -18,7 +18,9 @@ use row_laws::{requests_by_keys, rows_shadow_requests};
 pub fn code_reads_its_names_alone()
     ensures { (code : Code) (env other : Environment) (outcome : Outcome) → DenoteTheSame code env other
         → HasOutcome code env outcome → HasOutcome code other outcome }
-{}
+{
+    states_after_steps_are_decided();
+}
 
 /// A reader's keys stay out: a target does not see a key of a request that its rules do not name. If two requests have
 /// the same values under the names of a target's code, and the same identifiers, the target's entries are equal, and so
