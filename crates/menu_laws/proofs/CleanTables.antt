@@ -1,18 +1,20 @@
 -- The rows of a table whose identifiers are as they should be.
-use Rattle.std.proofs.Common.{◌≡◌, ℕ, zero, suc, ◌+◌, ◌<◌, Bool, true, false, ◌||◌, not, cond, List, [], ◌∷◌, ◌++◌, Option, Some, None, length, get_or, map, refl, sym, ap, ◌∙◌, subst, arith}
+use Rattle.std.proofs.Common.{◌≡◌, ℕ, zero, suc, ◌<◌, Bool, true, false, ◌||◌, not, cond, List, [], ◌∷◌, ◌++◌, Option, Some, None, length, get_or, map}
+use Rattle.std.proofs.Common.{refl, sym, ap, ◌∙◌, subst, arith}
 use Rattle.std.specs.Prelude.{◌==◌, All, filter, option_map}
 use Rattle.std.specs.List.{Contains, cons_option, filter_map, flat_map, list_any, range_with_len}
 use Rattle.std.specs.Str.{bytes_eq}
-use Rattle.std.proofs.lemmas.Bool.{false≢true, not-false}
-use Rattle.std.proofs.lemmas.List.Elements.{All-cons, All-get_or, All-nil}
+use Rattle.std.proofs.lemmas.Bool.{false≢true}
+use Rattle.std.proofs.lemmas.List.Elements.{All-cons, All-nil}
 use Rattle.std.proofs.lemmas.List.Folds.{list_any-append}
 use Rattle.std.proofs.lemmas.List.FromFn.{get_or-range_with_len, length-range_with_len}
 use Rattle.std.proofs.lemmas.Slice.Eq.{bytes_eq-Decides}
 use Rattle.text_model.specs.Texts.{Text}
 use Rattle.kbart_rows.specs.Cells.{Holdings, Row, cell_in, defined}
-use Rattle.kbart_rows.specs.Identifiers.{has_identifier, identifier_columns, identifiers_in, ids_of, is_match, matching_rows, normalised}
-use Rattle.table_inspection.specs.Cells.{CellAt, bad_numbers, cell_faults, faults_in_row, has_no_identifier, is_numbered, of_cells, of_rows, row_faults, unidentified}
-use Rattle.table_inspection.specs.Findings.{Finding, NotNumbers, RowsWithoutIdentifier, have_warning, is_warning}
+use Rattle.kbart_rows.specs.Identifiers.{identifier_columns, identifiers_in, ids_of, is_match, matching_rows, normalised}
+use Rattle.table_inspection.specs.Cells.{CellAt, bad_numbers, cell_faults, faults_in_row, has_no_identifier, is_numbered, of_cells, of_rows, row_faults}
+use Rattle.table_inspection.specs.Cells.{unidentified}
+use Rattle.table_inspection.specs.Findings.{NotNumbers, RowsWithoutIdentifier, have_warning, is_warning}
 use Rattle.table_inspection.specs.Identifiers.{is_number, most_rows, row_identifiers}
 use Rattle.table_inspection.specs.Inspection.{findings_in_identifiers}
 use Rattle.menu_laws.specs.OneKey.{by_issn}

@@ -1,7 +1,8 @@
 -- Lines of a name, a tab and a text, and what a reader gets from them.
-use Rattle.std.proofs.Common.{◌≡◌, ℕ, ◌+◌, ◌-◌, ◌<◌, Bool, true, false, cond, not, ◌&&◌, ◌||◌, List, [], ◌∷◌, ◌++◌, length, take, drop, get_or, refl, sym, ap, ◌∙◌, subst, arith, codes}
+use Rattle.std.proofs.Common.{◌≡◌, ℕ, ◌-◌, Bool, true, false, cond, not, ◌||◌, List, [], ◌∷◌, ◌++◌, length, get_or, refl, sym}
+use Rattle.std.proofs.Common.{ap, ◌∙◌, subst, arith, codes}
 use Rattle.std.proofs.Common.{append_assoc}
-use Rattle.std.specs.Prelude.{◌==◌, All, map, filter, if◌then◌else◌}
+use Rattle.std.specs.Prelude.{◌==◌, All, map, filter}
 use Rattle.std.specs.List.{after_first, before_first, flat_map, onto_first, position_or_len, slice_split}
 use Rattle.std.specs.Str.Lines.{lines, lines_of_parts, strip_carriage_return}
 use Rattle.std.proofs.lemmas.Bool.Decides.{nat_tests}
@@ -9,7 +10,6 @@ use Rattle.std.proofs.lemmas.List.Elements.{All-append, All-cons, All-head, All-
 use Rattle.std.proofs.lemmas.List.Splits.{slice_split_at}
 use Rattle.std.proofs.Math.Seq.{drop-append-add, take-append_seam}
 use Rattle.text_model.specs.Texts.{Text}
-use Rattle.menu.specs.Links.{NamedLink}
 use Rattle.menu_laws.specs.Lines.{is_tab, named_line}
 
 -- a byte within a line, and one of a name

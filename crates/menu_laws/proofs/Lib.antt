@@ -7,5 +7,7 @@ pub mod RowsInOrder
 pub mod UpdatedTargets
 pub mod SmallRows
 pub mod RunSteps
+pub mod RequestSteps
 pub mod NormalNumbers
 pub mod CleanTables
+mod RegistryExamples

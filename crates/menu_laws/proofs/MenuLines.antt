@@ -1,11 +1,11 @@
 -- The lines of the plain text and of the report of a menu.
-use Rattle.std.proofs.Common.{◌≡◌, ℕ, zero, suc, ◌/◌, ◌%◌, Bool, true, false, List, [], ◌∷◌, ◌++◌, refl, sym, ap, ◌∙◌, subst, arith, codes}
+use Rattle.std.proofs.Common.{◌≡◌, ℕ, zero, suc, ◌/◌, ◌%◌, Bool, true, false, List, [], ◌∷◌, refl, ap, ◌∙◌, arith, codes}
 use Rattle.std.specs.Prelude.{◌==◌, All, filter, map, if◌then◌else◌}
 use Rattle.std.specs.Fmt.{decimal, digit_glyph, digits, digits_onto}
 use Rattle.std.specs.List.{list_all}
 use Rattle.std.specs.Str.Lines.{lines}
 use Rattle.std.proofs.lemmas.Bool.Decides.{nat_tests, Decides-by_and}
-use Rattle.std.proofs.lemmas.List.Elements.{All-append, All-cons, All-filter, All-nil, All-push, All-weaker}
+use Rattle.std.proofs.lemmas.List.Elements.{All-append, All-cons, All-nil, All-push, All-weaker}
 use Rattle.text_model.specs.Texts.{Text, percent, is_hexadecimal, is_unreserved, is_reserved}
 use Rattle.text_model.specs.UriText.{IsUriText, nothing, and_character, and_triplet}
 use Rattle.text_model.specs.Writing.{is_unreserved_or_reserved}
@@ -75,7 +75,8 @@ resolution_bytes (resolution.Link row link) = All-append in_line (codes "link ")
 resolution_bytes resolution.NoRow = fixed_bytes (codes "no row") refl
 resolution_bytes resolution.NoLink = fixed_bytes (codes "no link") refl
 resolution_bytes resolution.NotAWebLink = fixed_bytes (codes "not a web link") refl
-resolution_bytes (resolution.OverBudget bytes) = All-append in_line (codes "over budget ") (decimal bytes) (fixed_bytes (codes "over budget ") refl) (decimal_bytes bytes)
+resolution_bytes (resolution.OverBudget bytes) =
+    All-append in_line (codes "over budget ") (decimal bytes) (fixed_bytes (codes "over budget ") refl) (decimal_bytes bytes)
 
 -- ---- the plain text
 

@@ -1,20 +1,18 @@
 -- The resolutions of a target's matching rows, from the rows themselves.
-use Rattle.std.proofs.Common.{◌≡◌, ℕ, ◌+◌, Bool, true, false, cond, List, [], ◌∷◌, ◌++◌, Option, Some, None, length, get_or, map, refl, sym, ap, ◌∙◌, subst, arith}
+use Rattle.std.proofs.Common.{◌≡◌, ℕ, ◌+◌, Bool, true, false, cond, List, [], ◌∷◌, ◌++◌, length, get_or, map, refl, sym, ap, ◌∙◌}
+use Rattle.std.proofs.Common.{arith}
 use Rattle.std.proofs.Common.{append_assoc}
-use Rattle.std.specs.Prelude.{filter, find}
+use Rattle.std.specs.Prelude.{filter}
 use Rattle.std.specs.List.{range_with_len}
-use Rattle.std.specs.Option.{unwrap_or}
-use Rattle.std.proofs.lemmas.List.{append-nil, length_push}
-use Rattle.text_model.specs.Texts.{Text}
+use Rattle.std.proofs.lemmas.List.{length_push}
 use Rattle.code_model.specs.Code.{Code}
 use Rattle.kev_read.specs.Pairs.{KeyValue}
 use Rattle.kev_read.specs.Filling.{filled}
-use Rattle.kbart_rows.specs.Cells.{Holdings, Row, named_cells}
+use Rattle.kbart_rows.specs.Cells.{Row, named_cells}
 use Rattle.row_laws.specs.Shadowing.{row_of}
 use Rattle.row_scope.specs.RowEnvironments.{lists_of}
 use Rattle.verified_runs.specs.Fates.{Fate, fate_in}
 use Rattle.menu.specs.declared.entry.Resolution.{Resolution}
-use Rattle.menu.specs.declared.entry.Resolution.TheVariants as resolution
 use Rattle.registry.specs.Targets.{TargetValue}
 use Rattle.registry.specs.Entries.{matching_rows_of, resolution_by, resolution_of_row}
 use Rattle.menu_laws.specs.Updates.{is_cited}

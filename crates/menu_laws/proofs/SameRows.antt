@@ -1,6 +1,6 @@
 -- Requests with the same values under the names of a code have the same entry at its target.
-use Rattle.std.proofs.Common.{◌≡◌, ◌≤◌, ℕ, List, [], ◌∷◌, Option, None, Bool, true, false, get_or, length, map, refl, sym, ap, ◌∙◌, subst, slice_get}
-use Rattle.std.specs.Prelude.{All, ◌<◌, ◌↔◌, if◌then◌else◌}
+use Rattle.std.proofs.Common.{◌≡◌, ◌≤◌, ℕ, List, [], ◌∷◌, Option, None, Bool, true, false, get_or, map, refl, sym, ap, ◌∙◌, subst, slice_get}
+use Rattle.std.specs.Prelude.{All, ◌↔◌, if◌then◌else◌}
 use Rattle.std.proofs.lemmas.List.Elements.{All-head, All-tail, All-weaker}
 use Rattle.text_model.specs.Texts.{Text}
 use Rattle.environment_model.specs.Environment.{Environment, Meaning, look_up, is_there, text_in, members_in, text_of, members_of}
@@ -16,7 +16,6 @@ use Rattle.row_laws.specs.Shadowing.{requested, row_of}
 use Rattle.row_scope.specs.RowEnvironments.{cells_of_row, lists_of}
 use Rattle.verified_runs.specs.declared.run.TheConstants.{MAX_LINK_BYTES}
 use Rattle.verified_runs.specs.Fates.{ended, fate_in, most_bytes_in}
-use Rattle.menu.specs.declared.entry.MenuEntry.{MenuEntry}
 use Rattle.menu.specs.declared.entry.Resolution.{Resolution}
 use Rattle.menu.specs.declared.entry.Resolution.TheVariants.{NoRow}
 use Rattle.registry.specs.Targets.{TargetValue}
@@ -64,7 +63,8 @@ module _ (laws : LawsOfRuns) where
 
     text_agrees : text_of (filled lists (row_of cells) pairs) name ≡ text_of (filled lists (row_of cells) others) name
     text_agrees =
-        agrees text_in (λ (values : List Text). if is_list lists name then None else slice_get values 0) (laws.texts lists pairs name) (laws.texts lists others name)
+        agrees text_in (λ (values : List Text). if is_list lists name then None else slice_get values 0) (laws.texts lists pairs name)
+        (laws.texts lists others name)
 
     members_agree : members_of (filled lists (row_of cells) pairs) name ≡ members_of (filled lists (row_of cells) others) name
     members_agree =

@@ -1,8 +1,8 @@
 -- The share of some targets is the whole of the registry that has them alone.
-use Rattle.std.proofs.Common.{◌≡◌, ◌≢◌, ℕ, zero, suc, ◌+◌, ◌<◌, ◌≤◌, Bool, true, false, cond, List, [], ◌∷◌, ◌++◌, Option, Some, None, length, get_or, refl, sym, ap, ◌∙◌, subst, arith}
+use Rattle.std.proofs.Common.{◌≡◌, ◌≢◌, ◌≤◌, Bool, true, false, cond, List, [], ◌∷◌, length, refl}
+use Rattle.std.proofs.Common.{sym, ap, ◌∙◌, arith}
 use Rattle.std.specs.Prelude.{All, filter, map}
 use Rattle.std.specs.List.{AllPairs, cons_option, flat_map}
-use Rattle.std.specs.Str.{bytes_eq}
 use Rattle.std.specs.Str.Lines.{lines}
 use Rattle.std.proofs.lemmas.List.{length-map}
 use Rattle.std.proofs.lemmas.List.Elements.{All-filter, All-head, All-tail, All-weaker, filter_passes}
@@ -12,7 +12,7 @@ use Rattle.text_model.specs.Texts.{Text}
 use Rattle.machine_model.specs.Safe.{IsSafe}
 use Rattle.kev_read.specs.Pairs.{KeyValue}
 use Rattle.menu.specs.Contained.{IsTargetName}
-use Rattle.menu.specs.Links.{NamedLink, link_under, links, named_link}
+use Rattle.menu.specs.Links.{NamedLink, link_under, links}
 use Rattle.menu.specs.PageReading.{IsSoundLink, HasSoundLinks}
 use Rattle.menu.specs.Printed.{report, text}
 use Rattle.menu.specs.declared.entry.MenuEntry.{MenuEntry}
@@ -41,7 +41,8 @@ module _ (test : Text → Bool) (pairs : List KeyValue) where
   entries_under (target ∷ targets) = by_test (test target.name) (entries_under targets)
     where
       by_test : (b : Bool) → filter (λ entry. test entry.name) (menu_of targets pairs) ≡ menu_of (targets_under test targets) pairs
-          → cond b (entry_of target pairs ∷ filter (λ entry. test entry.name) (menu_of targets pairs)) (filter (λ entry. test entry.name) (menu_of targets pairs))
+          → cond b (entry_of target pairs ∷ filter (λ entry. test entry.name) (menu_of targets pairs))
+          (filter (λ entry. test entry.name) (menu_of targets pairs))
           ≡ menu_of (cond b (target ∷ targets_under test targets) (targets_under test targets)) pairs
       by_test true same = ap (λ (others : List MenuEntry). entry_of target pairs ∷ others) same
       by_test false same = same
@@ -63,8 +64,8 @@ module _ (test : Text → Bool) (pairs : List KeyValue) where
   pub menu_links_under : (targets : List TargetValue) → links_under test (links (menu_of targets pairs)) ≡ links (menu_of (targets_under test targets) pairs)
   menu_links_under [] = refl
   menu_links_under (target ∷ targets) =
-      one_more_link target.name (resolution_of target pairs) (test target.name) (links (menu_of targets pairs)) (menu_of (targets_under test targets) pairs) refl
-      (menu_links_under targets)
+      one_more_link target.name (resolution_of target pairs) (test target.name) (links (menu_of targets pairs))
+      (menu_of (targets_under test targets) pairs) refl (menu_links_under targets)
       ∙ by_test (test target.name)
     where
       by_test : (b : Bool) → links (cond b (entry_of target pairs ∷ menu_of (targets_under test targets) pairs) (menu_of (targets_under test targets) pairs))

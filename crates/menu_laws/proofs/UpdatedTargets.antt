@@ -1,21 +1,21 @@
 -- What an update of a table keeps of its target's entry.
-use Rattle.std.proofs.Common.{◌≡◌, ℕ, ◌+◌, Bool, true, false, cond, List, [], ◌∷◌, ◌++◌, Option, Some, None, length, map, refl, sym, ap, ◌∙◌, subst}
-use Rattle.std.specs.Prelude.{All, filter, find, if◌then◌else◌}
+use Rattle.std.proofs.Common.{◌≡◌, ℕ, ◌+◌, Bool, true, false, cond, List, [], ◌∷◌, ◌++◌, Option, length, map, refl, sym, ap, ◌∙◌}
+use Rattle.std.specs.Prelude.{All, filter, if◌then◌else◌}
 use Rattle.std.specs.List.{AllZip, cons_option}
-use Rattle.std.specs.Option.{unwrap_or}
 use Rattle.std.proofs.lemmas.Bool.{false≢true}
 use Rattle.std.proofs.lemmas.List.Elements.{All-head, All-tail, filter-append}
 use Rattle.text_model.specs.Texts.{Text}
+use Rattle.code_model.specs.Code.{Code}
 use Rattle.kev_read.specs.Pairs.{KeyValue}
 use Rattle.kbart_rows.specs.Cells.{Row}
 use Rattle.verified_runs.specs.Fates.{Fate, OverBudget, Link, NoLink}
-use Rattle.menu.specs.Links.{NamedLink, has_link, is_link, link_under, links}
+use Rattle.menu.specs.Links.{NamedLink, is_link, link_under, links}
 use Rattle.menu.specs.WebLink.{is_web_link}
 use Rattle.menu.specs.declared.entry.MenuEntry.{MenuEntry}
 use Rattle.menu.specs.declared.entry.Resolution.{Resolution}
 use Rattle.menu.specs.declared.entry.Resolution.TheVariants as resolution
 use Rattle.registry.specs.Targets.{TargetValue}
-use Rattle.registry.specs.Entries.{chosen, entry_of, last_resolution, menu_of, resolution_by, resolution_of}
+use Rattle.registry.specs.Entries.{chosen, entry_of, menu_of, resolution_by, resolution_of}
 use Rattle.menu_laws.specs.Updates.{IsExtended, KeepsCited, KeepsLink, cited_rows, is_cited, unnumbered, unnumbered_entry, unnumbered_menu, with_rows}
 use Rattle.menu_laws.proofs.RowsInOrder.{fate_of_cells, resolutions_from, resolutions_joined, row_resolutions}
 
@@ -109,9 +109,13 @@ module _ (test : Row → Bool) (fate : Row → Fate) where
           cc
       by_test false same = same
 
+-- the resolutions of these rows, by a code and a header
+abbrev chosen_of : Code → Row → List KeyValue → List Row → Resolution
+chosen_of code header pairs rows =
+    chosen resolution.NoRow (map (λ cells. unnumbered (resolution_by 0 (fate_of_cells code header pairs cells))) rows)
+
 by_cited_rows : (target : TargetValue) (pairs : List KeyValue) → unnumbered (resolution_of target pairs)
-    ≡ chosen resolution.NoRow
-    (map (λ cells. unnumbered (resolution_by 0 (fate_of_cells target.code target.table.header pairs cells))) (cited_rows target.table pairs))
+    ≡ chosen_of target.code target.table.header pairs (cited_rows target.table pairs)
 by_cited_rows target pairs =
     ap unnumbered (by_rows target pairs)
     ∙ chosen_unnumbered resolution.NoRow (of_rows target pairs target.table.rows)
@@ -122,12 +126,9 @@ kept_resolution : (pairs : List KeyValue) (old new : TargetValue) → KeepsCited
     → unnumbered (resolution_of new pairs) ≡ unnumbered (resolution_of old pairs)
 kept_resolution pairs old new h =
     by_cited_rows new pairs
-    ∙ ap (λ c. chosen resolution.NoRow (map (λ cells. unnumbered (resolution_by 0 (fate_of_cells c new.table.header pairs cells))) (cited_rows new.table pairs)))
-    h.updated.code
-    ∙ ap (λ (t : Row). chosen resolution.NoRow (map (λ cells. unnumbered (resolution_by 0 (fate_of_cells old.code t pairs cells))) (cited_rows new.table pairs)))
-    h.updated.header
-    ∙ ap (λ (rows : List Row). chosen resolution.NoRow
-    (map (λ cells. unnumbered (resolution_by 0 (fate_of_cells old.code old.table.header pairs cells))) rows)) h.cited
+    ∙ ap (λ (c : Code). chosen_of c new.table.header pairs (cited_rows new.table pairs)) h.updated.code
+    ∙ ap (λ (t : Row). chosen_of old.code t pairs (cited_rows new.table pairs)) h.updated.header
+    ∙ ap (chosen_of old.code old.table.header pairs) h.cited
     ∙ sym (by_cited_rows old pairs)
 
 kept_entry : (pairs : List KeyValue) (old new : TargetValue) → KeepsCited pairs old new

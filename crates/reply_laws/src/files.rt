@@ -33,14 +33,15 @@ use rule_menus::laws::compiled_files_have_one_reply;
 /// for a page gets that page of the menu by those rules and tables, whatever the pieces, and nothing else: unless
 /// memory runs out, and it gets a reply 503.
 ///
-/// `read` links it with the contract of `load_registry`, and `served` with those of `serve_on` and `serve`, each of whose
-/// connections is fresh and has such an exchange. A request longer than is read of it gets a reply 431.
+/// `read` links it with the contract of `load_registry`, and `served` with those of `serve_on` and `serve`, each of
+/// whose connections is fresh and has such an exchange. A head longer than is read of it gets a reply 431.
 pub fn files_decide_the_page()
     ensures read { (disk : Disk) (keys : Keys) (registry : Text) (targets : List TargetValue) (files : List TargetFiles)
         (held : AreTargetsOf disk keys registry targets) → AreLinesOf disk held.rows files
         → AreReadFrom files targets }
     ensures served { (menus : Menus) (wait : ℕ) (first last : InputState) (before after : OutputState) (status : ℕ)
-        (sent reply : List ℕ) → AreFresh wait first before → IsExchange menus first before (Ok (Replied status)) last after
+        (sent reply : List ℕ) → AreFresh wait first before
+        → IsExchange menus first before (Ok (Replied status)) last after
         → first.left ≡ Some sent → after.written ≡ Some reply → Gets menus sent status reply }
     ensures page { (disk : Disk) (keys : Keys) (registry : Text) (targets : List TargetValue) (files : List TargetFiles)
         (by_rules : List RuleTarget) (sent query : List ℕ) (page : Page) (without_body : Bool) (status : ℕ)

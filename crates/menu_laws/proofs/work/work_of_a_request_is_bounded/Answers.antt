@@ -1,4 +1,5 @@
-use Rattle.menu_laws.proofs.RunSteps.{LawsOfEnds, steps_bounded, turns_bounded}
+use Rattle.menu_laws.proofs.RequestSteps.{steps_bounded, turns_bounded}
+use Rattle.menu_laws.proofs.RunSteps.{LawsOfEnds}
 use Rattle.menu_laws.proofs.work.work_of_a_request_is_bounded.Goals as goal
 
 pub returns : goal.returns
