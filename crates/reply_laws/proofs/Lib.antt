@@ -2,3 +2,4 @@ pub mod ClosedHeads
 pub mod OneEnd
 pub mod OneReply
 pub mod ServedFiles
+mod PeerExamples

@@ -6,23 +6,20 @@ use Rattle.std.proofs.lemmas.Bool.{cases_lt}
 use Rattle.std.proofs.lemmas.List.{length-append}
 use Rattle.std.proofs.lemmas.Option.{same_Some}
 use Rattle.httparse.specs.Grammar.{ReadsRequest, RequestHead, print_request}
-use Rattle.kev_read.specs.Pairs.{pairs_of}
 use Rattle.kev_read.specs.Refusal.{refusal}
 use Rattle.kev_read.specs.declared.error.KevError.{KevError}
 use Rattle.kev_read.specs.declared.error.KevError.TheVariants as kev
 use Rattle.menu_source.specs.Menus.{Menus}
 use Rattle.http_streams.specs.Closing.{is_closed}
-use Rattle.http_streams.specs.HeadReading.{IsReadWhole}
 use Rattle.http_streams.specs.Streams.{InputState, Writes}
 use Rattle.http_streams.specs.declared.read.TheConstants.{MAX_HEAD_BYTES}
 use Rattle.http_request.specs.HeadEnd.{IsFirstClosedAt}
 use Rattle.http_request.specs.Routes.{IsHeadOf, IsRouted, RouteValue, by_head, without_head, route_without_head}
 use Rattle.http_request.specs.Routes as route
-use Rattle.http_request.specs.declared.route.Page.{Page}
 use Rattle.http_exchange.specs.Exchange.{IsReply, IsReplyToInput, front, no_memory, no_room, request}
 use Rattle.http_exchange.specs.Replies.{ReplyValue, printed, unavailable}
 use Rattle.http_exchange.specs.RouteReplies.{IsQueryReply, IsReplyTo}
-use Rattle.reply_laws.specs.Peers.{Gets, IsReadOf}
+use Rattle.reply_laws.specs.Peers.{Gets}
 use Rattle.reply_laws.proofs.ClosedHeads.{closed_more}
 use Rattle.reply_laws.proofs.OneEnd.{IsFurther, IsPart, beginning, further, is_further, no_further, not_later, part_of}
 
