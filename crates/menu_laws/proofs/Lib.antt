@@ -10,4 +10,5 @@ pub mod RunSteps
 pub mod RequestSteps
 pub mod NormalNumbers
 pub mod CleanTables
+pub mod SmallRegistries
 mod RegistryExamples
