@@ -29,7 +29,7 @@ use Rattle.verified_runs.specs.declared.run.TheConstants.{MAX_LINK_BYTES}
 use Rattle.verified_runs.specs.Fates.{fate_in, most_bytes_in}
 use Rattle.registry.specs.RowEnvironments.{row_environment}
 use Rattle.menu_laws.specs.Keys.{HaveSameValues, IsWithinBudget}
-use Rattle.menu_laws.proofs.SmallRegistries.{alpha, beta, registry, request, run_on_literals, spoilt_registry, table, url_code}
+use Rattle.menu_laws.proofs.SmallRegistries.{beta, registry, request, run_on_literals, spoilt_registry, table, url_code}
 
 -- ---- targets are independent
 

@@ -25,7 +25,6 @@ use Rattle.machine_laws.proofs.Prints.{safe}
 use Rattle.kev_read.specs.Pairs.{KeyValue, pairs_of}
 use Rattle.kbart_rows.specs.Cells.{Holdings, Row}
 use Rattle.menu.specs.Contained.{IsTargetName, is_name_character}
-use Rattle.menu.specs.Printed.{text}
 use Rattle.registry.specs.Targets.{TargetValue, IsRegistry}
 
 -- what is unfolded to compute runs
