@@ -1,0 +1,14 @@
+pub mod CutLines
+pub mod MenuLines
+pub mod ShareLemmas
+pub mod SameRuns
+pub mod SameRows
+pub mod RowsInOrder
+pub mod UpdatedTargets
+pub mod SmallRows
+pub mod RunSteps
+pub mod RequestSteps
+pub mod NormalNumbers
+pub mod CleanTables
+pub mod SmallRegistries
+mod RegistryExamples

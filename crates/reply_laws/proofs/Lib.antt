@@ -1,0 +1,5 @@
+pub mod ClosedHeads
+pub mod OneEnd
+pub mod OneReply
+pub mod ServedFiles
+mod PeerExamples
