@@ -8,6 +8,17 @@ ENDS = [
 ]
 
 
+def test_paths_of_arguments(program):
+    program.write("good.rules", "rule\nlink http://e.org/\n")
+    for end, printed in ENDS:
+        for arguments in ["show", f"none{end}"], ["link", f"none{end}", ""], ["resolve", f"none{end}", ""]:
+            program.fails(arguments, 4, f"device: none{printed}")
+        on_targets = ["inspect", f"none{end}"], ["lint", "good.rules", f"none{end}"]
+        for arguments in *on_targets, ["serve", f"none{end}", "0", "1"]:
+            program.fails(arguments, 4, f"device: none{printed}")
+        program.fails(["compile", "good.rules", f"none/a{end}"], 4, f"device: none/a{printed}")
+
+
 def test_paths_of_targets(program):
     """No cell of a registry has a tab or a line end."""
     program.write("good.olk", HALT)

@@ -1,11 +1,13 @@
 //! Commands over files in memory, each of whose calls fails in turn; a service for peers in memory; a command over real
-//! files; and the line of each error.
+//! files; outputs that fail; and the line of each error.
 #![tactic(auto)]
 
 #[cfg(test)]
 mod commands_in_memory;
 #[cfg(test)]
 mod known_system;
+#[cfg(test)]
+mod outputs;
 #[cfg(test)]
 mod printed_errors;
 #[cfg(test)]

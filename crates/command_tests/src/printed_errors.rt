@@ -1,22 +1,18 @@
 //! The line of each error: every word that an error is printed with, once, and its exit status.
 
-use code_commands::CodeFault;
+use answers::Refusal;
 use code_file::{CodeError, CodeErrorKind};
-use command_base::BaseFault;
 use commands::Fault;
 use compiler::CompileError;
 use kbart_rows::TableError;
 use kev_read::KevError;
-use menu_commands::MenuFault;
 use registry::AddErrorKind;
 use registry_file::{TargetError, TargetFault};
-use rule_commands::RuleFault;
-use rule_file::RuleFileFault;
 use rule_parser::{RuleError, RuleErrorKind};
 use std::process::Abort;
 use std::test::Fail;
-use target_commands::ReviewFault;
 use uri_grammar::{TemplateError, TemplateErrorKind};
+use verified_runs::PrepareError;
 use verifier::LoadError;
 
 /// The error has this exit status and this text.
@@ -30,6 +26,16 @@ fn prints<R: Abort + AllocGlobal>(
     assert_eq!(rt; printed.as_str(), line);
     assert_eq!(rt; fault.status(), status, "of {line}");
     Ok(())
+}
+
+/// The same for what was read.
+fn refuses<R: Abort + AllocGlobal>(
+    rt: &R,
+    refusal: Refusal,
+    status: u8,
+    line: &str,
+) -> Result<(), Fail> {
+    prints(rt, Fault::from(refusal), status, line)
 }
 
 /// The kinds of errors of templates, and their printed names.
@@ -46,13 +52,13 @@ const TEMPLATES: [(TemplateErrorKind, &str); 7] = [
 #[test]
 fn errors_of_templates(rt: HostRuntime) -> Result<(), Fail> {
     for (kind, word) in TEMPLATES {
-        let fault = RuleFault::Template(TemplateError { kind, at: 7 });
+        let refusal = Refusal::Template(TemplateError { kind, at: 7 });
         let line = format!(in rt.alloc(); "template: {word} at 7")?;
-        prints(&rt, Fault::Rule(fault), 3, line.as_str())?;
+        refuses(&rt, refusal, 3, line.as_str())?;
         let kind = RuleErrorKind::Template(kind);
-        let fault = RuleFault::Rules(RuleError { kind, line: 2 });
+        let refusal = Refusal::Rules(RuleError { kind, line: 2 });
         let line = format!(in rt.alloc(); "rules: line 2: Template {word}")?;
-        prints(&rt, Fault::Rule(fault), 3, line.as_str())?;
+        refuses(&rt, refusal, 3, line.as_str())?;
     }
     Ok(())
 }
@@ -80,11 +86,10 @@ const COMPILED: [(CompileError, &str); 4] = [
 #[test]
 fn errors_of_rules(rt: HostRuntime) -> Result<(), Fail> {
     for (kind, line) in RULES {
-        let fault = RuleFault::Rules(RuleError { kind, line: 0 });
-        prints(&rt, Fault::Rule(fault), 3, line)?;
+        refuses(&rt, Refusal::Rules(RuleError { kind, line: 0 }), 3, line)?;
     }
     for (error, line) in COMPILED {
-        prints(&rt, Fault::Rule(RuleFault::Compile(error)), 3, line)?;
+        refuses(&rt, Refusal::Compile(error), 3, line)?;
     }
     Ok(())
 }
@@ -105,12 +110,12 @@ const CODES: [(CodeErrorKind, &str); 9] = [
 #[test]
 fn errors_of_code_files(rt: HostRuntime) -> Result<(), Fail> {
     for (kind, word) in CODES {
-        let fault = CodeFault::Code(CodeError { kind, at: 10 });
+        let refusal = Refusal::Code(CodeError { kind, at: 10 });
         let line = format!(in rt.alloc(); "code: {word} at 10")?;
-        prints(&rt, Fault::Code(fault), 3, line.as_str())?;
-        let fault = CodeFault::Load(LoadError::Code(kind, 10));
+        refuses(&rt, refusal, 3, line.as_str())?;
+        let refusal = Refusal::Load(LoadError::Code(kind, 10));
         let line = format!(in rt.alloc(); "load: {word} at 10")?;
-        prints(&rt, Fault::Code(fault), 3, line.as_str())?;
+        refuses(&rt, refusal, 3, line.as_str())?;
     }
     Ok(())
 }
@@ -139,10 +144,10 @@ const LOADED: [(LoadError, &str); 14] = [
 #[test]
 fn errors_of_code(rt: HostRuntime) -> Result<(), Fail> {
     for (error, line) in LOADED {
-        prints(&rt, Fault::Code(CodeFault::Load(error)), 3, line)?;
+        refuses(&rt, Refusal::Load(error), 3, line)?;
     }
-    let fault = CodeFault::OverBudget(1_200_000);
-    prints(&rt, Fault::Code(fault), 3, "over budget: 1200000")
+    let refusal = Refusal::OverBudget(1_200_000);
+    refuses(&rt, refusal, 3, "over budget: 1200000")
 }
 
 /// The same for tables.
@@ -168,14 +173,14 @@ fn of_target<R: Abort + AllocGlobal>(
     line: &str,
 ) -> Result<(), Fail> {
     let name = String::from_str(rt.alloc(), "a")?;
-    let fault = MenuFault::Target(TargetError { name, fault });
-    prints(rt, Fault::Menu(fault), status, line)
+    let fault = Fault::Target(TargetError { name, fault });
+    prints(rt, fault, status, line)
 }
 
 #[test]
 fn errors_of_targets(rt: HostRuntime) -> Result<(), Fail> {
     for (error, line) in TABLES {
-        prints(&rt, Fault::Review(ReviewFault::Table(error)), 3, line)?;
+        refuses(&rt, Refusal::Table(error), 3, line)?;
         let line = format!(in rt.alloc(); "target a: {line}")?;
         of_target(&rt, TargetFault::Table(error), 3, line.as_str())?;
     }
@@ -198,14 +203,12 @@ const QUERIES: [(KevError, &str); 3] = [
 #[test]
 fn errors_of_all_commands(rt: HostRuntime) -> Result<(), Fail> {
     for (error, line) in QUERIES {
-        prints(&rt, Fault::Base(BaseFault::Query(error)), 3, line)?;
+        refuses(&rt, Refusal::Query(error), 3, line)?;
     }
-    prints(&rt, Fault::Base(BaseFault::Device("-")), 4, "device: -")?;
+    prints(&rt, Fault::Device("-"), 4, "device: -")?;
     prints(&rt, Fault::Usage, 2, "usage")?;
-    let port = MenuFault::Port("080");
-    prints(&rt, Fault::Menu(port), 4, "device: 127.0.0.1:080")?;
-    let line = MenuFault::Registry(2);
-    prints(&rt, Fault::Menu(line), 3, "registry: line 2")
+    prints(&rt, Fault::Port("080"), 4, "device: 127.0.0.1:080")?;
+    prints(&rt, Fault::Registry(2), 3, "registry: line 2")
 }
 
 #[test]
@@ -222,27 +225,24 @@ fn an_allocation_that_fails_is_one_error(rt: HostRuntime) -> Result<(), Fail> {
         kind: CodeErrorKind::NoMemory,
         at: 0,
     };
-    for fault in [
-        Fault::Base(BaseFault::Memory),
-        Fault::Base(BaseFault::from(KevError::NoMemory)),
-        Fault::Rule(RuleFault::from(template)),
-        Fault::Rule(RuleFault::from(RuleFileFault::from(rules))),
-        Fault::Rule(RuleFault::from(CompileError::NoMemory)),
-        Fault::Code(CodeFault::from(code)),
-        Fault::Code(CodeFault::from(LoadError::NoMemory)),
-        Fault::Menu(MenuFault::from(KevError::NoMemory)),
-        Fault::Review(ReviewFault::from(TableError::NoMemory)),
-        Fault::Review(ReviewFault::from(KevError::NoMemory)),
+    for refusal in [
+        Refusal::Memory,
+        Refusal::from(template),
+        Refusal::from(rules),
+        Refusal::from(CompileError::NoMemory),
+        Refusal::from(code),
+        Refusal::from(LoadError::NoMemory),
+        Refusal::from(PrepareError::NoMemory),
+        Refusal::from(TableError::NoMemory),
+        Refusal::from(KevError::NoMemory),
     ] {
-        prints(&rt, fault, 4, "out of memory")?;
+        refuses(&rt, refusal, 4, "out of memory")?;
     }
     Ok(())
 }
 
 #[test]
 fn no_link_has_status_1(rt: HostRuntime) {
-    assert_eq!(rt; Fault::Rule(RuleFault::NoLink).status(), 1);
-    assert_eq!(rt; Fault::Code(CodeFault::NoLink).status(), 1);
-    assert_eq!(rt; Fault::Menu(MenuFault::NoLink).status(), 1);
-    assert_eq!(rt; Fault::Review(ReviewFault::Warning).status(), 1);
+    assert_eq!(rt; Fault::from(Refusal::NoLink).status(), 1);
+    assert_eq!(rt; Fault::Warning.status(), 1);
 }

@@ -1,0 +1,4 @@
+pub mod ArgumentLemmas
+pub mod ReadingLemmas
+pub mod PlaceLemmas
+pub mod OutputLemmas

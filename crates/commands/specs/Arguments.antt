@@ -1,15 +1,13 @@
 -- The arguments of each command.
 use Rattle.std.specs.Prelude.{◌≡◌, ◌⊎◌, List, [], ◌∷◌, codes}
 use Rattle.text_model.specs.Texts.{Text, texts_of}
-use Rattle.menu_commands.specs.Service.{IsServiceOf}
-use Rattle.menu_commands.specs.declared.service.Service.{Service}
-use Rattle.rule_commands.specs.Arguments.{AreExpandArguments, names_of}
-use Rattle.rule_commands.specs.declared.arguments.ExpandArguments.{ExpandArguments}
-use Rattle.target_commands.specs.declared.review.Review.{Review}
-use Rattle.target_commands.specs.declared.review.Review.TheVariants.{Inspect, Lint, Explain}
+use Rattle.commands.specs.ExpandArguments.{AreExpandArguments, names_of}
+use Rattle.commands.specs.Service.{IsServiceOf}
+use Rattle.commands.specs.declared.list_options.ExpandArguments.{ExpandArguments}
+use Rattle.commands.specs.declared.service.Service.{Service}
 use Rattle.commands.specs.declared.arguments.Command.{Command}
-use Rattle.commands.specs.declared.arguments.Command.TheVariants.{Expand, Link, Compile, Verify, Show, Upgrade, Run, Resolve, Serve, Review as OfReview, Help}
-use Rattle.commands.specs.declared.arguments.Command.TheVariants.{Version}
+use Rattle.commands.specs.declared.arguments.Command.TheVariants.{Expand, Link, Compile, Verify, Show, Upgrade, Run, Inspect, Lint, Explain, Resolve, Serve}
+use Rattle.commands.specs.declared.arguments.Command.TheVariants.{Help, Version}
 
 -- the arguments are `expand`, and then those of an expansion
 pub record AreArgumentsOfExpand (arguments : List Text) (e : ExpandArguments) : Type 0 where
@@ -25,12 +23,6 @@ pub record AreArgumentsOfServe (arguments : List Text) (s : Service) : Type 0 wh
   pub named : arguments ≡ codes "serve" ∷ registry ∷ port ∷ count ∷ []
   pub given : IsServiceOf registry port count s
 
--- the arguments are those of a command on the files of a target
-abbrev pub AreArgumentsOfReview : List Text → Review → Type 0
-AreArgumentsOfReview arguments (Inspect table) = arguments ≡ codes "inspect" ∷ table.now ∷ []
-AreArgumentsOfReview arguments (Lint rules table) = arguments ≡ codes "lint" ∷ rules.now ∷ table.now ∷ []
-AreArgumentsOfReview arguments (Explain rules table query) = arguments ≡ codes "explain" ∷ rules.now ∷ table.now ∷ query.now ∷ []
-
 -- the arguments are those of the command
 abbrev pub AreArgumentsOf : List Text → Command → Type 0
 AreArgumentsOf arguments (Expand e) = AreArgumentsOfExpand arguments e
@@ -40,9 +32,11 @@ AreArgumentsOf arguments (Verify code) = arguments ≡ codes "verify" ∷ code.n
 AreArgumentsOf arguments (Show code) = arguments ≡ codes "show" ∷ code.now ∷ []
 AreArgumentsOf arguments (Upgrade old new) = arguments ≡ codes "upgrade" ∷ old.now ∷ new.now ∷ []
 AreArgumentsOf arguments (Run code query) = arguments ≡ codes "run" ∷ code.now ∷ query.now ∷ []
+AreArgumentsOf arguments (Inspect table) = arguments ≡ codes "inspect" ∷ table.now ∷ []
+AreArgumentsOf arguments (Lint rules table) = arguments ≡ codes "lint" ∷ rules.now ∷ table.now ∷ []
+AreArgumentsOf arguments (Explain rules table query) = arguments ≡ codes "explain" ∷ rules.now ∷ table.now ∷ query.now ∷ []
 AreArgumentsOf arguments (Resolve registry query) = arguments ≡ codes "resolve" ∷ registry.now ∷ query.now ∷ []
 AreArgumentsOf arguments (Serve s) = AreArgumentsOfServe arguments s
-AreArgumentsOf arguments (OfReview review) = AreArgumentsOfReview arguments review
 AreArgumentsOf arguments Help = (arguments ≡ codes "--help" ∷ []) ⊎ (arguments ≡ codes "-h" ∷ []) ⊎ (arguments ≡ codes "help" ∷ [])
 AreArgumentsOf arguments Version = arguments ≡ codes "--version" ∷ []
 

@@ -1,50 +1,36 @@
--- The errors of the program: what an error of a command becomes, and the exit statuses.
+-- The errors of the program: their exit statuses, and what the error of a registry file becomes.
 use Rattle.std.specs.Prelude.{ℕ}
-use Rattle.command_base.specs.Faults.{status_of as status_of_base}
-use Rattle.command_base.specs.declared.fault.BaseFault.TheVariants.{Memory}
-use Rattle.rule_commands.specs.Faults.{status_of as status_of_rule}
-use Rattle.rule_commands.specs.declared.fault.RuleFault.{RuleFault}
-use Rattle.code_commands.specs.Faults.{status_of as status_of_code}
-use Rattle.code_commands.specs.declared.fault.CodeFault.{CodeFault}
-use Rattle.menu_commands.specs.Faults.{status_of as status_of_menu}
-use Rattle.menu_commands.specs.declared.fault.MenuFault.{MenuFault}
-use Rattle.target_commands.specs.Faults.{status_of as status_of_review}
+use Rattle.std.specs.Borrow.{Bor}
+use Rattle.text_model.specs.Texts.{Text}
+use Rattle.registry_file.specs.declared.error.RegistryError.{RegistryError}
+use Rattle.registry_file.specs.declared.error.RegistryError.TheVariants as file
+use Rattle.registry_file.specs.declared.error.TargetFault.{TargetFault}
+use Rattle.registry_file.specs.declared.error.TargetFault.TheVariants as target
+use Rattle.answers.specs.Refusals.{status_of as status_of_refusal}
+use Rattle.answers.specs.declared.refusal.Refusal.TheVariants.{Memory}
 use Rattle.commands.specs.declared.fault.Fault.{Fault}
-use Rattle.commands.specs.declared.fault.Fault.TheVariants.{Usage, Rule, Code, Menu, Review, Base}
+use Rattle.commands.specs.declared.fault.Fault.TheVariants.{Usage, Refused, Warning, Registry, Target, Port, Device}
 
--- the exit status
+-- a target that is rejected because one of its files cannot be read has the status of a device error
+abbrev pub status_of_target : TargetFault → ℕ
+status_of_target (target.Device path) = 4
+status_of_target fault = 3
+
 abbrev pub status_of : Fault → ℕ
 status_of Usage = 2
-status_of (Rule fault) = status_of_rule fault
-status_of (Code fault) = status_of_code fault
-status_of (Menu fault) = status_of_menu fault
-status_of (Review fault) = status_of_review fault
-status_of (Base fault) = status_of_base fault
+status_of (Refused refusal) = status_of_refusal refusal
+status_of Warning = 1
+status_of (Registry n) = 3
+status_of (Target e) = status_of_target e.fault
+status_of (Port text) = 4
+status_of (Device path) = 4
 
 abbrev pub out_of_memory : Fault
-out_of_memory = Base Memory
+out_of_memory = Refused Memory
 
--- it is an error of a command on rules, and has the property
-abbrev pub OfRule : (RuleFault → Type 0) → Fault → Type 0
-OfRule P Usage = ⊥
-OfRule P (Rule fault) = P fault
-OfRule P (Code fault) = ⊥
-OfRule P (Menu fault) = ⊥
-OfRule P (Review fault) = ⊥
-OfRule P (Base fault) = ⊥
-
-abbrev pub OfCode : (CodeFault → Type 0) → Fault → Type 0
-OfCode P Usage = ⊥
-OfCode P (Rule fault) = ⊥
-OfCode P (Code fault) = P fault
-OfCode P (Menu fault) = ⊥
-OfCode P (Review fault) = ⊥
-OfCode P (Base fault) = ⊥
-
-abbrev pub OfMenu : (MenuFault → Type 0) → Fault → Type 0
-OfMenu P Usage = ⊥
-OfMenu P (Rule fault) = ⊥
-OfMenu P (Code fault) = ⊥
-OfMenu P (Menu fault) = P fault
-OfMenu P (Review fault) = ⊥
-OfMenu P (Base fault) = ⊥
+-- the error of the registry file at the path
+abbrev pub registry_fault : Bor Text → RegistryError → Fault
+registry_fault path file.Device = Device path
+registry_fault path (file.Line n) = Registry n
+registry_fault path (file.Target e) = Target e
+registry_fault path file.NoMemory = out_of_memory

@@ -1,4 +1,12 @@
+pub mod World
+pub mod ExpandArguments
+pub mod Service
 pub mod Arguments
 pub mod Faults
-pub mod Commands
-pub mod Whole
+pub mod Reading
+pub mod Placing
+pub mod Answers
+pub mod Output
+pub mod Explaining
+pub mod Serving
+pub mod Program

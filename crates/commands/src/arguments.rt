@@ -3,11 +3,9 @@
 ghost use Rattle.std.specs.Prelude.{◌≢◌, [], ◌∷◌, codes, IfNone, IfSome};
 ghost use Rattle.text_model.specs.Texts.{texts_of};
 ghost use Rattle.commands.specs.Arguments.{AreArgumentsOf, AreNoArguments};
-ghost use Rattle.commands.specs.declared.arguments.Command.{Command};
 
-use menu_commands::Service;
-use rule_commands::{ExpandArguments, expand_arguments};
-use target_commands::Review;
+use crate::list_options::{ExpandArguments, expand_arguments};
+use crate::service::Service;
 
 /// A command with its arguments. A query is the text itself; REGISTRY, RULES, CODE, TABLE, OLD and NEW are paths.
 #[derive(Clone, Copy)]
@@ -15,23 +13,55 @@ pub enum Command<'a> {
     /// `expand [--list NAME].. TEMPLATE QUERY`
     Expand(ExpandArguments<'a, 'a>),
     /// `link RULES QUERY`
-    Link { rules: &'a str, query: &'a str },
+    Link {
+        rules: &'a str,
+        query: &'a str,
+    },
     /// `compile RULES CODE`
-    Compile { rules: &'a str, code: &'a str },
+    Compile {
+        rules: &'a str,
+        code: &'a str,
+    },
     /// `verify CODE`
-    Verify { code: &'a str },
+    Verify {
+        code: &'a str,
+    },
     /// `show CODE`
-    Show { code: &'a str },
+    Show {
+        code: &'a str,
+    },
     /// `upgrade OLD NEW`
-    Upgrade { old: &'a str, new: &'a str },
+    Upgrade {
+        old: &'a str,
+        new: &'a str,
+    },
     /// `run CODE QUERY`
-    Run { code: &'a str, query: &'a str },
+    Run {
+        code: &'a str,
+        query: &'a str,
+    },
+    /// `inspect TABLE`
+    Inspect {
+        table: &'a str,
+    },
+    /// `lint RULES TABLE`
+    Lint {
+        rules: &'a str,
+        table: &'a str,
+    },
+    /// `explain RULES TABLE QUERY`
+    Explain {
+        rules: &'a str,
+        table: &'a str,
+        query: &'a str,
+    },
     /// `resolve REGISTRY QUERY`
-    Resolve { registry: &'a str, query: &'a str },
+    Resolve {
+        registry: &'a str,
+        query: &'a str,
+    },
     /// `serve REGISTRY PORT COUNT`
     Serve(Service<'a>),
-    /// `inspect TABLE`, `lint RULES TABLE` or `explain RULES TABLE QUERY`
-    Review(Review<'a>),
     /// `--help`, `-h` or `help`
     Help,
     /// `--version`
@@ -87,7 +117,7 @@ fn of_one_argument<'a>(name: &str, argument: &'a str) -> Option<Command<'a>>
     match name {
         "verify" => Some(Command::Verify { code: argument }),
         "show" => Some(Command::Show { code: argument }),
-        "inspect" => Some(Command::Review(Review::Inspect { table: argument })),
+        "inspect" => Some(Command::Inspect { table: argument }),
         _ => None,
     }
 }
@@ -119,10 +149,10 @@ fn of_two_arguments<'a>(name: &str, first: &'a str, second: &'a str) -> Option<C
             registry: first,
             query: second,
         }),
-        "lint" => Some(Command::Review(Review::Lint {
+        "lint" => Some(Command::Lint {
             rules: first,
             table: second,
-        })),
+        }),
         _ => None,
     }
 }
@@ -140,11 +170,11 @@ fn of_three_arguments<'a>(
 {
     match name {
         "serve" => Some(Command::Serve(Service::parse(first, second, third)?)),
-        "explain" => Some(Command::Review(Review::Explain {
+        "explain" => Some(Command::Explain {
             rules: first,
             table: second,
             query: third,
-        })),
+        }),
         _ => None,
     }
 }

@@ -1,15 +1,17 @@
 //! Why a command ends without its result, and with which exit status.
 
 ghost use Rattle.std.specs.Prelude.{◌≡◌};
-ghost use Rattle.commands.specs.Faults.{status_of};
+ghost use Rattle.commands.specs.Faults as faults;
+ghost use Rattle.commands.specs.Faults.{status_of, status_of_target};
 
-use code_commands::CodeFault;
-use command_base::{BaseFault, USAGE};
-use menu_commands::MenuFault;
-use rule_commands::RuleFault;
+use answers::{FAILED, NO_LINK, REFUSED, Refusal};
+use files::PrintedPath;
+use registry_file::{RegistryError, TargetError, TargetFault};
 use std::alloc::AllocError;
-use target_commands::ReviewFault;
 use thiserror::Error;
+
+/// The exit status for an unknown command or wrong arguments.
+const USAGE: u8 = 2;
 
 /// Why a command ends without its result; printed after `openlink: `.
 #[derive(Debug, Drop, Error)]
@@ -17,21 +19,25 @@ pub enum Fault<'a> {
     /// Unknown command or wrong arguments.
     #[error("usage")]
     Usage,
-    /// An error of `expand`, `link` or `compile`.
-    #[error(transparent)]
-    Rule(RuleFault<'a>),
-    /// An error of `verify`, `show`, `upgrade` or `run`.
-    #[error(transparent)]
-    Code(CodeFault<'a>),
-    /// An error of `resolve` or `serve`.
-    #[error(transparent)]
-    Menu(MenuFault<'a>),
-    /// An error of `inspect`, `lint` or `explain`, or one of their warnings.
-    #[error(transparent)]
-    Review(ReviewFault<'a>),
-    /// An error that any command may have.
-    #[error(transparent)]
-    Base(BaseFault<'a>),
+    /// There is no answer to what was read.
+    #[error("{0}")]
+    Refused(Refusal),
+    /// A line is a warning, or no row has a web link. All lines are printed.
+    #[error("warning")]
+    Warning,
+    /// This line of the registry file is not that of a target; lines are counted from 1, without blank ones. 0 means
+    /// that the file is too long.
+    #[error("registry: line {0}")]
+    Registry(usize),
+    /// A target of the registry is rejected.
+    #[error("target {0}")]
+    Target(TargetError),
+    /// The port cannot be bound, or accepts no more connections.
+    #[error("device: 127.0.0.1:{0}")]
+    Port(&'a str),
+    /// The file at the path failed; `-` is standard output.
+    #[error("device: {}", PrintedPath(.0))]
+    Device(&'a str),
 }
 
 impl<'a> Fault<'a> {
@@ -40,57 +46,46 @@ impl<'a> Fault<'a> {
         ensures { result ≡ status_of self.now }
     {
         match self {
+            Fault::Warning => NO_LINK,
             Fault::Usage => USAGE,
-            Fault::Rule(fault) => fault.status(),
-            Fault::Code(fault) => fault.status(),
-            Fault::Menu(fault) => fault.status(),
-            Fault::Review(fault) => fault.status(),
-            Fault::Base(fault) => fault.status(),
+            Fault::Refused(refusal) => refusal.status(),
+            Fault::Registry(_) => REFUSED,
+            Fault::Target(e) => status_of_target(&e.fault),
+            Fault::Port(_) | Fault::Device(_) => FAILED,
         }
     }
 }
 
-impl<'a> From<RuleFault<'a>> for Fault<'a> {
-    ghost use Rattle.commands.specs.declared.fault.Fault.TheVariants.{Rule};
-    ghost use Rattle.std.specs.Prelude.{◌≡◌};
-
-    ghost from_gives = { λ e fault. fault ≡ Rule e };
-
-    fn from(e: RuleFault<'a>) -> Fault<'a> {
-        Fault::Rule(e)
+/// The exit status if a target is rejected.
+fn status_of_target(fault: &TargetFault) -> u8
+    ensures { result ≡ status_of_target fault.now }
+{
+    match fault {
+        TargetFault::Device(_) => FAILED,
+        TargetFault::Load(_) | TargetFault::Table(_) | TargetFault::Add(_) => REFUSED,
     }
 }
 
-impl<'a> From<CodeFault<'a>> for Fault<'a> {
-    ghost use Rattle.commands.specs.declared.fault.Fault.TheVariants.{Code};
-    ghost use Rattle.std.specs.Prelude.{◌≡◌};
-
-    ghost from_gives = { λ e fault. fault ≡ Code e };
-
-    fn from(e: CodeFault<'a>) -> Fault<'a> {
-        Fault::Code(e)
+/// The error of the registry file at the path.
+pub(crate) fn registry_fault<'a>(error: RegistryError, path: &'a str) -> Fault<'a>
+    ensures { result ≡ faults.registry_fault path.entry error }
+{
+    match error {
+        RegistryError::Device => Fault::Device(path),
+        RegistryError::Line(n) => Fault::Registry(n),
+        RegistryError::Target(e) => Fault::Target(e),
+        RegistryError::NoMemory => Fault::Refused(Refusal::Memory),
     }
 }
 
-impl<'a> From<MenuFault<'a>> for Fault<'a> {
-    ghost use Rattle.commands.specs.declared.fault.Fault.TheVariants.{Menu};
+impl<'a> From<Refusal> for Fault<'a> {
+    ghost use Rattle.commands.specs.declared.fault.Fault.TheVariants.{Refused};
     ghost use Rattle.std.specs.Prelude.{◌≡◌};
 
-    ghost from_gives = { λ e fault. fault ≡ Menu e };
+    ghost from_gives = { λ refusal fault. fault ≡ Refused refusal };
 
-    fn from(e: MenuFault<'a>) -> Fault<'a> {
-        Fault::Menu(e)
-    }
-}
-
-impl<'a> From<ReviewFault<'a>> for Fault<'a> {
-    ghost use Rattle.commands.specs.declared.fault.Fault.TheVariants.{Review};
-    ghost use Rattle.std.specs.Prelude.{◌≡◌};
-
-    ghost from_gives = { λ e fault. fault ≡ Review e };
-
-    fn from(e: ReviewFault<'a>) -> Fault<'a> {
-        Fault::Review(e)
+    fn from(refusal: Refusal) -> Fault<'a> {
+        Fault::Refused(refusal)
     }
 }
 
@@ -101,6 +96,6 @@ impl<'a> From<AllocError> for Fault<'a> {
     ghost from_gives = { λ _ fault. fault ≡ out_of_memory };
 
     fn from(_e: AllocError) -> Fault<'a> {
-        Fault::Base(BaseFault::Memory)
+        Fault::Refused(Refusal::Memory)
     }
 }

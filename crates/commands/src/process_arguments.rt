@@ -5,7 +5,7 @@ ghost use Rattle.text_model.specs.Texts.{texts_of};
 ghost use Rattle.commands.specs.Faults.{out_of_memory};
 
 use crate::fault::Fault;
-use command_base::BaseFault;
+use answers::Refusal;
 use std::alloc::{AllocError, Global};
 use std::env::{self, Env};
 use std::io::ErrorKind;
@@ -17,7 +17,7 @@ pub fn program_arguments<R: Env + AllocGlobal>(rt: &R) -> Result<Vec<String>, Fa
 {
     match env::args(rt) {
         Ok(arguments) => Ok(arguments.skip(1).collect(rt.alloc())?),
-        Err(e) if e.kind() == ErrorKind::OutOfMemory => Err(Fault::Base(BaseFault::Memory)),
+        Err(e) if e.kind() == ErrorKind::OutOfMemory => Err(Fault::Refused(Refusal::Memory)),
         Err(_) => Err(Fault::Usage),
     }
 }

@@ -1,23 +1,27 @@
 //! The program without its runtime: arguments in, lines and an exit status out.
 
-ghost use Rattle.std.specs.Prelude.{◌≡◌, ◌≢◌, ◌≤◌, ◌⊎◌, IfErr, OnOk};
-ghost use Rattle.std.specs.Io.KnownBytes.{Appends};
-ghost use Rattle.text_model.specs.Texts.{Text, texts_of};
+ghost use Rattle.std.specs.Prelude.{◌≡◌, ◌≤◌, ◌⊎◌, Option};
+ghost use Rattle.text_model.specs.Texts.{texts_of};
 ghost use Rattle.commands.specs.Faults.{status_of};
-ghost use Rattle.commands.specs.Whole.{OutputFails, Refuses, Stops, Succeeds};
+ghost use Rattle.commands.specs.Output.{end_of, output_of};
+ghost use Rattle.commands.specs.Program.{EndsWith, Runs, status_of_end};
 ghost use Rattle.commands.specs.declared.fault.Fault.{Fault};
 
-use crate::answers::print_answer;
 use crate::arguments::{Command, parse};
+use crate::code::{run, show, upgrade, verify};
 use crate::fault::Fault;
-use crate::system::System;
-use command_base::NO_LINK;
+use crate::help::{HELP, VERSION};
+use crate::menus::resolve;
+use crate::printing::{print, print_findings, print_text};
+use crate::rules::{compile, expand, link};
+use crate::serving::serve;
+use crate::targets::{explain, inspect, lint};
+use crate::world::{System, World};
+use answers::NO_LINK;
 use files::Files;
 use http_streams::Ports;
 use kbart_rows::KeySource;
-use menu_commands::serve;
 use std::io::Write;
-use target_commands::print_review;
 
 /// Runs the command that the arguments name, prints its result on `output`, or one line with its error on `errors`, and
 /// returns the exit status: 0 done, 1 no link or an empty menu (nothing is printed) or a warning (all is printed),
@@ -28,27 +32,12 @@ pub fn command<F: Files, K: KeySource, P: Ports, O: Write, E: Write>(
     output: &mut O,
     errors: &mut E,
 ) -> u8
-    ensures done { result ≡ 0 → (text : Text)
-        × Succeeds F.at F.fails K.draws K.fails P.binds P.fails P.Bound.gives P.Bound.closes P.Bound.fails
-        P.Bound.In.input_state P.Bound.Out.output_state
-        (texts_of arguments.now) rt.old.files rt.old.keys rt.old.ports rt.new.files rt.new.keys rt.new.ports text
-        × Appends (O.contents output.old) (O.contents output.new) text }
-    ensures not_done { result ≢ 0 → (fault : Fault) × (result ≡ status_of fault)
-        × ((Refuses F.at F.fails K.draws K.fails P.binds P.fails P.Bound.gives P.Bound.closes P.Bound.fails
-        P.Bound.In.input_state P.Bound.Out.output_state
-        (texts_of arguments.now) rt.old.files rt.old.keys rt.old.ports rt.new.files rt.new.keys rt.new.ports fault
-        × (output.new ≡ output.old))
-        ⊎ OutputFails F.at F.fails K.draws K.fails P.binds P.fails P.Bound.gives P.Bound.closes P.Bound.fails
-        P.Bound.In.input_state P.Bound.Out.output_state
-        (texts_of arguments.now) rt.old.files rt.old.keys rt.old.ports rt.new.files rt.new.keys rt.new.ports fault
-        ⊎ ((line : Text)
-        × Stops F.at F.fails K.draws K.fails P.binds P.fails P.Bound.gives P.Bound.closes P.Bound.fails
-        P.Bound.In.input_state P.Bound.Out.output_state
-        (texts_of arguments.now) rt.old.files rt.old.keys rt.old.ports rt.new.files rt.new.keys rt.new.ports line fault
-        × Appends (O.contents output.old) (O.contents output.new) line)) }
+    ensures ends { (end : Option Fault) × (result ≡ status_of_end end)
+        × EndsWith ⟦<System<F, K, P> as World>⟧.told rt.old rt.new
+        (output_of O.contents output.old output.new) (texts_of arguments.now) end }
     ensures no_line { (result ≡ 0) ⊎ (result ≡ 1) → errors.new ≡ errors.old }
 {
-    match run(rt, arguments, output) {
+    match dispatch(rt, arguments, output) {
         Ok(()) => 0,
         Err(fault) => report(fault, errors),
     }
@@ -67,54 +56,48 @@ pub fn report<E: Write>(fault: Fault, errors: &mut E) -> u8
     status
 }
 
-/// Runs the command that the arguments name, and prints its result on `output`.
-fn run<'a, F: Files, K: KeySource, P: Ports, O: Write>(
+/// Runs the command that the arguments name, if they name one.
+fn dispatch<'a, F: Files, K: KeySource, P: Ports, O: Write>(
     rt: &mut System<F, K, P>,
     arguments: &'a [&'a str],
     output: &mut O,
 ) -> Result<(), Fault<'a>>
-    ensures done { OnOk result ((text : Text)
-        × Succeeds F.at F.fails K.draws K.fails P.binds P.fails P.Bound.gives P.Bound.closes P.Bound.fails
-        P.Bound.In.input_state P.Bound.Out.output_state
-        (texts_of arguments.now) rt.old.files rt.old.keys rt.old.ports rt.new.files rt.new.keys rt.new.ports text
-        × Appends (O.contents output.old) (O.contents output.new) text) }
-    ensures failed { IfErr result (λ fault.
-        (Refuses F.at F.fails K.draws K.fails P.binds P.fails P.Bound.gives P.Bound.closes P.Bound.fails
-        P.Bound.In.input_state P.Bound.Out.output_state
-        (texts_of arguments.now) rt.old.files rt.old.keys rt.old.ports rt.new.files rt.new.keys rt.new.ports fault
-        × (output.new ≡ output.old))
-        ⊎ OutputFails F.at F.fails K.draws K.fails P.binds P.fails P.Bound.gives P.Bound.closes P.Bound.fails
-        P.Bound.In.input_state P.Bound.Out.output_state
-        (texts_of arguments.now) rt.old.files rt.old.keys rt.old.ports rt.new.files rt.new.keys rt.new.ports fault
-        ⊎ ((line : Text)
-        × Stops F.at F.fails K.draws K.fails P.binds P.fails P.Bound.gives P.Bound.closes P.Bound.fails
-        P.Bound.In.input_state P.Bound.Out.output_state
-        (texts_of arguments.now) rt.old.files rt.old.keys rt.old.ports rt.new.files rt.new.keys rt.new.ports line fault
-        × Appends (O.contents output.old) (O.contents output.new) line)) }
+    ensures { EndsWith ⟦<System<F, K, P> as World>⟧.told rt.old rt.new
+        (output_of O.contents output.old output.new) (texts_of arguments.now) (end_of result) }
 {
     match parse(arguments) {
+        Some(command) => run_command(rt, command, output),
         None => Err(Fault::Usage),
-        // A service prints its line before it is done.
-        Some(Command::Serve(service)) => {
-            serve(
-                rt.alloc,
-                &mut rt.files,
-                &mut rt.keys,
-                &mut rt.ports,
-                service,
-                output,
-            )?;
-            Ok(())
-        }
-        // A review prints its lines even if one of them is a warning.
-        Some(Command::Review(review)) => {
-            let alloc = rt.alloc;
-            print_review(alloc, &mut rt.files, &mut rt.keys, review, output)?;
-            Ok(())
-        }
-        Some(command) => {
-            print_answer(rt.alloc, &mut rt.files, &mut rt.keys, command, output)?;
-            Ok(())
-        }
+    }
+}
+
+/// Runs the command, and prints its result on `output`.
+fn run_command<'a, F: Files, K: KeySource, P: Ports, O: Write>(
+    rt: &mut System<F, K, P>,
+    command: Command<'a>,
+    output: &mut O,
+) -> Result<(), Fault<'a>>
+    ensures { Runs ⟦<System<F, K, P> as World>⟧.told rt.old rt.new (output_of O.contents output.old output.new)
+        command.entry (end_of result) }
+{
+    match command {
+        Command::Expand(arguments) => print(output, expand(rt.alloc, arguments)),
+        Command::Link { rules, query } => print(output, link(rt, rules, query)),
+        Command::Compile { rules, code } => print(output, compile(rt, rules, code)),
+        Command::Verify { code } => print(output, verify(rt, code)),
+        Command::Show { code } => print(output, show(rt, code)),
+        Command::Upgrade { old, new } => print(output, upgrade(rt, old, new)),
+        Command::Run { code, query } => print(output, run(rt, code, query)),
+        Command::Resolve { registry, query } => print(output, resolve(rt, registry, query)),
+        Command::Inspect { table } => print_findings(output, inspect(rt, table)),
+        Command::Lint { rules, table } => print_findings(output, lint(rt, rules, table)),
+        Command::Explain {
+            rules,
+            table,
+            query,
+        } => explain(rt, rules, table, query, output),
+        Command::Serve(service) => serve(rt, service, output),
+        Command::Help => print_text(output, HELP),
+        Command::Version => print_text(output, VERSION),
     }
 }

@@ -2,3 +2,4 @@ pub mod Unavailable
 pub mod Sent
 pub mod Pieces
 pub mod ReplyExamples
+pub mod ServedLemmas

@@ -1,3 +1,4 @@
 pub mod Replies
 pub mod RouteReplies
 pub mod Exchange
+pub mod Connections

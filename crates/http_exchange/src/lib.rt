@@ -1,5 +1,6 @@
 //! One exchange over HTTP: a request is read from any input, and its reply, with a menu from any [`MenuSource`], is
-//! written to any output (RFC 9110 and RFC 9112; RFC 6585, section 5, for status 431).
+//! written to any output (RFC 9110 and RFC 9112; RFC 6585, section 5, for status 431). [`serve_on`] serves the
+//! connections of a listener one at a time, each with one exchange.
 //!
 //! Differences from the standard, with their tests in `checks/commands.d`:
 //! - A connection has one request and one reply (`test_one_exchange_a_connection` in `connections.py`); whatever
@@ -14,10 +15,14 @@
 //! ```
 #![tactic(auto)]
 
+mod counts;
 mod exchange;
 mod menu_page;
 mod reply;
+mod service;
 
+pub use counts::Counts;
 pub use exchange::{ServeError, Served, serve_one};
 pub use http_streams::{Failed, Input, Output, TimedWire, Wire};
 pub use menu_source::MenuSource;
+pub use service::{serve_on, serve_within};

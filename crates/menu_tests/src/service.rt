@@ -1,7 +1,7 @@
 //! How connections are served and counted, over memory and on loopback.
 
 use crate::shared::{REPLY, REQUEST};
-use http_service::{Counts, serve_on, serve_within};
+use http_exchange::{Counts, serve_on, serve_within};
 use http_streams::{Listener, Loopback, Ports};
 use link_menu::RegistryMenus;
 use registry::Registry;

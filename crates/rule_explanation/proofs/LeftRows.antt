@@ -5,9 +5,9 @@ use Rattle.std.specs.List.{enumerate_from, flat_map, list_any}
 use Rattle.std.proofs.KnownBytes.{Appends-nil, Appends-trans}
 use Rattle.std.proofs.lemmas.List.{append-nil}
 use Rattle.text_model.specs.Texts.{Text}
+use Rattle.text_output.specs.Writing.{IsWrittenInPart}
 use Rattle.kbart_rows.specs.Identifiers.{first_from}
 use Rattle.rule_explanation.specs.Rows.{up_to_first}
-use Rattle.rule_explanation.specs.Writing.{IsWrittenInPart}
 use Rattle.kbart_rows.proofs.RowOrder.{Rise, all_from_start, first_and_rest, none_from}
 
 module _ (text : ℕ × ℕ → Text) (test : ℕ → Bool) (rows : List ℕ) where
@@ -39,6 +39,14 @@ module _ (text : ℕ × ℕ → Text) (test : ℕ → Bool) (rows : List ℕ) wh
   pub next_left : (place from row : ℕ) → Rise rows → first_from from rows ≡ Some row → test row ≡ false
       → left place from ≡ text (place, row) ++ left (place + 1) (row + 1)
   next_left place from row rise found fail = more_left _ _ place row (first_and_rest from row rows rise found) fail
+
+  -- the text of the first of these rows, and then the others
+  pub first_left : (place from row : ℕ) → Rise rows → first_from from rows ≡ Some row → (others : Text) × (left place from ≡ text (place, row) ++ others)
+  first_left place from row rise found = by_test (test row) refl
+    where
+      by_test : (b : Bool) → test row ≡ b → (others : Text) × (left place from ≡ text (place, row) ++ others)
+      by_test true pass = ([], last_left place from row rise found pass)
+      by_test false fail = (left (place + 1) (row + 1), next_left place from row rise found fail)
 
   pub none_left : (place from : ℕ) → first_from from rows ≡ None → left place from ≡ []
   none_left place from none = ap (λ rs. flat_map text (enumerate_from place (up_to_first test rs))) (none_from from rows none)
@@ -78,6 +86,18 @@ all_done old now whole rest p is =
 
 pub in_part : (old now : Option (List ℕ)) (whole rest : Text) → Progress old now whole rest → IsWrittenInPart old now whole
 in_part old now whole rest p = record { done = p.done; rest = rest; in_order = p.in_order; written = p.written }
+
+pub part_done : (old now new : Option (List ℕ)) (whole rest t others : Text) → Progress old now whole rest → rest ≡ t ++ others
+    → IsWrittenInPart now new t → IsWrittenInPart old new whole
+part_done old now new whole rest t others p is w =
+    record {
+      done = p.done ++ w.done;
+      rest = w.rest ++ others;
+      in_order =
+          p.in_order ∙ ap (λ x. p.done ++ x) (is ∙ ap (λ x. x ++ others) w.in_order ∙ append_assoc w.done w.rest others)
+          ∙ sym (append_assoc p.done w.done (w.rest ++ others));
+      written = Appends-trans old now new p.done w.done p.written w.written;
+    }
 
 -- ---- a row that is found and written
 
@@ -132,3 +152,14 @@ module _ {W : Type 0} (contents : W → Option (List ℕ)) (text : ℕ × ℕ �
   rows_in_part place from old now so_far =
       let P : Text → Type 0 = λ whole. IsWrittenInPart (contents old) (contents now) whole in
       subst P (all_left text test rows) (in_part (contents old) (contents now) _ _ so_far.text_left)
+
+  -- a row of which a beginning is written
+  pub row_in_part : (place from row : ℕ) (old now new : W) (t : Text) → Written contents text test rows place from old now → Rise rows
+      → first_from from rows ≡ Some row → t ≡ text (place, row) → IsWrittenInPart (contents now) (contents new) t
+      → IsWrittenInPart (contents old) (contents new) (flat_map text (enumerate_from 1 (up_to_first test rows)))
+  row_in_part place from row old now new t so_far rise first is written =
+      let (others, begins) = first_left text test rows place from row rise first in
+      let P : Text → Type 0 = λ whole. IsWrittenInPart (contents old) (contents new) whole in
+      subst P (all_left text test rows)
+      (part_done (contents old) (contents now) (contents new) _ (left text test rows place from) t others so_far.text_left
+      (begins ∙ ap (λ x. x ++ others) (sym is)) written)

@@ -1,5 +1,5 @@
 -- The whole text, if a row matches and if none does.
-use Rattle.std.proofs.Common.{◌≡◌, ℕ, List, [], ◌∷◌, Bool, true, false, cond, Some, None, Option, refl, ap, sym, ◌∙◌, codes, IfErr}
+use Rattle.std.proofs.Common.{◌≡◌, ℕ, List, [], ◌∷◌, Bool, true, false, cond, Some, None, Option, refl, ap, sym, ◌∙◌, codes, OnErr}
 use Rattle.std.specs.Prelude.{Result, Ok, Err}
 use Rattle.std.specs.List.{flat_map, list_any}
 use Rattle.std.proofs.lemmas.Option.{none-some}
@@ -43,6 +43,6 @@ none_there (Some row) never = absurd (never row refl)
 
 -- ---- errors
 
-pub any_error : {T E : Type 0} (r : Result T E) (Q : E → Type 0) → ((e : E) → Q e) → IfErr r Q
-any_error (Ok v) Q all = tt
-any_error (Err e) Q all = all e
+pub on_error : {T E : Type 0} (r : Result T E) (P : Type 0) → P → OnErr r P
+on_error (Ok v) P holds = tt
+on_error (Err e) P holds = holds

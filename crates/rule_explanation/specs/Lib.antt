@@ -1,4 +1,3 @@
 pub mod Rows
 pub mod Failing
 pub mod Explanation
-pub mod Writing

@@ -1,9 +1,10 @@
 //! Row after row, until one has a web link.
 
-ghost use Rattle.std.specs.Prelude.{◌≡◌, ◌<◌, [], IfErr, IfOk, OnOk, get_or, length, string_bytes};
+ghost use Rattle.std.specs.Prelude.{◌≡◌, ◌<◌, [], IfErr, IfOk, OnErr, OnOk, get_or, length, string_bytes};
 ghost use Rattle.std.specs.Io.KnownBytes.{Appends};
 ghost use Rattle.std.specs.List.{flat_map};
 ghost use Rattle.text_model.specs.Texts.{texts_of};
+ghost use Rattle.text_output.specs.Writing.{IsWrittenInPart};
 ghost use Rattle.environment_model.specs.Lists.{list_names};
 ghost use Rattle.target_vars.specs.declared.error.VarsError.TheVariants as vars_error;
 ghost use Rattle.kev_read.specs.Filling.{filled};
@@ -14,7 +15,6 @@ ghost use Rattle.rule_parser.specs.Names.{each_once};
 ghost use Rattle.rule_explanation.specs.Explanation.{explanation, row_text, tried_row_text};
 ghost use Rattle.rule_explanation.specs.Failing.{numbered};
 ghost use Rattle.rule_explanation.specs.Rows.{environment_of_row, gives_web_link, has_web_link, tried_rows};
-ghost use Rattle.rule_explanation.specs.Writing.{IsWrittenInPart};
 ghost use Rattle.rule_explanation.specs.declared.error.ExplainError.TheVariants.{NoMemory, Output};
 
 use crate::error::ExplainError;
@@ -25,6 +25,7 @@ use rule_parser::Rules;
 use std::alloc::Global;
 use std::io::Write;
 use target_vars::{Env, VarsError};
+use text_output::write_text;
 
 /// The rules that fail are printed for at most this number of the rows that are tried, the first ones.
 pub const MAX_DETAILED: usize = 100;
@@ -32,8 +33,8 @@ pub const MAX_DETAILED: usize = 100;
 /// Writes what the rules give on each row of the table that matches the request, row by row, until a row has a web
 /// link. Returns whether one has.
 ///
-/// `NoMemory` if an allocation failed; the beginning of the text may then be written already. `Output` if the output
-/// failed.
+/// `NoMemory` if an allocation failed, `Output` if the output failed. After either, the output has received a beginning
+/// of the text, perhaps nothing.
 pub fn explain<W: Write>(
     alloc: Global,
     rules: &Rules,
@@ -44,7 +45,7 @@ pub fn explain<W: Write>(
     ensures found { IfOk result (λ found. found ≡ has_web_link rules.now table.now request.now.pairs) }
     ensures printed { OnOk result (Appends (W.contents output.old) (W.contents output.new)
         (explanation rules.now table.now request.now.pairs)) }
-    ensures in_part { IfErr result (λ e. e ≡ NoMemory → IsWrittenInPart (W.contents output.old) (W.contents output.new)
+    ensures in_part { OnErr result (IsWrittenInPart (W.contents output.old) (W.contents output.new)
         (explanation rules.now table.now request.now.pairs)) }
 {
     let ids = Ids::of(alloc, request)?;
@@ -71,7 +72,7 @@ fn explain_rows<W: Write>(
     ensures printed { OnOk result (Appends (W.contents output.old) (W.contents output.new)
         (flat_map (tried_row_text rules.now table.now request.now.pairs)
         (numbered (tried_rows rules.now table.now request.now.pairs)))) }
-    ensures in_part { IfErr result (λ e. e ≡ NoMemory → IsWrittenInPart (W.contents output.old) (W.contents output.new)
+    ensures in_part { OnErr result (IsWrittenInPart (W.contents output.old) (W.contents output.new)
         (flat_map (tried_row_text rules.now table.now request.now.pairs)
         (numbered (tried_rows rules.now table.now request.now.pairs)))) }
 {
@@ -144,9 +145,10 @@ fn environment(
 
 fn write<W: Write>(output: &mut W, text: &str) -> Result<(), ExplainError>
     ensures ok { OnOk result (Appends (W.contents output.old) (W.contents output.new) text.now) }
+    ensures in_part { OnErr result (IsWrittenInPart (W.contents output.old) (W.contents output.new) text.now) }
     ensures err { IfErr result (λ e. e ≡ Output) }
 {
-    match output.write_all(text.as_bytes()) {
+    match write_text(output, text) {
         Ok(()) => Ok(()),
         Err(_) => Err(ExplainError::Output),
     }

@@ -1,11 +1,10 @@
 use Rattle.std.proofs.Common.{◌≡◌, [], ◌∷◌, inl, inr}
 use Rattle.std.specs.Prelude.{codes}
 use Rattle.text_model.specs.Texts.{Text}
-use Rattle.menu_commands.specs.Service.{IsServiceOf}
-use Rattle.menu_commands.specs.declared.service.Service.{Service}
-use Rattle.target_commands.specs.declared.review.Review.TheVariants.{Inspect, Lint, Explain}
+use Rattle.commands.specs.Service.{IsServiceOf}
 use Rattle.commands.specs.Arguments.{AreNoArguments}
-use Rattle.commands.specs.declared.arguments.Command.TheVariants.{Expand, Serve, Review, Help}
+use Rattle.commands.specs.declared.service.Service.{Service}
+use Rattle.commands.specs.declared.arguments.Command.TheVariants.{Expand, Serve, Help}
 use Rattle.commands.proofs.arguments.of_three_arguments.Goals as goal
 
 -- `serve` with three other arguments is no command
@@ -17,9 +16,6 @@ no_service registry port count wrong (Serve s) h =
     let three : count ≡ h.count = cc (h.named) in
     wrong s (rw (one, two, three) h.given)
 no_service registry port count wrong (Expand e) h = cc (h.named)
-no_service registry port count wrong (Review (Inspect table)) h = cc (h)
-no_service registry port count wrong (Review (Lint rules table)) h = cc (h)
-no_service registry port count wrong (Review (Explain rules table query)) h = cc (h)
 no_service registry port count wrong Help (inl h) = cc (h)
 no_service registry port count wrong Help (inr (inl h)) = cc (h)
 no_service registry port count wrong Help (inr (inr h)) = cc (h)

@@ -1,12 +1,10 @@
 -- A row matches, or none does.
-use Rattle.std.proofs.Common.{◌≡◌, ap, sym, ◌∙◌, subst, OnOk, IfErr}
+use Rattle.std.proofs.Common.{ap, sym, ◌∙◌, subst, OnOk, OnErr}
 use Rattle.std.specs.Io.KnownBytes.{Appends}
 use Rattle.text_model.specs.Texts.{Text}
+use Rattle.text_output.specs.Writing.{IsWrittenInPart}
 use Rattle.kbart_rows.specs.Identifiers.{first_from, matching_rows}
-use Rattle.rule_explanation.specs.Writing.{IsWrittenInPart}
-use Rattle.rule_explanation.specs.declared.error.ExplainError.{ExplainError}
-use Rattle.rule_explanation.specs.declared.error.ExplainError.TheVariants.{NoMemory}
-use Rattle.rule_explanation.proofs.WholeText.{no_link, no_text, some_text}
+use Rattle.rule_explanation.proofs.WholeText.{no_link, no_text, on_error, some_text}
 use Rattle.rule_explanation.proofs.explaining.explain.Goals as goal
 
 pub returns-in-Some-clause-printed : goal.returns-in-Some-clause-printed
@@ -20,8 +18,7 @@ pub returns-in-Some-clause-in_part : goal.returns-in-Some-clause-in_part
 returns-in-Some-clause-in_part g c =
     let first = ap (λ ids. first_from 0 (matching_rows c.args.table.now ids)) (sym c.in_ok-ids.ensures) ∙ sym c.in-Some.ensures.first in
     let P : Text → Type 0 =
-    λ whole. IfErr c.explain_rows.result
-    (λ (e : ExplainError). e ≡ NoMemory → IsWrittenInPart (g.W.Write.contents c.args.output.now) (g.W.Write.contents c.explain_rows.new.output) whole) in
+    λ whole. OnErr c.explain_rows.result (IsWrittenInPart (g.W.Write.contents c.args.output.now) (g.W.Write.contents c.explain_rows.new.output) whole) in
     subst P (sym (some_text c.args.rules.now c.args.table.now c.args.request.now.pairs _ first)) c.explain_rows.ensures.in_part
 
 pub returns-clause-found : goal.returns-clause-found
@@ -34,3 +31,10 @@ returns-clause-printed g c =
     let none = ap (λ ids. first_from 0 (matching_rows c.args.table.now ids)) (sym c.in_ok-ids.ensures) ∙ sym c.in-None.ensures.first in
     let P : Text → Type 0 = λ whole. Appends (g.W.Write.contents c.args.output.now) (g.W.Write.contents c.write.new.output) whole in
     subst P (sym (no_text c.args.rules.now c.args.table.now c.args.request.now.pairs none)) c.in_ok-write-in-None.ensures.ok
+
+pub returns-in_err-write-in-None-clause-in_part : goal.returns-in_err-write-in-None-clause-in_part
+returns-in_err-write-in-None-clause-in_part g c =
+    let none = ap (λ ids. first_from 0 (matching_rows c.args.table.now ids)) (sym c.in_ok-ids.ensures) ∙ sym c.in-None.ensures.first in
+    let P : Text → Type 0 = λ whole. IsWrittenInPart (g.W.Write.contents c.args.output.now) (g.W.Write.contents c.write.new.output) whole in
+    on_error c.from_residual-in_err-write-in-None.result _
+    (subst P (sym (no_text c.args.rules.now c.args.table.now c.args.request.now.pairs none)) c.in_err-write-in-None.ensures.in_part)

@@ -1,0 +1,11 @@
+pub mod Refusals
+pub mod Reading
+pub mod Expansion
+pub mod Link
+pub mod Code
+pub mod Verdict
+pub mod Listing
+pub mod Upgrade
+pub mod Run
+pub mod Menu
+pub mod Findings

@@ -1,0 +1,25 @@
+//! The link that rules give for a query.
+
+ghost use Rattle.std.specs.Prelude.{Ok, Err, IfOk, IfErr, string_bytes};
+ghost use Rattle.answers.specs.Link.{IsLinkOf};
+
+use crate::line::ended;
+use crate::reading::rules_of;
+use crate::refusal::Refusal;
+use crate::request::environment;
+use rule_parser::meaning;
+use std::alloc::Global;
+
+/// The line of the link that the rules of a rule text give for the query: that of the first rule whose guards all hold.
+pub fn link_of(alloc: Global, bytes: &[u8], query: &str) -> Result<String, Refusal>
+    ensures ok { IfOk result (λ line. IsLinkOf bytes.now query.now (Ok (string_bytes line))) }
+    ensures err { IfErr result (λ refusal. IsLinkOf bytes.now query.now (Err refusal)) }
+{
+    let rules = rules_of(alloc, bytes)?;
+    let lists = rules.lists(alloc)?;
+    let env = environment(alloc, &lists, query)?;
+    match meaning(alloc, &rules, &env)? {
+        Some(link) => Ok(ended(link)?),
+        None => Err(Refusal::NoLink),
+    }
+}

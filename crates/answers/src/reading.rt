@@ -1,0 +1,52 @@
+//! What bytes are read as.
+
+ghost use Rattle.std.specs.Prelude.{◌≡◌, IfOk, IfErr};
+ghost use Rattle.rule_parser.specs.Grammar.{IsRuleText};
+ghost use Rattle.code_file.specs.Grammar.{IsCodeFile};
+ghost use Rattle.kbart_rows.specs.Reading.{IsTable};
+ghost use Rattle.safe_runs.specs.Ending.{IsAcceptedFile};
+ghost use Rattle.answers.specs.Reading.{IsNoRules, IsNoCodeFile, IsNotAccepted, IsNoTable};
+
+use crate::refusal::Refusal;
+use code_file::Code;
+use kbart_rows::{Keys, Table};
+use rule_parser::Rules;
+use safe_runs::laws::accepted_file_has_no_fault;
+use std::alloc::Global;
+use verifier::{Verified, load};
+
+/// The rules of a rule text.
+pub fn rules_of(alloc: Global, bytes: &[u8]) -> Result<Rules, Refusal>
+    ensures ok { IfOk result (IsRuleText bytes.now) }
+    ensures err { IfErr result (IsNoRules bytes.now) }
+{
+    Ok(Rules::parse(alloc, bytes)?)
+}
+
+/// The code of a code file.
+pub(crate) fn read_code(alloc: Global, bytes: &[u8]) -> Result<Code, Refusal>
+    ensures ok { IfOk result (IsCodeFile bytes.now) }
+    ensures err { IfErr result (IsNoCodeFile bytes.now) }
+{
+    Ok(Code::read(alloc, bytes)?)
+}
+
+/// The code of a code file, if the verifier accepts it.
+pub(crate) fn accepted_code(alloc: Global, bytes: &[u8]) -> Result<Verified, Refusal>
+    ensures ok { IfOk result (IsAcceptedFile bytes.now) }
+    ensures err { IfErr result (IsNotAccepted bytes.now) }
+{
+    accepted_file_has_no_fault();
+    let code = load(alloc, bytes)?;
+    let _accepted = code.code();
+    Ok(code)
+}
+
+/// The holdings table of a file, with secret keys for its hashed look-ups.
+pub fn table_of(alloc: Global, bytes: &[u8], keys: Keys) -> Result<Table, Refusal>
+    ensures ok { IfOk result (IsTable bytes.now) }
+    ensures keyed { IfOk result (λ table. table.keys ≡ keys) }
+    ensures err { IfErr result (IsNoTable bytes.now) }
+{
+    Ok(Table::read_keyed(alloc, bytes, keys)?)
+}

@@ -1,0 +1,38 @@
+//! The request of a query, and its environment.
+
+ghost use Rattle.std.specs.Prelude.{◌≡◌, [], None, IfOk, IfErr};
+ghost use Rattle.text_model.specs.Texts.{texts_of};
+ghost use Rattle.kev_read.specs.Pairs.{pairs_of};
+ghost use Rattle.kev_read.specs.Refusal.{refusal};
+ghost use Rattle.kev_read.specs.Filling.{filled};
+ghost use Rattle.answers.specs.Reading.{IsNoRequest};
+
+use crate::refusal::Refusal;
+use kev_read::{Request, read_kev};
+use std::alloc::Global;
+use target_vars::{Env, VarsError};
+
+/// The request of a query, which has at most 65,536 bytes and 4,096 pairs.
+pub fn request_of(alloc: Global, query: &str) -> Result<Request, Refusal>
+    ensures accepted { IfOk result (λ _. refusal query.now ≡ None) }
+    ensures pairs { IfOk result (λ request. request.pairs ≡ pairs_of query.now) }
+    ensures err { IfErr result (IsNoRequest query.now) }
+{
+    Ok(read_kev(alloc, query.as_bytes())?)
+}
+
+/// The environment of the query's pairs, in which `rft.au`, `rft_id` and the names of `lists` are lists.
+pub(crate) fn environment(alloc: Global, lists: &[&str], query: &str) -> Result<Env, Refusal>
+    ensures accepted { IfOk result (λ _. refusal query.now ≡ None) }
+    ensures entries { IfOk result (λ env. env.entries ≡ filled (texts_of lists.now) [] (pairs_of query.now)) }
+    ensures err { IfErr result (IsNoRequest query.now) }
+{
+    let request = request_of(alloc, query)?;
+    let mut env = Env::new(alloc);
+    match request.fill(lists, &mut env) {
+        Ok(()) => Ok(env),
+        Err(VarsError::NoMemory) => Err(Refusal::Memory),
+        // A request fits into an empty environment.
+        Err(VarsError::TooLarge) => unreachable!(),
+    }
+}

@@ -1,0 +1,40 @@
+//! The link that code gives for a query.
+
+ghost use Rattle.std.specs.Prelude.{◌≡◌, None, Ok, Err, IfOk, IfErr, string_bytes};
+ghost use Rattle.kev_read.specs.Refusal.{refusal};
+ghost use Rattle.answers.specs.Reading.{IsNoRequest};
+ghost use Rattle.answers.specs.Run.{IsRunLinkOf, request_entries};
+
+use crate::line::ended;
+use crate::reading::accepted_code;
+use crate::refusal::Refusal;
+use crate::request::environment;
+use code_file::Code;
+use safe_runs::run_verified;
+use std::alloc::Global;
+use target_vars::Env;
+use verified_runs::Outcome;
+
+/// The line of the link that the code of a code file gives for the query, if the verifier accepts it. A link has at
+/// most 1,048,576 bytes: code that might print more for the request is not run.
+pub fn run_link_of(alloc: Global, bytes: &[u8], query: &str) -> Result<String, Refusal>
+    ensures ok { IfOk result (λ line. IsRunLinkOf bytes.now query.now (Ok (string_bytes line))) }
+    ensures err { IfErr result (λ refusal. IsRunLinkOf bytes.now query.now (Err refusal)) }
+{
+    let code = accepted_code(alloc, bytes)?;
+    let env = code_environment(alloc, code.code(), query)?;
+    match run_verified(alloc, &code, &env)? {
+        Outcome::Link(link) => Ok(ended(link)?),
+        Outcome::NoLink => Err(Refusal::NoLink),
+    }
+}
+
+/// The environment of the query's pairs, in which the names that the code declares as lists are lists.
+fn code_environment(alloc: Global, code: &Code, query: &str) -> Result<Env, Refusal>
+    ensures accepted { IfOk result (λ _. refusal query.now ≡ None) }
+    ensures entries { IfOk result (λ env. env.entries ≡ request_entries code.now query.now) }
+    ensures err { IfErr result (IsNoRequest query.now) }
+{
+    let lists = code.lists(alloc)?;
+    environment(alloc, &lists, query)
+}

@@ -1,6 +1,0 @@
-pub mod Faults
-pub mod Codes
-pub mod Show
-pub mod Upgrade
-pub mod Verify
-pub mod Run

@@ -1,0 +1,8 @@
+use Rattle.std.proofs.Common.{[]}
+use Rattle.commands.proofs.ArgumentLemmas.{one_more_name}
+use Rattle.commands.proofs.list_options.list_names.Goals as goal
+
+pub loop-rest-preserved : goal.loop-rest-preserved
+loop-rest-preserved c =
+    one_more_name c.args.options.now c.loop-rest.names.items c.push.new.self.items c.loop-rest.rest.now (record { ref_ptr = (0, 0); now = [] })
+    c.in-len2-up.len_at_least c.loop-rest.invariant c.in_ok-push.ensures.items

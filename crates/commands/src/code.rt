@@ -1,0 +1,97 @@
+//! The commands on code files: `verify`, `show`, `upgrade` and `run`.
+
+ghost use Rattle.std.specs.Prelude.{Ok, Err, IfOk, IfErr, string_bytes};
+ghost use Rattle.files.specs.Changes.{Unchanged};
+ghost use Rattle.answers.specs.Listing.{IsListingOf};
+ghost use Rattle.answers.specs.Run.{IsRunLinkOf};
+ghost use Rattle.answers.specs.Upgrade.{IsUpgradeOf};
+ghost use Rattle.answers.specs.Verdict.{IsVerdictOf};
+ghost use Rattle.commands.specs.Answers.{Makes, Tells};
+ghost use Rattle.commands.specs.Reading.{code_file, loaded_file};
+
+use crate::fault::Fault;
+use crate::placing::place_counted;
+use crate::reading::read_file;
+use crate::world::{System, World};
+use answers::{Refusal, listing_of, run_link_of, upgrade_of, verdict_of};
+use code_file::{CodeError, CodeErrorKind, MAX_BYTES};
+use files::Files;
+use http_streams::Ports;
+use kbart_rows::KeySource;
+use verifier::LoadError;
+
+/// The error of `show` and `upgrade` for a file of more than 65,536 bytes.
+const LONG_CODE: CodeError = CodeError {
+    kind: CodeErrorKind::TooLong,
+    at: MAX_BYTES,
+};
+
+/// The error of `verify` and `run` for a file of more than 65,536 bytes.
+const LONG_CODE_TO_LOAD: LoadError = LoadError::Code(CodeErrorKind::TooLong, MAX_BYTES);
+
+/// `verify CODE`: the lines of the verdict on the code file.
+pub(crate) fn verify<'a, F: Files, K: KeySource, P: Ports>(
+    rt: &mut System<F, K, P>,
+    code: &'a str,
+) -> Result<String, Fault<'a>>
+    ensures ok { IfOk result (λ text. Tells ⟦<System<F, K, P> as World>⟧.told rt.old rt.new loaded_file IsVerdictOf
+        code.entry (Ok (string_bytes text))) }
+    ensures err { IfErr result (λ fault. Tells ⟦<System<F, K, P> as World>⟧.told rt.old rt.new loaded_file IsVerdictOf
+        code.entry (Err fault)) }
+    ensures same { Unchanged (F.at rt.old.files) (F.at rt.new.files) }
+{
+    let too_long = Refusal::Load(LONG_CODE_TO_LOAD);
+    let bytes = read_file(rt.alloc, &mut rt.files, code, MAX_BYTES, too_long)?;
+    Ok(verdict_of(rt.alloc, &bytes)?)
+}
+
+/// `show CODE`: the listing of the code file.
+pub(crate) fn show<'a, F: Files, K: KeySource, P: Ports>(
+    rt: &mut System<F, K, P>,
+    code: &'a str,
+) -> Result<String, Fault<'a>>
+    ensures ok { IfOk result (λ text. Tells ⟦<System<F, K, P> as World>⟧.told rt.old rt.new code_file IsListingOf
+        code.entry (Ok (string_bytes text))) }
+    ensures err { IfErr result (λ fault. Tells ⟦<System<F, K, P> as World>⟧.told rt.old rt.new code_file IsListingOf
+        code.entry (Err fault)) }
+    ensures same { Unchanged (F.at rt.old.files) (F.at rt.new.files) }
+{
+    let too_long = Refusal::Code(LONG_CODE);
+    let bytes = read_file(rt.alloc, &mut rt.files, code, MAX_BYTES, too_long)?;
+    Ok(listing_of(rt.alloc, &bytes)?)
+}
+
+/// `upgrade OLD NEW`: writes the code of a file as a file of version 2, and returns the line with the number of its
+/// bytes.
+pub(crate) fn upgrade<'a, F: Files, K: KeySource, P: Ports>(
+    rt: &mut System<F, K, P>,
+    old: &'a str,
+    new: &'a str,
+) -> Result<String, Fault<'a>>
+    ensures ok { IfOk result (λ line. Makes ⟦<System<F, K, P> as World>⟧.told rt.old rt.new code_file IsUpgradeOf
+        old.entry new.entry (Ok (string_bytes line))) }
+    ensures err { IfErr result (λ fault. Makes ⟦<System<F, K, P> as World>⟧.told rt.old rt.new code_file IsUpgradeOf
+        old.entry new.entry (Err fault)) }
+{
+    let too_long = Refusal::Code(LONG_CODE);
+    let bytes = read_file(rt.alloc, &mut rt.files, old, MAX_BYTES, too_long)?;
+    let file = upgrade_of(rt.alloc, &bytes)?;
+    Ok(place_counted(rt.alloc, &mut rt.files, new, &file)?)
+}
+
+/// `run CODE QUERY`: the line of the link that the code file gives for the query.
+pub(crate) fn run<'a, F: Files, K: KeySource, P: Ports>(
+    rt: &mut System<F, K, P>,
+    code: &'a str,
+    query: &str,
+) -> Result<String, Fault<'a>>
+    ensures ok { IfOk result (λ line. Tells ⟦<System<F, K, P> as World>⟧.told rt.old rt.new loaded_file
+        (λ bytes. IsRunLinkOf bytes query.now) code.entry (Ok (string_bytes line))) }
+    ensures err { IfErr result (λ fault. Tells ⟦<System<F, K, P> as World>⟧.told rt.old rt.new loaded_file
+        (λ bytes. IsRunLinkOf bytes query.now) code.entry (Err fault)) }
+    ensures same { Unchanged (F.at rt.old.files) (F.at rt.new.files) }
+{
+    let too_long = Refusal::Load(LONG_CODE_TO_LOAD);
+    let bytes = read_file(rt.alloc, &mut rt.files, code, MAX_BYTES, too_long)?;
+    Ok(run_link_of(rt.alloc, &bytes, query)?)
+}

@@ -1,0 +1,69 @@
+//! The commands on templates and rule files: `expand`, `link` and `compile`.
+
+ghost use Rattle.std.specs.Prelude.{Ok, Err, IfOk, IfErr, string_bytes};
+ghost use Rattle.files.specs.Changes.{Unchanged};
+ghost use Rattle.text_model.specs.Texts.{texts_of};
+ghost use Rattle.answers.specs.Code.{IsCodeOf};
+ghost use Rattle.answers.specs.Expansion.{IsExpansionOf};
+ghost use Rattle.answers.specs.Link.{IsLinkOf};
+ghost use Rattle.commands.specs.ExpandArguments.{names_of};
+ghost use Rattle.commands.specs.Answers.{Answered, Makes, Tells};
+ghost use Rattle.commands.specs.Reading.{rule_file};
+
+use crate::fault::Fault;
+use crate::list_options::{ExpandArguments, list_names};
+use crate::placing::place_counted;
+use crate::reading::{LONG_RULES, read_file};
+use crate::world::{System, World};
+use answers::{Refusal, code_of, expansion_of, link_of};
+use files::Files;
+use http_streams::Ports;
+use kbart_rows::KeySource;
+use rule_parser::MAX_BYTES;
+use std::alloc::Global;
+
+/// `expand [--list NAME].. TEMPLATE QUERY`: the line of the template's expansion for the query.
+pub(crate) fn expand<'a>(alloc: Global, arguments: ExpandArguments) -> Result<String, Fault<'a>>
+    ensures ok { IfOk result (λ line. Answered (IsExpansionOf (names_of (texts_of arguments.entry.options.now))
+        arguments.entry.template.now arguments.entry.query.now) (Ok (string_bytes line))) }
+    ensures err { IfErr result (λ fault. Answered (IsExpansionOf (names_of (texts_of arguments.entry.options.now))
+        arguments.entry.template.now arguments.entry.query.now) (Err fault)) }
+{
+    let lists = list_names(alloc, arguments.options)?;
+    Ok(expansion_of(alloc, &lists, arguments.template, arguments.query)?)
+}
+
+/// `link RULES QUERY`: the line of the link that the rules of the file give for the query.
+pub(crate) fn link<'a, F: Files, K: KeySource, P: Ports>(
+    rt: &mut System<F, K, P>,
+    rules: &'a str,
+    query: &str,
+) -> Result<String, Fault<'a>>
+    ensures ok { IfOk result (λ line. Tells ⟦<System<F, K, P> as World>⟧.told rt.old rt.new rule_file
+        (λ bytes. IsLinkOf bytes query.now) rules.entry (Ok (string_bytes line))) }
+    ensures err { IfErr result (λ fault. Tells ⟦<System<F, K, P> as World>⟧.told rt.old rt.new rule_file
+        (λ bytes. IsLinkOf bytes query.now) rules.entry (Err fault)) }
+    ensures same { Unchanged (F.at rt.old.files) (F.at rt.new.files) }
+{
+    let too_long = Refusal::Rules(LONG_RULES);
+    let bytes = read_file(rt.alloc, &mut rt.files, rules, MAX_BYTES, too_long)?;
+    Ok(link_of(rt.alloc, &bytes, query)?)
+}
+
+/// `compile RULES CODE`: writes the code of the rules of the file to a file of its own, and returns the line with the
+/// number of its bytes.
+pub(crate) fn compile<'a, F: Files, K: KeySource, P: Ports>(
+    rt: &mut System<F, K, P>,
+    rules: &'a str,
+    code: &'a str,
+) -> Result<String, Fault<'a>>
+    ensures ok { IfOk result (λ line. Makes ⟦<System<F, K, P> as World>⟧.told rt.old rt.new rule_file IsCodeOf
+        rules.entry code.entry (Ok (string_bytes line))) }
+    ensures err { IfErr result (λ fault. Makes ⟦<System<F, K, P> as World>⟧.told rt.old rt.new rule_file IsCodeOf
+        rules.entry code.entry (Err fault)) }
+{
+    let too_long = Refusal::Rules(LONG_RULES);
+    let bytes = read_file(rt.alloc, &mut rt.files, rules, MAX_BYTES, too_long)?;
+    let file = code_of(rt.alloc, &bytes)?;
+    Ok(place_counted(rt.alloc, &mut rt.files, code, &file)?)
+}

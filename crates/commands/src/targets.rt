@@ -1,0 +1,109 @@
+//! The commands that examine the files of one target: `inspect`, `lint` and `explain`.
+
+ghost use Rattle.std.specs.Prelude.{◌≡◌, Ok, Err, IfOk, IfErr};
+ghost use Rattle.files.specs.Changes.{Unchanged};
+ghost use Rattle.answers.specs.Findings.{IsInspectionOf, IsLintOf, report};
+ghost use Rattle.commands.specs.Answers.{OnRules, TellsKeyed};
+ghost use Rattle.commands.specs.Explaining.{Explained, Explains, IsTargetOf};
+ghost use Rattle.commands.specs.Output.{end_of, output_of};
+
+use crate::fault::Fault;
+use crate::reading::{read_keyed, read_rules};
+use crate::world::{System, World};
+use answers::{Refusal, inspection_of, lint_of, request_of, table_of};
+use files::Files;
+use http_streams::Ports;
+use kbart_rows::{KeySource, Table};
+use printed_text::Findings;
+use rule_explanation::ExplainError;
+use rule_parser::Rules;
+use std::alloc::Global;
+use std::io::Write;
+
+/// `inspect TABLE`: the findings in the holdings table.
+pub(crate) fn inspect<'a, F: Files, K: KeySource, P: Ports>(
+    rt: &mut System<F, K, P>,
+    table: &'a str,
+) -> Result<Findings, Fault<'a>>
+    ensures ok { IfOk result (λ findings. TellsKeyed ⟦<System<F, K, P> as World>⟧.told rt.old rt.new IsInspectionOf
+        table.entry (Ok (report findings))) }
+    ensures err { IfErr result (λ fault. TellsKeyed ⟦<System<F, K, P> as World>⟧.told rt.old rt.new IsInspectionOf
+        table.entry (Err fault)) }
+    ensures same { Unchanged (F.at rt.old.files) (F.at rt.new.files) }
+{
+    let (bytes, keys) = read_keyed(rt.alloc, &mut rt.files, &mut rt.keys, table)?;
+    Ok(inspection_of(rt.alloc, &bytes, keys)?)
+}
+
+/// `lint RULES TABLE`: the findings in the rules and the holdings table. The rules are read first.
+pub(crate) fn lint<'a, F: Files, K: KeySource, P: Ports>(
+    rt: &mut System<F, K, P>,
+    rules: &'a str,
+    table: &'a str,
+) -> Result<Findings, Fault<'a>>
+    ensures ok { IfOk result (λ findings. OnRules ⟦<System<F, K, P> as World>⟧.told rt.old rt.new rules.entry
+        (λ set. TellsKeyed ⟦<System<F, K, P> as World>⟧.told rt.old rt.new (IsLintOf set) table.entry)
+        (Ok (report findings))) }
+    ensures err { IfErr result (λ fault. OnRules ⟦<System<F, K, P> as World>⟧.told rt.old rt.new rules.entry
+        (λ set. TellsKeyed ⟦<System<F, K, P> as World>⟧.told rt.old rt.new (IsLintOf set) table.entry) (Err fault)) }
+    ensures same { Unchanged (F.at rt.old.files) (F.at rt.new.files) }
+{
+    let rules = read_rules(rt.alloc, &mut rt.files, rules)?;
+    let (bytes, keys) = read_keyed(rt.alloc, &mut rt.files, &mut rt.keys, table)?;
+    Ok(lint_of(rt.alloc, &rules, &bytes, keys)?)
+}
+
+/// `explain RULES TABLE QUERY`: prints what the rules give for the query on each row of the table that is tried;
+/// `Warning` if none of them has a web link. The text is printed row by row, so an error can come after some of it.
+pub(crate) fn explain<'a, F: Files, K: KeySource, P: Ports, O: Write>(
+    rt: &mut System<F, K, P>,
+    rules: &'a str,
+    table: &'a str,
+    query: &str,
+    output: &mut O,
+) -> Result<(), Fault<'a>>
+    ensures ends { Explains ⟦<System<F, K, P> as World>⟧.told rt.old rt.new rules.entry table.entry query.now
+        (output_of O.contents output.old output.new) (end_of result) }
+    ensures same { Unchanged (F.at rt.old.files) (F.at rt.new.files) }
+{
+    let (rules, table) = read_target(rt, rules, table)?;
+    explain_query(rt.alloc, &rules, &table, query, output)
+}
+
+/// The rules and the holdings table at the two paths. The rules are read first.
+fn read_target<'a, F: Files, K: KeySource, P: Ports>(
+    rt: &mut System<F, K, P>,
+    rules: &'a str,
+    table: &'a str,
+) -> Result<(Rules, Table), Fault<'a>>
+    ensures ok { IfOk result (λ target. OnRules ⟦<System<F, K, P> as World>⟧.told rt.old rt.new rules.entry
+        (λ set. TellsKeyed ⟦<System<F, K, P> as World>⟧.told rt.old rt.new (IsTargetOf set) table.entry)
+        (Ok (target.0, target.1))) }
+    ensures err { IfErr result (λ fault. OnRules ⟦<System<F, K, P> as World>⟧.told rt.old rt.new rules.entry
+        (λ set. TellsKeyed ⟦<System<F, K, P> as World>⟧.told rt.old rt.new (IsTargetOf set) table.entry) (Err fault)) }
+    ensures same { Unchanged (F.at rt.old.files) (F.at rt.new.files) }
+{
+    let rules = read_rules(rt.alloc, &mut rt.files, rules)?;
+    let (bytes, keys) = read_keyed(rt.alloc, &mut rt.files, &mut rt.keys, table)?;
+    let table = table_of(rt.alloc, &bytes, keys)?;
+    Ok((rules, table))
+}
+
+/// Prints what the rules give for the query on each row of the table that is tried.
+fn explain_query<'a, O: Write>(
+    alloc: Global,
+    rules: &Rules,
+    table: &Table,
+    query: &str,
+    output: &mut O,
+) -> Result<(), Fault<'a>>
+    ensures { Explained rules.now table.now query.now (output_of O.contents output.old output.new) (end_of result) }
+{
+    let request = request_of(alloc, query)?;
+    match rule_explanation::explain(alloc, rules, table, &request, output) {
+        Ok(true) => Ok(()),
+        Ok(false) => Err(Fault::Warning),
+        Err(ExplainError::NoMemory) => Err(Fault::Refused(Refusal::Memory)),
+        Err(ExplainError::Output) => Err(Fault::Device("-")),
+    }
+}

@@ -1,9 +1,0 @@
-use Rattle.std.proofs.Common.{length}
-use Rattle.rule_commands.proofs.ArgumentLemmas.{AfterOptions}
-use Rattle.rule_commands.proofs.arguments.expand_arguments.Given as goal
-
-abbrev pub invariant-loop-rest : goal.invariant-loop-rest
-invariant-loop-rest l = AfterOptions l.arguments l.rest
-
-abbrev pub decreases-loop-rest : goal.decreases-loop-rest
-decreases-loop-rest l = length l.rest

@@ -1,6 +1,0 @@
-use Rattle.std.proofs.Common.{ap, sym}
-use Rattle.rule_commands.specs.Faults.{status_of}
-use Rattle.rule_commands.proofs.fault.RuleFault.status.Goals as goal
-
-pub returns-in-NoLink : goal.returns-in-NoLink
-returns-in-NoLink c = sym (ap status_of c.in-NoLink.is)

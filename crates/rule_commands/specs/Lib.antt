@@ -1,6 +1,0 @@
-pub mod Arguments
-pub mod Faults
-pub mod Expand
-pub mod Rules
-pub mod Link
-pub mod Compile

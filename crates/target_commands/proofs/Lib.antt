@@ -1,3 +1,0 @@
-pub mod FaultLemmas
-pub mod PrintLemmas
-pub mod WriteLemmas
