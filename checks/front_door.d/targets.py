@@ -96,7 +96,7 @@ def problem_link(site, faults):
 
 
 def logo_and_links(site, languages, faults):
-    """Takes `links` from the words, and adds a fault for each link, or logo, that the page would leave out."""
+    """Removes `links` from the texts, and adds a fault for each link or logo that the page would leave out."""
     found = site.get("words") if isinstance(site.get("words"), dict) else {}
     logo = found.get("logo")
     for text in logo.values() if isinstance(logo, dict) else [logo]:

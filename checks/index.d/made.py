@@ -136,7 +136,7 @@ def test_made_titles():
         missing = [(name, key, title, *cells) for name, key, title, *cells in lines
                    if not any(title in names for names in expected.get((name, key, *cells), ()))]
         expect("each line is one of the reference", missing[:3], [])
-        expect("so many lines", len(lines), len(reference.lines()))
+        expect("the number of lines", len(lines), len(reference.lines()))
         for kind in "jb":
             check_list(found, kind, [title for title in reference.titles if reference.kind(title) == kind])
 
