@@ -1,59 +1,83 @@
--- A text that is written into a link has come at least as far towards the end of its host.
-use Rattle.std.proofs.Common.{◌≡◌, ℕ, ◌==◌, ◌/◌, Bool, true, false, cond, [], ◌∷◌, ◌++◌, refl, sym, ap, ◌∙◌, subst, eqb-true}
-use Rattle.std.proofs.lemmas.Bool.{both_ways, false_from_ne_true, or_from}
-use Rattle.text_model.specs.Texts.{Text, is_unreserved, is_reserved, is_triplet, percent}
-use Rattle.text_model.specs.Writing.{hexadecimal_digit, is_unreserved_or_reserved, triplet_of, written_byte, written_ur}
-use Rattle.rule_lint.specs.Host.{ends_host, slash}
-use Rattle.lint_laws.proofs.HostStates.{IsReached, State, after_append, after_byte, after_text, next, some_reached, text_reached}
+-- How values that are written into a link lead on: without reserved characters they are plain, and otherwise as they stand.
+use Rattle.std.proofs.Common.{◌≡◌, ℕ, ◌==◌, ◌/◌, ◌%◌, ◌+◌, ◌<◌, Bool, true, false, cond, [], ◌∷◌, ◌++◌, refl, sym, ap, ◌∙◌, arith, eqb-true}
+use Rattle.std.specs.Prelude.{nat_lt, if◌then◌else◌}
+use Rattle.std.proofs.lemmas.Bool.{agree_below_at, both_ways, false_from_ne_true, or_from}
+use Rattle.text_model.specs.Texts.{Text, is_unreserved, is_reserved, is_triplet}
+use Rattle.text_model.specs.Writing.{hexadecimal_digit, is_unreserved_or_reserved, triplet_of, written_byte, written_u, written_ur}
+use Rattle.rule_lint.specs.declared.host_state.HostState.{HostState}
+use Rattle.rule_lint.specs.HostStates.{after_byte, after_text}
+use Rattle.lint_laws.proofs.HostStates.{IsPlain, after_append, is_special, plain_append, plain_byte, plain_state}
 
--- a byte that is made a triplet is no byte that stays
-another_byte : (b c : ℕ) → is_unreserved_or_reserved c ≡ true → is_unreserved_or_reserved b ≡ false → (b == c) ≡ false
-another_byte b c stays gone =
-    false_from_ne_true (b == c) (λ e. both_ways (is_unreserved_or_reserved b) gone (ap is_unreserved_or_reserved (eqb-true b c e) ∙ stays))
+-- ---- bytes
 
--- neither a slash nor another byte that ends the host
-no_slash : (b : ℕ) → is_unreserved_or_reserved b ≡ false → (b == slash) ≡ false
+-- a byte that passes a test is none that does not
+another_byte : (test : ℕ → Bool) (kept b c : _) → test b ≡ kept → (test c ≡ kept → ⊥) → (b == c) ≡ false
+another_byte test kept b c is other = false_from_ne_true (b == c) (λ e. other (sym (ap test (eqb-true b c e)) ∙ is))
+
+not_special : (test : ℕ → Bool) (kept : Bool) (b : ℕ) → test b ≡ kept → (test 0x2F ≡ kept → ⊥) → (test 0x3F ≡ kept → ⊥) → (test 0x23 ≡ kept → ⊥)
+    → (test 0x40 ≡ kept → ⊥) → is_special b ≡ false
+not_special test kept b is slash question hash at =
+    or_from _ (b == 0x40)
+    (or_from (b == 0x2F) _ (another_byte test kept b 0x2F is slash)
+    (or_from (b == 0x3F) _ (another_byte test kept b 0x3F is question) (or_from (b == 0x23) false (another_byte test kept b 0x23 is hash) refl)))
+    (another_byte test kept b 0x40 is at)
+
+unreserved_plain : (b : ℕ) → is_unreserved b ≡ true → is_special b ≡ false
+unfolding is_unreserved
+unreserved_plain b is =
+    not_special is_unreserved true b is (both_ways false refl) (both_ways false refl) (both_ways false refl) (both_ways false refl)
+
+encoded_plain : (b : ℕ) → is_unreserved_or_reserved b ≡ false → is_special b ≡ false
 unfolding is_unreserved is_reserved
-no_slash b gone = another_byte b slash refl gone
+encoded_plain b is =
+    not_special is_unreserved_or_reserved false b is (λ e. both_ways true e refl) (λ e. both_ways true e refl) (λ e. both_ways true e refl)
+    (λ e. both_ways true e refl)
 
-no_end : (b : ℕ) → is_unreserved_or_reserved b ≡ false → ends_host b ≡ false
-unfolding is_unreserved is_reserved
-no_end b gone =
-    or_from (b == 0x2F) _ (another_byte b 0x2F refl gone)
-    (or_from (b == 0x3F) _ (another_byte b 0x3F refl gone) (or_from (b == 0x23) false (another_byte b 0x23 refl gone) refl))
+digit_plain : (n : ℕ) → is_special (hexadecimal_digit n) ≡ false
+digit_plain n =
+    let lt : n % 16 < 16 = omega arith in
+    agree_below_at (λ m. is_special (if nat_lt m 10 then 48 + m else 55 + m)) (λ m. false) 16 (n % 16) refl lt
 
-byte_reached : (s r : State) (b : ℕ) → IsReached s r
-    → IsReached (after_byte s b) (after_text r (written_byte (is_unreserved_or_reserved b) b))
-byte_reached s r b h = by_kind (is_unreserved_or_reserved b) refl
+triplet_plain : (b : ℕ) → IsPlain (triplet_of b)
+triplet_plain b = (refl, (digit_plain (b / 16), (digit_plain b, tt)))
+
+-- ---- values without reserved characters
+
+byte_plain : (stays : Bool) (b : ℕ) → is_unreserved b ≡ stays → IsPlain (written_byte stays b)
+byte_plain true b e = (unreserved_plain b e, tt)
+byte_plain false b e = triplet_plain b
+
+pub written_plain : (t : Text) → IsPlain (written_u t)
+unfolding written_u
+written_plain [] = tt
+written_plain (b ∷ t) = plain_append (written_byte (is_unreserved b) b) (written_u t) (byte_plain (is_unreserved b) b refl) (written_plain t)
+
+-- ---- values with reserved characters
+
+byte_state : (s : HostState) (b : ℕ) → after_text s (written_byte (is_unreserved_or_reserved b) b) ≡ after_byte s b
+byte_state s b = by_kind (is_unreserved_or_reserved b) refl
   where
-    by_kind : (stays : Bool) → is_unreserved_or_reserved b ≡ stays → IsReached (after_byte s b) (after_text r (written_byte stays b))
-    by_kind true e = text_reached s r (b ∷ []) h
-    by_kind false e =
-        let plain : next s (b == slash) (ends_host b) ≡ next s false false =
-        ap (λ (is : Bool). next s is (ends_host b)) (no_slash b e) ∙ ap (next s false) (no_end b e) in
-        subst (λ (x : State). IsReached x (after_text r (triplet_of b))) (sym plain)
-        (some_reached s r percent (hexadecimal_digit (b / 16) ∷ hexadecimal_digit b ∷ []) h)
+    by_kind : (stays : Bool) → is_unreserved_or_reserved b ≡ stays → after_text s (written_byte stays b) ≡ after_byte s b
+    by_kind true e = refl
+    by_kind false e = plain_state s (triplet_of b) tt (triplet_plain b) ∙ sym (plain_byte s b (encoded_plain b e))
 
-pub written_reached : (s r : State) (t : Text) → IsReached s r → IsReached (after_text s t) (after_text r (written_ur t))
+pub written_state : (s : HostState) (t : Text) → after_text s (written_ur t) ≡ after_text s t
 unfolding written_ur
-written_reached s r [] h = h
-written_reached s r (b ∷ []) h = byte_reached s r b h
-written_reached s r (b ∷ c ∷ []) h =
+written_state s [] = refl
+written_state s (b ∷ []) = byte_state s b
+written_state s (b ∷ c ∷ []) =
     let first = written_byte (is_unreserved_or_reserved b) b in
     let second = written_byte (is_unreserved_or_reserved c) c in
-    subst (IsReached (after_byte (after_byte s b) c)) (sym (after_append r first second))
-    (byte_reached (after_byte s b) (after_text r first) c (byte_reached s r b h))
-written_reached s r (b ∷ c ∷ d ∷ t) h =
-    by_test (is_triplet b c d)
-    (written_reached (after_text s (b ∷ c ∷ d ∷ [])) (after_text r (b ∷ c ∷ d ∷ [])) t (text_reached s r (b ∷ c ∷ d ∷ []) h))
-    (written_reached (after_byte s b) (after_text r first) (c ∷ d ∷ t) (byte_reached s r b h))
+    after_append s first second ∙ (byte_state (after_text s first) c ∙ ap (λ (r : HostState). after_byte r c) (byte_state s b))
+written_state s (b ∷ c ∷ d ∷ t) =
+    by_test (is_triplet b c d) (written_state (after_text s (b ∷ c ∷ d ∷ [])) t)
+    (ap (λ (r : HostState). after_text r (written_ur (c ∷ d ∷ t))) (byte_state s b) ∙ written_state (after_byte s b) (c ∷ d ∷ t))
   where
     first : Text
     first = written_byte (is_unreserved_or_reserved b) b
 
-    by_test : (x : Bool) → IsReached (after_text s (b ∷ c ∷ d ∷ t)) (after_text r (b ∷ c ∷ d ∷ written_ur t))
-        → IsReached (after_text s (b ∷ c ∷ d ∷ t)) (after_text (after_text r first) (written_ur (c ∷ d ∷ t)))
-        → IsReached (after_text s (b ∷ c ∷ d ∷ t)) (after_text r (cond x (b ∷ c ∷ d ∷ written_ur t) (first ++ written_ur (c ∷ d ∷ t))))
+    by_test : (x : Bool) → after_text (after_text s (b ∷ c ∷ d ∷ [])) (written_ur t) ≡ after_text s (b ∷ c ∷ d ∷ t)
+        → after_text (after_text s first) (written_ur (c ∷ d ∷ t)) ≡ after_text s (b ∷ c ∷ d ∷ t)
+        → after_text s (cond x (b ∷ c ∷ d ∷ written_ur t) (first ++ written_ur (c ∷ d ∷ t))) ≡ after_text s (b ∷ c ∷ d ∷ t)
     by_test true copied made = copied
-    by_test false copied made =
-        subst (IsReached (after_text s (b ∷ c ∷ d ∷ t))) (sym (after_append r first (written_ur (c ∷ d ∷ t)))) made
+    by_test false copied made = after_append s first (written_ur (c ∷ d ∷ t)) ∙ made

@@ -1,82 +1,119 @@
--- What is written after a text changes of the text's host.
-use Rattle.std.proofs.Common.{◌≡◌, ℕ, ◌+◌, ◌==◌, Bool, true, false, not, ◌&&◌, cond, [], ◌∷◌, ◌++◌, take, Option, Some, None, refl, sym, ap, ◌∙◌, subst}
-use Rattle.std.proofs.Common.{one-add, append-nil}
-use Rattle.std.specs.List.{before_first, prefix_len}
+-- What the state of a text says of the text's host.
+use Rattle.std.proofs.Common.{◌≡◌, ◌≢◌, ℕ, ◌+◌, ◌==◌, Bool, true, false, not, ◌&&◌, ◌||◌, cond, [], ◌∷◌, ◌++◌, take, Option, Some, None, refl, sym, ap, ◌∙◌}
+use Rattle.std.proofs.Common.{subst, one-add, ◌⊎◌, inl, inr}
+use Rattle.std.specs.List.{before_first, prefix_len, list_any}
+use Rattle.std.proofs.lemmas.Bool.{or_from}
 use Rattle.text_model.specs.Texts.{Text}
-use Rattle.rule_lint.specs.Host.{slash, ends_host, after_slashes, host_after, host_of}
-use Rattle.lint_laws.specs.RowLinks.{IsBeginning}
-use Rattle.lint_laws.proofs.HostStates.{State, Outside, Slash, Opened, Inside, Past, LeadsTo, IsReached, after_byte, after_text, leads, next, past_stays}
-use Rattle.lint_laws.proofs.HostStates.{state_of}
+use Rattle.rule_lint.specs.declared.host_state.HostState.{HostState}
+use Rattle.rule_lint.specs.declared.host_state.HostState.TheVariants.{Outside, Slash, Opened, Inside, Past, Lost}
+use Rattle.rule_lint.specs.HostStates.{after_byte, after_text, at_sign, ends_host, slash, state_of}
+use Rattle.rule_lint.specs.Host.{after_slashes, host_after, host_of}
+use Rattle.lint_laws.specs.Browsers.{is_at_sign}
+use Rattle.lint_laws.specs.RowLinks.{IsPlainHost}
+use Rattle.lint_laws.proofs.HostStates.{lost_stays}
 
--- ---- the first part of a text up to the byte that ends the host
+-- ---- the first part of a text, up to the byte that ends the host
 
-abbrev first_part : Text → Text
+abbrev pub first_part : Text → Text
 first_part t = before_first ends_host t
 
-part_ends : (b : ℕ) (t : Text) → ends_host b ≡ true → first_part (b ∷ t) ≡ []
+pub part_ends : (b : ℕ) (t : Text) → ends_host b ≡ true → first_part (b ∷ t) ≡ []
 part_ends b t e = ap (λ (ends : Bool). take (cond (not ends) (1 + prefix_len (λ x. not (ends_host x)) t) 0) (b ∷ t)) e
 
-part_continues : (b : ℕ) (t : Text) → ends_host b ≡ false → first_part (b ∷ t) ≡ b ∷ first_part t
+pub part_continues : (b : ℕ) (t : Text) → ends_host b ≡ false → first_part (b ∷ t) ≡ b ∷ first_part t
 part_continues b t e =
     let n = prefix_len (λ x. not (ends_host x)) t in
     ap (λ (ends : Bool). take (cond (not ends) (1 + n) 0) (b ∷ t)) e ∙ ap (λ (m : ℕ). take m (b ∷ t)) (one-add n)
 
--- more after a text may make its first part longer
-part_longer : (t more : Text) → IsBeginning (first_part t) (first_part (t ++ more))
-part_longer [] more = (first_part more, refl)
-part_longer (b ∷ t) more = by_end (ends_host b) refl (part_longer t more)
-  where
-    by_end : (ends : Bool) → ends_host b ≡ ends → IsBeginning (first_part t) (first_part (t ++ more))
-        → IsBeginning (first_part (b ∷ t)) (first_part (b ∷ (t ++ more)))
-    by_end true e later = ([], part_ends b (t ++ more) e ∙ sym (append-nil (first_part (b ∷ t)) ∙ part_ends b t e))
-    by_end false e later =
-        (later.0, part_continues b (t ++ more) e ∙ (ap (λ u. b ∷ u) later.1 ∙ ap (λ u. u ++ later.0) (sym (part_continues b t e))))
+-- what comes after it does not change it if it begins with a byte that ends the host
+abbrev pub IsEnd : Text → Type 0
+IsEnd [] = Unit {0}
+IsEnd (b ∷ t) = ends_host b ≡ true
 
--- but not where a byte that ends the host comes next
-part_ended : (t : Text) (c : ℕ) (more : Text) → ends_host c ≡ true → first_part (t ++ c ∷ more) ≡ first_part t
-part_ended [] c more e = part_ends c more e
-part_ended (b ∷ t) c more e = by_end (ends_host b) refl (part_ended t c more e)
+part_ended : (t more : Text) → IsEnd more → first_part (t ++ more) ≡ first_part t
+part_ended [] [] h = refl
+part_ended [] (c ∷ more) h = part_ends c more h
+part_ended (b ∷ t) more h = by_end (ends_host b) refl (part_ended t more h)
   where
-    by_end : (ends : Bool) → ends_host b ≡ ends → first_part (t ++ c ∷ more) ≡ first_part t → first_part (b ∷ (t ++ c ∷ more)) ≡ first_part (b ∷ t)
-    by_end true f later = part_ends b (t ++ c ∷ more) f ∙ sym (part_ends b t f)
-    by_end false f later = part_continues b (t ++ c ∷ more) f ∙ (ap (λ u. b ∷ u) later ∙ sym (part_continues b t f))
+    by_end : (ends : Bool) → ends_host b ≡ ends → first_part (t ++ more) ≡ first_part t → first_part (b ∷ (t ++ more)) ≡ first_part (b ∷ t)
+    by_end true f later = part_ends b (t ++ more) f ∙ sym (part_ends b t f)
+    by_end false f later = part_continues b (t ++ more) f ∙ (ap (λ u. b ∷ u) later ∙ sym (part_continues b t f))
 
--- nor where one has come
-abbrev IsOpen : State → Type 0
+-- ---- states in which a host has begun
+
+-- it has begun, and it may have ended
+abbrev pub IsFound : HostState → Type 0
+IsFound Inside = Unit {0}
+IsFound Past = Unit {0}
+IsFound s = ⊥
+
+abbrev IsOpen : HostState → Type 0
 IsOpen Opened = Unit {0}
 IsOpen Inside = Unit {0}
 IsOpen s = ⊥
 
-part_past : (s : State) (t more : Text) → IsOpen s → after_text s t ≡ Past → first_part (t ++ more) ≡ first_part t
+lost_not_found : (t : Text) → IsFound (after_text Lost t) → ⊥
+lost_not_found t h = subst IsFound (lost_stays t) h
+
+-- the state after one more byte of a host that is not yet ended
+after_open : (s : HostState) (b : ℕ) → IsOpen s → ends_host b ≡ false → (b == at_sign) ≡ false → after_byte s b ≡ Inside
+after_open Outside b o e f = absurd o
+after_open Slash b o e f = absurd o
+after_open Opened b o e f = ap (λ (x : Bool). cond x Lost Inside) (or_from (ends_host b) (b == at_sign) e f)
+after_open Inside b o e f =
+    ap (λ (x : Bool). cond x Past (cond (b == at_sign) Lost Inside)) e ∙ ap (λ (x : Bool). cond x Lost Inside) f
+after_open Past b o e f = absurd o
+after_open Lost b o e f = absurd o
+
+after_at_sign : (s : HostState) (b : ℕ) → IsOpen s → ends_host b ≡ false → (b == at_sign) ≡ true → after_byte s b ≡ Lost
+after_at_sign Outside b o e f = absurd o
+after_at_sign Slash b o e f = absurd o
+after_at_sign Opened b o e f = ap (λ (x : Bool). cond (x || (b == at_sign)) Lost Inside) e ∙ ap (λ (x : Bool). cond x Lost Inside) f
+after_at_sign Inside b o e f =
+    ap (λ (x : Bool). cond x Past (cond (b == at_sign) Lost Inside)) e ∙ ap (λ (x : Bool). cond x Lost Inside) f
+after_at_sign Past b o e f = absurd o
+after_at_sign Lost b o e f = absurd o
+
+after_end : (b : ℕ) → ends_host b ≡ true → (after_byte Opened b ≡ Lost) × (after_byte Inside b ≡ Past)
+after_end b e =
+    (ap (λ (x : Bool). cond (x || (b == at_sign)) Lost Inside) e, ap (λ (x : Bool). cond x Past (cond (b == at_sign) Lost Inside)) e)
+
+-- such a state is found only without an `@`
+no_user : (s : HostState) (t : Text) → IsOpen s → IsFound (after_text s t) → list_any is_at_sign (first_part t) ≡ false
+no_user s [] o h = refl
+no_user s (b ∷ t) o h = by_end (ends_host b) (b == at_sign) refl refl h (no_user Inside t tt)
+  where
+    by_end : (ends is : Bool) → ends_host b ≡ ends → (b == at_sign) ≡ is → IsFound (after_text (after_byte s b) t)
+        → (IsFound (after_text Inside t) → list_any is_at_sign (first_part t) ≡ false) → list_any is_at_sign (first_part (b ∷ t)) ≡ false
+    by_end true is e f h later = ap (list_any is_at_sign) (part_ends b t e)
+    by_end false true e f h later =
+        absurd (lost_not_found t (subst (λ (r : HostState). IsFound (after_text r t)) (after_at_sign s b o e f) h))
+    by_end false false e f h later =
+        ap (list_any is_at_sign) (part_continues b t e)
+        ∙ or_from (b == at_sign) _ f (later (subst (λ (r : HostState). IsFound (after_text r t)) (after_open s b o e f) h))
+
+-- and only if there is a host
+not_empty : (t : Text) → IsFound (after_text Opened t) → first_part t ≢ []
+not_empty [] h = absurd h
+not_empty (b ∷ t) h = by_end (ends_host b) refl
+  where
+    by_end : (ends : Bool) → ends_host b ≡ ends → first_part (b ∷ t) ≢ []
+    by_end true e = absurd (lost_not_found t (subst (λ (r : HostState). IsFound (after_text r t)) (after_end b e).0 h))
+    by_end false e = λ none. let is : b ∷ first_part t ≡ [] = sym (part_continues b t e) ∙ none in cc
+
+-- a host that has ended stays as it is
+part_past : (s : HostState) (t more : Text) → IsOpen s → after_text s t ≡ Past → first_part (t ++ more) ≡ first_part t
 part_past s [] more o h = absurd (subst IsOpen h o)
-part_past s (b ∷ t) more o h = by_end (ends_host b) refl (part_past (after_byte s b) t more)
+part_past s (b ∷ t) more o h = by_end (ends_host b) (b == at_sign) refl refl h (part_past Inside t more tt)
   where
-    continues : (s : State) (is : Bool) → IsOpen s → IsOpen (next s is false)
-    continues Outside is o = absurd o
-    continues Slash is o = absurd o
-    continues Opened is o = tt
-    continues Inside is o = tt
-    continues Past is o = absurd o
-
-    by_end : (ends : Bool) → ends_host b ≡ ends
-        → (IsOpen (after_byte s b) → after_text (after_byte s b) t ≡ Past → first_part (t ++ more) ≡ first_part t)
-        → first_part (b ∷ (t ++ more)) ≡ first_part (b ∷ t)
-    by_end true f later = part_ends b (t ++ more) f ∙ sym (part_ends b t f)
-    by_end false f later =
-        let is_open : IsOpen (after_byte s b) = subst (λ (ends : Bool). IsOpen (next s (b == slash) ends)) (sym f) (continues s (b == slash) o) in
-        part_continues b (t ++ more) f ∙ (ap (λ u. b ∷ u) (later is_open h) ∙ sym (part_continues b t f))
-
--- a host that has begun and is empty has ended
-part_empty : (t : Text) → IsReached Inside (after_text Opened t) → first_part t ≡ [] → after_text Opened t ≡ Past
-part_empty [] h e = absurd h
-part_empty (b ∷ t) h e = by_end (ends_host b) refl
-  where
-    not_empty : (u : Text) → (b ∷ u ≡ []) → ⊥
-    not_empty u e = cc
-
-    by_end : (ends : Bool) → ends_host b ≡ ends → after_text (after_byte Opened b) t ≡ Past
-    by_end true f = ap (λ (ends : Bool). after_text (next Opened (b == slash) ends) t) f ∙ past_stays t
-    by_end false f = absurd (not_empty (first_part t) (sym (part_continues b t f) ∙ e))
+    by_end : (ends is : Bool) → ends_host b ≡ ends → (b == at_sign) ≡ is → after_text (after_byte s b) t ≡ Past
+        → (after_text Inside t ≡ Past → first_part (t ++ more) ≡ first_part t) → first_part (b ∷ (t ++ more)) ≡ first_part (b ∷ t)
+    by_end true is e f h later = part_ends b (t ++ more) e ∙ sym (part_ends b t e)
+    by_end false true e f h later =
+        absurd (lost_not_found t (subst (λ (r : HostState). IsFound (after_text r t)) (after_at_sign s b o e f) (subst IsFound (sym h) tt)))
+    by_end false false e f h later =
+        part_continues b (t ++ more) e
+        ∙ (ap (λ u. b ∷ u) (later (sym (ap (λ (r : HostState). after_text r t) (after_open s b o e f)) ∙ h)) ∙ sym (part_continues b t e))
 
 -- ---- the host of a text
 
@@ -91,25 +128,58 @@ slashes_stay (b ∷ c ∷ t) more rest e = two (b == slash && c == slash) e (sla
     two true e later = let same : t ≡ rest = cc in ap (λ u. Some (u ++ more)) same
     two false e later = later e
 
--- what follows the slashes of a text whose host has begun
-record Started (t : Text) : Type 0 where
+-- what follows the first `//` leads on from there; without one, the state is one of the first two
+abbrev IsBefore : HostState → Type 0
+IsBefore Outside = Unit {0}
+IsBefore Slash = Unit {0}
+IsBefore s = ⊥
+
+abbrev LeadsTo : Option Text → HostState → Type 0
+LeadsTo None s = IsBefore s
+LeadsTo (Some rest) s = s ≡ after_text Opened rest
+
+leads : (t : Text) → LeadsTo (after_slashes t) (state_of t)
+leads [] = tt
+leads (b ∷ []) = one (b == slash)
+  where
+    one : (is : Bool) → IsBefore (cond is Slash Outside)
+    one false = tt
+    one true = tt
+leads (b ∷ c ∷ t) = first (b == slash) (leads (c ∷ t))
+  where
+    second : (is : Bool) → LeadsTo (after_slashes (c ∷ t)) (after_text (cond is Slash Outside) t)
+        → LeadsTo (cond is (Some t) (after_slashes (c ∷ t))) (after_text (cond is Opened Outside) t)
+    second true h = refl
+    second false h = h
+
+    first : (is : Bool) → LeadsTo (after_slashes (c ∷ t)) (state_of (c ∷ t))
+        → LeadsTo (cond (is && c == slash) (Some t) (after_slashes (c ∷ t))) (after_text (after_byte (cond is Slash Outside) c) t)
+    first true h = second (c == slash) h
+    first false h = h
+
+-- the slashes are there if the host has begun
+pub record Started (t : Text) : Type 0 where
   rest : Text
   found : after_slashes t ≡ Some rest
   state : state_of t ≡ after_text Opened rest
 
-started : (t : Text) → IsReached Inside (state_of t) → Started t
+started : (t : Text) → (IsBefore (state_of t) → ⊥) → Started t
 started t h = by (after_slashes t) refl (leads t)
   where
-    not_yet : (s : State) → IsReached Inside s → IsReached s Slash → ⊥
-    not_yet Outside h f = absurd h
-    not_yet Slash h f = absurd h
-    not_yet Opened h f = absurd h
-    not_yet Inside h f = absurd f
-    not_yet Past h f = absurd f
-
     by : (after : Option Text) → after_slashes t ≡ after → LeadsTo after (state_of t) → Started t
-    by None e f = absurd (not_yet (state_of t) h f)
+    by None e f = absurd (h f)
     by (Some rest) e f = record { rest = rest; found = e; state = f }
+
+found_is_late : (s : HostState) → IsFound s → IsBefore s → ⊥
+found_is_late Outside h k = h
+found_is_late Slash h k = h
+found_is_late Opened h k = k
+found_is_late Inside h k = k
+found_is_late Past h k = k
+found_is_late Lost h k = k
+
+begun : (t : Text) → IsFound (state_of t) → Started t
+begun t h = started t (found_is_late (state_of t) h)
 
 host_is : (t : Text) (b : Started t) → host_of t ≡ first_part b.rest
 host_is t b = ap host_after b.found
@@ -117,27 +187,54 @@ host_is t b = ap host_after b.found
 host_more : (t more : Text) (b : Started t) → host_of (t ++ more) ≡ first_part (b.rest ++ more)
 host_more t more b = ap host_after (slashes_stay t more b.rest b.found)
 
--- more after a text in whose host one is may make the host longer
-pub host_longer : (t more : Text) → IsReached Inside (state_of t) → IsBeginning (host_of t) (host_of (t ++ more))
-host_longer t more h =
-    let b = started t h in
-    let longer = part_longer b.rest more in
-    (longer.0, host_more t more b ∙ (longer.1 ∙ ap (λ u. u ++ longer.0) (sym (host_is t b))))
-
--- but not where a byte that ends it comes next
-pub host_ended : (t : Text) (c : ℕ) (more : Text) → IsReached Inside (state_of t) → ends_host c ≡ true → host_of (t ++ c ∷ more) ≡ host_of t
-host_ended t c more h e =
-    let b = started t h in
-    host_more t (c ∷ more) b ∙ (part_ended b.rest c more e ∙ sym (host_is t b))
-
--- nor where the host has ended
+-- what comes after a host that has ended does not change it
 pub host_past : (t more : Text) → state_of t ≡ Past → host_of (t ++ more) ≡ host_of t
 host_past t more h =
-    let b = started t (subst (IsReached Inside) (sym h) tt) in
+    let b = begun t (subst IsFound (sym h) tt) in
     host_more t more b ∙ (part_past Opened b.rest more tt (sym b.state ∙ h) ∙ sym (host_is t b))
 
--- which it has where it is empty
-pub host_empty : (t more : Text) → IsReached Inside (state_of t) → host_of t ≡ [] → host_of (t ++ more) ≡ []
-host_empty t more h e =
-    let b = started t h in
-    host_past t more (b.state ∙ part_empty b.rest (subst (IsReached Inside) b.state h) (sym (host_is t b) ∙ e)) ∙ e
+-- nor does what begins with a byte that ends it
+pub host_ended : (t more : Text) → IsFound (state_of t) → IsEnd more → host_of (t ++ more) ≡ host_of t
+host_ended t more h e =
+    let b = begun t h in
+    host_more t more b ∙ (part_ended b.rest more e ∙ sym (host_is t b))
+
+pub host_plain : (t : Text) → IsFound (state_of t) → IsPlainHost (host_of t)
+host_plain t h =
+    let b = begun t h in
+    let found : IsFound (after_text Opened b.rest) = subst IsFound b.state h in
+    record {
+      some = λ none. not_empty b.rest found (sym (host_is t b) ∙ none);
+      no_user = ap (list_any is_at_sign) (host_is t b) ∙ no_user Opened b.rest tt found;
+    }
+
+-- ---- texts without slashes
+
+-- there is no `//` in a text that ends before it
+pub no_slashes : (t : Text) → (state_of t ≡ Outside) ⊎ (state_of t ≡ Slash) → after_slashes t ≡ None
+no_slashes t h = by (after_slashes t) refl (leads t)
+  where
+    opened_later : (s : HostState) (u : Text) → (IsBefore s → ⊥) → IsBefore (after_text s u) → ⊥
+    opened_later s [] early h = early h
+    opened_later Outside (b ∷ u) early h = absurd (early tt)
+    opened_later Slash (b ∷ u) early h = absurd (early tt)
+    opened_later Opened (b ∷ u) early h = opened_later (after_byte Opened b) u (by_test (ends_host b || (b == at_sign))) h
+      where
+        by_test : (x : Bool) → IsBefore (cond x Lost Inside) → ⊥
+        by_test true k = k
+        by_test false k = k
+    opened_later Inside (b ∷ u) early h = opened_later (after_byte Inside b) u (by_tests (ends_host b) (b == at_sign)) h
+      where
+        by_tests : (x y : Bool) → IsBefore (cond x Past (cond y Lost Inside)) → ⊥
+        by_tests true y k = k
+        by_tests false true k = k
+        by_tests false false k = k
+    opened_later Past (b ∷ u) early h = opened_later Past u (λ k. k) h
+    opened_later Lost (b ∷ u) early h = opened_later Lost u (λ k. k) h
+
+    before : IsBefore (state_of t)
+    before = elim h [ inl e ↦ subst IsBefore (sym e) tt | inr e ↦ subst IsBefore (sym e) tt ]
+
+    by : (after : Option Text) → after_slashes t ≡ after → LeadsTo after (state_of t) → after_slashes t ≡ None
+    by None e f = e
+    by (Some rest) e f = absurd (opened_later Opened rest (λ k. k) (subst IsBefore f before))

@@ -60,9 +60,13 @@ by_note = Literal (codes "https://") ∷ variable operator.Simple (codes "note")
 abbrev by_path : List Part
 by_path = Literal (codes "http://") ∷ variable operator.Plus (codes "path") ∷ variable operator.Slash (codes "x") ∷ []
 
+-- `https://e.org{/x}/foo`
+abbrev ended_twice : List Part
+ended_twice = Literal (codes "https://e.org") ∷ variable operator.Slash (codes "x") ∷ Literal (codes "/foo") ∷ []
+
 open_hosts : (keys : Keys) → map (has_open_host (rules_of [] []) (table keys) (place.Link 1)) (
-    extended ∷ ended ∷ second_slash ∷ address ∷ cell_extended ∷ cell_ended ∷ by_note ∷ by_path ∷ [])
-    ≡ true ∷ false ∷ true ∷ false ∷ true ∷ false ∷ true ∷ false ∷ []
+    extended ∷ ended ∷ second_slash ∷ address ∷ cell_extended ∷ cell_ended ∷ by_note ∷ by_path ∷ ended_twice ∷ [])
+    ≡ true ∷ true ∷ true ∷ false ∷ true ∷ false ∷ true ∷ true ∷ false ∷ []
 open_hosts keys = refl
 
 -- ---- hosts that a request sets
@@ -75,6 +79,12 @@ longer : (keys : Keys) → hosts keys 0 extended (x_is (codes ".evil") ∷ x_is 
 unfolding look_up written_u is_unreserved
 longer keys = refl
 
+-- with and without a slash
+shorter : (keys : Keys) → hosts keys 0 ended (x_is (codes "a") ∷ x_is (codes "") ∷ other_title ∷ [])
+    ≡ codes "e.orgfoo" ∷ codes "e.org" ∷ codes "e.org" ∷ codes "e.orgfoo" ∷ []
+unfolding look_up written_u is_unreserved
+shorter keys = refl
+
 started_by_request : (keys : Keys) → hosts keys 0 second_slash (x_is (codes "evil") ∷ []) ≡ [] ∷ codes "evil" ∷ []
 unfolding look_up written_u is_unreserved
 started_by_request keys = refl
@@ -85,13 +95,16 @@ filled_by_request : (keys : Keys) → map (λ (row : ℕ). host_on_row (rules_of
 unfolding look_up written_u is_unreserved
 filled_by_request keys = refl
 
--- ---- hosts that none sets
+-- a cell that begins with a slash: the host is empty, and a browser has another one after the slashes
+empty_host : (keys : Keys) → link_on_row (rules_of [] []) (table keys) by_path 1 (x_is (codes "evil")) ≡ codes "http:////evil"
+unfolding look_up written_u written_ur is_reserved is_unreserved
+empty_host keys = refl
 
--- the beginning of what the row gives alone, or all of it
-shorter : (keys : Keys) → hosts keys 0 ended (x_is (codes "a") ∷ x_is (codes "") ∷ other_title ∷ [])
-    ≡ codes "e.orgfoo" ∷ codes "e.org" ∷ codes "e.org" ∷ codes "e.orgfoo" ∷ []
-unfolding look_up written_u is_unreserved
-shorter keys = refl
+empty_host_alone : (keys : Keys) → host_of_row_alone (rules_of [] []) (table keys) by_path 1 ≡ []
+unfolding look_up written_ur is_reserved is_unreserved
+empty_host_alone keys = refl
+
+-- ---- hosts that none sets
 
 of_the_cell : (keys : Keys) → hosts keys 1 cell_ended (x_is (codes "a") ∷ other_title ∷ []) ≡ codes "waves" ∷ codes "waves" ∷ codes "waves" ∷ []
 unfolding look_up written_u is_unreserved
@@ -101,11 +114,6 @@ of_the_address : (keys : Keys) → hosts keys 1 address (x_is (codes ".evil") �
 unfolding look_up written_u written_ur is_reserved is_unreserved
 of_the_address keys = refl
 
--- an empty host, though a browser reads another one past the slashes
-empty_host : (keys : Keys) → link_on_row (rules_of [] []) (table keys) by_path 1 (x_is (codes "evil")) ≡ codes "http:////evil"
-unfolding look_up written_u written_ur is_reserved is_unreserved
-empty_host keys = refl
-
-empty_host_alone : (keys : Keys) → host_of_row_alone (rules_of [] []) (table keys) by_path 1 ≡ []
-unfolding look_up written_ur is_reserved is_unreserved
-empty_host_alone keys = refl
+of_both : (keys : Keys) → hosts keys 0 ended_twice (x_is (codes "a") ∷ x_is (codes "") ∷ []) ≡ codes "e.org" ∷ codes "e.org" ∷ codes "e.org" ∷ []
+unfolding look_up written_u is_unreserved
+of_both keys = refl

@@ -1,97 +1,47 @@
--- Whatever a request has, the host of a link without open names is a beginning of the host that the row gives alone.
-use Rattle.std.proofs.Common.{◌≡◌, ℕ, ◌<◌, ◌==◌, Bool, true, false, not, ◌&&◌, cond, List, [], ◌∷◌, ◌++◌, Option, Some, codes, filter, length, refl, sym, ap}
-use Rattle.std.proofs.Common.{◌∙◌, subst, subst₂, append_assoc, append-nil, eqb-true, arith}
-use Rattle.std.specs.List.{AllByRecursion, cons_option, list_all}
-use Rattle.std.specs.Option.{option_map_or}
-use Rattle.std.proofs.lemmas.Bool.{and_parts, both_ways}
+-- Whatever a request has, a link of which nothing is found has the host that the row gives alone.
+use Rattle.std.proofs.Common.{◌≡◌, ℕ, ◌<◌, ◌==◌, Bool, true, false, not, ◌&&◌, ◌||◌, cond, List, [], ◌∷◌, ◌++◌, Option, Some, filter, length}
+use Rattle.std.proofs.Common.{refl, sym, ap, ◌∙◌, subst, subst₂, append_assoc, append-nil, eqb-true, arith, inl, inr}
+use Rattle.std.specs.List.{AllByRecursion, cons_option, filter_map}
+use Rattle.std.proofs.lemmas.Bool.{and_parts, both_ways, or_cases}
 use Rattle.text_model.specs.Texts.{Text}
 use Rattle.text_model.specs.Writing.{written_ur}
 use Rattle.text_model.specs.declared.writing.Writing.TheVariants.{UR}
-use Rattle.environment_model.specs.Environment.{LookUp, Meaning, Single}
+use Rattle.environment_model.specs.Environment.{LookUp, Meaning}
 use Rattle.uri_grammar.specs.declared.parts.Op.{Op}
 use Rattle.uri_grammar.specs.declared.parts.Op.TheVariants as operator
 use Rattle.uri_grammar.specs.declared.parts.Spec.{Spec}
 use Rattle.uri_grammar.specs.declared.parts.Part.{Part}
 use Rattle.uri_grammar.specs.declared.parts.Part.TheVariants.{Literal, Expression}
 use Rattle.uri_grammar.specs.Promises.{IsSoundPart}
-use Rattle.uri_template.specs.Expansion.{Style, expansion, joined_by, led, part_text, piece, pieces, prefix, style_of}
-use Rattle.kbart_rows.specs.Cells.{Holdings, Row}
-use Rattle.rule_parser.specs.Names.{each_once}
+use Rattle.uri_template.specs.Expansion.{Style, expansion, led, part_text, piece, pieces, prefix, style_of}
+use Rattle.kbart_rows.specs.Cells.{Holdings, Row, cell_of}
 use Rattle.rule_parser.specs.Rules.{RuleSet}
-use Rattle.rule_lint.specs.Host.{are_rows_own, begins_with_cell, cell_has_host, ends_host, host_names, host_of, has_host_started, is_host_fixed, is_rows_own}
-use Rattle.rule_lint.specs.Host.{is_specs_own}
-use Rattle.rule_lint.specs.Host.{known_text, leads_past_host, names_before_host_ends, names_of, open_among, open_names}
-use Rattle.lint_laws.specs.RowLinks.{IsBeginning}
-use Rattle.lint_laws.proofs.CellStates.{written_reached}
-use Rattle.lint_laws.proofs.HostEnds.{host_empty, host_ended, host_longer, host_past}
-use Rattle.lint_laws.proofs.HostStates.{Inside, IsReached, Outside, Past, State, after_append, after_text, started_state, fixed_state, inside_reached, is_past}
-use Rattle.lint_laws.proofs.HostStates.{some_reached, state_of, text_reached}
-use Rattle.lint_laws.proofs.PieceLemmas.{HasByte, LedText, led_text, nothing_before}
+use Rattle.rule_lint.specs.declared.host_state.HostState.{HostState}
+use Rattle.rule_lint.specs.declared.host_state.HostState.TheVariants.{Outside, Slash, Opened, Inside, Past, Lost}
+use Rattle.rule_lint.specs.HostStates.{after_byte, after_text, after_texts, is_hostless, is_inside, is_past, state_of}
+use Rattle.rule_lint.specs.Host.{after_own, after_part, after_parts, after_whole_cells, are_rows_own, cells_of_name, ends_next, host_names}
+use Rattle.rule_lint.specs.Host.{is_ended, is_specs_own, leads_past_host, letter, may_be_hostless, names_of, open_among, open_names, open_names_after}
+use Rattle.lint_laws.proofs.CellStates.{written_state}
+use Rattle.lint_laws.proofs.HostEnds.{IsFound, host_plain}
+use Rattle.lint_laws.proofs.HostPairs.{HaveOneHost, both_ended, both_past, covered_inside, covered_past, dot_style, end_more, expression_ends}
+use Rattle.lint_laws.proofs.HostPairs.{first_is_end, no_first, none_of_both, parts_end, simple_style}
+use Rattle.lint_laws.proofs.HostStates.{IsCovered, after_append, covered_text, past_stays, plain_state}
+use Rattle.lint_laws.proofs.PieceLemmas.{AreTexts, IsPlainStyle, LedText, expression_plain, has_text, led_text}
 use Rattle.lint_laws.proofs.RowLooks.{RowLooks}
 
--- ---- two links
+module _ (rules : RuleSet) (table : Holdings) (row : ℕ) (cells : Row) (look alone : LookUp) (looks : RowLooks rules table cells look alone)
+    (in_rows : (f : Row → Option Text) (s : HostState) (cell : Text) → f cells ≡ Some cell
+    → IsCovered (after_text s cell) (after_texts s (filter_map f table.rows))) where
+  -- ---- an expression that the row decides
 
--- the host of the first is a beginning of that of the second, and not an empty one unless both are empty
-pub record IsKept (link alone : Text) : Type 0 where
-  pub begins : IsBeginning (host_of link) (host_of alone)
-  pub empty : host_of link ≡ [] → host_of alone ≡ []
+  own_texts : (specs : List Spec) → are_rows_own rules table specs ≡ true → AreTexts alone specs
+  own_texts [] e = tt
+  own_texts (spec ∷ specs) e =
+      let own = and_parts (is_specs_own rules table spec) (are_rows_own rules table specs) e in
+      let cell = looks.own spec.name own.0 in
+      ((cell.text, cell.means), own_texts specs own.1)
 
-same_host : (link alone : Text) → host_of link ≡ host_of alone → IsKept link alone
-same_host link alone e = record { begins = ([], sym e ∙ sym (append-nil (host_of link))); empty = λ f. sym e ∙ f }
-
--- both go on after a host that has ended
-both_past : (t u v : Text) → state_of t ≡ Past → IsKept (t ++ u) (t ++ v)
-both_past t u v h = same_host (t ++ u) (t ++ v) (host_past t u h ∙ sym (host_past t v h))
-
--- the first ends the host that has begun, and the second may go on
-first_ends : (t : Text) (c : ℕ) (u v : Text) → IsReached Inside (state_of t) → ends_host c ≡ true → IsKept (t ++ c ∷ u) (t ++ v)
-first_ends t c u v h e =
-    let longer = host_longer t v h in
-    record {
-      begins = (longer.0, longer.1 ∙ ap (λ (x : Text). x ++ longer.0) (sym (host_ended t c u h e)));
-      empty = λ none. host_empty t v h (sym (host_ended t c u h e) ∙ none);
-    }
-
--- what is before `/`, `?` and `#` ends the host
-first_is_end : (op : Op) → leads_past_host op ≡ true → (c : ℕ) × ((style_of op).first ≡ c ∷ []) × (ends_host c ≡ true)
-first_is_end operator.Slash e = (0x2F, refl, refl)
-first_is_end operator.Question e = (0x3F, refl, refl)
-first_is_end operator.Hash e = (0x23, refl, refl)
-first_is_end other e = absurd (both_ways false refl e)
-
--- the states of texts that have grown
-grown_reached : (before t known more : Text) → IsReached (after_text (state_of before) known) (after_text (state_of t) more)
-    → IsReached (state_of (before ++ known)) (state_of (t ++ more))
-grown_reached before t known more h = subst₂ IsReached (sym (after_append Outside before known)) (sym (after_append Outside t more)) h
-
--- `x` stands for any text that is not empty
-x_reached : (s r : State) (first more : Text) → IsReached s r → HasByte more → IsReached (after_text s (first ++ codes "x")) (after_text r (first ++ more))
-x_reached s r first [] h some = absurd some
-x_reached s r first (b ∷ more) h some =
-    subst₂ IsReached (sym (after_append s first (codes "x"))) (sym (after_append r first (b ∷ more)))
-    (some_reached (after_text s first) (after_text r first) b more (text_reached s r first h))
-
-none_of_both : (xs ys : List Text) → xs ++ ys ≡ [] → (xs ≡ []) × (ys ≡ [])
-none_of_both [] ys e = (refl, e)
-none_of_both (x ∷ xs) ys e = absurd (cc)
-
-module _ (rules : RuleSet) (table : Holdings) (cells : Row) (look alone : LookUp) (looks : RowLooks rules table cells look alone) where
-  -- ---- an expression
-
-  -- one that the row does not decide has an open name
-  open_is_some : (specs : List Spec) → are_rows_own rules table specs ≡ false → open_among rules table specs ≡ [] → ⊥
-  open_is_some [] e f = both_ways true e refl
-  open_is_some (spec ∷ specs) e f = by_spec (is_specs_own rules table spec) e f (open_is_some specs)
-    where
-      others : List Spec
-      others = filter (λ (other : Spec). not (is_specs_own rules table other)) specs
-
-      by_spec : (own : Bool) → (own && are_rows_own rules table specs) ≡ false → names_of (cond (not own) (spec ∷ others) others) ≡ []
-          → (are_rows_own rules table specs ≡ false → names_of others ≡ [] → ⊥) → ⊥
-      by_spec true e f later = later e f
-      by_spec false e f later = cc
-
-  -- one that it decides is the same for every request
+  -- it is the same for every request
   same_pieces : (style : Style) (specs : List Spec) → are_rows_own rules table specs ≡ true → pieces look style specs ≡ pieces alone style specs
   same_pieces style [] e = refl
   same_pieces style (spec ∷ specs) e =
@@ -107,137 +57,186 @@ module _ (rules : RuleSet) (table : Holdings) (cells : Row) (look alone : LookUp
       let cell = looks.own spec.name own.0 in
       led_text alone style spec specs cell.text cell.means cell.some
 
-  -- ---- a part between what comes before it and the parts after it
+  module _ (specs : List Spec) (some : 0 < length specs) (own : are_rows_own rules table specs ≡ true) where
+    -- values without reserved characters
+    plain_expression : (s : HostState) (op : Op) → IsPlainStyle (style_of op)
+        → after_text s (part_text alone (Expression op specs)) ≡ after_byte s letter
+    plain_expression s op plain =
+        let text = own_text (style_of op) specs some own in
+        plain_state s (part_text alone (Expression op specs)) (has_text (style_of op) (part_text alone (Expression op specs)) text)
+        (expression_plain (style_of op) plain alone specs (own_texts specs own))
 
-  module _ (before t : Text) (h : IsReached (state_of before) (state_of t)) (u v : Text) where
-    -- what the parts after it keep, where the part is known as the first text and gives the second
-    abbrev Kept : Text → Text → Type 0
-    Kept known more = IsReached (state_of (before ++ known)) (state_of (t ++ more)) → IsKept ((t ++ more) ++ u) ((t ++ more) ++ v)
-
-    same_more : (known more : Text) → IsReached (after_text (state_of before) known) (after_text (state_of t) more) → Kept known more
-        → IsKept (t ++ (more ++ u)) (t ++ (more ++ v))
-    same_more known more reached kept =
-        subst₂ IsKept (append_assoc t more u) (append_assoc t more v) (kept (grown_reached before t known more reached))
-
-    -- the row decides it
-    own_kept : (op : Op) (specs : List Spec) → 0 < length specs → are_rows_own rules table specs ≡ true
-        → ((more : Text) → Kept (known_text rules table (Expression op specs)) more)
-        → IsKept (t ++ (part_text look (Expression op specs) ++ u)) (t ++ (part_text alone (Expression op specs) ++ v))
-    own_kept op specs some own later =
-        let style = style_of op in
-        let text = own_text style specs some own in
-        let known : known_text rules table (Expression op specs) ≡ style.first ++ codes "x" = ap (λ (b : Bool). cond b (style.first ++ codes "x") []) own in
-        let more = style.first ++ text.more in
-        let reached : IsReached (after_text (state_of before) (known_text rules table (Expression op specs))) (after_text (state_of t) more) =
-        subst (λ (k : Text). IsReached (after_text (state_of before) k) (after_text (state_of t) more)) (sym known)
-        (x_reached (state_of before) (state_of t) style.first text.more h text.some) in
-        let same : part_text look (Expression op specs) ≡ more = ap (led style) (same_pieces style specs own) ∙ text.is in
-        subst₂ (λ (x y : Text). IsKept (t ++ (x ++ u)) (t ++ (y ++ v))) (sym same) (sym text.is)
-        (same_more (known_text rules table (Expression op specs)) more reached (later more))
-
-    -- the row does not decide it, and it gives nothing or ends the host that has begun
-    open_kept : (op : Op) (specs : List Spec) → leads_past_host op ≡ true → has_host_started before ≡ true
-        → (after : List Text) → pieces look (style_of op) specs ≡ after → Kept [] []
-        → IsKept (t ++ (part_text look (Expression op specs) ++ u)) (t ++ (part_text alone (Expression op specs) ++ v))
-    open_kept op specs ends started [] e later =
-        let style = style_of op in
-        let nothing = nothing_before look alone style specs looks.more e in
-        subst₂ (λ (x y : Text). IsKept (t ++ (x ++ u)) (t ++ (y ++ v))) (sym (ap (led style) e)) (sym (ap (led style) nothing))
-        (same_more [] [] h later)
-    open_kept op specs ends started (p ∷ ps) e later =
-        let style = style_of op in
+    -- a character that ends the host
+    past_expression : (op : Op) → leads_past_host op ≡ true → after_text Inside (part_text alone (Expression op specs)) ≡ Past
+    past_expression op ends =
+        let text = own_text (style_of op) specs some own in
         let first = first_is_end op ends in
-        let inside = inside_reached (state_of before) (state_of t) (started_state before started) h in
-        let gives : part_text look (Expression op specs) ≡ first.0 ∷ joined_by style.sep (p ∷ ps) =
-        ap (led style) e ∙ ap (λ (x : Text). x ++ joined_by style.sep (p ∷ ps)) first.1 in
-        subst (λ (x : Text). IsKept (t ++ (x ++ u)) (t ++ (part_text alone (Expression op specs) ++ v))) (sym gives)
-        (first_ends t first.0 (joined_by style.sep (p ∷ ps) ++ u) (part_text alone (Expression op specs) ++ v) inside first.2)
+        ap (after_text Inside) (text.is ∙ ap (λ (x : Text). x ++ text.more) first.1)
+        ∙ (ap (λ (x : Bool). after_text (cond x Past (cond (first.0 == 0x40) Lost Inside)) text.more) first.2 ∙ past_stays text.more)
 
-    -- a part without open names
-    part_kept : (part : Part) → IsSoundPart part → open_names rules table before part ≡ [] → ((more : Text) → Kept (known_text rules table part) more)
-        → IsKept (t ++ (part_text look part ++ u)) (t ++ (part_text alone part ++ v))
-    part_kept (Literal text) sound none later = same_more text text (text_reached (state_of before) (state_of t) text h) (later text)
-    part_kept (Expression op specs) sound none later = by_own (are_rows_own rules table specs) refl
-      where
-        past_open : (past : Bool) → (leads_past_host op && has_host_started before) ≡ past → cond past [] (open_among rules table specs) ≡ []
-            → are_rows_own rules table specs ≡ false → (leads_past_host op && has_host_started before) ≡ true
-        past_open true e none f = e
-        past_open false e none f = absurd (open_is_some specs f none)
+  -- the whole cell
+  cell_expression : (s : HostState) (spec : Spec) → are_rows_own rules table (spec ∷ []) ≡ true → spec.cut ≡ 0
+      → IsCovered (after_text s (part_text alone (Expression operator.Plus (spec ∷ [])))) (after_texts s (cells_of_name table spec.name))
+  cell_expression s spec e uncut =
+      let style = style_of operator.Plus in
+      let cell = looks.own spec.name (and_parts (is_specs_own rules table spec) true e).0 in
+      let text : part_text alone (Expression operator.Plus (spec ∷ [])) ≡ written_ur cell.text =
+      ap (λ (m : Option Meaning). led style (cons_option (piece style spec m) [])) cell.means
+      ∙ (ap (λ (n : ℕ). written_ur (prefix UR n cell.text) ++ []) uncut ∙ append-nil (written_ur cell.text)) in
+      subst (λ (r : HostState). IsCovered r (after_texts s (cells_of_name table spec.name)))
+      (sym (ap (after_text s) text ∙ written_state s cell.text))
+      (in_rows (λ (other : Row). cell_of table.header other spec.name) s cell.text cell.cell)
 
-        by_own : (own : Bool) → are_rows_own rules table specs ≡ own
-            → IsKept (t ++ (part_text look (Expression op specs) ++ u)) (t ++ (part_text alone (Expression op specs) ++ v))
-        by_own true own = own_kept op specs sound.0 own later
-        by_own false own =
-            let past = and_parts (leads_past_host op) (has_host_started before) (past_open (leads_past_host op && has_host_started before) refl none own) in
-            let unknown : known_text rules table (Expression op specs) ≡ [] = ap (λ (b : Bool). cond b ((style_of op).first ++ codes "x") []) own in
-            open_kept op specs past.0 past.1 (pieces look (style_of op) specs) refl (subst (λ (k : Text). Kept k []) unknown (later []))
+  whole_cells : (s : HostState) (specs : List Spec) → are_rows_own rules table specs ≡ true
+      → IsCovered (after_text s (part_text alone (Expression operator.Plus specs))) (after_whole_cells table s specs)
+  whole_cells s [] own = inr (inr refl)
+  whole_cells s (spec ∷ []) own = by_cut (spec.cut == 0) refl
+    where
+      by_cut : (uncut : Bool) → (spec.cut == 0) ≡ uncut
+          → IsCovered (after_text s (part_text alone (Expression operator.Plus (spec ∷ []))))
+          (cond uncut (after_texts s (cells_of_name table spec.name)) Lost)
+      by_cut true e = cell_expression s spec own (eqb-true spec.cut 0 e)
+      by_cut false e = inr (inr refl)
+  whole_cells s (spec ∷ other ∷ specs) own = inr (inr refl)
+
+  -- its state is covered by what is known of it
+  own_state : (s : HostState) (op : Op) (specs : List Spec) → 0 < length specs → are_rows_own rules table specs ≡ true
+      → IsCovered (after_text s (part_text alone (Expression op specs))) (after_own table s op specs)
+  own_state Past op specs some own = inl (past_stays (part_text alone (Expression op specs)))
+  own_state Lost op specs some own = inr (inr refl)
+  own_state Outside operator.Simple specs some own = inr (inl (plain_expression specs some own Outside operator.Simple simple_style))
+  own_state Slash operator.Simple specs some own = inr (inl (plain_expression specs some own Slash operator.Simple simple_style))
+  own_state Opened operator.Simple specs some own = inr (inl (plain_expression specs some own Opened operator.Simple simple_style))
+  own_state Inside operator.Simple specs some own = inr (inl (plain_expression specs some own Inside operator.Simple simple_style))
+  own_state Outside operator.Dot specs some own = inr (inl (plain_expression specs some own Outside operator.Dot dot_style))
+  own_state Slash operator.Dot specs some own = inr (inl (plain_expression specs some own Slash operator.Dot dot_style))
+  own_state Opened operator.Dot specs some own = inr (inl (plain_expression specs some own Opened operator.Dot dot_style))
+  own_state Inside operator.Dot specs some own = inr (inl (plain_expression specs some own Inside operator.Dot dot_style))
+  own_state Outside operator.Plus specs some own = whole_cells Outside specs own
+  own_state Slash operator.Plus specs some own = whole_cells Slash specs own
+  own_state Opened operator.Plus specs some own = whole_cells Opened specs own
+  own_state Inside operator.Plus specs some own = whole_cells Inside specs own
+  own_state Inside operator.Slash specs some own = inl (past_expression specs some own operator.Slash refl)
+  own_state Inside operator.Question specs some own = inl (past_expression specs some own operator.Question refl)
+  own_state Inside operator.Hash specs some own = inl (past_expression specs some own operator.Hash refl)
+  own_state s op specs some own = inr (inr refl)
+
+  own_covered : (c a : HostState) (op : Op) (specs : List Spec) → IsCovered c a → 0 < length specs → are_rows_own rules table specs ≡ true
+      → IsCovered (after_text c (part_text alone (Expression op specs))) (after_own table a op specs)
+  own_covered c a op specs h some own = elim h [
+    | inl past ↦ inl (ap (λ (s : HostState). after_text s (part_text alone (Expression op specs))) past ∙ past_stays (part_text alone (Expression op specs)))
+    | inr other ↦ elim other [
+      | inl e ↦ subst (λ (s : HostState). IsCovered (after_text c (part_text alone (Expression op specs))) (after_own table s op specs)) e
+          (own_state c op specs some own)
+      | inr lost ↦ inr (inr (ap (λ (s : HostState). after_own table s op specs) lost))
+    ]
+  ]
+
+  -- ---- an expression that it does not decide
+
+  -- it has an open name
+  open_is_some : (specs : List Spec) → are_rows_own rules table specs ≡ false → open_among rules table specs ≡ [] → ⊥
+  open_is_some [] e f = both_ways true e refl
+  open_is_some (spec ∷ specs) e f = by_spec (is_specs_own rules table spec) e f (open_is_some specs)
+    where
+      others : List Spec
+      others = filter (λ (other : Spec). not (is_specs_own rules table other)) specs
+
+      by_spec : (own : Bool) → (own && are_rows_own rules table specs) ≡ false → names_of (cond (not own) (spec ∷ others) others) ≡ []
+          → (are_rows_own rules table specs ≡ false → names_of others ≡ [] → ⊥) → ⊥
+      by_spec true e f later = later e f
+      by_spec false e f later = cc
 
   -- ---- all parts
 
-  -- the parts after a text, which is the same for every request, and which has come at least as far as what is known of it
-  walk : (before t : Text) (parts : List Part) → AllByRecursion IsSoundPart parts → IsReached (state_of before) (state_of t)
-      → names_before_host_ends rules table before parts ≡ [] → IsKept (t ++ expansion look parts) (t ++ expansion alone parts)
-  walk before t [] sound h e = same_host (t ++ []) (t ++ []) refl
-  walk before t (part ∷ parts) sound h e =
-      by_fixed (is_host_fixed before) refl e (λ more k. walk (before ++ known_text rules table part) (t ++ more) parts sound.1 k)
+  -- where the host is found or there is none
+  end_of_parts : (c a : HostState) (t : Text) → state_of t ≡ c → IsCovered c a → is_hostless a ≡ false → HaveOneHost (t ++ []) (t ++ [])
+  end_of_parts c a t is h found =
+      subst (λ (x : Text). HaveOneHost x x) (sym (append-nil t)) (elim h [
+        | inl past ↦ plainly (subst IsFound (sym (is ∙ past)) tt)
+        | inr other ↦ elim other [
+          | inl e ↦ by_state a (is ∙ e) found
+          | inr lost ↦ absurd (both_ways (is_hostless a) found (ap is_hostless lost))
+        ]
+      ])
     where
-      rest : List Text
-      rest = names_before_host_ends rules table (before ++ known_text rules table part) parts
+      plainly : IsFound (state_of t) → HaveOneHost t t
+      plainly f = inl (refl, host_plain t f)
 
-      by_fixed : (fixed : Bool) → is_host_fixed before ≡ fixed → cond fixed [] (open_names rules table before part ++ rest) ≡ []
-          → ((more : Text) → IsReached (state_of (before ++ known_text rules table part)) (state_of (t ++ more)) → rest ≡ []
-          → IsKept ((t ++ more) ++ expansion look parts) ((t ++ more) ++ expansion alone parts))
-          → IsKept (t ++ (part_text look part ++ expansion look parts)) (t ++ (part_text alone part ++ expansion alone parts))
-      by_fixed true f e later =
-          let past = is_past (state_of t) (subst (λ (s : State). IsReached s (state_of t)) (fixed_state before f) h) in
-          both_past t (part_text look part ++ expansion look parts) (part_text alone part ++ expansion alone parts) past
-      by_fixed false f e later =
-          let none = none_of_both (open_names rules table before part) rest e in
-          part_kept before t h (expansion look parts) (expansion alone parts) part sound.0 none.0 (λ more k. later more k none.1)
+      by_state : (s : HostState) → state_of t ≡ s → is_hostless s ≡ false → HaveOneHost t t
+      by_state Outside e f = inr (inl e)
+      by_state Slash e f = inr (inr e)
+      by_state Opened e f = absurd (both_ways true f refl)
+      by_state Inside e f = plainly (subst IsFound (sym e) tt)
+      by_state Past e f = plainly (subst IsFound (sym e) tt)
+      by_state Lost e f = absurd (both_ways true f refl)
 
-  -- ---- a template that begins with a cell
+  -- the parts after a text that is the same for every request
+  walk : (a : HostState) (t : Text) (parts : List Part) → AllByRecursion IsSoundPart parts → IsCovered (state_of t) a
+      → open_names_after rules table a parts ≡ [] → is_hostless (after_parts rules table a parts) ≡ false
+      → HaveOneHost (t ++ expansion look parts) (t ++ expansion alone parts)
+  walk a t [] sound h none found = end_of_parts (state_of t) a t refl h found
+  walk a t (Literal text ∷ parts) sound h none found =
+      subst₂ HaveOneHost (append_assoc t text (expansion look parts)) (append_assoc t text (expansion alone parts))
+      (walk (after_text a text) (t ++ text) parts sound.1
+      (subst (λ (s : HostState). IsCovered s (after_text a text)) (sym (after_append Outside t text)) (covered_text (state_of t) a text h)) none found)
+  walk a t (Expression op specs ∷ parts) sound h none found =
+      by_own (are_rows_own rules table specs) refl
+      (λ next more k n f. walk next (t ++ more) parts sound.1 k n f)
+    where
+      part : Part
+      part = Expression op specs
 
-  -- the cell has the whole host, and it is written for every request
-  cell_kept : (spec : Spec) (parts : List Part) → begins_with_cell rules table (Expression operator.Plus (spec ∷ []) ∷ parts) ≡ true
-      → ((name : Text) → list_all (cell_has_host table name) table.rows ≡ true → cell_has_host table name cells ≡ true)
-      → IsKept (expansion look (Expression operator.Plus (spec ∷ []) ∷ parts)) (expansion alone (Expression operator.Plus (spec ∷ []) ∷ parts))
-  cell_kept spec parts e at =
-      let style = style_of operator.Plus in
-      let outer = and_parts (spec.cut == 0) (is_rows_own rules table spec.name && list_all (cell_has_host table spec.name) table.rows) e in
-      let inner = and_parts (is_rows_own rules table spec.name) (list_all (cell_has_host table spec.name) table.rows) outer.1 in
-      let cell = looks.own spec.name inner.0 in
-      let fixed : is_host_fixed cell.text ≡ true =
-      ap (λ (o : Option Text). option_map_or is_host_fixed o false) (sym cell.cell) ∙ at spec.name inner.1 in
-      let text = written_ur cell.text ++ [] in
-      let given : (m : Option Meaning) → m ≡ Some (Single cell.text) → led style (cons_option (piece style spec m) []) ≡ text =
-      λ m is. ap (λ (o : Option Meaning). led style (cons_option (piece style spec o) [])) is
-      ∙ ap (λ (n : ℕ). written_ur (prefix UR n cell.text) ++ []) (eqb-true spec.cut 0 outer.0) in
-      let past : state_of text ≡ Past =
-      after_append Outside (written_ur cell.text) []
-      ∙ is_past (state_of (written_ur cell.text)) (subst (λ (s : State). IsReached s (state_of (written_ur cell.text))) (fixed_state cell.text fixed)
-      (written_reached Outside Outside cell.text tt)) in
-      subst₂ (λ (x y : Text). IsKept (x ++ expansion look parts) (y ++ expansion alone parts))
-      (sym (given (look spec.name) (looks.same spec.name inner.0 ∙ cell.means))) (sym (given (alone spec.name) cell.means))
-      (both_past text (expansion look parts) (expansion alone parts) past)
+      Later : Type 0
+      Later = (next : HostState) (more : Text) → IsCovered (state_of (t ++ more)) next → open_names_after rules table next parts ≡ []
+          → is_hostless (after_parts rules table next parts) ≡ false → HaveOneHost ((t ++ more) ++ expansion look parts) ((t ++ more) ++ expansion alone parts)
 
-  started_kept : (parts : List Part) → begins_with_cell rules table parts ≡ true
-      → ((name : Text) → list_all (cell_has_host table name) table.rows ≡ true → cell_has_host table name cells ≡ true)
-      → IsKept (expansion look parts) (expansion alone parts)
-  started_kept (Expression operator.Plus (spec ∷ []) ∷ parts) e at = cell_kept spec parts e at
-  started_kept other e at = absurd (both_ways false refl e)
+      -- the state that is found
+      state_is : (next : HostState) → after_part rules table a part parts ≡ next
+          → (open_names_after rules table next parts ≡ []) × (is_hostless (after_parts rules table next parts) ≡ false)
+      state_is next e = (
+        ap (λ (s : HostState). open_names_after rules table s parts) (sym e)
+            ∙ (none_of_both (open_names rules table a part parts) (open_names_after rules table (after_part rules table a part parts) parts) none).1,
+        ap (λ (s : HostState). is_hostless (after_parts rules table s parts)) (sym e) ∙ found,
+      )
+
+      ended_here : (is_past a || is_ended a op parts) ≡ true → HaveOneHost (t ++ (part_text look part ++ expansion look parts))
+          (t ++ (part_text alone part ++ expansion alone parts))
+      ended_here e = elim (or_cases (is_past a) (is_ended a op parts) e) [
+        | inl past ↦ both_past t _ _ (covered_past (state_of t) a past h)
+        | inr ended ↦
+            let inside = and_parts (is_inside a) (leads_past_host op && ends_next parts) ended in
+            let next = and_parts (leads_past_host op) (ends_next parts) inside.1 in
+            both_ended t _ _ (covered_inside (state_of t) a inside.0 h)
+            (end_more (part_text look part) (expansion look parts) (expression_ends op (pieces look (style_of op) specs) next.0)
+            (parts_end look parts next.1))
+            (end_more (part_text alone part) (expansion alone parts) (expression_ends op (pieces alone (style_of op) specs) next.0)
+            (parts_end alone parts next.1))
+      ]
+
+      by_own : (own : Bool) → are_rows_own rules table specs ≡ own → Later
+          → HaveOneHost (t ++ (part_text look part ++ expansion look parts)) (t ++ (part_text alone part ++ expansion alone parts))
+      by_own true own later =
+          let next = after_own table a op specs in
+          let more = part_text alone part in
+          let same : part_text look part ≡ more = ap (led (style_of op)) (same_pieces (style_of op) specs own) in
+          let rest = state_is next (ap (λ (b : Bool). cond b next (cond (is_ended a op parts) Past a)) own) in
+          subst (λ (x : Text). HaveOneHost (t ++ (x ++ expansion look parts)) (t ++ (more ++ expansion alone parts))) (sym same)
+          (subst₂ HaveOneHost (append_assoc t more (expansion look parts)) (append_assoc t more (expansion alone parts))
+          (later next more
+          (subst (λ (s : HostState). IsCovered s next) (sym (after_append Outside t more)) (own_covered (state_of t) a op specs h sound.0.0 own))
+          rest.0 rest.1))
+      by_own false own later = by_end (is_past a || is_ended a op parts) refl
+          (none_of_both (open_names rules table a part parts) (open_names_after rules table (after_part rules table a part parts) parts) none).0
+        where
+          by_end : (ends : Bool) → (is_past a || is_ended a op parts) ≡ ends → cond ends [] (open_among rules table specs) ≡ []
+              → HaveOneHost (t ++ (part_text look part ++ expansion look parts)) (t ++ (part_text alone part ++ expansion alone parts))
+          by_end true e n = ended_here e
+          by_end false e n = absurd (open_is_some specs own n)
 
   -- ---- a template
 
-  pub template_kept : (parts : List Part) → AllByRecursion IsSoundPart parts → host_names rules table parts ≡ []
-      → ((name : Text) → list_all (cell_has_host table name) table.rows ≡ true → cell_has_host table name cells ≡ true)
-      → IsKept (expansion look parts) (expansion alone parts)
-  template_kept parts sound e at = by_beginning (begins_with_cell rules table parts) refl e
-    where
-      no_first : (names : List Text) → each_once names ≡ [] → names ≡ []
-      no_first [] e = refl
-      no_first (name ∷ names) e = absurd (cc)
-
-      by_beginning : (b : Bool) → begins_with_cell rules table parts ≡ b → cond b [] (each_once (names_before_host_ends rules table [] parts)) ≡ []
-          → IsKept (expansion look parts) (expansion alone parts)
-      by_beginning true f e = started_kept parts f at
-      by_beginning false f e = walk [] [] parts sound tt (no_first (names_before_host_ends rules table [] parts) e)
+  pub template_hosts : (parts : List Part) → AllByRecursion IsSoundPart parts → host_names rules table parts ≡ []
+      → may_be_hostless rules table parts ≡ false → HaveOneHost (expansion look parts) (expansion alone parts)
+  template_hosts parts sound none found =
+      walk Outside [] parts sound (inr (inl refl)) (no_first (open_names_after rules table Outside parts) none) found

@@ -5,7 +5,9 @@ pub mod HostEnds
 pub mod CellStates
 pub mod PieceLemmas
 pub mod RowLooks
+pub mod HostPairs
 pub mod HostWalk
 pub mod RowHosts
 pub mod PrintedHosts
 mod HostExamples
+pub mod BrowserHosts

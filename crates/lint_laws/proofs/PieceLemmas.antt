@@ -1,6 +1,6 @@
 -- What an expression gives for variables that are defined, and for those that are not.
-use Rattle.std.proofs.Common.{◌≡◌, ℕ, zero, suc, Bool, true, false, cond, List, [], ◌∷◌, ◌++◌, take, drop, Option, Some, None, refl, sym, ap, ◌∙◌, ◌⊎◌, inl}
-use Rattle.std.proofs.Common.{inr, subst}
+use Rattle.std.proofs.Common.{◌≡◌, ℕ, zero, suc, Bool, true, false, cond, List, [], ◌∷◌, ◌++◌, take, drop, Option, Some, sym, ap}
+use Rattle.std.proofs.Common.{subst}
 use Rattle.std.specs.List.{cons_option, flat_map, prefix_len}
 use Rattle.text_model.specs.Texts.{Text, is_unreserved, is_triplet}
 use Rattle.text_model.specs.Writing.{written, written_byte, written_u, written_ur, is_unreserved_or_reserved}
@@ -11,12 +11,10 @@ use Rattle.text_model.proofs.Cuts.{code_points-next}
 use Rattle.environment_model.specs.Environment.{LookUp, Meaning, Single}
 use Rattle.uri_grammar.specs.declared.parts.Spec.{Spec}
 use Rattle.uri_template.specs.Expansion.{Style, equated, item, led, piece, pieces, prefix, joined_by}
+use Rattle.lint_laws.proofs.HostStates.{HasByte, IsPlain, plain_append}
+use Rattle.lint_laws.proofs.CellStates.{written_plain}
 
 -- ---- texts that are not empty
-
-abbrev pub HasByte : Text → Type 0
-HasByte [] = ⊥
-HasByte (b ∷ t) = Unit {0}
 
 has_front : (t u : Text) → HasByte t → HasByte (t ++ u)
 has_front [] u h = absurd h
@@ -107,24 +105,50 @@ led_text look style spec specs t e h =
       is = ap (λ (m : Option Meaning). led style (cons_option (piece style spec m) rest)) e;
     }
 
--- ---- two look-ups
+-- it is not empty
+pub has_text : (style : Style) (text : Text) → LedText style text → HasByte text
+has_text style text led = subst HasByte (sym led.is) (has_back style.first led.more led.some)
 
--- each name that the second defines means the same in the first
-abbrev pub Extends : LookUp → LookUp → Type 0
-Extends look by = (name : Text) → (by name ≡ None) ⊎ (look name ≡ by name)
+-- ---- values without reserved characters
 
--- an expression that gives nothing in the first gives nothing in the second
-pub nothing_before : (look by : LookUp) (style : Style) (specs : List Spec) → Extends look by → pieces look style specs ≡ [] → pieces by style specs ≡ []
-nothing_before look by style [] h e = refl
-nothing_before look by style (spec ∷ specs) h e = at_first (piece style spec (look spec.name)) refl e (nothing_before look by style specs h)
-  where
-    no_piece : piece style spec (look spec.name) ≡ None → piece style spec (by spec.name) ≡ None
-    no_piece none = elim (h spec.name) [
-      | inl undefined ↦ ap (piece style spec) undefined
-      | inr same ↦ ap (piece style spec) (sym same) ∙ none
-    ]
+-- a look-up that defines the names of all specs as texts
+abbrev pub AreTexts : LookUp → List Spec → Type 0
+AreTexts look [] = Unit {0}
+AreTexts look (spec ∷ specs) = ((t : Text) × (look spec.name ≡ Some (Single t))) × AreTexts look specs
 
-    at_first : (first : Option Text) → piece style spec (look spec.name) ≡ first → cons_option first (pieces look style specs) ≡ []
-        → (pieces look style specs ≡ [] → pieces by style specs ≡ []) → pieces by style (spec ∷ specs) ≡ []
-    at_first None none e later = ap (λ (p : Option Text). cons_option p (pieces by style specs)) (no_piece none) ∙ later e
-    at_first (Some p) some e later = absurd (cc)
+abbrev ArePlain : List Text → Type 0
+ArePlain [] = Unit {0}
+ArePlain (t ∷ texts) = IsPlain t × ArePlain texts
+
+-- what an operator writes that neither names values nor copies reserved characters
+pub record IsPlainStyle (style : Style) : Type 0 where
+  pub unnamed : style.named ≡ false
+  pub writing : style.writing ≡ U
+  pub first : IsPlain style.first
+  pub sep : IsPlain style.sep
+
+module _ (style : Style) (plain : IsPlainStyle style) where
+  item_plain : (name t : Text) → IsPlain (item style name t)
+  item_plain name t =
+      subst IsPlain (sym (ap (λ (named : Bool). cond named (name ++ equated style t) (written style.writing t)) plain.unnamed))
+      (subst (λ (w : Writing). IsPlain (written w t)) (sym plain.writing) (written_plain t))
+
+  pieces_plain : (look : LookUp) (specs : List Spec) → AreTexts look specs → ArePlain (pieces look style specs)
+  pieces_plain look [] h = tt
+  pieces_plain look (spec ∷ specs) h =
+      subst (λ (m : Option Meaning). ArePlain (cons_option (piece style spec m) (pieces look style specs))) (sym h.0.1)
+      (item_plain spec.name (prefix style.writing spec.cut h.0.0), pieces_plain look specs h.1)
+
+  joined_plain : (texts : List Text) → ArePlain texts → IsPlain (flat_map (λ next. style.sep ++ next) texts)
+  joined_plain [] h = tt
+  joined_plain (t ∷ texts) h =
+      plain_append (style.sep ++ t) (flat_map (λ next. style.sep ++ next) texts) (plain_append style.sep t plain.sep h.0) (joined_plain texts h.1)
+
+  led_plain : (texts : List Text) → ArePlain texts → IsPlain (led style texts)
+  led_plain [] h = tt
+  led_plain (t ∷ texts) h =
+      plain_append style.first (joined_by style.sep (t ∷ texts)) plain.first
+      (plain_append t (flat_map (λ next. style.sep ++ next) texts) h.0 (joined_plain texts h.1))
+
+  pub expression_plain : (look : LookUp) (specs : List Spec) → AreTexts look specs → IsPlain (led style (pieces look style specs))
+  expression_plain look specs h = led_plain (pieces look style specs) (pieces_plain look specs h)

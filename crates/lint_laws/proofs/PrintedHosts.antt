@@ -1,11 +1,15 @@
 -- The rule that is taken on a row has a link of which `lint` prints what it finds.
-use Rattle.std.proofs.Common.{◌≡◌, ℕ, ◌+◌, Bool, true, false, cond, ◌||◌, List, [], ◌∷◌, ◌++◌, length, take, Some, refl, sym, ap, ◌∙◌, subst, arith}
+use Rattle.std.proofs.Common.{◌≡◌, ℕ, ◌+◌, Bool, true, false, cond, ◌||◌, List, [], ◌∷◌, ◌++◌, length, take, Option, Some, None, refl, sym, ap, ◌∙◌}
+use Rattle.std.proofs.Common.{subst, arith}
 use Rattle.std.specs.List.{AllByRecursion, enumerate_from, find, flat_map, list_any}
+use Rattle.std.specs.Option.{option_map}
 use Rattle.std.proofs.lemmas.Bool.{both_ways, false_from_ne_true, or_parts}
 use Rattle.std.proofs.lemmas.List.Folds.{list_any-append}
 use Rattle.std.proofs.lemmas.List.Elements.{recursion_from_All}
 use Rattle.std.proofs.Math.Seq.{take-append_seam}
+use Rattle.text_model.specs.Texts.{Text}
 use Rattle.environment_model.specs.Environment.{LookUp}
+use Rattle.uri_template.specs.Expansion.{expansion}
 use Rattle.kbart_rows.specs.Cells.{Holdings}
 use Rattle.rule_parser.specs.declared.rule.Rule.{Rule}
 use Rattle.rule_parser.specs.Rules.{IsSound, IsSoundRule, RuleSet}
@@ -13,7 +17,7 @@ use Rattle.rule_parser.specs.Meaning.{guards_hold}
 use Rattle.rule_lint.specs.declared.place.Place.TheVariants as place
 use Rattle.rule_lint.specs.Reach.{always_holds, is_never_reached}
 use Rattle.rule_lint.specs.Findings.{NeverReached, in_guards, in_link, in_rule}
-use Rattle.lint_laws.specs.RowLinks.{has_open_host, has_open_hosts, is_open_host}
+use Rattle.lint_laws.specs.RowLinks.{has_open_host, has_open_hosts, is_of_host}
 use Rattle.lint_laws.proofs.ReachLemmas.{unguarded}
 
 -- ---- an item that is found
@@ -84,12 +88,27 @@ closed_link rules table look rule e first =
     let guards = in_guards rules table (k + 1) rule.guards in
     let link = in_link rules table (place.Link (k + 1)) rule.template.parts in
     let is : at ≡ guards ++ link = ap (λ (b : Bool). cond b (NeverReached (k + 1) ∷ []) (guards ++ link)) free in
-    let none : list_any is_open_host at ≡ false = none_at is_open_host (in_rule rules table) 0 first.before rule first.after
-    (ap (λ (xs : List Rule). list_any is_open_host (flat_map (in_rule rules table) (enumerate_from 0 xs))) (sym first.order) ∙ e) in
-    (or_parts (list_any is_open_host guards) (list_any is_open_host link)
-    (sym (list_any-append is_open_host guards link) ∙ ap (list_any is_open_host) (sym is) ∙ none)).1
+    let none : list_any is_of_host at ≡ false = none_at is_of_host (in_rule rules table) 0 first.before rule first.after
+    (ap (λ (xs : List Rule). list_any is_of_host (flat_map (in_rule rules table) (enumerate_from 0 xs))) (sym first.order) ∙ e) in
+    (or_parts (list_any is_of_host guards) (list_any is_of_host link)
+    (sym (list_any-append is_of_host guards link) ∙ ap (list_any is_of_host) (sym is) ∙ none)).1
 
 pub sound_rule : (rules : RuleSet) (look : LookUp) (rule : Rule) → IsSound rules → IsFirst (guards_hold look) rules.rules rule → IsSoundRule rules.lists rule
 sound_rule rules look rule sound first =
     at_seam (IsSoundRule rules.lists) first.before rule first.after
     (subst (AllByRecursion (IsSoundRule rules.lists)) first.order (recursion_from_All (IsSoundRule rules.lists) rules.rules sound.rules))
+
+-- the rule whose template gives what the rules mean
+pub record IsTaken (rules : RuleSet) (look : LookUp) (link : Text) : Type 0 where
+  pub rule : Rule
+  pub found : find (guards_hold look) rules.rules ≡ Some rule
+  pub gives : expansion look rule.template.parts ≡ link
+
+pub taken_rule : (rules : RuleSet) (look : LookUp) (link : Text)
+    → option_map (λ (rule : Rule). expansion look rule.template.parts) (find (guards_hold look) rules.rules) ≡ Some link → IsTaken rules look link
+taken_rule rules look link means = by_rule (find (guards_hold look) rules.rules) refl means
+  where
+    by_rule : (o : Option Rule) → find (guards_hold look) rules.rules ≡ o
+        → option_map (λ (rule : Rule). expansion look rule.template.parts) o ≡ Some link → IsTaken rules look link
+    by_rule None e f = absurd (cc)
+    by_rule (Some rule) e f = record { rule = rule; found = e; gives = cc }

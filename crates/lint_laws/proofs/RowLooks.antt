@@ -16,7 +16,7 @@ use Rattle.rule_parser.specs.Meaning.{seen}
 use Rattle.rule_lint.specs.Names.{is_column}
 use Rattle.rule_lint.specs.Host.{has_cell, is_rows_own}
 use Rattle.lint_laws.specs.RowLinks.{environment_of_cells}
-use Rattle.lint_laws.proofs.PieceLemmas.{Extends, HasByte}
+use Rattle.lint_laws.proofs.HostStates.{HasByte}
 
 -- ---- what lower crates say
 
@@ -41,7 +41,6 @@ pub record MeansCell (table : Holdings) (cells : Row) (look : LookUp) (name : Te
 pub record RowLooks (rules : RuleSet) (table : Holdings) (cells : Row) (look alone : LookUp) : Type 0 where
   pub own : (name : Text) → is_rows_own rules table name ≡ true → MeansCell table cells alone name
   pub same : (name : Text) → is_rows_own rules table name ≡ true → look name ≡ alone name
-  pub more : Extends look alone
 
 -- a cell that is defined is not empty
 cell_has_byte : (cells : Row) (column : Option ℕ) (text : Text) → cell_in cells column ≡ Some text → HasByte text
@@ -85,7 +84,7 @@ module _ (laws : RowLaws) (rules : RuleSet) (table : Holdings) (cells : Row) whe
       → look pairs name ≡ (if is_list rules.lists name then only_list m else only_text m)
   in_view pairs name m e = ap (λ (o : Option Meaning). if is_list rules.lists name then only_list o else only_text o) e
 
-  extends : (pairs : List KeyValue) → Extends (look pairs) (look [])
+  extends : (pairs : List KeyValue) (name : Text) → (look [] name ≡ None) ⊎ (look pairs name ≡ look [] name)
   extends pairs name = by_row (is_there entries name) refl
     where
       none_either_way : (b : Bool) → (if b then only_list None else only_text None) ≡ None
@@ -133,5 +132,4 @@ row_looks laws rules table row pairs within =
     record {
       own = λ name e. own_cell laws rules table cells name row within refl e;
       same = λ name e. same_as_alone laws rules table cells pairs name (own_cell laws rules table cells name row within refl e);
-      more = extends laws rules table cells pairs;
     }

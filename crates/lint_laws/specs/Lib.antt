@@ -1,1 +1,2 @@
+pub mod Browsers
 pub mod RowLinks

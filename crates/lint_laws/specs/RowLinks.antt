@@ -1,5 +1,5 @@
 -- The link that a rule gives on a row of the table, and what a request can do to its host.
-use Rattle.std.specs.Prelude.{◌≡◌, ℕ, Bool, true, false, List, [], ◌++◌, Option, get_or}
+use Rattle.std.specs.Prelude.{◌≡◌, ◌≢◌, ℕ, Bool, true, false, List, [], Option, Some, get_or}
 use Rattle.std.specs.List.{find, list_any}
 use Rattle.text_model.specs.Texts.{Text}
 use Rattle.environment_model.specs.Environment.{Environment}
@@ -14,7 +14,8 @@ use Rattle.rule_parser.specs.Rules.{RuleSet}
 use Rattle.rule_parser.specs.Meaning.{guards_hold, seen}
 use Rattle.rule_lint.specs.declared.place.Place.{Place}
 use Rattle.rule_lint.specs.Host.{host_of}
-use Rattle.rule_lint.specs.Findings.{Finding, HostByRequest, findings, in_link}
+use Rattle.rule_lint.specs.Findings.{Finding, HostByRequest, Hostless, findings, in_link}
+use Rattle.lint_laws.specs.Browsers.{browsers_host, is_at_sign}
 
 -- ---- links
 
@@ -43,21 +44,35 @@ rule_on_row rules table row pairs =
 
 -- ---- what is found of a link's host
 
--- the finding says that a request can set the host
-abbrev pub is_open_host : Finding → Bool
-is_open_host (HostByRequest at name) = true
-is_open_host other = false
+-- the finding says that a request can set the host, or that a row may give none
+abbrev pub is_of_host : Finding → Bool
+is_of_host (HostByRequest at name) = true
+is_of_host (Hostless at) = true
+is_of_host other = false
 
 -- a finding in a link says so
 abbrev pub has_open_host : RuleSet → Holdings → Place → List Part → Bool
-has_open_host rules table at parts = list_any is_open_host (in_link rules table at parts)
+has_open_host rules table at parts = list_any is_of_host (in_link rules table at parts)
 
 -- a finding in the rules says so
 abbrev pub has_open_hosts : RuleSet → Holdings → Bool
-has_open_hosts rules table = list_any is_open_host (findings rules table)
+has_open_hosts rules table = list_any is_of_host (findings rules table)
 
--- ---- beginnings
+-- ---- what a host should be
 
--- the second text begins with the first
-abbrev pub IsBeginning : Text → Text → Type 0
-IsBeginning front whole = (rest : Text) × (whole ≡ front ++ rest)
+-- the text between `//` and the next `/`, `?` or `#` is not empty, and has no `@`
+pub record IsPlainHost (host : Text) : Type 0 where
+  pub some : host ≢ []
+  pub no_user : list_any is_at_sign host ≡ false
+
+-- the row alone decides the host of a template's link, it is plain, and a browser has the same host, whose triplets it then decodes
+pub record IsHostOfRow (rules : RuleSet) (table : Holdings) (parts : List Part) (row : ℕ) (link : Text) : Type 0 where
+  pub same : host_of link ≡ host_of_row_alone rules table parts row
+  pub plain : IsPlainHost (host_of link)
+  pub browser : browsers_host link ≡ host_of link
+
+-- the rule that is taken on the row gives the link, and the row alone decides the link's host, which is plain
+pub record HasHostOfRow (rules : RuleSet) (table : Holdings) (row : ℕ) (pairs : List KeyValue) (link : Text) : Type 0 where
+  pub rule : Rule
+  pub taken : rule_on_row rules table row pairs ≡ Some rule
+  pub host : IsHostOfRow rules table rule.template.parts row link

@@ -11,4 +11,6 @@ pub mod RequestSteps
 pub mod NormalNumbers
 pub mod CleanTables
 pub mod SmallRegistries
+pub mod ClosedHosts
 mod RegistryExamples
+mod HostExamples

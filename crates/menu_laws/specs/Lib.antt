@@ -4,3 +4,4 @@ pub mod Keys
 pub mod Updates
 pub mod Work
 pub mod OneKey
+pub mod Hosts

@@ -1,7 +1,9 @@
 //! Laws of menus that a library can rely on: what one target, one key of a request and one update of a table can
-//! change, and how much work a request is. Each law is the contract of a function with an empty body.
+//! change, which host a link can have, and how much work a request is. Each law is the contract of a function with an
+//! empty body.
 #![tactic(auto)]
 
+mod hosts;
 mod requests;
 mod tables;
 mod targets;
@@ -9,6 +11,7 @@ mod text;
 mod updates;
 mod work;
 
+pub use hosts::no_open_redirect;
 pub use requests::{code_reads_its_names_alone, readers_keys_stay_out};
 pub use tables::clean_tables_have_no_dead_row;
 pub use targets::{targets_are_independent, targets_have_their_shares};

@@ -4,3 +4,4 @@ pub mod ListSteps
 pub mod AddsLemmas
 pub mod NameSteps
 pub mod HostSteps
+pub mod ColumnSteps

@@ -16,7 +16,9 @@ use Rattle.rule_parser.specs.declared.rule.Rule.{Rule}
 use Rattle.rule_lint.specs.Names.{resembles, is_name, is_known}
 use Rattle.rule_lint.specs.Reach.{is_never_reached, never_holds}
 use Rattle.rule_lint.specs.WebLink.{is_never_web_link}
-use Rattle.rule_lint.specs.Host.{host_of, host_names, has_host_started, is_host_fixed}
+use Rattle.rule_lint.specs.declared.host_state.HostState.TheVariants.{Outside, Slash, Opened, Inside, Past, Lost}
+use Rattle.rule_lint.specs.HostStates.{state_of}
+use Rattle.rule_lint.specs.Host.{host_of, host_names, may_be_hostless}
 use Rattle.rule_lint.specs.Findings.{has_warning, lint_text}
 use Rattle.rule_lint.proofs.Examples.{variable, rule_of, rules_of, table_of}
 
@@ -44,11 +46,11 @@ names_of_templates : map is_name (
     ≡ true ∷ true ∷ true ∷ false ∷ false ∷ false ∷ false ∷ false ∷ false ∷ true ∷ []
 names_of_templates = refl
 
--- lists, private names, columns and keys
+-- lists, columns and keys
 known : (keys : Keys) → map (is_known (rules_of (codes "by" ∷ []) []) (table_of keys (codes "Title_URL" ∷ []) [])) (
-    codes "by" ∷ codes "rft.au" ∷ codes "rft_id" ∷ codes "x.note" ∷ codes "Title_URL" ∷ codes "rft.eisbn"
-    ∷ codes "title_url" ∷ codes "xnote" ∷ codes "rft.isssn" ∷ [])
-    ≡ true ∷ true ∷ true ∷ true ∷ true ∷ true ∷ false ∷ false ∷ false ∷ []
+    codes "by" ∷ codes "rft.au" ∷ codes "rft_id" ∷ codes "x.doi" ∷ codes "x.to" ∷ codes "Title_URL" ∷ codes "rft.eisbn"
+    ∷ codes "title_url" ∷ codes "x.note" ∷ codes "rft.isssn" ∷ [])
+    ≡ true ∷ true ∷ true ∷ true ∷ true ∷ true ∷ true ∷ false ∷ false ∷ false ∷ []
 known keys = refl
 
 -- ---- reach
@@ -95,13 +97,10 @@ hosts : map host_of (codes "http://e.org/a" ∷ codes "https://e.org" ∷ codes 
     ≡ codes "e.org" ∷ codes "e.org" ∷ [] ∷ codes "e.org" ∷ [] ∷ codes "e" ∷ []
 hosts = refl
 
-started : map has_host_started (codes "http://e" ∷ codes "http://" ∷ codes "http:/e" ∷ codes "http:///e" ∷ codes "http://?e" ∷ [])
-    ≡ true ∷ false ∷ false ∷ false ∷ false ∷ []
-started = refl
-
-fixed : map is_host_fixed (codes "http://e/" ∷ codes "http://e?" ∷ codes "http://e#" ∷ codes "http://e" ∷ codes "http:/e/" ∷ codes "http:///e/" ∷ [])
-    ≡ true ∷ true ∷ true ∷ false ∷ false ∷ false ∷ []
-fixed = refl
+states : map state_of (codes "http://e" ∷ codes "http://" ∷ codes "http:/e" ∷ codes "http:///e" ∷ codes "http://?e" ∷ codes "http://e/" ∷ codes "http://e?"
+    ∷ codes "http://e#" ∷ codes "http:/" ∷ codes "http://a@e/" ∷ codes "http://e/@" ∷ codes "http://@" ∷ [])
+    ≡ Inside ∷ Opened ∷ Outside ∷ Lost ∷ Lost ∷ Past ∷ Past ∷ Past ∷ Slash ∷ Lost ∷ Past ∷ Lost ∷ []
+states = refl
 
 -- a table in which one row has no title_id
 abbrev holdings : Keys → Holdings
@@ -123,6 +122,16 @@ open_hosts : (keys : Keys) → map (named keys) (
     ≡ (codes "rft.issn" ∷ []) ∷ (codes "title_id" ∷ []) ∷ (codes "x" ∷ []) ∷ (codes "x" ∷ []) ∷ (codes "rft.au" ∷ []) ∷ (codes "x" ∷ []) ∷ []
 open_hosts keys = refl
 
+-- a slash that is written only if x is defined
+optional_slashes : (keys : Keys) → map (named keys) (
+    (Literal (codes "https://e.org") ∷ variable operator.Slash (codes "x") ∷ Literal (codes "foo") ∷ [])
+    ∷ (Literal (codes "https://e.org") ∷ variable operator.Slash (codes "x") ∷ variable operator.Dot (codes "y") ∷ [])
+    ∷ (Literal (codes "https://e.org") ∷ variable operator.Slash (codes "x") ∷ Literal (codes "/foo") ∷ x ∷ [])
+    ∷ (Literal (codes "https://e.org") ∷ variable operator.Slash (codes "x") ∷ variable operator.Question (codes "y") ∷ [])
+    ∷ [])
+    ≡ (codes "x" ∷ []) ∷ (codes "x" ∷ codes "y" ∷ []) ∷ [] ∷ [] ∷ []
+optional_slashes keys = refl
+
 -- a column of every row, a slash, a question mark or a number sign after the host, and an address in every row
 closed_hosts : (keys : Keys) → map (named keys) (
     (Literal (codes "https://") ∷ variable operator.Simple (codes "publisher_name") ∷ Literal (codes ".e.org/") ∷ x ∷ [])
@@ -134,3 +143,40 @@ closed_hosts : (keys : Keys) → map (named keys) (
     ∷ [])
     ≡ [] ∷ [] ∷ [] ∷ [] ∷ [] ∷ [] ∷ []
 closed_hosts keys = refl
+
+-- ---- the whole cell, as it is in each row
+
+abbrev two_hosts : Keys → Text → Text → Holdings
+two_hosts keys first second = table_of keys (codes "host" ∷ []) ((first ∷ []) ∷ (second ∷ []) ∷ [])
+
+-- the host is the first row's cell or the second's, and the rest comes from the request
+abbrev by_host : List Part
+by_host = Literal (codes "https://") ∷ variable operator.Plus (codes "host") ∷ Literal (codes "/") ∷ x ∷ []
+
+abbrev by_hosts : Keys → Text → Text → List Text
+by_hosts keys first second = host_names (rules_of [] []) (two_hosts keys first second) by_host
+
+-- a cell may end the host, or leave that to the template; a cell of `/` alone has none, and what is before an `@` is no host
+cells_with_hosts : (keys : Keys) → by_hosts keys (codes "e.org") (codes "f.org/a") ∷ by_hosts keys (codes "e.org") (codes "/")
+    ∷ by_hosts keys (codes "me@e.org") (codes "f.org") ∷ by_hosts keys (codes "e.org/@") (codes "f.org?@") ∷ by_hosts keys (codes "#") (codes "f.org") ∷ []
+    ≡ [] ∷ (codes "x" ∷ []) ∷ (codes "x" ∷ []) ∷ [] ∷ (codes "x" ∷ []) ∷ []
+cells_with_hosts keys = refl
+
+-- no name follows, but a browser has another host than the template, or none
+without_a_host : (keys : Keys) → map (λ parts. may_be_hostless (rules_of [] []) (two_hosts keys (codes "e.org") (codes "/")) parts) (
+    (Literal (codes "https://") ∷ variable operator.Plus (codes "host") ∷ Literal (codes "/a/") ∷ [])
+    ∷ (Literal (codes "https://") ∷ [])
+    ∷ (Literal (codes "https:///e.org") ∷ [])
+    ∷ (Literal (codes "https://me@e.org/") ∷ [])
+    ∷ (Literal (codes "https://e.org") ∷ [])
+    ∷ (Literal (codes "https://e.org/@") ∷ [])
+    ∷ [])
+    ≡ true ∷ true ∷ true ∷ true ∷ false ∷ false ∷ []
+without_a_host keys = refl
+
+-- what is printed of the first
+hostless_line : (keys : Keys) → lint_text
+    (rules_of [] (rule_of [] (Literal (codes "https://") ∷ variable operator.Plus (codes "host") ∷ Literal (codes "/a/") ∷ []) ∷ []))
+    (two_hosts keys (codes "e.org") (codes "/")) ≡ codes "rules 1\nrule 1, link: a row may give no host, or one with @\n"
+unfolding digits
+hostless_line keys = refl

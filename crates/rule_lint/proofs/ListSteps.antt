@@ -1,14 +1,11 @@
 -- Lists with one more element, and searches in lists.
-use Rattle.std.proofs.Common.{◌≡◌, ℕ, zero, suc, ◌+◌, ◌<◌, ◌≤◌, Bool, true, false, ◌||◌, ◌&&◌, cond, List, [], ◌∷◌, ◌++◌, length, take, drop, get_or, map, Bor}
+use Rattle.std.proofs.Common.{◌≡◌, ℕ, zero, suc, ◌+◌, ◌<◌, ◌≤◌, Bool, true, false, ◌||◌, ◌&&◌, cond, List, [], ◌∷◌, ◌++◌, length, take, get_or, Bor}
 use Rattle.std.proofs.Common.{Option, Some, None, refl, sym, ap, ◌∙◌, arith}
-use Rattle.std.proofs.Common.{add-one, drop-cons, zero-add}
-use Rattle.std.specs.List.{flat_map, list_any, list_all, find, filter, slice_get, enumerate_from}
+use Rattle.std.proofs.Common.{zero-add}
+use Rattle.std.specs.List.{flat_map, list_any, list_all, find, enumerate_from}
 use Rattle.std.proofs.lemmas.Grind.{flat_map-append}
-use Rattle.std.proofs.lemmas.Bool.{false≢true, and_parts}
 use Rattle.std.proofs.lemmas.List.FromFn.{length-enumerate_from, get_or-enumerate_from}
-use Rattle.std.proofs.lemmas.List.{take_all, append-nil, take_more, map-append, take-append-drop}
-use Rattle.std.proofs.lemmas.List.Elements.{filter-append}
-use Rattle.std.proofs.lemmas.Option.{get_or_from_slice_get, slice_get_within}
+use Rattle.std.proofs.lemmas.List.{take_all, append-nil, take_more, map-append}
 use Rattle.std.proofs.lemmas.List.Folds.{list_all-append, find-append}
 use Rattle.text_model.specs.Texts.{Text, texts_of}
 use Rattle.environment_model.specs.Environment.{is_among}
@@ -39,15 +36,6 @@ all_fails p (x ∷ xs) (suc i) d h e = ap (λ b. p x && b) (all_fails p xs i d (
     and_false true = refl
     and_false false = refl
 
--- a list at one of its places
-pub split_at_place : (xs : List Text) (i : ℕ) (x : Text) → slice_get xs i ≡ Some x → xs ≡ take i xs ++ x ∷ drop (i + 1) xs
-split_at_place xs i x at =
-    sym (take-append-drop i xs)
-    ∙ ap (λ l. take i xs ++ l) (at_drop xs i (slice_get_within xs i x at) ∙ ap (λ y. y ∷ drop (i + 1) xs) (get_or_from_slice_get xs i x x at))
-  where
-    at_drop : (xs : List Text) (i : ℕ) → i < length xs → drop i xs ≡ get_or xs i x ∷ drop (i + 1) xs
-    at_drop xs i h = rw (add-one, drop-cons xs i x)
-
 -- one text among borrowed ones
 pub any_lent : (x : Text) (items : List (Bor Text)) → list_any (λ (y : Bor Text). bytes_eq y.now x) items ≡ is_among x (texts_of items)
 any_lent x [] = refl
@@ -66,32 +54,6 @@ find_here p (y ∷ items) zero d h none at = ap (λ b. cond b (Some y.now) (find
 find_here p (y ∷ items) (suc i) d h none at =
     let s = skip (p y.now) y.now (find p (texts_of (take i items))) none in
     ap (λ b. cond b (Some y.now) (find p (texts_of items))) s.0 ∙ find_here p items i d (omega arith) s.1 at
-
--- the same for texts that pass two tests, at the place of one
-pub find_here_of_two : (p q : Text → Bool) (xs : List Text) (i : ℕ) (x : Text) → slice_get xs i ≡ Some x
-    → find p (filter q (take i xs)) ≡ None → (q x && p x) ≡ true → find p (filter q xs) ≡ Some x
-find_here_of_two p q xs i x at none both =
-    let parts = and_parts (q x) (p x) both in
-    let split : take i xs ++ x ∷ drop (i + 1) xs ≡ xs = sym (split_at_place xs i x at) in
-    ap (λ l. find p (filter q l)) (sym split)
-    ∙ (ap (find p) (filter-append q (take i xs) (x ∷ drop (i + 1) xs))
-    ∙ (find-append p (filter q (take i xs)) (filter q (x ∷ drop (i + 1) xs))
-    ∙ (ap (λ o. option_or o (find p (filter q (x ∷ drop (i + 1) xs)))) none
-    ∙ (ap (λ b. find p (cond b (x ∷ filter q (drop (i + 1) xs)) (filter q (drop (i + 1) xs)))) parts.0
-    ∙ ap (λ b. cond b (Some x) (find p (filter q (drop (i + 1) xs)))) parts.1))))
-
-pub find_later_of_two : (p q : Text → Bool) (xs : List Text) (i : ℕ) (x : Text) → slice_get xs i ≡ Some x
-    → find p (filter q (take i xs)) ≡ None → (q x && p x) ≡ false → find p (filter q (take (i + 1) xs)) ≡ None
-find_later_of_two p q xs i x at none neither =
-    ap (λ l. find p (filter q l)) (take_more xs i x (slice_get_within xs i x at) ∙ ap (λ y. take i xs ++ y ∷ []) (get_or_from_slice_get xs i x x at))
-    ∙ (ap (find p) (filter-append q (take i xs) (x ∷ []))
-    ∙ (find-append p (filter q (take i xs)) (filter q (x ∷ []))
-    ∙ (ap (λ o. option_or o (find p (filter q (x ∷ [])))) none ∙ only (q x) (p x) refl refl)))
-  where
-    only : (a b : Bool) → q x ≡ a → p x ≡ b → find p (cond (q x) (x ∷ []) []) ≡ None
-    only false b e f = ap (λ c. find p (cond c (x ∷ []) [])) e
-    only true false e f = ap (λ c. find p (cond c (x ∷ []) [])) e ∙ ap (λ c. cond c (Some x) None) f
-    only true true e f = absurd (false≢true (sym neither ∙ (ap (λ c. c && p x) e ∙ f)))
 
 -- the first of three lists
 pub find_of_three : (p : Text → Bool) (xs ys zs : List Text) → find p (xs ++ (ys ++ zs)) ≡ option_or (find p xs) (option_or (find p ys) (find p zs))

@@ -16,7 +16,7 @@ use Rattle.rule_lint.specs.declared.place.Place.TheVariants as place
 use Rattle.rule_lint.specs.Names.{is_known, is_standard_column, resembled}
 use Rattle.rule_lint.specs.Reach.{is_never_reached, never_holds}
 use Rattle.rule_lint.specs.WebLink.{is_never_web_link}
-use Rattle.rule_lint.specs.Host.{names_of, host_names}
+use Rattle.rule_lint.specs.Host.{names_of, host_names, may_be_hostless}
 
 -- one variant for each kind of line; rules are counted from 1
 pub data Finding : Type 0 where
@@ -27,6 +27,7 @@ pub data Finding : Type 0 where
   MisspeltName : (where_it_is : Place) (name other : Text) → Finding
   NeverHolds : (where_it_is : Place) → Finding
   HostByRequest : (where_it_is : Place) (name : Text) → Finding
+  Hostless : (where_it_is : Place) → Finding
   NeverWebLink : (where_it_is : Place) → Finding
 
 -- ---- the findings for a name, a guard, a link and a rule
@@ -58,9 +59,15 @@ names_in_part (Expression op specs) = names_of specs
 abbrev pub names_in : List Part → List Text
 names_in parts = each_once (flat_map names_in_part parts)
 
+-- the names by which a request can set the host; if there are none, whether the host may be empty or have an `@`
+abbrev pub in_open_host : Place → List Text → Bool → List Finding
+in_open_host at [] hostless = found_if hostless (Hostless at)
+in_open_host at (name ∷ names) hostless = map (HostByRequest at) (name ∷ names)
+
 abbrev pub in_host : RuleSet → Holdings → Place → List Part → List Finding
 in_host rules table at parts =
-    if is_never_web_link parts then NeverWebLink at ∷ [] else map (HostByRequest at) (host_names rules table parts)
+    if is_never_web_link parts then NeverWebLink at ∷ []
+    else in_open_host at (host_names rules table parts) (may_be_hostless rules table parts)
 
 abbrev pub in_link : RuleSet → Holdings → Place → List Part → List Finding
 in_link rules table at parts = in_names rules table at (names_in parts) ++ in_host rules table at parts
@@ -100,6 +107,7 @@ finding_text (MisspeltName at name other) =
     place_text at ++ (codes ": unknown name " ++ (name ++ (codes ", did you mean " ++ (other ++ codes "\n"))))
 finding_text (NeverHolds at) = place_text at ++ codes ": never holds\n"
 finding_text (HostByRequest at name) = place_text at ++ (codes ": a request can set the host by " ++ (name ++ codes "\n"))
+finding_text (Hostless at) = place_text at ++ codes ": a row may give no host, or one with @\n"
 finding_text (NeverWebLink at) = place_text at ++ codes ": never a web link\n"
 
 abbrev pub findings_text : List Finding → Text

@@ -1,8 +1,8 @@
 -- The host of a link (RFC 3986, section 3.2), and the names by which a request can set it.
-use Rattle.std.specs.Prelude.{ℕ, ◌==◌, ◌&&◌, not, nat_eq, Bool, true, false, List, [], ◌∷◌, ◌++◌, codes, filter, map, Option, Some, None, is_some}
+use Rattle.std.specs.Prelude.{ℕ, ◌==◌, ◌&&◌, ◌||◌, not, Bool, true, false, List, [], ◌∷◌, ◌++◌, filter, map, Option, Some, None, is_some}
 use Rattle.std.specs.Prelude.{if◌then◌else◌}
-use Rattle.std.specs.List.{list_any, list_all, before_first}
-use Rattle.std.specs.Option.{option_map_or}
+use Rattle.std.specs.List.{list_all, before_first, filter_map}
+use Rattle.std.specs.Option.{unwrap_or}
 use Rattle.text_model.specs.Texts.{Text}
 use Rattle.environment_model.specs.Lists.{is_list}
 use Rattle.uri_grammar.specs.declared.parts.Op.{Op}
@@ -10,20 +10,15 @@ use Rattle.uri_grammar.specs.declared.parts.Op.TheVariants as operator
 use Rattle.uri_grammar.specs.declared.parts.Spec.{Spec}
 use Rattle.uri_grammar.specs.declared.parts.Part.{Part}
 use Rattle.uri_grammar.specs.declared.parts.Part.TheVariants.{Literal, Expression}
-use Rattle.uri_template.specs.Expansion.{style_of}
 use Rattle.kbart_rows.specs.Cells.{Row, Holdings, cell_of}
 use Rattle.rule_parser.specs.Names.{each_once}
 use Rattle.rule_parser.specs.Rules.{RuleSet}
+use Rattle.rule_lint.specs.declared.host_state.HostState.{HostState}
+use Rattle.rule_lint.specs.declared.host_state.HostState.TheVariants.{Outside, Inside, Past, Lost}
+use Rattle.rule_lint.specs.HostStates.{slash, ends_host, is_past, is_inside, is_hostless, after_byte, after_text, after_texts}
 use Rattle.rule_lint.specs.Names.{is_column}
 
 -- ---- the host of a text
-
-abbrev pub slash : ℕ
-slash = 0x2F
-
--- `/`, `?` and `#` end the host
-abbrev pub ends_host : ℕ → Bool
-ends_host b = list_any (nat_eq b) (codes "/?#")
 
 -- what follows the first `//`
 abbrev pub after_slashes : Text → Option Text
@@ -38,26 +33,6 @@ host_after (Some t) = before_first ends_host t
 
 abbrev pub host_of : Text → Text
 host_of link = host_after (after_slashes link)
-
--- the slashes are followed by a byte that does not end the host
-abbrev pub begins_with_host : Option Text → Bool
-begins_with_host None = false
-begins_with_host (Some []) = false
-begins_with_host (Some (b ∷ t)) = not (ends_host b)
-
--- the host begins after the slashes, and a later byte ends it
-abbrev pub has_whole_host : Option Text → Bool
-has_whole_host None = false
-has_whole_host (Some []) = false
-has_whole_host (Some (b ∷ t)) = not (ends_host b) && list_any ends_host t
-
--- the host begins in the text
-abbrev pub has_host_started : Text → Bool
-has_host_started text = begins_with_host (after_slashes text)
-
--- the host begins and ends in the text
-abbrev pub is_host_fixed : Text → Bool
-is_host_fixed text = has_whole_host (after_slashes text)
 
 -- ---- what a row decides
 
@@ -87,18 +62,11 @@ are_rows_own rules table specs = list_all (is_specs_own rules table) specs
 abbrev pub open_among : RuleSet → Holdings → List Spec → List Text
 open_among rules table specs = names_of (filter (λ spec. not (is_specs_own rules table spec)) specs)
 
--- ---- a template that begins with a cell
+-- the cells of a name that are defined, row by row
+abbrev pub cells_of_name : Holdings → Text → List Text
+cells_of_name table name = filter_map (λ cells. cell_of table.header cells name) table.rows
 
-abbrev pub cell_has_host : Holdings → Text → Row → Bool
-cell_has_host table name cells = option_map_or is_host_fixed (cell_of table.header cells name) false
-
--- the first part is `{+NAME}` without a prefix, for a name that the row decides, and each of the name's cells contains the whole host
-abbrev pub begins_with_cell : RuleSet → Holdings → List Part → Bool
-begins_with_cell rules table (Expression operator.Plus (spec ∷ []) ∷ parts) =
-    spec.cut == 0 && (is_rows_own rules table spec.name && list_all (cell_has_host table spec.name) table.rows)
-begins_with_cell rules table parts = false
-
--- ---- the names of the host
+-- ---- parts of a template
 
 -- the operator writes `/`, `?` or `#` before the values, which ends the host
 abbrev pub leads_past_host : Op → Bool
@@ -107,27 +75,86 @@ leads_past_host operator.Question = true
 leads_past_host operator.Hash = true
 leads_past_host other = false
 
--- the text of a part that is known whatever the request: a literal, or what comes before a value of the row, and one byte for the value
-abbrev pub known_text : RuleSet → Holdings → Part → Text
-known_text rules table (Literal text) = text
-known_text rules table (Expression op specs) =
-    if are_rows_own rules table specs then (style_of op).first ++ codes "x" else []
+-- whether `/`, `?` or `#` comes first; none if the text is empty
+abbrev pub begins_with_end : Text → Option Bool
+begins_with_end [] = None
+begins_with_end (b ∷ text) = Some (ends_host b)
 
--- the names of a part that the row does not decide, unless this text has begun the host and the part comes after it
-abbrev pub open_names : RuleSet → Holdings → Text → Part → List Text
-open_names rules table before (Literal text) = []
-open_names rules table before (Expression op specs) =
-    if leads_past_host op && has_host_started before then []
-    else open_among rules table specs
+-- whether `/`, `?` or `#` comes first in what a part writes; none if it writes nothing or begins with one of these
+abbrev pub decides_end : Part → Option Bool
+decides_end (Literal text) = begins_with_end text
+decides_end (Expression op specs) = if leads_past_host op then None else Some false
 
--- the names of the parts after this text, up to the part that ends the host
-abbrev pub names_before_host_ends : RuleSet → Holdings → Text → List Part → List Text
-names_before_host_ends rules table before [] = []
-names_before_host_ends rules table before (part ∷ parts) =
-    if is_host_fixed before then []
-    else (open_names rules table before part ++ names_before_host_ends rules table (before ++ known_text rules table part) parts)
+-- whatever is defined, the parts write nothing, or `/`, `?` or `#` comes first
+abbrev pub ends_next : List Part → Bool
+ends_next [] = true
+ends_next (part ∷ parts) = unwrap_or (decides_end part) (ends_next parts)
+
+-- the host has begun, and it ends before the expression, which comes before these parts, whatever is defined
+abbrev pub is_ended : HostState → Op → List Part → Bool
+is_ended state op parts = is_inside state && (leads_past_host op && ends_next parts)
+
+-- any byte that begins no host, and ends none
+abbrev pub letter : ℕ
+letter = 0x78
+
+-- neither past the host nor lost
+abbrev pub is_early : HostState → Bool
+is_early Past = false
+is_early Lost = false
+is_early other = true
+
+-- the state after the whole cell of a single name without a prefix, as it is in each row
+abbrev pub after_whole_cells : Holdings → HostState → List Spec → HostState
+after_whole_cells table state (spec ∷ []) =
+    if spec.cut == 0 then after_texts state (cells_of_name table spec.name) else Lost
+after_whole_cells table state specs = Lost
+
+-- the state after an expression that the row decides: after one letter in place of values without reserved characters; after the whole cell in each row; or
+-- after the operator's first character, if that ends the host. Of other values nothing is known
+abbrev pub after_own : Holdings → HostState → Op → List Spec → HostState
+after_own table Past op specs = Past
+after_own table Lost op specs = Lost
+after_own table state operator.Simple specs = after_byte state letter
+after_own table state operator.Dot specs = after_byte state letter
+after_own table state operator.Plus specs = after_whole_cells table state specs
+after_own table Inside operator.Slash specs = Past
+after_own table Inside operator.Question specs = Past
+after_own table Inside operator.Hash specs = Past
+after_own table state op specs = Lost
+
+-- a value that the row does not decide changes nothing
+abbrev pub after_expression : RuleSet → Holdings → HostState → Op → List Spec → List Part → HostState
+after_expression rules table state op specs parts =
+    if are_rows_own rules table specs then after_own table state op specs
+    else (if is_ended state op parts then Past else state)
+
+-- the state after a part that comes before these parts
+abbrev pub after_part : RuleSet → Holdings → HostState → Part → List Part → HostState
+after_part rules table state (Literal text) parts = after_text state text
+after_part rules table state (Expression op specs) parts = after_expression rules table state op specs parts
+
+abbrev pub after_parts : RuleSet → Holdings → HostState → List Part → HostState
+after_parts rules table state [] = state
+after_parts rules table state (part ∷ parts) = after_parts rules table (after_part rules table state part parts) parts
+
+-- ---- what is found of the host
+
+-- the names of a part that the row does not decide, unless the host has ended before the part
+abbrev pub open_names : RuleSet → Holdings → HostState → Part → List Part → List Text
+open_names rules table state (Literal text) parts = []
+open_names rules table state (Expression op specs) parts =
+    if is_past state || is_ended state op parts then [] else open_among rules table specs
+
+abbrev pub open_names_after : RuleSet → Holdings → HostState → List Part → List Text
+open_names_after rules table state [] = []
+open_names_after rules table state (part ∷ parts) =
+    open_names rules table state part parts ++ open_names_after rules table (after_part rules table state part parts) parts
 
 -- the names by which a request can set the host, in order, each once
 abbrev pub host_names : RuleSet → Holdings → List Part → List Text
-host_names rules table parts =
-    if begins_with_cell rules table parts then [] else each_once (names_before_host_ends rules table [] parts)
+host_names rules table parts = each_once (open_names_after rules table Outside parts)
+
+-- in some row the host may be empty, or have an `@`
+abbrev pub may_be_hostless : RuleSet → Holdings → List Part → Bool
+may_be_hostless rules table parts = is_hostless (after_parts rules table Outside parts)

@@ -1,7 +1,7 @@
 -- Which names are defined for a target, and which of these another name resembles.
-use Rattle.std.specs.Prelude.{◌==◌, ◌&&◌, ◌||◌, not, nat_eq, nat_le, length, Bool, true, false, List, [], ◌∷◌, ◌++◌, codes, filter, Option, is_some}
+use Rattle.std.specs.Prelude.{◌==◌, ◌&&◌, ◌||◌, not, nat_le, length, Bool, true, false, List, [], ◌∷◌, ◌++◌, codes, filter, Option, is_some}
 use Rattle.std.specs.Prelude.{if◌then◌else◌}
-use Rattle.std.specs.List.{starts_with, find}
+use Rattle.std.specs.List.{find}
 use Rattle.std.specs.Str.{bytes_eq, str_eq_ignore_ascii_case}
 use Rattle.text_model.specs.Texts.{Text, is_hexadecimal, percent}
 use Rattle.environment_model.specs.Environment.{is_among}
@@ -21,14 +21,10 @@ use Rattle.rule_parser.specs.Rules.{RuleSet}
 abbrev pub is_column : Holdings → Text → Bool
 is_column table name = is_some (column_of table.header name)
 
--- a private name, which a source of requests may add, begins with `x.`
-abbrev pub is_private : Text → Bool
-is_private name = starts_with nat_eq name (codes "x.")
-
--- a list of the rules, a private name, a column of the table, or a key of a request
+-- a list of the rules, a column of the table, or a key of a request
 abbrev pub is_known : RuleSet → Holdings → Text → Bool
 is_known rules table name =
-    is_list rules.lists name || (is_private name || (is_column table name || is_among name request_keys))
+    is_list rules.lists name || (is_column table name || is_among name request_keys)
 
 -- one of the columns that KBART defines (NISO RP-9-2014)
 abbrev pub is_standard_column : Text → Bool

@@ -2,13 +2,14 @@
 
 ghost use Rattle.std.specs.Prelude.{◌≡◌, ◌<◌, ◌+◌, length, OnOk, map};
 ghost use Rattle.text_model.specs.Texts.{texts_of};
-ghost use Rattle.rule_lint.specs.Findings.{in_name, in_names, in_guard, in_guards, in_link, in_host, in_rule, in_rules};
-ghost use Rattle.rule_lint.specs.Findings.{HostByRequest, NeverHolds, found_if};
+ghost use Rattle.rule_lint.specs.Findings.{in_name, in_names, in_guard, in_guards, in_link, in_host, in_open_host};
+ghost use Rattle.rule_lint.specs.Findings.{in_rule, in_rules};
+ghost use Rattle.rule_lint.specs.Findings.{HostByRequest, Hostless, NeverHolds, found_if};
 ghost use Rattle.rule_lint.specs.Reach.{never_holds as is_never_held};
 ghost use Rattle.rule_lint.specs.Private.Adds.{Adds};
 
 use crate::lines::{
-    push_host_by_request, push_misspelt_name, push_never_holds, push_never_reached,
+    push_host_by_request, push_hostless, push_misspelt_name, push_never_holds, push_never_reached,
     push_never_web_link, push_no_column, push_unknown_name,
 };
 use crate::names::is_standard_column;
@@ -110,6 +111,30 @@ fn push_host_names(out: &mut Findings, at: Place, names: &[&str]) -> Result<(), 
     Ok(())
 }
 
+fn push_if_hostless(out: &mut Findings, at: Place, hostless: bool) -> Result<(), AllocError>
+    ensures { OnOk result (Adds out.old out.new (found_if hostless (Hostless at))) }
+{
+    if !hostless {
+        return Ok(());
+    }
+    out.warned = true;
+    push_hostless(&mut out.text, at)
+}
+
+fn push_open_host(
+    out: &mut Findings,
+    at: Place,
+    names: &[&str],
+    hostless: bool,
+) -> Result<(), AllocError>
+    ensures { OnOk result (Adds out.old out.new (in_open_host at (texts_of names.now) hostless)) }
+{
+    if names.is_empty() {
+        return push_if_hostless(out, at, hostless);
+    }
+    push_host_names(out, at, names)
+}
+
 fn check_host(
     alloc: Global,
     out: &mut Findings,
@@ -123,8 +148,8 @@ fn check_host(
     if is_never_web_link(alloc, parts)? {
         return push_never_web_link(&mut out.text, at);
     }
-    let names = target.host_names(alloc, parts)?;
-    push_host_names(out, at, &names)
+    let host = target.host(alloc, parts)?;
+    push_open_host(out, at, &host.names, host.may_be_missing)
 }
 
 fn check_link(

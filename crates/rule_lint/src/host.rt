@@ -1,100 +1,89 @@
 //! The names by which a request can set the host of a link.
 
-ghost use Rattle.std.specs.Prelude.{◌≡◌, ◌++◌, ◌∷◌, List, [], IfOk, OnOk, get_or, string_bytes};
-ghost use Rattle.std.specs.List.{list_all};
+ghost use Rattle.std.specs.Prelude.{◌≡◌, ◌++◌, ◌∷◌, List, [], IfOk, OnOk, true};
 ghost use Rattle.text_model.specs.Texts.{Text, texts_of};
 ghost use Rattle.rule_parser.specs.Names.{each_once};
-ghost use Rattle.rule_lint.specs.Host.{cell_has_host as is_whole, begins_with_cell as begins_with_one_cell};
-ghost use Rattle.rule_lint.specs.Host.{leads_past_host as leads_past, known_text, open_names, open_among};
-ghost use Rattle.rule_lint.specs.Host.{are_rows_own as all_rows_own, host_names as names_of_host};
+ghost use Rattle.rule_lint.specs.Host as hosts;
+ghost use Rattle.rule_lint.specs.HostStates.{after_texts};
 
-use crate::host_text::{has_host_started, is_host_fixed};
+use crate::host_state::{
+    HostState, after_byte, after_text, ends_host, is_hostless, is_inside, is_past,
+};
 use crate::target::Target;
 use crate::template_names::add_name;
-use kbart_rows::Table;
 use std::alloc::{AllocError, Global};
 use uri_grammar::{Op, Part, Spec};
-use uri_template::Style;
 
-fn cell_has_host(table: &Table, row: usize, name: &str) -> bool
-    ensures { result ≡ is_whole table.now name.now (get_or table.now.rows row []) }
+/// What is found of the host of a link.
+#[derive(Drop)]
+pub(crate) struct Host<'b> {
+    /// The names by which a request can set it, in order, each once.
+    pub(crate) names: Vec<&'b str>,
+    /// Whether a row may give no host, or one with an `@`.
+    pub(crate) may_be_missing: bool,
+}
+
+fn leads_past_host(op: Op) -> bool
+    ensures { result ≡ hosts.leads_past_host op }
 {
-    match table.cell(row, name) {
-        Some(cell) => is_host_fixed(cell.as_bytes()),
-        None => false,
+    matches!(op, Op::Slash | Op::Question | Op::Hash)
+}
+
+// Whether the part decides that `/`, `?` or `#` comes next, or that it does not; `None` if it may write nothing.
+fn decides_end(part: &Part) -> Option<bool>
+    ensures { result ≡ hosts.decides_end part.now }
+{
+    match part {
+        Part::Literal(text) => begins_with_end(text.as_str().as_bytes()),
+        Part::Expression { op, .. } => {
+            if leads_past_host(*op) {
+                None
+            } else {
+                Some(false)
+            }
+        }
     }
 }
 
-// Whether the cell of each row contains the whole host.
-fn cells_have_hosts(table: &Table, name: &str) -> bool
-    ensures { result ≡ list_all (is_whole table.now name.now) table.now.rows }
+fn begins_with_end(text: &[u8]) -> Option<bool>
+    ensures { result ≡ hosts.begins_with_end text.now }
 {
-    for row in 0..table.rows() {
-        if !cell_has_host(table, row, name) {
-            return false;
+    match text {
+        [b, ..] => Some(ends_host(*b)),
+        [] => None,
+    }
+}
+
+fn ends_next(parts: &[Part]) -> bool
+    ensures { result ≡ hosts.ends_next parts.now }
+{
+    for part in parts {
+        if let Some(ends) = decides_end(part) {
+            return ends;
         }
     }
     true
 }
 
-fn leads_past_host(op: Op) -> bool
-    ensures { result ≡ leads_past op }
+fn is_ended(state: HostState, op: Op, parts: &[Part]) -> bool
+    ensures { result ≡ hosts.is_ended state op parts.now }
 {
-    matches!(op, Op::Slash | Op::Question | Op::Hash)
+    is_inside(state) && leads_past_host(op) && ends_next(parts)
 }
 
 impl<'a> Target<'a> {
-    // Whether the first part of the template is a cell that contains the whole host in every row.
-    fn begins_with_cell(&self, parts: &[Part]) -> bool
-        ensures { result ≡ begins_with_one_cell self.now.rules.now self.now.table.now parts.now }
-    {
-        let [
-            Part::Expression {
-                op: Op::Plus,
-                specs,
-            },
-            ..
-        ] = parts
-        else {
-            return false;
-        };
-        let [spec] = specs.as_slice() else {
-            return false;
-        };
-        spec.cut == 0
-            && self.is_rows_own(spec.name.as_str())
-            && cells_have_hosts(self.table, spec.name.as_str())
-    }
-
     fn are_rows_own(&self, specs: &[Spec]) -> bool
-        ensures { result ≡ all_rows_own self.now.rules.now self.now.table.now specs.now }
+        ensures { result ≡ hosts.are_rows_own self.now.rules.now self.now.table.now specs.now }
     {
         specs
             .iter()
             .all(|spec| self.is_rows_own(spec.name.as_str()))
     }
 
-    // Appends the text of a part that is known whatever the request.
-    fn push_known(&self, before: &mut String, part: &Part) -> Result<(), AllocError>
-        ensures { OnOk result (string_bytes before.new
-            ≡ string_bytes before.old ++ known_text self.now.rules.now self.now.table.now part.now) }
-    {
-        match part {
-            Part::Literal(text) => before.push_str(text.as_str()),
-            Part::Expression { op, specs } => {
-                if !self.are_rows_own(specs.as_slice()) {
-                    return Ok(());
-                }
-                before.push_str(Style::of(*op).first)?;
-                before.push_str("x")
-            }
-        }
-    }
-
     fn add_if_open<'b>(&self, names: &mut Vec<&'b str>, spec: &'b Spec) -> Result<(), AllocError>
         ensures { OnOk result ((before : List Text) → texts_of names.old.items ≡ each_once before
             → texts_of names.new.items
-            ≡ each_once (before ++ open_among self.now.rules.now self.now.table.now (spec.now ∷ []))) }
+            ≡ each_once (before ++ hosts.open_among self.now.rules.now self.now.table.now (spec.now ∷ []))) }
     {
         if self.is_rows_own(spec.name.as_str()) {
             return Ok(());
@@ -105,7 +94,7 @@ impl<'a> Target<'a> {
     fn add_open<'b>(&self, names: &mut Vec<&'b str>, specs: &'b [Spec]) -> Result<(), AllocError>
         ensures { OnOk result ((before : List Text) → texts_of names.old.items ≡ each_once before
             → texts_of names.new.items
-            ≡ each_once (before ++ open_among self.now.rules.now self.now.table.now specs.now)) }
+            ≡ each_once (before ++ hosts.open_among self.now.rules.now self.now.table.now specs.now)) }
     {
         for spec in specs {
             self.add_if_open(names, spec)?;
@@ -113,21 +102,85 @@ impl<'a> Target<'a> {
         Ok(())
     }
 
-    // Adds the names of a part that can change the host, if this text comes before it and the row does not decide them.
+    // The state after an expression all of whose names the row decides.
+    fn after_own(&self, state: HostState, op: Op, specs: &[Spec]) -> HostState
+        requires { hosts.are_rows_own self.now.rules.now self.now.table.now specs.now ≡ true }
+        ensures { result ≡ hosts.after_own self.now.table.now state op specs.now }
+    {
+        match (state, op) {
+            (HostState::Past, _) => HostState::Past,
+            (HostState::Lost, _) => HostState::Lost,
+            (_, Op::Simple | Op::Dot) => after_byte(state, b'x'),
+            (_, Op::Plus) => self.after_cells(state, specs),
+            (HostState::Inside, Op::Slash | Op::Question | Op::Hash) => HostState::Past,
+            _ => HostState::Lost,
+        }
+    }
+
+    // The state after the whole cell of a single name, as it is in each row.
+    fn after_cells(&self, state: HostState, specs: &[Spec]) -> HostState
+        requires own { hosts.are_rows_own self.now.rules.now self.now.table.now specs.now ≡ true }
+        requires early { hosts.is_early state ≡ true }
+        ensures { result ≡ hosts.after_whole_cells self.now.table.now state specs.now }
+    {
+        match specs {
+            [name] if name.cut == 0 => self.after_cells_of(state, name.name.as_str()),
+            _ => HostState::Lost,
+        }
+    }
+
+    fn after_cells_of(&self, state: HostState, name: &str) -> HostState
+        requires early { hosts.is_early state ≡ true }
+        ensures { result ≡ after_texts state (hosts.cells_of_name self.now.table.now name.now) }
+    {
+        match self.table.column(name) {
+            Some(k) => self.columns[k].after(state),
+            None => HostState::Past,
+        }
+    }
+
+    // The state after a part that comes before these parts.
+    fn after_part(&self, state: HostState, part: &Part, rest: &[Part]) -> HostState
+        ensures { result ≡ hosts.after_part self.now.rules.now self.now.table.now state part.now rest.now }
+    {
+        match part {
+            Part::Literal(text) => after_text(state, text.as_str().as_bytes()),
+            Part::Expression { op, specs } => {
+                self.after_expression(state, *op, specs.as_slice(), rest)
+            }
+        }
+    }
+
+    fn after_expression(&self, state: HostState, op: Op, specs: &[Spec], rest: &[Part]) -> HostState
+        ensures { result
+            ≡ hosts.after_expression self.now.rules.now self.now.table.now state op specs.now rest.now }
+    {
+        if self.are_rows_own(specs) {
+            return self.after_own(state, op, specs);
+        }
+        if is_ended(state, op, rest) {
+            HostState::Past
+        } else {
+            state
+        }
+    }
+
+    // Adds the names of a part that the row does not decide, unless the host has ended before it.
     fn add_open_names<'b>(
         &self,
         names: &mut Vec<&'b str>,
-        text: &str,
+        state: HostState,
         part: &'b Part,
+        rest: &[Part],
     ) -> Result<(), AllocError>
         ensures { OnOk result ((before : List Text) → texts_of names.old.items ≡ each_once before
-            → texts_of names.new.items
-            ≡ each_once (before ++ open_names self.now.rules.now self.now.table.now text.now part.now)) }
+            → texts_of names.new.items ≡ each_once
+            (before ++ hosts.open_names self.now.rules.now self.now.table.now state part.now rest.now)) }
     {
         match part {
             Part::Literal(_) => Ok(()),
             Part::Expression { op, specs } => {
-                if leads_past_host(*op) && has_host_started(text.as_bytes()) {
+                if is_past(state) || is_ended(state, *op, rest) {
                     return Ok(());
                 }
                 self.add_open(names, specs.as_slice())
@@ -135,27 +188,23 @@ impl<'a> Target<'a> {
         }
     }
 
-    /// The names by which a request can set the host, in order, each once.
-    pub(crate) fn host_names<'b>(
-        &self,
-        alloc: Global,
-        parts: &'b [Part],
-    ) -> Result<Vec<&'b str>, AllocError>
-        ensures { IfOk result (λ names. texts_of names.items
-            ≡ names_of_host self.now.rules.now self.now.table.now parts.now) }
+    /// What is found of the host of a link.
+    pub(crate) fn host<'b>(&self, alloc: Global, parts: &'b [Part]) -> Result<Host<'b>, AllocError>
+        ensures names { IfOk result (λ host. texts_of host.names.items
+            ≡ hosts.host_names self.now.rules.now self.now.table.now parts.now) }
+        ensures missing { IfOk result (λ host. host.may_be_missing
+            ≡ hosts.may_be_hostless self.now.rules.now self.now.table.now parts.now) }
     {
         let mut names = Vec::new(alloc);
-        if self.begins_with_cell(parts) {
-            return Ok(names);
+        let mut state = HostState::Outside;
+        for (k, part) in parts.iter().enumerate() {
+            let rest = parts.split_at(k + 1).1;
+            self.add_open_names(&mut names, state, part, rest)?;
+            state = self.after_part(state, part, rest);
         }
-        let mut before = String::new(alloc);
-        for part in parts {
-            if is_host_fixed(before.as_bytes()) {
-                return Ok(names);
-            }
-            self.add_open_names(&mut names, before.as_str(), part)?;
-            self.push_known(&mut before, part)?;
-        }
-        Ok(names)
+        Ok(Host {
+            names,
+            may_be_missing: is_hostless(state),
+        })
     }
 }

@@ -3,8 +3,9 @@
 #![tactic(auto)]
 
 mod check;
+mod columns;
 mod host;
-mod host_text;
+mod host_state;
 mod lines;
 mod names;
 mod place;

@@ -2,7 +2,7 @@
 
 ghost use Rattle.std.specs.Prelude.{◌≡◌, ◌++◌, OnOk, string_bytes};
 ghost use Rattle.rule_lint.specs.Findings.{finding_text, place_text, RuleCount, NeverReached, NoColumn, UnknownName};
-ghost use Rattle.rule_lint.specs.Findings.{MisspeltName, NeverHolds, HostByRequest, NeverWebLink};
+ghost use Rattle.rule_lint.specs.Findings.{MisspeltName, NeverHolds, HostByRequest, Hostless, NeverWebLink};
 
 use crate::place::Place;
 use std::alloc::AllocError;
@@ -71,6 +71,13 @@ pub(crate) fn push_host_by_request(
 {
     push_place(out, at)?;
     write!(out, ": a request can set the host by {name}\n")
+}
+
+pub(crate) fn push_hostless(out: &mut String, at: Place) -> Result<(), AllocError>
+    ensures { OnOk result (string_bytes out.new ≡ string_bytes out.old ++ finding_text (Hostless at)) }
+{
+    push_place(out, at)?;
+    write!(out, ": a row may give no host, or one with @\n")
 }
 
 pub(crate) fn push_never_web_link(out: &mut String, at: Place) -> Result<(), AllocError>

@@ -1,7 +1,7 @@
 //! The names that are defined for a target.
 
-ghost use Rattle.std.specs.Prelude.{◌≡◌, ◌&&◌, [], filter, get_or};
-ghost use Rattle.std.specs.List.{find, list_all};
+ghost use Rattle.std.specs.Prelude.{◌≡◌, ◌++◌, ◌∷◌, [], IfOk, OnOk, filter};
+ghost use Rattle.std.specs.List.{find};
 ghost use Rattle.std.specs.Option.{option_copied};
 ghost use Rattle.text_model.specs.Texts.{texts_of};
 ghost use Rattle.environment_model.specs.Environment.{is_among as is_one_of};
@@ -10,13 +10,14 @@ ghost use Rattle.rule_parser.specs.Names.{each_once};
 ghost use Rattle.standard_names.specs.Keys.{request_keys as every_key};
 ghost use Rattle.rule_lint.specs.Names.{is_known as is_defined, is_standard_column as is_in_standard};
 ghost use Rattle.rule_lint.specs.Names.{is_name as is_template_name, resembles, resembled as first_resembled};
-ghost use Rattle.rule_lint.specs.Host.{is_rows_own as is_of_rows, has_cell as is_cell_defined};
+ghost use Rattle.rule_lint.specs.Host.{is_rows_own as is_of_rows};
 
-use crate::resemblance::{first_like, resembles};
+use crate::resemblance::first_like;
 use crate::target::Target;
 use crate::varchars::is_template_name;
 use kbart_rows::{RowCursor, Table};
 use standard_names::{column_names, request_keys};
+use std::alloc::{AllocError, Global};
 
 /// Whether the name is one of these.
 pub(crate) fn is_among(names: &[&str], name: &str) -> bool
@@ -32,44 +33,29 @@ pub(crate) fn is_standard_column(name: &str) -> bool
     is_among(column_names(), name)
 }
 
-fn is_like(column: &str, name: &str) -> bool
-    ensures { result ≡ (is_template_name column.now && resembles name.now column.now) }
+fn push_if_template_name<'a>(names: &mut Vec<&'a str>, column: &'a str) -> Result<(), AllocError>
+    ensures { OnOk result (texts_of names.new.items
+        ≡ texts_of names.old.items ++ filter is_template_name (column.now ∷ [])) }
 {
-    is_template_name(column) && resembles(name, column)
+    if is_template_name(column) {
+        names.push(column)?;
+    }
+    Ok(())
 }
 
-// The first column that resembles the name and whose own name can be used in a template.
-fn column_like<'a>(table: &'a Table, name: &str) -> Option<&'a str>
-    ensures { option_copied result ≡ find (resembles name.now) (filter is_template_name table.now.header) }
+/// The columns whose names can be used in a template.
+pub(crate) fn template_columns<'a>(
+    alloc: Global,
+    table: &'a Table,
+) -> Result<Vec<&'a str>, AllocError>
+    ensures { IfOk result (λ names. texts_of names.items ≡ filter is_template_name table.now.header) }
 {
+    let mut names = Vec::new(alloc);
     let mut columns = RowCursor::new(table.header());
     while let Some(column) = columns.next_cell() {
-        if is_like(column, name) {
-            return Some(column);
-        }
+        push_if_template_name(&mut names, column)?;
     }
-    None
-}
-
-fn has_cell(table: &Table, row: usize, name: &str) -> bool
-    ensures { result ≡ is_cell_defined table.now name.now (get_or table.now.rows row []) }
-{
-    match table.cell(row, name) {
-        Some(_) => true,
-        None => false,
-    }
-}
-
-// Whether the cell with the name is defined in each row.
-fn has_every_cell(table: &Table, name: &str) -> bool
-    ensures { result ≡ list_all (is_cell_defined table.now name.now) table.now.rows }
-{
-    for row in 0..table.rows() {
-        if !has_cell(table, row, name) {
-            return false;
-        }
-    }
-    true
+    Ok(names)
 }
 
 fn key_like(name: &str) -> Option<&'static str>
@@ -79,14 +65,21 @@ fn key_like(name: &str) -> Option<&'static str>
 }
 
 impl<'a> Target<'a> {
-    /// Whether the name is a list, a private name, a column or a key.
+    /// Whether the name is a list, a column or a key.
     pub(crate) fn is_known(&self, name: &str) -> bool
         ensures { result ≡ is_defined self.now.rules.now self.now.table.now name.now }
     {
         self.rules.is_list(name)
-            || name.starts_with("x.")
             || self.table.column(name).is_some()
             || is_among(request_keys(), name)
+    }
+
+    // The first column that resembles the name and whose own name can be used in a template.
+    fn column_like(&self, name: &str) -> Option<&'a str>
+        ensures { option_copied result
+            ≡ find (resembles name.now) (filter is_template_name self.now.table.now.header) }
+    {
+        first_like(&self.template_columns, name)
     }
 
     fn list_like(&self, name: &str) -> Option<&'a str>
@@ -99,7 +92,7 @@ impl<'a> Target<'a> {
     pub(crate) fn resembled(&self, name: &str) -> Option<&'a str>
         ensures { option_copied result ≡ first_resembled self.now.rules.now self.now.table.now name.now }
     {
-        if let Some(column) = column_like(self.table, name) {
+        if let Some(column) = self.column_like(name) {
             return Some(column);
         }
         if let Some(list) = self.list_like(name) {
@@ -112,8 +105,9 @@ impl<'a> Target<'a> {
     pub(crate) fn is_rows_own(&self, name: &str) -> bool
         ensures { result ≡ is_of_rows self.now.rules.now self.now.table.now name.now }
     {
-        self.table.column(name).is_some()
-            && !self.rules.is_list(name)
-            && has_every_cell(self.table, name)
+        match self.table.column(name) {
+            Some(k) => !self.rules.is_list(name) && self.columns[k].complete == self.table.rows(),
+            None => false,
+        }
     }
 }

@@ -4,7 +4,9 @@ ghost use Rattle.std.specs.Prelude.{◌≡◌, IfOk, string_bytes};
 ghost use Rattle.rule_lint.specs.Findings.{lint_text, has_warning};
 
 use crate::check::check_rules;
+use crate::columns::columns_of;
 use crate::lines::push_rule_count;
+use crate::names::template_columns;
 use crate::target::Target;
 use kbart_rows::Table;
 use printed_text::Findings;
@@ -24,6 +26,8 @@ pub fn lint(alloc: Global, rules: &Rules, table: &Table) -> Result<Findings, All
         rules,
         table,
         lists: rules.lists(alloc)?,
+        columns: columns_of(alloc, table)?,
+        template_columns: template_columns(alloc, table)?,
     };
     let mut findings = Findings {
         text: String::new(alloc),

@@ -1,5 +1,5 @@
 -- The columns of holdings tables (NISO RP-9-2014).
-use Rattle.std.specs.Prelude.{List, [], ◌∷◌, codes}
+use Rattle.std.specs.Prelude.{List, [], ◌∷◌, ◌++◌, codes}
 use Rattle.text_model.specs.Texts.{Text}
 
 -- the columns for serials and monographs, in their order
@@ -11,3 +11,11 @@ column_names =
     codes "notes" ∷ codes "publisher_name" ∷ codes "publication_type" ∷ codes "date_monograph_published_print" ∷
     codes "date_monograph_published_online" ∷ codes "monograph_volume" ∷ codes "monograph_edition" ∷ codes "first_editor" ∷
     codes "parent_publication_title_id" ∷ codes "preceding_publication_title_id" ∷ codes "access_type" ∷ []
+
+-- the columns that are added when a table is prepared, to the day: from when, and until when, readers have access
+abbrev pub prepared_columns : List Text
+prepared_columns = codes "coverage_from" ∷ codes "coverage_to" ∷ []
+
+-- all columns that have a meaning for the resolver or its front door
+abbrev pub known_columns : List Text
+known_columns = column_names ++ prepared_columns

@@ -1,4 +1,4 @@
--- The keys of requests in the key/encoded-value form.
+-- The keys of requests.
 use Rattle.std.specs.Prelude.{List, [], ◌∷◌, ◌++◌, codes}
 use Rattle.text_model.specs.Texts.{Text}
 
@@ -20,5 +20,10 @@ metadata_keys =
     codes "rft.auinitm" ∷ codes "rft.ausuffix" ∷ codes "rft.aucorp" ∷ codes "rft.place" ∷ codes "rft.pub" ∷ codes "rft.edition" ∷
     codes "rft.tpages" ∷ codes "rft.series" ∷ codes "rft.co" ∷ codes "rft.cc" ∷ codes "rft.inst" ∷ codes "rft.advisor" ∷ codes "rft.degree" ∷ []
 
+-- the keys that the front door sets; no format has them
+abbrev pub front_door_keys : List Text
+front_door_keys =
+    codes "x.doi" ∷ codes "x.pmid" ∷ codes "x.oclc" ∷ codes "x.issn" ∷ codes "x.eissn" ∷ codes "x.isbn" ∷ codes "x.from" ∷ codes "x.to" ∷ []
+
 abbrev pub request_keys : List Text
-request_keys = context_keys ++ metadata_keys
+request_keys = context_keys ++ metadata_keys ++ front_door_keys

@@ -2,11 +2,18 @@
 
 ghost use Rattle.std.specs.Prelude.{◌≡◌};
 ghost use Rattle.text_model.specs.Texts.{texts_of};
-ghost use Rattle.standard_names.specs.Columns.{column_names};
+ghost use Rattle.standard_names.specs.Columns.{column_names, known_columns};
 
 /// The 25 columns of a holdings table for serials and monographs, in their order (NISO RP-9-2014).
 pub fn column_names() -> &'static [&'static str]
     ensures { texts_of result.now ≡ column_names }
+{
+    known_columns().split_at(25).0
+}
+
+/// The 25 columns, and those that are added when a table is prepared: `coverage_from` and `coverage_to`.
+pub fn known_columns() -> &'static [&'static str]
+    ensures { texts_of result.now ≡ known_columns }
 {
     &[
         "publication_title",
@@ -34,5 +41,7 @@ pub fn column_names() -> &'static [&'static str]
         "parent_publication_title_id",
         "preceding_publication_title_id",
         "access_type",
+        "coverage_from",
+        "coverage_to",
     ]
 }

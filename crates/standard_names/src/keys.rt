@@ -5,8 +5,9 @@ ghost use Rattle.text_model.specs.Texts.{texts_of};
 ghost use Rattle.standard_names.specs.Keys.{request_keys};
 
 /// The keys of a request in the key/encoded-value form: those of the context object and its entities
-/// (ANSI/NISO Z39.88-2004), then those of the metadata formats for journals, books and dissertations. `rft.au` and
-/// `rft_id`, which are always lists, are not among them. `rft.eisbn` is in no format, but sources send it.
+/// (ANSI/NISO Z39.88-2004), then those of the metadata formats for journals, books and dissertations, then those that
+/// the front door sets. `rft.au` and `rft_id`, which are always lists, are not among them. `rft.eisbn` is in no format,
+/// but sources send it.
 pub fn request_keys() -> &'static [&'static str]
     ensures { texts_of result.now ≡ request_keys }
 {
@@ -78,5 +79,13 @@ pub fn request_keys() -> &'static [&'static str]
         "rft.inst",
         "rft.advisor",
         "rft.degree",
+        "x.doi",
+        "x.pmid",
+        "x.oclc",
+        "x.issn",
+        "x.eissn",
+        "x.isbn",
+        "x.from",
+        "x.to",
     ]
 }

@@ -1,4 +1,5 @@
-//! The names that the standards define: columns of holdings tables, and keys of requests.
+//! The names that the standards define, and those that the front door adds: columns of holdings tables, and keys of
+//! requests.
 //!
 //! ```rust
 //! assert!(rt; column_names().contains(&"title_id") && request_keys().contains(&"rft.issn"));
@@ -8,5 +9,5 @@
 mod columns;
 mod keys;
 
-pub use columns::column_names;
+pub use columns::{column_names, known_columns};
 pub use keys::request_keys;

@@ -7,7 +7,7 @@ use Rattle.std.specs.List.{find, list_any}
 use Rattle.std.specs.Str.{bytes_eq}
 use Rattle.text_model.specs.Texts.{Text, texts_of}
 use Rattle.kbart_rows.specs.Cells.{Row}
-use Rattle.standard_names.specs.Columns.{column_names}
+use Rattle.standard_names.specs.Columns.{known_columns}
 use Rattle.table_inspection.specs.Columns.{is_missing, meant, spelling}
 use Rattle.table_inspection.proofs.OnLiterals.{on_literals}
 
@@ -36,7 +36,7 @@ find_here test (x ∷ xs) (suc i) d inside none passes = here (test x.now) (λ i
     here false later is = later is
 
 -- the standard's names do not change when they are spelled
-pub meant_is : (header : Row) (text : Text) → meant header text ≡ find (λ name. is_missing header name && bytes_eq (spelling text) name) column_names
+pub meant_is : (header : Row) (text : Text) → meant header text ≡ find (λ name. is_missing header name && bytes_eq (spelling text) name) known_columns
 unfolding on_literals
 meant_is header text = refl
 

@@ -2,7 +2,7 @@
 use Rattle.std.proofs.Common.{◌≡◌, ◌++◌, true, false, [], ◌∷◌, refl, codes}
 use Rattle.std.specs.Prelude.{map, Some, None}
 use Rattle.std.specs.List.{list_all, list_any}
-use Rattle.standard_names.specs.Columns.{column_names}
+use Rattle.standard_names.specs.Columns.{known_columns}
 use Rattle.table_inspection.specs.Cells.{is_date, is_numbered}
 use Rattle.table_inspection.specs.Columns.{spelling, meant}
 use Rattle.table_inspection.proofs.OnLiterals.{on_literals}
@@ -63,7 +63,7 @@ unfolding on_literals
 spellings_of_other_bytes = refl
 
 -- the standard's names do not change when they are spelled
-standard_spellings : map spelling column_names ≡ column_names
+standard_spellings : map spelling known_columns ≡ known_columns
 unfolding on_literals
 standard_spellings = refl
 

@@ -5,7 +5,7 @@ use Rattle.std.specs.List.{find, flat_map, list_any, range_with_len}
 use Rattle.std.specs.Str.{bytes_eq}
 use Rattle.text_model.specs.Texts.{Text}
 use Rattle.kbart_rows.specs.Cells.{Row, column_of, is_first}
-use Rattle.standard_names.specs.Columns.{column_names}
+use Rattle.standard_names.specs.Columns.{known_columns}
 use Rattle.table_inspection.specs.Findings.{Finding, MissingColumn, UnknownColumn, MisspelledColumn, IgnoredColumn}
 
 -- ---- the columns of identifiers
@@ -51,9 +51,9 @@ spelling text = without_first_underscore (spelled text)
 abbrev pub resembles : Text → Text → Bool
 resembles text name = bytes_eq (spelling text) (spelling name)
 
--- the standard's name that was meant, unless another column has it
+-- the known name that was meant, unless another column has it
 abbrev pub meant : Row → Text → Option Text
-meant header text = find (λ name. is_missing header name && resembles text name) column_names
+meant header text = find (λ name. is_missing header name && resembles text name) known_columns
 
 -- ---- other columns
 
@@ -66,7 +66,7 @@ is_ignored header column = not (is_empty (get_or header column [])) && not (is_f
 
 abbrev pub is_unknown : Row → ℕ → Bool
 is_unknown header column =
-    not (is_empty (get_or header column [])) && (is_first header column && not (list_any (bytes_eq (get_or header column [])) column_names))
+    not (is_empty (get_or header column [])) && (is_first header column && not (list_any (bytes_eq (get_or header column [])) known_columns))
 
 abbrev pub column_finding : Text → Option Text → Finding
 column_finding text None = UnknownColumn text

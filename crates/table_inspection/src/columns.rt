@@ -4,7 +4,7 @@ ghost use Rattle.std.specs.Prelude.{◌≡◌, ◌∷◌, ◌&&◌, [], OnOk, ge
 ghost use Rattle.std.specs.List.{find, flat_map, list_any, range_with_len};
 ghost use Rattle.std.specs.Option.{option_copied};
 ghost use Rattle.std.specs.Str.{bytes_eq};
-ghost use Rattle.standard_names.specs.Columns.{column_names};
+ghost use Rattle.standard_names.specs.Columns.{known_columns};
 ghost use Rattle.table_inspection.specs.Columns as spec;
 ghost use Rattle.table_inspection.specs.Inspection.{findings_in_columns};
 ghost use Rattle.table_inspection.specs.Private.Adding.{Adds};
@@ -14,13 +14,13 @@ use crate::lines::{add_missing, add_misspelled, add_text};
 use crate::spelling::spelling;
 use kbart_rows::{RowCursor, Table};
 use printed_text::Findings;
-use standard_names::column_names;
+use standard_names::known_columns;
 use std::alloc::{AllocError, Global};
 
 /// Columns that are told of.
 #[derive(Clone, Copy)]
 pub(crate) enum ColumnKind {
-    /// Not of the standard.
+    /// Neither of the standard nor added when a table is prepared.
     Unknown,
     /// With the name of an earlier one.
     Ignored,
@@ -146,7 +146,7 @@ fn is_unknown(table: &Table, name: &str, column: usize) -> bool
     requires { name.now ≡ get_or table.now.header column [] }
     ensures { result ≡ spec.is_unknown table.now.header column }
 {
-    !name.is_empty() && table.column(name) == Some(column) && !is_standard(name)
+    !name.is_empty() && table.column(name) == Some(column) && !is_known(name)
 }
 
 fn is_ignored(table: &Table, name: &str, column: usize) -> bool
@@ -156,10 +156,10 @@ fn is_ignored(table: &Table, name: &str, column: usize) -> bool
     !name.is_empty() && table.column(name) != Some(column)
 }
 
-fn is_standard(name: &str) -> bool
-    ensures { result ≡ list_any (bytes_eq name.now) column_names }
+fn is_known(name: &str) -> bool
+    ensures { result ≡ list_any (bytes_eq name.now) known_columns }
 {
-    for other in column_names() {
+    for other in known_columns() {
         if is_same(name, other) {
             return true;
         }
@@ -167,7 +167,7 @@ fn is_standard(name: &str) -> bool
     false
 }
 
-/// Adds a column that is unknown, with the standard's name that it resembles.
+/// Adds a column that is unknown, with the known name that it resembles.
 fn add_unknown(
     alloc: Global,
     findings: &mut Findings,
@@ -187,12 +187,12 @@ fn add_unknown(
     Ok(())
 }
 
-/// The first of the standard's names that has this spelling, and that no column has.
+/// The first of the known names that has this spelling, and that no column has.
 fn meant(table: &Table, spelling: &str) -> Option<&'static str>
     ensures { option_copied result
-        ≡ find (λ name. spec.is_missing table.now.header name && bytes_eq spelling.now name) column_names }
+        ≡ find (λ name. spec.is_missing table.now.header name && bytes_eq spelling.now name) known_columns }
 {
-    for name in column_names() {
+    for name in known_columns() {
         if is_meant(table, spelling, name) {
             return Some(name);
         }

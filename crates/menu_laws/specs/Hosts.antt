@@ -1,0 +1,26 @@
+-- The hosts of the links of a menu.
+use Rattle.std.specs.Prelude.{◌≡◌, ℕ, List, false, Contains}
+use Rattle.text_model.specs.Texts.{Text}
+use Rattle.kev_read.specs.Pairs.{KeyValue}
+use Rattle.menu.specs.Links.{NamedLink}
+use Rattle.menu.specs.declared.entry.MenuEntry.{MenuEntry}
+use Rattle.menu.specs.declared.entry.Resolution.TheVariants.{Link}
+use Rattle.lint_laws.specs.RowLinks.{HasHostOfRow, has_open_hosts}
+use Rattle.rule_menus.specs.RuleMenus.{RuleTarget}
+
+-- `lint` finds nothing about the hosts of the target's links
+abbrev pub IsClosed : RuleTarget → Type 0
+IsClosed target = has_open_hosts target.rules target.table ≡ false
+
+-- if it finds nothing, and the entry of the target has a link, a row of the target's table decides the link's host
+abbrev pub HasHostOfItsRow : List KeyValue → RuleTarget → MenuEntry → Type 0
+HasHostOfItsRow pairs target entry =
+    IsClosed target → (row : ℕ) (link : Text) → entry.resolution ≡ Link row link → HasHostOfRow target.rules target.table row pairs link
+
+-- a row of one of these targets, which has the name, decides the link's host
+pub record HasHostOfSomeRow (targets : List RuleTarget) (pairs : List KeyValue) (named : NamedLink) : Type 0 where
+  pub target : RuleTarget
+  pub among : Contains targets target
+  pub name : named.name ≡ target.name
+  pub row : ℕ
+  pub host : HasHostOfRow target.rules target.table row pairs named.link
