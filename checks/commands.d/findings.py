@@ -41,10 +41,21 @@ TABLE = (
 
 # The link of a rule without guards, what is found in it, or None, and the status.
 LINKS = [
-    ("http://e.org/{x.y}", None, 0),
+    ("http://e.org/{x.doi,x.pmid,x.oclc,x.issn,x.eissn,x.isbn,x.from,x.to}", None, 0),
+    ("http://e.org/{x.y}", "unknown name x.y", 1),
+    ("http://e.org/{x.dio}", "unknown name x.dio, did you mean x.doi", 1),
     ("none:", "never a web link", 0),
     ("https:/{/rft.date}", "a request can set the host by rft.date", 1),
     ("https://e.org{/rft.date}", None, 0),
+    # The slash is written only if there is a date.
+    ("https://e.org{/rft.date}foo", "a request can set the host by rft.date", 1),
+    ("https://e.org{/rft.date}/foo", None, 0),
+    ("https://e.org{/rft.date}{?rft.issue}", None, 0),
+    ("https://e.org", None, 0),
+    ("https://", "a row may give no host, or one with @", 1),
+    ("https:///e.org/", "a row may give no host, or one with @", 1),
+    ("https://me@e.org/", "a row may give no host, or one with @", 1),
+    ("https://e.org/@", None, 0),
     ("{+title_url}{rft.date}", None, 0),
     ("https://{title_id}{rft.date}", "a request can set the host by rft.date", 1),
     ("https://{title_id}.e.org/{rft.date}", None, 0),
@@ -57,6 +68,34 @@ def test_links(program):
     for link, found, status in LINKS:
         line = f"rule 1, link: {found}\n" if found else ""
         finds(program, f"rule\nlink {link}", TABLE, f"rules 1\n{line}", status)
+
+
+# The cells of two rows, and whether each has a host that no request sets in `https://{+host}/{rft.issue}`.
+HOSTS = [
+    (("e.org", "f.org"), True),
+    (("e.org/a", "f.org?b"), True),
+    (("e.org#@", "f.org:80"), True),
+    (("e.org", "/"), False),
+    (("e.org", "#"), False),
+    (("e.org", "?f.org"), False),
+    (("e.org", "//f.org"), False),
+    (("e.org", "me@f.org"), False),
+    (("@e.org", "f.org"), False),
+    (("e.org", ""), False),
+]
+
+
+def test_cells_with_hosts(program):
+    for cells, has_host in HOSTS:
+        table = "print_identifier\thost\n" + "".join(f"1234-5679\t{cell}\n" for cell in cells)
+        names = ["host"] * ("" in cells) + ["rft.issue"] if not has_host else []
+        lines = "".join(f"rule 1, link: a request can set the host by {name}\n" for name in names)
+        rules = "rule\nlink https://{+host}/{rft.issue}\n"
+        finds(program, rules, table, f"rules 1\n{lines}", 0 if has_host else 1)
+        # No name follows the host.
+        found = "a request can set the host by host" if "" in cells else "a row may give no host, or one with @"
+        lines = "" if has_host else f"rule 1, link: {found}\n"
+        finds(program, "rule\nlink https://{+host}/a/\n", table, f"rules 1\n{lines}", 0 if has_host else 1)
 
 
 def test_no_rules(program):
@@ -91,6 +130,16 @@ rows of one identifier 1, "20493630"
 date_first_issue_online not a date 1, first 1 "3/1/1995"
 rows longer than the header 1, first 1
 """
+    program.gives(["inspect", "some.tsv"], 1, printed, "")
+
+
+def test_columns_of_coverage(program):
+    program.write("some.tsv", "print_identifier\tonline_identifier\tcoverage_from\tcoverage_to\n1234-5679\t\t\t\n")
+    printed = "rows 1\nidentifiers 1\nrows of one identifier 1, \"12345679\"\n"
+    program.gives(["inspect", "some.tsv"], 0, printed, "")
+    program.write("some.tsv", "print_identifier\tonline_identifier\tCoverage from\n1234-5679\t\t\n")
+    printed = ("rows 1\nidentifiers 1\nunknown column \"Coverage from\", did you mean coverage_from\n"
+               "rows of one identifier 1, \"12345679\"\n")
     program.gives(["inspect", "some.tsv"], 1, printed, "")
 
 

@@ -22,7 +22,7 @@ GivesMeaning code rules = (v : Environment) (o : Outcome) → HasOutcome code v 
 
 -- the file of the code of a rule text, or the first reason why there is none
 pub data IsCodeOf (bytes : Text) : Result Text Refusal → Type 0 where
-  no_memory : IsCodeOf bytes (Err Memory)
+  no_memory : (rules : RuleSet) → IsRuleText bytes rules → IsCodeOf bytes (Err Memory)
   no_rules : (e : Refusal) → IsNoRules bytes e → IsCodeOf bytes (Err e)
   over_limit : (rules : RuleSet) (e : CompileError) → IsRuleText bytes rules → limit_passed rules ≡ Some e → IsCodeOf bytes (Err (Compile e))
   compiled : (rules : RuleSet) (file : Text) → IsRuleText bytes rules → limit_passed rules ≡ None → IsAcceptedFile file (code_of rules)

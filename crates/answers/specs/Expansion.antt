@@ -2,21 +2,20 @@
 use Rattle.std.specs.Prelude.{◌≡◌, List, [], ◌∷◌, ◌++◌, None, Result, Ok, Err}
 use Rattle.text_model.specs.Texts.{Text}
 use Rattle.environment_model.specs.Environment.{look_up}
-use Rattle.uri_grammar.specs.Texts.{IsTemplate, IsRefused}
+use Rattle.uri_grammar.specs.Texts.{IsTemplate}
 use Rattle.uri_grammar.specs.declared.parts.Part.{Part}
-use Rattle.uri_grammar.specs.declared.error.TemplateError.{TemplateError}
 use Rattle.uri_template.specs.Expansion.{expansion}
 use Rattle.kev_read.specs.Pairs.{pairs_of}
 use Rattle.kev_read.specs.Refusal.{refusal}
 use Rattle.kev_read.specs.Filling.{filled}
-use Rattle.answers.specs.Reading.{IsNoRequest}
+use Rattle.answers.specs.Reading.{IsNoTemplate, IsNoRequest}
 use Rattle.answers.specs.declared.refusal.Refusal.{Refusal}
-use Rattle.answers.specs.declared.refusal.Refusal.TheVariants.{Template, Memory}
+use Rattle.answers.specs.declared.refusal.Refusal.TheVariants.{Memory}
 
 -- the line of the expansion, in which these names are lists, or the first reason why there is none
 pub data IsExpansionOf (lists : List Text) (template query : Text) : Result Text Refusal → Type 0 where
   no_memory : IsExpansionOf lists template query (Err Memory)
-  no_template : (e : TemplateError) → IsRefused template e.kind e.at → IsExpansionOf lists template query (Err (Template e))
+  no_template : (e : Refusal) → IsNoTemplate template e → IsExpansionOf lists template query (Err e)
   no_request : (parts : List Part) (e : Refusal) → IsTemplate template parts → IsNoRequest query e → IsExpansionOf lists template query (Err e)
   expanded : (parts : List Part) (line : Text) → IsTemplate template parts → refusal query ≡ None
       → line ≡ expansion (look_up (filled lists [] (pairs_of query))) parts ++ 10 ∷ [] → IsExpansionOf lists template query (Ok line)

@@ -22,14 +22,14 @@ report findings = record { text = string_bytes findings.text; warned = findings.
 
 -- the findings in the table of the bytes, or the first reason why there are none
 pub data IsInspectionOf (bytes : Text) (keys : Keys) : Result Report Refusal → Type 0 where
-  no_memory : IsInspectionOf bytes keys (Err Memory)
+  no_memory : (table : Holdings) → IsTable bytes table → IsInspectionOf bytes keys (Err Memory)
   no_table : (e : Refusal) → IsNoTable bytes e → IsInspectionOf bytes keys (Err e)
   inspected : (table : Holdings) (found : Report) → IsTable bytes table → table.keys ≡ keys → found.text ≡ inspection.inspection_text table
       → found.warned ≡ inspection.has_warning table → IsInspectionOf bytes keys (Ok found)
 
 -- the findings in the rules with the table of the bytes, or the first reason why there are none
 pub data IsLintOf (rules : RuleSet) (bytes : Text) (keys : Keys) : Result Report Refusal → Type 0 where
-  no_memory : IsLintOf rules bytes keys (Err Memory)
+  no_memory : (table : Holdings) → IsTable bytes table → IsLintOf rules bytes keys (Err Memory)
   no_table : (e : Refusal) → IsNoTable bytes e → IsLintOf rules bytes keys (Err e)
   linted : (table : Holdings) (found : Report) → IsTable bytes table → table.keys ≡ keys → found.text ≡ lint.lint_text rules table
       → found.warned ≡ lint.has_warning rules table → IsLintOf rules bytes keys (Ok found)

@@ -9,3 +9,4 @@ pub mod Upgrade
 pub mod Run
 pub mod Menu
 pub mod Findings
+pub mod Results

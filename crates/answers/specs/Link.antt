@@ -20,7 +20,7 @@ pub record Means (rules : RuleSet) (query : Text) (link : Option Text) : Type 0 
 
 -- the line of the link of a rule text, or the first reason why there is none
 pub data IsLinkOf (bytes query : Text) : Result Text Refusal → Type 0 where
-  no_memory : IsLinkOf bytes query (Err Memory)
+  no_memory : (rules : RuleSet) → IsRuleText bytes rules → IsLinkOf bytes query (Err Memory)
   no_rules : (e : Refusal) → IsNoRules bytes e → IsLinkOf bytes query (Err e)
   no_request : (rules : RuleSet) (e : Refusal) → IsRuleText bytes rules → IsNoRequest query e → IsLinkOf bytes query (Err e)
   no_link : (rules : RuleSet) → IsRuleText bytes rules → Means rules query None → IsLinkOf bytes query (Err NoLink)

@@ -10,6 +10,6 @@ use Rattle.answers.specs.declared.refusal.Refusal.TheVariants.{Memory}
 
 -- the listing of the code of a file, or the first reason why there is none
 pub data IsListingOf (bytes : Text) : Result Text Refusal → Type 0 where
-  no_memory : IsListingOf bytes (Err Memory)
+  no_memory : (code : Code) → IsCodeFile bytes code → IsListingOf bytes (Err Memory)
   no_code : (e : Refusal) → IsNoCodeFile bytes e → IsListingOf bytes (Err e)
   listed : (code : Code) (text : Text) → IsCodeFile bytes code → text ≡ listing code → IsListingOf bytes (Ok text)

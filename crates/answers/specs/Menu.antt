@@ -13,7 +13,7 @@ use Rattle.answers.specs.declared.refusal.Refusal.TheVariants.{NoLink, Memory}
 
 -- the text of a menu with a link, or the first reason why there is none
 pub data IsMenuOf (targets : List TargetValue) (query : Text) : Result Text Refusal → Type 0 where
-  no_memory : IsMenuOf targets query (Err Memory)
+  no_memory : refusal query ≡ None → IsMenuOf targets query (Err Memory)
   no_request : (e : Refusal) → IsNoRequest query e → IsMenuOf targets query (Err e)
   no_link : refusal query ≡ None → is_empty (menu_of targets (pairs_of query)) ≡ true → IsMenuOf targets query (Err NoLink)
   printed : (text : Text) → refusal query ≡ None → is_empty (menu_of targets (pairs_of query)) ≡ false

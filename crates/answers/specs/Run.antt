@@ -40,7 +40,7 @@ pub record IsOverBudget (code : model.Code) (query : Text) (n : ℕ) : Type 0 wh
 
 -- the line of the link of accepted code, or the first reason why there is none
 pub data IsRunLinkOf (bytes query : Text) : Result Text Refusal → Type 0 where
-  no_memory : IsRunLinkOf bytes query (Err Memory)
+  no_memory : (code : model.Code) → IsAcceptedFile bytes code → IsRunLinkOf bytes query (Err Memory)
   not_accepted : (e : Refusal) → IsNotAccepted bytes e → IsRunLinkOf bytes query (Err e)
   no_request : (code : model.Code) (e : Refusal) → IsAcceptedFile bytes code → IsNoRequest query e → IsRunLinkOf bytes query (Err e)
   over_budget : (code : model.Code) (n : ℕ) → IsAcceptedFile bytes code → IsOverBudget code query n → IsRunLinkOf bytes query (Err (OverBudget n))

@@ -9,6 +9,6 @@ use Rattle.answers.specs.declared.refusal.Refusal.TheVariants.{Memory}
 
 -- the upgraded file, or the first reason why there is none
 pub data IsUpgradeOf (bytes : Text) : Result Text Refusal → Type 0 where
-  no_memory : IsUpgradeOf bytes (Err Memory)
+  no_memory : (code : Code) → IsCodeFile bytes code → IsUpgradeOf bytes (Err Memory)
   no_code : (e : Refusal) → IsNoCodeFile bytes e → IsUpgradeOf bytes (Err e)
   upgraded : (code : Code) (file : Text) → IsCodeFile bytes code → IsCodeFile file (upgraded_code code) → IsUpgradeOf bytes (Ok file)

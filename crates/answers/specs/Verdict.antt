@@ -28,6 +28,6 @@ verdict b = (codes "ok" ++ line_feed) ++ (steps_line b.s0 b.s1 ++ bytes_line b.o
 
 -- the lines for accepted code, or the first reason why it is not accepted
 pub data IsVerdictOf (bytes : Text) : Result Text Refusal → Type 0 where
-  no_memory : IsVerdictOf bytes (Err Memory)
+  no_memory : (code : Code) → IsAcceptedFile bytes code → IsVerdictOf bytes (Err Memory)
   not_accepted : (e : Refusal) → IsNotAccepted bytes e → IsVerdictOf bytes (Err e)
   accepted : (code : Code) (text : Text) → IsAcceptedFile bytes code → text ≡ verdict (sums_of code) → IsVerdictOf bytes (Ok text)

@@ -1,7 +1,7 @@
 //! The link that rules give for a query.
 
-ghost use Rattle.std.specs.Prelude.{Ok, Err, IfOk, IfErr, string_bytes};
 ghost use Rattle.answers.specs.Link.{IsLinkOf};
+ghost use Rattle.answers.specs.Results.{text_result};
 
 use crate::line::ended;
 use crate::reading::rules_of;
@@ -12,8 +12,7 @@ use std::alloc::Global;
 
 /// The line of the link that the rules of a rule text give for the query: that of the first rule whose guards all hold.
 pub fn link_of(alloc: Global, bytes: &[u8], query: &str) -> Result<String, Refusal>
-    ensures ok { IfOk result (λ line. IsLinkOf bytes.now query.now (Ok (string_bytes line))) }
-    ensures err { IfErr result (λ refusal. IsLinkOf bytes.now query.now (Err refusal)) }
+    ensures { IsLinkOf bytes.now query.now (text_result result) }
 {
     let rules = rules_of(alloc, bytes)?;
     let lists = rules.lists(alloc)?;

@@ -1,7 +1,7 @@
 //! The menu of a registry for a query.
 
-ghost use Rattle.std.specs.Prelude.{Ok, Err, IfOk, IfErr, string_bytes};
 ghost use Rattle.answers.specs.Menu.{IsMenuOf};
+ghost use Rattle.answers.specs.Results.{text_result};
 
 use crate::refusal::Refusal;
 use crate::request::request_of;
@@ -11,8 +11,7 @@ use std::alloc::Global;
 
 /// The text of the menu that the registry has for the query, if it has a link: a line for each link.
 pub fn menu_text_of(alloc: Global, registry: &Registry, query: &str) -> Result<String, Refusal>
-    ensures ok { IfOk result (λ text. IsMenuOf registry.now query.now (Ok (string_bytes text))) }
-    ensures err { IfErr result (λ refusal. IsMenuOf registry.now query.now (Err refusal)) }
+    ensures { IsMenuOf registry.now query.now (text_result result) }
 {
     let request = request_of(alloc, query)?;
     let menu = resolve(alloc, registry, &request)?;

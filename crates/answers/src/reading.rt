@@ -1,4 +1,4 @@
-//! What bytes are read as.
+//! What bytes are read as. An allocation that fails is the same error, wherever it was.
 
 ghost use Rattle.std.specs.Prelude.{◌≡◌, IfOk, IfErr};
 ghost use Rattle.rule_parser.specs.Grammar.{IsRuleText};
@@ -8,19 +8,23 @@ ghost use Rattle.safe_runs.specs.Ending.{IsAcceptedFile};
 ghost use Rattle.answers.specs.Reading.{IsNoRules, IsNoCodeFile, IsNotAccepted, IsNoTable};
 
 use crate::refusal::Refusal;
-use code_file::Code;
-use kbart_rows::{Keys, Table};
-use rule_parser::Rules;
+use code_file::{Code, CodeErrorKind};
+use kbart_rows::{Keys, Table, TableError};
+use rule_parser::{RuleErrorKind, Rules};
 use safe_runs::laws::accepted_file_has_no_fault;
 use std::alloc::Global;
-use verifier::{Verified, load};
+use verifier::{LoadError, Verified, load};
 
 /// The rules of a rule text.
 pub fn rules_of(alloc: Global, bytes: &[u8]) -> Result<Rules, Refusal>
     ensures ok { IfOk result (IsRuleText bytes.now) }
     ensures err { IfErr result (IsNoRules bytes.now) }
 {
-    Ok(Rules::parse(alloc, bytes)?)
+    match Rules::parse(alloc, bytes) {
+        Ok(rules) => Ok(rules),
+        Err(e) if e.kind == RuleErrorKind::NoMemory => Err(Refusal::Memory),
+        Err(e) => Err(Refusal::Rules(e)),
+    }
 }
 
 /// The code of a code file.
@@ -28,7 +32,11 @@ pub(crate) fn read_code(alloc: Global, bytes: &[u8]) -> Result<Code, Refusal>
     ensures ok { IfOk result (IsCodeFile bytes.now) }
     ensures err { IfErr result (IsNoCodeFile bytes.now) }
 {
-    Ok(Code::read(alloc, bytes)?)
+    match Code::read(alloc, bytes) {
+        Ok(code) => Ok(code),
+        Err(e) if e.kind == CodeErrorKind::NoMemory => Err(Refusal::Memory),
+        Err(e) => Err(Refusal::Code(e)),
+    }
 }
 
 /// The code of a code file, if the verifier accepts it.
@@ -37,9 +45,14 @@ pub(crate) fn accepted_code(alloc: Global, bytes: &[u8]) -> Result<Verified, Ref
     ensures err { IfErr result (IsNotAccepted bytes.now) }
 {
     accepted_file_has_no_fault();
-    let code = load(alloc, bytes)?;
-    let _accepted = code.code();
-    Ok(code)
+    match load(alloc, bytes) {
+        Ok(code) => {
+            let _accepted = code.code();
+            Ok(code)
+        }
+        Err(e) if e == LoadError::NoMemory => Err(Refusal::Memory),
+        Err(e) => Err(Refusal::Load(e)),
+    }
 }
 
 /// The holdings table of a file, with secret keys for its hashed look-ups.
@@ -48,5 +61,9 @@ pub fn table_of(alloc: Global, bytes: &[u8], keys: Keys) -> Result<Table, Refusa
     ensures keyed { IfOk result (λ table. table.keys ≡ keys) }
     ensures err { IfErr result (IsNoTable bytes.now) }
 {
-    Ok(Table::read_keyed(alloc, bytes, keys)?)
+    match Table::read_keyed(alloc, bytes, keys) {
+        Ok(table) => Ok(table),
+        Err(e) if e == TableError::NoMemory => Err(Refusal::Memory),
+        Err(e) => Err(Refusal::Table(e)),
+    }
 }

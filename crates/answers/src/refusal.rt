@@ -3,15 +3,14 @@
 ghost use Rattle.std.specs.Prelude.{◌≡◌};
 ghost use Rattle.answers.specs.Refusals.{status_of};
 
-use code_file::{CodeError, CodeErrorKind};
+use code_file::CodeError;
 use compiler::CompileError;
 use kbart_rows::TableError;
 use kev_read::KevError;
-use rule_parser::{RuleError, RuleErrorKind};
+use rule_parser::RuleError;
 use std::alloc::AllocError;
 use thiserror::Error;
-use uri_grammar::{TemplateError, TemplateErrorKind};
-use verified_runs::PrepareError;
+use uri_grammar::TemplateError;
 use verifier::LoadError;
 
 /// The exit status if there is no link.
@@ -79,117 +78,5 @@ impl From<AllocError> for Refusal {
 
     fn from(_e: AllocError) -> Refusal {
         Refusal::Memory
-    }
-}
-
-impl From<TemplateError> for Refusal {
-    ghost use Rattle.answers.specs.Refusals.{of_template};
-    ghost use Rattle.std.specs.Prelude.{◌≡◌};
-
-    ghost from_gives = { λ e refusal. refusal ≡ of_template e };
-
-    fn from(e: TemplateError) -> Refusal {
-        match e.kind {
-            TemplateErrorKind::NoMemory => Refusal::Memory,
-            _ => Refusal::Template(e),
-        }
-    }
-}
-
-impl From<RuleError> for Refusal {
-    ghost use Rattle.answers.specs.Refusals.{of_rules};
-    ghost use Rattle.std.specs.Prelude.{◌≡◌};
-
-    ghost from_gives = { λ e refusal. refusal ≡ of_rules e };
-
-    fn from(e: RuleError) -> Refusal {
-        match e.kind {
-            RuleErrorKind::NoMemory => Refusal::Memory,
-            _ => Refusal::Rules(e),
-        }
-    }
-}
-
-impl From<CompileError> for Refusal {
-    ghost use Rattle.answers.specs.Refusals.{of_compile};
-    ghost use Rattle.std.specs.Prelude.{◌≡◌};
-
-    ghost from_gives = { λ e refusal. refusal ≡ of_compile e };
-
-    fn from(e: CompileError) -> Refusal {
-        match e {
-            CompileError::NoMemory => Refusal::Memory,
-            _ => Refusal::Compile(e),
-        }
-    }
-}
-
-impl From<CodeError> for Refusal {
-    ghost use Rattle.answers.specs.Refusals.{of_code};
-    ghost use Rattle.std.specs.Prelude.{◌≡◌};
-
-    ghost from_gives = { λ e refusal. refusal ≡ of_code e };
-
-    fn from(e: CodeError) -> Refusal {
-        match e.kind {
-            CodeErrorKind::NoMemory => Refusal::Memory,
-            _ => Refusal::Code(e),
-        }
-    }
-}
-
-impl From<LoadError> for Refusal {
-    ghost use Rattle.answers.specs.Refusals.{of_load};
-    ghost use Rattle.std.specs.Prelude.{◌≡◌};
-
-    ghost from_gives = { λ e refusal. refusal ≡ of_load e };
-
-    fn from(e: LoadError) -> Refusal {
-        match e {
-            LoadError::NoMemory => Refusal::Memory,
-            _ => Refusal::Load(e),
-        }
-    }
-}
-
-impl From<PrepareError> for Refusal {
-    ghost use Rattle.answers.specs.Refusals.{of_prepare};
-    ghost use Rattle.std.specs.Prelude.{◌≡◌};
-
-    ghost from_gives = { λ e refusal. refusal ≡ of_prepare e };
-
-    fn from(e: PrepareError) -> Refusal {
-        match e {
-            PrepareError::OverBudget(bytes) => Refusal::OverBudget(bytes),
-            PrepareError::NoMemory => Refusal::Memory,
-        }
-    }
-}
-
-impl From<TableError> for Refusal {
-    ghost use Rattle.answers.specs.Refusals.{of_table};
-    ghost use Rattle.std.specs.Prelude.{◌≡◌};
-
-    ghost from_gives = { λ e refusal. refusal ≡ of_table e };
-
-    fn from(e: TableError) -> Refusal {
-        match e {
-            TableError::NoMemory => Refusal::Memory,
-            _ => Refusal::Table(e),
-        }
-    }
-}
-
-impl From<KevError> for Refusal {
-    ghost use Rattle.answers.specs.Refusals.{of_query};
-    ghost use Rattle.std.specs.Prelude.{◌≡◌};
-
-    ghost from_gives = { λ e refusal. refusal ≡ of_query e };
-
-    fn from(e: KevError) -> Refusal {
-        match e {
-            KevError::NoMemory => Refusal::Memory,
-            _ => Refusal::Query(e),
-        }
     }
 }

@@ -8,7 +8,7 @@ ghost use Rattle.kev_read.specs.Filling.{filled};
 ghost use Rattle.answers.specs.Reading.{IsNoRequest};
 
 use crate::refusal::Refusal;
-use kev_read::{Request, read_kev};
+use kev_read::{KevError, Request, read_kev};
 use std::alloc::Global;
 use target_vars::{Env, VarsError};
 
@@ -18,7 +18,11 @@ pub fn request_of(alloc: Global, query: &str) -> Result<Request, Refusal>
     ensures pairs { IfOk result (λ request. request.pairs ≡ pairs_of query.now) }
     ensures err { IfErr result (IsNoRequest query.now) }
 {
-    Ok(read_kev(alloc, query.as_bytes())?)
+    match read_kev(alloc, query.as_bytes()) {
+        Ok(request) => Ok(request),
+        Err(e) if e == KevError::NoMemory => Err(Refusal::Memory),
+        Err(e) => Err(Refusal::Query(e)),
+    }
 }
 
 /// The environment of the query's pairs, in which `rft.au`, `rft_id` and the names of `lists` are lists.

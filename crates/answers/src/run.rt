@@ -1,8 +1,9 @@
 //! The link that code gives for a query.
 
-ghost use Rattle.std.specs.Prelude.{◌≡◌, None, Ok, Err, IfOk, IfErr, string_bytes};
+ghost use Rattle.std.specs.Prelude.{◌≡◌, None, IfOk, IfErr};
 ghost use Rattle.kev_read.specs.Refusal.{refusal};
 ghost use Rattle.answers.specs.Reading.{IsNoRequest};
+ghost use Rattle.answers.specs.Results.{text_result};
 ghost use Rattle.answers.specs.Run.{IsRunLinkOf, request_entries};
 
 use crate::line::ended;
@@ -13,19 +14,20 @@ use code_file::Code;
 use safe_runs::run_verified;
 use std::alloc::Global;
 use target_vars::Env;
-use verified_runs::Outcome;
+use verified_runs::{Outcome, PrepareError};
 
 /// The line of the link that the code of a code file gives for the query, if the verifier accepts it. A link has at
 /// most 1,048,576 bytes: code that might print more for the request is not run.
 pub fn run_link_of(alloc: Global, bytes: &[u8], query: &str) -> Result<String, Refusal>
-    ensures ok { IfOk result (λ line. IsRunLinkOf bytes.now query.now (Ok (string_bytes line))) }
-    ensures err { IfErr result (λ refusal. IsRunLinkOf bytes.now query.now (Err refusal)) }
+    ensures { IsRunLinkOf bytes.now query.now (text_result result) }
 {
     let code = accepted_code(alloc, bytes)?;
     let env = code_environment(alloc, code.code(), query)?;
-    match run_verified(alloc, &code, &env)? {
-        Outcome::Link(link) => Ok(ended(link)?),
-        Outcome::NoLink => Err(Refusal::NoLink),
+    match run_verified(alloc, &code, &env) {
+        Ok(Outcome::Link(link)) => Ok(ended(link)?),
+        Ok(Outcome::NoLink) => Err(Refusal::NoLink),
+        Err(PrepareError::OverBudget(most)) => Err(Refusal::OverBudget(most)),
+        Err(PrepareError::NoMemory) => Err(Refusal::Memory),
     }
 }
 

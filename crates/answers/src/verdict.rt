@@ -1,6 +1,7 @@
 //! The verdict on code.
 
-ghost use Rattle.std.specs.Prelude.{◌≡◌, ◌++◌, Ok, Err, IfOk, IfErr, OnOk, string_bytes};
+ghost use Rattle.std.specs.Prelude.{◌≡◌, ◌++◌, IfOk, OnOk, string_bytes};
+ghost use Rattle.answers.specs.Results.{text_result};
 ghost use Rattle.answers.specs.Verdict.{steps_line, bytes_line, verdict, IsVerdictOf};
 
 use crate::reading::accepted_code;
@@ -11,8 +12,7 @@ use std::alloc::{AllocError, Global};
 /// Three lines for the code of a code file, if the verifier accepts it: `ok`, its bound on steps, and its bound on
 /// bytes of output.
 pub fn verdict_of(alloc: Global, bytes: &[u8]) -> Result<String, Refusal>
-    ensures ok { IfOk result (λ text. IsVerdictOf bytes.now (Ok (string_bytes text))) }
-    ensures err { IfErr result (λ refusal. IsVerdictOf bytes.now (Err refusal)) }
+    ensures { IsVerdictOf bytes.now (text_result result) }
 {
     let code = accepted_code(alloc, bytes)?;
     Ok(budget_lines(alloc, code.budget())?)

@@ -12,7 +12,6 @@ use rule_parser::{RuleError, RuleErrorKind};
 use std::process::Abort;
 use std::test::Fail;
 use uri_grammar::{TemplateError, TemplateErrorKind};
-use verified_runs::PrepareError;
 use verifier::LoadError;
 
 /// The error has this exit status and this text.
@@ -212,33 +211,8 @@ fn errors_of_all_commands(rt: HostRuntime) -> Result<(), Fail> {
 }
 
 #[test]
-fn an_allocation_that_fails_is_one_error(rt: HostRuntime) -> Result<(), Fail> {
-    let template = TemplateError {
-        kind: TemplateErrorKind::NoMemory,
-        at: 0,
-    };
-    let rules = RuleError {
-        kind: RuleErrorKind::NoMemory,
-        line: 0,
-    };
-    let code = CodeError {
-        kind: CodeErrorKind::NoMemory,
-        at: 0,
-    };
-    for refusal in [
-        Refusal::Memory,
-        Refusal::from(template),
-        Refusal::from(rules),
-        Refusal::from(CompileError::NoMemory),
-        Refusal::from(code),
-        Refusal::from(LoadError::NoMemory),
-        Refusal::from(PrepareError::NoMemory),
-        Refusal::from(TableError::NoMemory),
-        Refusal::from(KevError::NoMemory),
-    ] {
-        refuses(&rt, refusal, 4, "out of memory")?;
-    }
-    Ok(())
+fn memory_that_ran_out_has_status_4(rt: HostRuntime) -> Result<(), Fail> {
+    refuses(&rt, Refusal::Memory, 4, "out of memory")
 }
 
 #[test]

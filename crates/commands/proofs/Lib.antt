@@ -1,4 +1,2 @@
 pub mod ArgumentLemmas
-pub mod ReadingLemmas
-pub mod PlaceLemmas
 pub mod OutputLemmas

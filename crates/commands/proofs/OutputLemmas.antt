@@ -1,10 +1,8 @@
 -- What is printed of an answer, from the call that answers and the call that prints.
-use Rattle.std.proofs.Common.{◌≡◌, Result, Ok, Err, Option, String, string_bytes, subst, sym}
-use Rattle.std.specs.Prelude.{IfOk, IfErr}
+use Rattle.std.proofs.Common.{◌≡◌, Result, Ok, Err, Option, subst, sym}
 use Rattle.text_model.specs.Texts.{Text}
-use Rattle.printed_text.specs.declared.findings.Findings.{Findings}
-use Rattle.answers.specs.Findings.{Report, report}
-use Rattle.commands.specs.Output.{Output, Prints, Reports, fails, unprinted, prints, warns, clean, text_result, report_result}
+use Rattle.answers.specs.Findings.{Report}
+use Rattle.commands.specs.Output.{Output, Prints, Reports, fails, unprinted, prints, warns, clean}
 use Rattle.commands.specs.declared.fault.Fault.{Fault}
 
 pub prints_by : (A B : Result Text Fault → Type 0) (output : Output) (end : Option Fault) → ((r : Result Text Fault) → A r → B r) → Prints A output end
@@ -20,25 +18,13 @@ reports_by A B output end by (unprinted found path answer named part) = unprinte
 reports_by A B output end by (warns found answer all warned) = warns found (by (Ok found) answer) all warned
 reports_by A B output end by (clean found answer all warned) = clean found (by (Ok found) answer) all warned
 
-text_answer : {A : Type 0} (Answers : Result Text Fault → Type 0) (r : Result (String A) Fault) → IfOk r (λ text. Answers (Ok (string_bytes text)))
-    → IfErr r (λ fault. Answers (Err fault)) → Answers (text_result r)
-text_answer Answers (Ok text) ok err = ok
-text_answer Answers (Err fault) ok err = err
-
-report_answer : (Answers : Result Report Fault → Type 0) (r : Result Findings Fault) → IfOk r (λ findings. Answers (Ok (report findings)))
-    → IfErr r (λ fault. Answers (Err fault)) → Answers (report_result r)
-report_answer Answers (Ok findings) ok err = ok
-report_answer Answers (Err fault) ok err = err
-
 -- the answer is what a call returned
-pub prints_answer : {A : Type 0} (Answers : Result Text Fault → Type 0) (output : Output) (end : Option Fault) (r : Result (String A) Fault)
-    → IfOk r (λ text. Answers (Ok (string_bytes text))) → IfErr r (λ fault. Answers (Err fault)) → Prints (λ printed. printed ≡ text_result r) output end
-    → Prints Answers output end
-prints_answer Answers output end r ok err printed =
-    prints_by (λ printed. printed ≡ text_result r) Answers output end (λ other same. subst Answers (sym same) (text_answer Answers r ok err)) printed
+pub prints_answer : (Answers : Result Text Fault → Type 0) (output : Output) (end : Option Fault) (r : Result Text Fault) → Answers r
+    → Prints (λ printed. printed ≡ r) output end → Prints Answers output end
+prints_answer Answers output end r answer printed =
+    prints_by (λ printed. printed ≡ r) Answers output end (λ other same. subst Answers (sym same) answer) printed
 
-pub reports_answer : (Answers : Result Report Fault → Type 0) (output : Output) (end : Option Fault) (r : Result Findings Fault)
-    → IfOk r (λ findings. Answers (Ok (report findings))) → IfErr r (λ fault. Answers (Err fault)) → Reports (λ found. found ≡ report_result r) output end
-    → Reports Answers output end
-reports_answer Answers output end r ok err reported =
-    reports_by (λ found. found ≡ report_result r) Answers output end (λ other same. subst Answers (sym same) (report_answer Answers r ok err)) reported
+pub reports_answer : (Answers : Result Report Fault → Type 0) (output : Output) (end : Option Fault) (r : Result Report Fault) → Answers r
+    → Reports (λ found. found ≡ r) output end → Reports Answers output end
+reports_answer Answers output end r answer reported =
+    reports_by (λ found. found ≡ r) Answers output end (λ other same. subst Answers (sym same) answer) reported

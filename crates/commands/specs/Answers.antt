@@ -1,12 +1,9 @@
 -- What a command answers, from the files that it reads. Parameters: the system before the command, and after it.
-use Rattle.std.specs.Prelude.{◌≡◌, ℕ, List, length, Result, Ok, Err}
+use Rattle.std.specs.Prelude.{◌≡◌, List, Result, Ok, Err}
 use Rattle.std.specs.Borrow.{Bor}
 use Rattle.text_model.specs.Texts.{Text}
-use Rattle.files.specs.Found.{Found, Gives}
+use Rattle.files.specs.Found.{Gives}
 use Rattle.files.specs.Changes.{Unchanged}
-use Rattle.files.specs.Failures.{HasFailed}
-use Rattle.files.specs.Placing.{IsPlaced, IsAsBefore, IsPlaceFailure}
-use Rattle.files.specs.declared.call.FileCall.TheVariants.{Read}
 use Rattle.kbart_rows.specs.Drawing.{IsDrawn}
 use Rattle.kbart_rows.specs.declared.keys.Keys.{Keys}
 use Rattle.rule_parser.specs.Rules.{RuleSet}
@@ -16,8 +13,8 @@ use Rattle.registry_file.specs.declared.error.RegistryError.{RegistryError}
 use Rattle.answers.specs.declared.refusal.Refusal.{Refusal}
 use Rattle.commands.specs.World.{Told, disk}
 use Rattle.commands.specs.Faults.{registry_fault}
-use Rattle.commands.specs.Reading.{Kind, HasRules, IsUnread, IsUnkeyed, IsUnruled}
-use Rattle.commands.specs.Placing.{IsUnplaced, count_line}
+use Rattle.commands.specs.Reading.{Kind, IsTarget, IsNoTarget, IsUnread, IsUnkeyed}
+use Rattle.commands.specs.Placing.{Places}
 use Rattle.commands.specs.declared.fault.Fault.{Fault}
 use Rattle.commands.specs.declared.fault.Fault.TheVariants.{Refused}
 
@@ -27,39 +24,29 @@ pub data Answered {A : Type 0} (Answers : Result A Refusal → Type 0) : Result 
   answered : (a : A) → Answers (Ok a) → Answered Answers (Ok a)
 
 module _ {System : Type 0} (told : Told System) (old new : System) where
-  abbrev pub found : Bor Text → Found
-  found path = disk told old path.now
-
   -- the file at the path is read, and this is the answer to its bytes
   pub data Tells {A : Type 0} (kind : Kind) (Answers : Text → Result A Refusal → Type 0) (path : Bor Text) : Result A Fault → Type 0 where
-    unread : (fault : Fault) → IsUnread kind (found path) (told.fails (told.files old) Read path.now (told.files new)) path fault
-        → Tells kind Answers path (Err fault)
-    read : (bytes : Text) (end : Result A Fault) → Gives (found path) bytes → Answered (Answers bytes) end → Tells kind Answers path end
+    unread : (fault : Fault) → IsUnread told old new kind path fault → Tells kind Answers path (Err fault)
+    read : (bytes : Text) (end : Result A Fault) → Gives (disk told old path.now) bytes → Answered (Answers bytes) end → Tells kind Answers path end
 
-  -- the file at the path is read, keys are drawn, and this is the answer to both
+  -- the table at the path is read, keys are drawn, and this is the answer to both
   pub data TellsKeyed {A : Type 0} (Answers : Text → Keys → Result A Refusal → Type 0) (path : Bor Text) : Result A Fault → Type 0 where
-    unkeyed : (fault : Fault)
-        → IsUnkeyed (found path) (HasFailed told.fails Read path.now) (told.no_keys (told.keys old) (told.keys new)) (told.keys new ≡ told.keys old) path fault
-        → TellsKeyed Answers path (Err fault)
-    read : (bytes : Text) (keys : Keys) (end : Result A Fault) → Gives (found path) bytes → IsDrawn told.draws (told.keys old) keys (told.keys new)
-        → Answered (Answers bytes keys) end → TellsKeyed Answers path end
+    unkeyed : (fault : Fault) → IsUnkeyed told old new path fault → TellsKeyed Answers path (Err fault)
+    read : (bytes : Text) (keys : Keys) (end : Result A Fault) → Gives (disk told old path.now) bytes
+        → IsDrawn told.draws (told.keys old) keys (told.keys new) → Answered (Answers bytes keys) end → TellsKeyed Answers path end
 
-  -- the rule file at the path is read, and what follows depends on its rules; no keys are drawn before that
-  pub data OnRules {A : Type 0} (path : Bor Text) (Follows : RuleSet → Result A Fault → Type 0) : Result A Fault → Type 0 where
-    no_rules : (fault : Fault) → IsUnruled (found path) (HasFailed told.fails Read path.now) path fault → told.keys new ≡ told.keys old
-        → OnRules path Follows (Err fault)
-    rules : (set : RuleSet) (end : Result A Fault) → HasRules (found path) set → Follows set end → OnRules path Follows end
+  -- the rules and the table of a target are read, and this is the answer to both
+  pub data TellsOfTarget {A : Type 0} (Answers : RuleSet → Text → Keys → Result A Refusal → Type 0) (rules table : Bor Text) : Result A Fault → Type 0 where
+    no_target : (fault : Fault) → IsNoTarget told old new rules table fault → TellsOfTarget Answers rules table (Err fault)
+    read : (set : RuleSet) (bytes : Text) (keys : Keys) (end : Result A Fault) → IsTarget told old new rules table set bytes keys
+        → Answered (Answers set bytes keys) end → TellsOfTarget Answers rules table end
 
-  -- the file at the source is read, and a file of the answer to its bytes is placed at the target; the text is the line with the number of its bytes. After an
-  -- error the target is as it was
+  -- the file at the source is read, and a file of the answer to its bytes is placed at the target
   pub data Makes (kind : Kind) (Answers : Text → Result Text Refusal → Type 0) (source target : Bor Text) : Result Text Fault → Type 0 where
     not_made : (fault : Fault) → Tells kind Answers source (Err fault) → Unchanged (disk told old) (disk told new)
         → Makes kind Answers source target (Err fault)
-    not_placed : (bytes file : Text) (fault : Fault) → Gives (found source) bytes → Answers bytes (Ok file)
-        → IsUnplaced (IsPlaceFailure told.fails target.now) target fault → IsAsBefore told.fails (disk told old) target.now (disk told new)
-        → Makes kind Answers source target (Err fault)
-    placed : (bytes file text : Text) → Gives (found source) bytes → Answers bytes (Ok file)
-        → IsPlaced (disk told old) target.now file (disk told new) → text ≡ count_line (length file) → Makes kind Answers source target (Ok text)
+    made : (between : System) (bytes file : Text) (end : Result Text Fault) → Gives (disk told old source.now) bytes → Answers bytes (Ok file)
+        → Unchanged (disk told old) (disk told between) → Places told between new target file end → Makes kind Answers source target end
 
   -- the registry file at the path, or a file that it names, cannot be loaded
   pub record IsNoRegistry (path : Bor Text) (fault : Fault) : Type 0 where

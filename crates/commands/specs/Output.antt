@@ -1,11 +1,10 @@
 -- What a command prints of its answer.
-use Rattle.std.specs.Prelude.{◌≡◌, ℕ, List, codes, Option, Some, None, Result, Ok, Err, String, string_bytes, true, false}
+use Rattle.std.specs.Prelude.{◌≡◌, ℕ, List, codes, Option, Some, None, Result, Ok, Err, true, false}
 use Rattle.std.specs.Borrow.{Bor}
 use Rattle.std.specs.Io.KnownBytes.{Appends}
 use Rattle.text_model.specs.Texts.{Text}
 use Rattle.text_output.specs.Writing.{IsWrittenInPart}
-use Rattle.printed_text.specs.declared.findings.Findings.{Findings}
-use Rattle.answers.specs.Findings.{Report, report}
+use Rattle.answers.specs.Findings.{Report}
 use Rattle.commands.specs.declared.fault.Fault.{Fault}
 use Rattle.commands.specs.declared.fault.Fault.TheVariants.{Warning, Device}
 
@@ -29,14 +28,6 @@ output_of contents old new = record {
   gets_part = IsWrittenInPart (contents old) (contents new);
   gets_nothing = new ≡ old;
 }
-
-abbrev pub text_result : {A : Type 0} → Result (String A) Fault → Result Text Fault
-text_result (Ok text) = Ok (string_bytes text)
-text_result (Err fault) = Err fault
-
-abbrev pub report_result : Result Findings Fault → Result Report Fault
-report_result (Ok findings) = Ok (report findings)
-report_result (Err fault) = Err fault
 
 -- the answer is printed, if there is one
 pub data Prints (Answers : Result Text Fault → Type 0) (output : Output) : Option Fault → Type 0 where

@@ -16,7 +16,7 @@ use Rattle.commands.specs.ExpandArguments.{names_of}
 use Rattle.commands.specs.Arguments.{AreArgumentsOf, AreNoArguments}
 use Rattle.commands.specs.Faults.{status_of}
 use Rattle.commands.specs.Reading.{rule_file, code_file, loaded_file}
-use Rattle.commands.specs.Answers.{Answered, Makes, OnRules, Resolves, Tells, TellsKeyed}
+use Rattle.commands.specs.Answers.{Answered, Makes, Resolves, Tells, TellsKeyed, TellsOfTarget}
 use Rattle.commands.specs.Output.{Output, Prints, Reports}
 use Rattle.commands.specs.Explaining.{Explains}
 use Rattle.commands.specs.Serving.{Serves}
@@ -43,7 +43,7 @@ module _ {System : Type 0} (told : Told System) (old new : System) (output : Out
   Ends (Upgrade source target) = Prints (Makes told old new code_file IsUpgradeOf source target) output
   Ends (Run code query) = Prints (Tells told old new loaded_file (λ bytes. IsRunLinkOf bytes query.now) code) output
   Ends (Inspect table) = Reports (TellsKeyed told old new IsInspectionOf table) output
-  Ends (Lint rules table) = Reports (OnRules told old new rules (λ set. TellsKeyed told old new (IsLintOf set) table)) output
+  Ends (Lint rules table) = Reports (TellsOfTarget told old new IsLintOf rules table) output
   Ends (Explain rules table query) = Explains told old new rules table query.now output
   Ends (Resolve registry query) = Prints (Resolves told old new (λ targets. IsMenuOf targets query.now) registry) output
   Ends (Serve service) = Serves told old service new output

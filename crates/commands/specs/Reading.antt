@@ -1,17 +1,22 @@
--- Why a file cannot be read, or not as what it should be. Parameters: what is at the path, and that a read failed there.
-use Rattle.std.specs.Prelude.{◌≢◌, ◌≤◌, ℕ, length}
+-- Files that a command reads, and why they cannot be read, or not as what they should be.
+use Rattle.std.specs.Prelude.{◌≡◌, ◌≢◌, ◌≤◌, ℕ, length}
 use Rattle.std.specs.Borrow.{Bor}
 use Rattle.text_model.specs.Texts.{Text}
 use Rattle.files.specs.Found.{Found, Absent, Gives, IsLong, OfFile}
+use Rattle.files.specs.Changes.{Unchanged}
+use Rattle.files.specs.declared.call.FileCall.TheVariants.{Read}
 use Rattle.rule_parser.specs.Grammar.{IsRuleText}
 use Rattle.rule_parser.specs.Rules.{RuleSet}
 use Rattle.rule_parser.specs.declared.error.RuleErrorKind.TheVariants as rule
 use Rattle.code_file.specs.declared.error.CodeErrorKind.TheVariants as code
 use Rattle.verifier.specs.declared.error.LoadError.TheVariants as load
+use Rattle.kbart_rows.specs.Drawing.{IsDrawn}
 use Rattle.kbart_rows.specs.declared.error.TableError.TheVariants as table
+use Rattle.kbart_rows.specs.declared.keys.Keys.{Keys}
 use Rattle.answers.specs.Reading.{IsNoRules}
 use Rattle.answers.specs.declared.refusal.Refusal.{Refusal}
 use Rattle.answers.specs.declared.refusal.Refusal.TheVariants.{Rules, Code, Load, Table, Memory}
+use Rattle.commands.specs.World.{Told, disk}
 use Rattle.commands.specs.declared.fault.Fault.{Fault}
 use Rattle.commands.specs.declared.fault.Fault.TheVariants.{Refused, Device}
 
@@ -34,22 +39,39 @@ loaded_file = record { limit = 65536; too_long = Load (load.Code code.TooLong 65
 abbrev pub table_file : Kind
 table_file = record { limit = 16777216; too_long = Table table.TooLong }
 
--- the call failed, or the file is too long, or an allocation failed, which is never reported for a file that does not exist
-pub data IsUnread (kind : Kind) (found : Found) (failed : Type 0) (path : Bor Text) : Fault → Type 0 where
-  no_read : failed → IsUnread kind found failed path (Device path)
-  long : IsLong kind.limit found → IsUnread kind found failed path (Refused kind.too_long)
-  no_memory : found ≢ Absent → IsUnread kind found failed path (Refused Memory)
-
 -- the file of the rules is at the path
 abbrev pub HasRules : Found → RuleSet → Type 0
 HasRules found rules = OfFile found (λ bytes. IsRuleText bytes rules)
 
--- the file cannot be read, or its bytes are not a rule text
-pub data IsUnruled (found : Found) (failed : Type 0) (path : Bor Text) : Fault → Type 0 where
-  unread : (fault : Fault) → IsUnread rule_file found failed path fault → IsUnruled found failed path fault
-  no_rules : (bytes : Text) (e : Refusal) → Gives found bytes → IsNoRules bytes e → IsUnruled found failed path (Refused e)
+module _ {System : Type 0} (told : Told System) (old new : System) where
+  abbrev pub found : Bor Text → Found
+  found path = disk told old path.now
 
--- the file of a table cannot be read, and no keys are drawn; or it was read, and then no keys could be drawn
-pub data IsUnkeyed (found : Found) (failed no_keys undrawn : Type 0) (path : Bor Text) : Fault → Type 0 where
-  unread : (fault : Fault) → IsUnread table_file found failed path fault → undrawn → IsUnkeyed found failed no_keys undrawn path fault
-  keyless : OfFile found (λ bytes. length bytes ≤ 16777216) → no_keys → IsUnkeyed found failed no_keys undrawn path (Device path)
+  -- the call failed; or the file is too long; or the call ran out of memory, which is never reported for a file that does not exist
+  pub data IsUnread (kind : Kind) (path : Bor Text) : Fault → Type 0 where
+    no_read : told.fails (told.files old) Read path.now (told.files new) → IsUnread kind path (Device path)
+    long : IsLong kind.limit (found path) → IsUnread kind path (Refused kind.too_long)
+    no_memory : found path ≢ Absent → told.runs_out (told.files old) Read path.now (told.files new) → IsUnread kind path (Refused Memory)
+
+  -- the file cannot be read, or its bytes are not a rule text
+  pub data IsUnruled (path : Bor Text) : Fault → Type 0 where
+    unread : (fault : Fault) → IsUnread rule_file path fault → IsUnruled path fault
+    no_rules : (bytes : Text) (e : Refusal) → Gives (found path) bytes → IsNoRules bytes e → IsUnruled path (Refused e)
+
+  -- the file of a table cannot be read, and no keys are drawn; or it was read, and then no keys could be drawn
+  pub data IsUnkeyed (path : Bor Text) : Fault → Type 0 where
+    unread : (fault : Fault) → IsUnread table_file path fault → told.keys new ≡ told.keys old → IsUnkeyed path fault
+    keyless : OfFile (found path) (λ bytes. length bytes ≤ 16777216) → told.no_keys (told.keys old) (told.keys new) → IsUnkeyed path (Device path)
+
+  -- the rules of a target are at the first path; the bytes of its table are at the second, and then keys were drawn
+  pub record IsTarget (rules table : Bor Text) (set : RuleSet) (bytes : Text) (keys : Keys) : Type 0 where
+    pub ruled : HasRules (found rules) set
+    pub gives : Gives (found table) bytes
+    pub drawn : IsDrawn told.draws (told.keys old) keys (told.keys new)
+
+-- the files of a target cannot be read: the rules, and no keys are drawn; or, after the rules, the table
+pub data IsNoTarget {System : Type 0} (told : Told System) (old new : System) (rules table : Bor Text) : Fault → Type 0 where
+  no_rules : (fault : Fault) → IsUnruled told old new rules fault → told.keys new ≡ told.keys old → IsNoTarget told old new rules table fault
+  no_table : (between : System) (set : RuleSet) (fault : Fault) → HasRules (found told old new rules) set
+      → Unchanged (disk told old) (disk told between) → told.keys between ≡ told.keys old → IsUnkeyed told between new table fault
+      → IsNoTarget told old new rules table fault

@@ -2,15 +2,18 @@
 use Rattle.std.specs.Prelude.{ℕ, Option}
 use Rattle.text_model.specs.Texts.{Text}
 use Rattle.files.specs.Found.{Disk}
+use Rattle.files.specs.Modes.{Modes}
 use Rattle.files.specs.declared.call.FileCall.{FileCall}
 use Rattle.http_streams.specs.Streams.{InputState, OutputState}
 
 pub record Told (System : Type 0) : Type 1 where
-  -- files: what is at each path, and between which states a call at a path failed
+  -- files: what is at each path, the mode of the file there, and between which states a call at a path failed or ran out of memory
   pub FileState : Type 0
   pub files : System → FileState
   pub at : FileState → Disk
+  pub mode_at : FileState → Modes
   pub fails : FileState → FileCall → Text → FileState → Type 0
+  pub runs_out : FileState → FileCall → Text → FileState → Type 0
   -- keys: between which states two numbers were drawn, or none could be drawn
   pub KeyState : Type 0
   pub keys : System → KeyState
@@ -33,3 +36,7 @@ pub record Told (System : Type 0) : Type 1 where
 -- what is at each path
 abbrev pub disk : {System : Type 0} → Told System → System → Disk
 disk told s = told.at (told.files s)
+
+-- the mode of the file at each path, if it is known
+abbrev pub modes : {System : Type 0} → Told System → System → Modes
+modes told s = told.mode_at (told.files s)

@@ -13,53 +13,25 @@ pub enum Command<'a> {
     /// `expand [--list NAME].. TEMPLATE QUERY`
     Expand(ExpandArguments<'a, 'a>),
     /// `link RULES QUERY`
-    Link {
-        rules: &'a str,
-        query: &'a str,
-    },
+    Link(&'a str, &'a str),
     /// `compile RULES CODE`
-    Compile {
-        rules: &'a str,
-        code: &'a str,
-    },
+    Compile(&'a str, &'a str),
     /// `verify CODE`
-    Verify {
-        code: &'a str,
-    },
+    Verify(&'a str),
     /// `show CODE`
-    Show {
-        code: &'a str,
-    },
+    Show(&'a str),
     /// `upgrade OLD NEW`
-    Upgrade {
-        old: &'a str,
-        new: &'a str,
-    },
+    Upgrade(&'a str, &'a str),
     /// `run CODE QUERY`
-    Run {
-        code: &'a str,
-        query: &'a str,
-    },
+    Run(&'a str, &'a str),
     /// `inspect TABLE`
-    Inspect {
-        table: &'a str,
-    },
+    Inspect(&'a str),
     /// `lint RULES TABLE`
-    Lint {
-        rules: &'a str,
-        table: &'a str,
-    },
+    Lint(&'a str, &'a str),
     /// `explain RULES TABLE QUERY`
-    Explain {
-        rules: &'a str,
-        table: &'a str,
-        query: &'a str,
-    },
+    Explain(&'a str, &'a str, &'a str),
     /// `resolve REGISTRY QUERY`
-    Resolve {
-        registry: &'a str,
-        query: &'a str,
-    },
+    Resolve(&'a str, &'a str),
     /// `serve REGISTRY PORT COUNT`
     Serve(Service<'a>),
     /// `--help`, `-h` or `help`
@@ -115,9 +87,9 @@ fn of_one_argument<'a>(name: &str, argument: &'a str) -> Option<Command<'a>>
     ensures none { IfNone result (AreNoArguments (name.now ∷ argument.now ∷ [])) }
 {
     match name {
-        "verify" => Some(Command::Verify { code: argument }),
-        "show" => Some(Command::Show { code: argument }),
-        "inspect" => Some(Command::Inspect { table: argument }),
+        "verify" => Some(Command::Verify(argument)),
+        "show" => Some(Command::Show(argument)),
+        "inspect" => Some(Command::Inspect(argument)),
         _ => None,
     }
 }
@@ -129,30 +101,12 @@ fn of_two_arguments<'a>(name: &str, first: &'a str, second: &'a str) -> Option<C
     ensures none { IfNone result (AreNoArguments (name.now ∷ first.now ∷ second.now ∷ [])) }
 {
     match name {
-        "link" => Some(Command::Link {
-            rules: first,
-            query: second,
-        }),
-        "compile" => Some(Command::Compile {
-            rules: first,
-            code: second,
-        }),
-        "upgrade" => Some(Command::Upgrade {
-            old: first,
-            new: second,
-        }),
-        "run" => Some(Command::Run {
-            code: first,
-            query: second,
-        }),
-        "resolve" => Some(Command::Resolve {
-            registry: first,
-            query: second,
-        }),
-        "lint" => Some(Command::Lint {
-            rules: first,
-            table: second,
-        }),
+        "link" => Some(Command::Link(first, second)),
+        "compile" => Some(Command::Compile(first, second)),
+        "upgrade" => Some(Command::Upgrade(first, second)),
+        "run" => Some(Command::Run(first, second)),
+        "resolve" => Some(Command::Resolve(first, second)),
+        "lint" => Some(Command::Lint(first, second)),
         _ => None,
     }
 }
@@ -170,11 +124,7 @@ fn of_three_arguments<'a>(
 {
     match name {
         "serve" => Some(Command::Serve(Service::parse(first, second, third)?)),
-        "explain" => Some(Command::Explain {
-            rules: first,
-            table: second,
-            query: third,
-        }),
+        "explain" => Some(Command::Explain(first, second, third)),
         _ => None,
     }
 }

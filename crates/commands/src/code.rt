@@ -1,8 +1,8 @@
 //! The commands on code files: `verify`, `show`, `upgrade` and `run`.
 
-ghost use Rattle.std.specs.Prelude.{Ok, Err, IfOk, IfErr, string_bytes};
 ghost use Rattle.files.specs.Changes.{Unchanged};
 ghost use Rattle.answers.specs.Listing.{IsListingOf};
+ghost use Rattle.answers.specs.Results.{text_result};
 ghost use Rattle.answers.specs.Run.{IsRunLinkOf};
 ghost use Rattle.answers.specs.Upgrade.{IsUpgradeOf};
 ghost use Rattle.answers.specs.Verdict.{IsVerdictOf};
@@ -34,14 +34,12 @@ pub(crate) fn verify<'a, F: Files, K: KeySource, P: Ports>(
     rt: &mut System<F, K, P>,
     code: &'a str,
 ) -> Result<String, Fault<'a>>
-    ensures ok { IfOk result (λ text. Tells ⟦<System<F, K, P> as World>⟧.told rt.old rt.new loaded_file IsVerdictOf
-        code.entry (Ok (string_bytes text))) }
-    ensures err { IfErr result (λ fault. Tells ⟦<System<F, K, P> as World>⟧.told rt.old rt.new loaded_file IsVerdictOf
-        code.entry (Err fault)) }
+    ensures ends { Tells ⟦<System<F, K, P> as World>⟧.told rt.old rt.new loaded_file IsVerdictOf code.entry
+        (text_result result) }
     ensures same { Unchanged (F.at rt.old.files) (F.at rt.new.files) }
 {
     let too_long = Refusal::Load(LONG_CODE_TO_LOAD);
-    let bytes = read_file(rt.alloc, &mut rt.files, code, MAX_BYTES, too_long)?;
+    let bytes = read_file(rt, code, MAX_BYTES, too_long)?;
     Ok(verdict_of(rt.alloc, &bytes)?)
 }
 
@@ -50,14 +48,12 @@ pub(crate) fn show<'a, F: Files, K: KeySource, P: Ports>(
     rt: &mut System<F, K, P>,
     code: &'a str,
 ) -> Result<String, Fault<'a>>
-    ensures ok { IfOk result (λ text. Tells ⟦<System<F, K, P> as World>⟧.told rt.old rt.new code_file IsListingOf
-        code.entry (Ok (string_bytes text))) }
-    ensures err { IfErr result (λ fault. Tells ⟦<System<F, K, P> as World>⟧.told rt.old rt.new code_file IsListingOf
-        code.entry (Err fault)) }
+    ensures ends { Tells ⟦<System<F, K, P> as World>⟧.told rt.old rt.new code_file IsListingOf code.entry
+        (text_result result) }
     ensures same { Unchanged (F.at rt.old.files) (F.at rt.new.files) }
 {
     let too_long = Refusal::Code(LONG_CODE);
-    let bytes = read_file(rt.alloc, &mut rt.files, code, MAX_BYTES, too_long)?;
+    let bytes = read_file(rt, code, MAX_BYTES, too_long)?;
     Ok(listing_of(rt.alloc, &bytes)?)
 }
 
@@ -68,15 +64,13 @@ pub(crate) fn upgrade<'a, F: Files, K: KeySource, P: Ports>(
     old: &'a str,
     new: &'a str,
 ) -> Result<String, Fault<'a>>
-    ensures ok { IfOk result (λ line. Makes ⟦<System<F, K, P> as World>⟧.told rt.old rt.new code_file IsUpgradeOf
-        old.entry new.entry (Ok (string_bytes line))) }
-    ensures err { IfErr result (λ fault. Makes ⟦<System<F, K, P> as World>⟧.told rt.old rt.new code_file IsUpgradeOf
-        old.entry new.entry (Err fault)) }
+    ensures { Makes ⟦<System<F, K, P> as World>⟧.told rt.old rt.new code_file IsUpgradeOf old.entry new.entry
+        (text_result result) }
 {
     let too_long = Refusal::Code(LONG_CODE);
-    let bytes = read_file(rt.alloc, &mut rt.files, old, MAX_BYTES, too_long)?;
+    let bytes = read_file(rt, old, MAX_BYTES, too_long)?;
     let file = upgrade_of(rt.alloc, &bytes)?;
-    Ok(place_counted(rt.alloc, &mut rt.files, new, &file)?)
+    place_counted(rt, new, &file)
 }
 
 /// `run CODE QUERY`: the line of the link that the code file gives for the query.
@@ -85,13 +79,11 @@ pub(crate) fn run<'a, F: Files, K: KeySource, P: Ports>(
     code: &'a str,
     query: &str,
 ) -> Result<String, Fault<'a>>
-    ensures ok { IfOk result (λ line. Tells ⟦<System<F, K, P> as World>⟧.told rt.old rt.new loaded_file
-        (λ bytes. IsRunLinkOf bytes query.now) code.entry (Ok (string_bytes line))) }
-    ensures err { IfErr result (λ fault. Tells ⟦<System<F, K, P> as World>⟧.told rt.old rt.new loaded_file
-        (λ bytes. IsRunLinkOf bytes query.now) code.entry (Err fault)) }
+    ensures ends { Tells ⟦<System<F, K, P> as World>⟧.told rt.old rt.new loaded_file
+        (λ bytes. IsRunLinkOf bytes query.now) code.entry (text_result result) }
     ensures same { Unchanged (F.at rt.old.files) (F.at rt.new.files) }
 {
     let too_long = Refusal::Load(LONG_CODE_TO_LOAD);
-    let bytes = read_file(rt.alloc, &mut rt.files, code, MAX_BYTES, too_long)?;
+    let bytes = read_file(rt, code, MAX_BYTES, too_long)?;
     Ok(run_link_of(rt.alloc, &bytes, query)?)
 }

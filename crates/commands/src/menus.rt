@@ -1,9 +1,10 @@
 //! `resolve REGISTRY QUERY`: the menu of a registry file for a query.
 
-ghost use Rattle.std.specs.Prelude.{◌≡◌, Ok, Err, IfOk, IfErr, string_bytes};
+ghost use Rattle.std.specs.Prelude.{◌≡◌, IfOk, IfErr};
 ghost use Rattle.files.specs.Changes.{Unchanged};
 ghost use Rattle.registry_file.specs.Loading.{IsLoaded};
 ghost use Rattle.answers.specs.Menu.{IsMenuOf};
+ghost use Rattle.answers.specs.Results.{text_result};
 ghost use Rattle.commands.specs.Answers.{IsNoRegistry, Resolves};
 
 use crate::fault::{Fault, registry_fault};
@@ -21,10 +22,8 @@ pub(crate) fn resolve<'a, F: Files, K: KeySource, P: Ports>(
     registry: &'a str,
     query: &str,
 ) -> Result<String, Fault<'a>>
-    ensures ok { IfOk result (λ text. Resolves ⟦<System<F, K, P> as World>⟧.told rt.old rt.new
-        (λ targets. IsMenuOf targets query.now) registry.entry (Ok (string_bytes text))) }
-    ensures err { IfErr result (λ fault. Resolves ⟦<System<F, K, P> as World>⟧.told rt.old rt.new
-        (λ targets. IsMenuOf targets query.now) registry.entry (Err fault)) }
+    ensures ends { Resolves ⟦<System<F, K, P> as World>⟧.told rt.old rt.new (λ targets. IsMenuOf targets query.now)
+        registry.entry (text_result result) }
     ensures same { Unchanged (F.at rt.old.files) (F.at rt.new.files) }
 {
     let targets = open_registry(rt, registry)?;

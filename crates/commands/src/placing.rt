@@ -1,30 +1,29 @@
 //! Files that a command writes.
 
-ghost use Rattle.std.specs.Prelude.{◌≡◌, IfOk, IfErr, OnOk, OnErr, length, string_bytes};
-ghost use Rattle.files.specs.Placing.{IsAsBefore, IsPlaced, IsPlaceFailure};
-ghost use Rattle.commands.specs.Placing.{IsUnplaced, count_line};
+ghost use Rattle.std.specs.Prelude.{◌≡◌, IfOk, length, string_bytes};
+ghost use Rattle.answers.specs.Results.{text_result};
+ghost use Rattle.commands.specs.Placing.{Places, count_line};
 
 use crate::fault::Fault;
+use crate::world::{System, World};
 use answers::Refusal;
 use files::{FileError, Files, place};
+use http_streams::Ports;
+use kbart_rows::KeySource;
 use std::alloc::{AllocError, Global};
 
 /// Places a file of these bytes at the path, and returns the line with their number. The file is written to `PATH.new`,
 /// which must not exist, and then renamed.
-pub(crate) fn place_counted<'a, F: Files>(
-    alloc: Global,
-    files: &mut F,
+pub(crate) fn place_counted<'a, F: Files, K: KeySource, P: Ports>(
+    rt: &mut System<F, K, P>,
     path: &'a str,
     bytes: &[u8],
 ) -> Result<String, Fault<'a>>
-    ensures counted { IfOk result (λ line. string_bytes line ≡ count_line (length bytes.now)) }
-    ensures placed { OnOk result (IsPlaced (F.at files.old) path.now bytes.now (F.at files.new)) }
-    ensures err { IfErr result (IsUnplaced (IsPlaceFailure F.fails path.now) path.entry) }
-    ensures kept { OnErr result (IsAsBefore F.fails (F.at files.old) path.now (F.at files.new)) }
+    ensures { Places ⟦<System<F, K, P> as World>⟧.told rt.old rt.new path.entry bytes.now (text_result result) }
 {
     // The line is made first, so that no allocation can fail once the file is placed.
-    let line = bytes_line(alloc, bytes.len())?;
-    match place(alloc, files, path, bytes) {
+    let line = bytes_line(rt.alloc, bytes.len())?;
+    match place(rt.alloc, &mut rt.files, path, bytes) {
         Ok(()) => Ok(line),
         Err(FileError::Failed) => Err(Fault::Device(path)),
         Err(FileError::NoMemory) => Err(Fault::Refused(Refusal::Memory)),

@@ -1,7 +1,8 @@
 //! Printing.
 
 ghost use Rattle.std.specs.Prelude.{◌≡◌, Ok};
-ghost use Rattle.commands.specs.Output.{Prints, Reports, end_of, output_of, report_result, text_result};
+ghost use Rattle.answers.specs.Results.{report_result, text_result};
+ghost use Rattle.commands.specs.Output.{Prints, Reports, end_of, output_of};
 
 use crate::fault::Fault;
 use printed_text::Findings;

@@ -1,11 +1,11 @@
 //! The commands on templates and rule files: `expand`, `link` and `compile`.
 
-ghost use Rattle.std.specs.Prelude.{Ok, Err, IfOk, IfErr, string_bytes};
 ghost use Rattle.files.specs.Changes.{Unchanged};
 ghost use Rattle.text_model.specs.Texts.{texts_of};
 ghost use Rattle.answers.specs.Code.{IsCodeOf};
 ghost use Rattle.answers.specs.Expansion.{IsExpansionOf};
 ghost use Rattle.answers.specs.Link.{IsLinkOf};
+ghost use Rattle.answers.specs.Results.{text_result};
 ghost use Rattle.commands.specs.ExpandArguments.{names_of};
 ghost use Rattle.commands.specs.Answers.{Answered, Makes, Tells};
 ghost use Rattle.commands.specs.Reading.{rule_file};
@@ -24,10 +24,8 @@ use std::alloc::Global;
 
 /// `expand [--list NAME].. TEMPLATE QUERY`: the line of the template's expansion for the query.
 pub(crate) fn expand<'a>(alloc: Global, arguments: ExpandArguments) -> Result<String, Fault<'a>>
-    ensures ok { IfOk result (λ line. Answered (IsExpansionOf (names_of (texts_of arguments.entry.options.now))
-        arguments.entry.template.now arguments.entry.query.now) (Ok (string_bytes line))) }
-    ensures err { IfErr result (λ fault. Answered (IsExpansionOf (names_of (texts_of arguments.entry.options.now))
-        arguments.entry.template.now arguments.entry.query.now) (Err fault)) }
+    ensures { Answered (IsExpansionOf (names_of (texts_of arguments.entry.options.now))
+        arguments.entry.template.now arguments.entry.query.now) (text_result result) }
 {
     let lists = list_names(alloc, arguments.options)?;
     Ok(expansion_of(alloc, &lists, arguments.template, arguments.query)?)
@@ -39,14 +37,12 @@ pub(crate) fn link<'a, F: Files, K: KeySource, P: Ports>(
     rules: &'a str,
     query: &str,
 ) -> Result<String, Fault<'a>>
-    ensures ok { IfOk result (λ line. Tells ⟦<System<F, K, P> as World>⟧.told rt.old rt.new rule_file
-        (λ bytes. IsLinkOf bytes query.now) rules.entry (Ok (string_bytes line))) }
-    ensures err { IfErr result (λ fault. Tells ⟦<System<F, K, P> as World>⟧.told rt.old rt.new rule_file
-        (λ bytes. IsLinkOf bytes query.now) rules.entry (Err fault)) }
+    ensures ends { Tells ⟦<System<F, K, P> as World>⟧.told rt.old rt.new rule_file (λ bytes. IsLinkOf bytes query.now)
+        rules.entry (text_result result) }
     ensures same { Unchanged (F.at rt.old.files) (F.at rt.new.files) }
 {
     let too_long = Refusal::Rules(LONG_RULES);
-    let bytes = read_file(rt.alloc, &mut rt.files, rules, MAX_BYTES, too_long)?;
+    let bytes = read_file(rt, rules, MAX_BYTES, too_long)?;
     Ok(link_of(rt.alloc, &bytes, query)?)
 }
 
@@ -57,13 +53,11 @@ pub(crate) fn compile<'a, F: Files, K: KeySource, P: Ports>(
     rules: &'a str,
     code: &'a str,
 ) -> Result<String, Fault<'a>>
-    ensures ok { IfOk result (λ line. Makes ⟦<System<F, K, P> as World>⟧.told rt.old rt.new rule_file IsCodeOf
-        rules.entry code.entry (Ok (string_bytes line))) }
-    ensures err { IfErr result (λ fault. Makes ⟦<System<F, K, P> as World>⟧.told rt.old rt.new rule_file IsCodeOf
-        rules.entry code.entry (Err fault)) }
+    ensures { Makes ⟦<System<F, K, P> as World>⟧.told rt.old rt.new rule_file IsCodeOf rules.entry code.entry
+        (text_result result) }
 {
     let too_long = Refusal::Rules(LONG_RULES);
-    let bytes = read_file(rt.alloc, &mut rt.files, rules, MAX_BYTES, too_long)?;
+    let bytes = read_file(rt, rules, MAX_BYTES, too_long)?;
     let file = code_of(rt.alloc, &bytes)?;
-    Ok(place_counted(rt.alloc, &mut rt.files, code, &file)?)
+    place_counted(rt, code, &file)
 }

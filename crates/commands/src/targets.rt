@@ -1,14 +1,15 @@
 //! The commands that examine the files of one target: `inspect`, `lint` and `explain`.
 
-ghost use Rattle.std.specs.Prelude.{◌≡◌, Ok, Err, IfOk, IfErr};
+ghost use Rattle.std.specs.Prelude.{◌≡◌};
 ghost use Rattle.files.specs.Changes.{Unchanged};
-ghost use Rattle.answers.specs.Findings.{IsInspectionOf, IsLintOf, report};
-ghost use Rattle.commands.specs.Answers.{OnRules, TellsKeyed};
-ghost use Rattle.commands.specs.Explaining.{Explained, Explains, IsTargetOf};
+ghost use Rattle.answers.specs.Findings.{IsInspectionOf, IsLintOf};
+ghost use Rattle.answers.specs.Results.{report_result};
+ghost use Rattle.commands.specs.Answers.{TellsKeyed, TellsOfTarget};
+ghost use Rattle.commands.specs.Explaining.{Explained, Explains};
 ghost use Rattle.commands.specs.Output.{end_of, output_of};
 
 use crate::fault::Fault;
-use crate::reading::{read_keyed, read_rules};
+use crate::reading::{read_keyed, read_target};
 use crate::world::{System, World};
 use answers::{Refusal, inspection_of, lint_of, request_of, table_of};
 use files::Files;
@@ -25,13 +26,11 @@ pub(crate) fn inspect<'a, F: Files, K: KeySource, P: Ports>(
     rt: &mut System<F, K, P>,
     table: &'a str,
 ) -> Result<Findings, Fault<'a>>
-    ensures ok { IfOk result (λ findings. TellsKeyed ⟦<System<F, K, P> as World>⟧.told rt.old rt.new IsInspectionOf
-        table.entry (Ok (report findings))) }
-    ensures err { IfErr result (λ fault. TellsKeyed ⟦<System<F, K, P> as World>⟧.told rt.old rt.new IsInspectionOf
-        table.entry (Err fault)) }
+    ensures ends { TellsKeyed ⟦<System<F, K, P> as World>⟧.told rt.old rt.new IsInspectionOf table.entry
+        (report_result result) }
     ensures same { Unchanged (F.at rt.old.files) (F.at rt.new.files) }
 {
-    let (bytes, keys) = read_keyed(rt.alloc, &mut rt.files, &mut rt.keys, table)?;
+    let (bytes, keys) = read_keyed(rt, table)?;
     Ok(inspection_of(rt.alloc, &bytes, keys)?)
 }
 
@@ -41,15 +40,11 @@ pub(crate) fn lint<'a, F: Files, K: KeySource, P: Ports>(
     rules: &'a str,
     table: &'a str,
 ) -> Result<Findings, Fault<'a>>
-    ensures ok { IfOk result (λ findings. OnRules ⟦<System<F, K, P> as World>⟧.told rt.old rt.new rules.entry
-        (λ set. TellsKeyed ⟦<System<F, K, P> as World>⟧.told rt.old rt.new (IsLintOf set) table.entry)
-        (Ok (report findings))) }
-    ensures err { IfErr result (λ fault. OnRules ⟦<System<F, K, P> as World>⟧.told rt.old rt.new rules.entry
-        (λ set. TellsKeyed ⟦<System<F, K, P> as World>⟧.told rt.old rt.new (IsLintOf set) table.entry) (Err fault)) }
+    ensures ends { TellsOfTarget ⟦<System<F, K, P> as World>⟧.told rt.old rt.new IsLintOf rules.entry table.entry
+        (report_result result) }
     ensures same { Unchanged (F.at rt.old.files) (F.at rt.new.files) }
 {
-    let rules = read_rules(rt.alloc, &mut rt.files, rules)?;
-    let (bytes, keys) = read_keyed(rt.alloc, &mut rt.files, &mut rt.keys, table)?;
+    let (rules, bytes, keys) = read_target(rt, rules, table)?;
     Ok(lint_of(rt.alloc, &rules, &bytes, keys)?)
 }
 
@@ -66,27 +61,9 @@ pub(crate) fn explain<'a, F: Files, K: KeySource, P: Ports, O: Write>(
         (output_of O.contents output.old output.new) (end_of result) }
     ensures same { Unchanged (F.at rt.old.files) (F.at rt.new.files) }
 {
-    let (rules, table) = read_target(rt, rules, table)?;
-    explain_query(rt.alloc, &rules, &table, query, output)
-}
-
-/// The rules and the holdings table at the two paths. The rules are read first.
-fn read_target<'a, F: Files, K: KeySource, P: Ports>(
-    rt: &mut System<F, K, P>,
-    rules: &'a str,
-    table: &'a str,
-) -> Result<(Rules, Table), Fault<'a>>
-    ensures ok { IfOk result (λ target. OnRules ⟦<System<F, K, P> as World>⟧.told rt.old rt.new rules.entry
-        (λ set. TellsKeyed ⟦<System<F, K, P> as World>⟧.told rt.old rt.new (IsTargetOf set) table.entry)
-        (Ok (target.0, target.1))) }
-    ensures err { IfErr result (λ fault. OnRules ⟦<System<F, K, P> as World>⟧.told rt.old rt.new rules.entry
-        (λ set. TellsKeyed ⟦<System<F, K, P> as World>⟧.told rt.old rt.new (IsTargetOf set) table.entry) (Err fault)) }
-    ensures same { Unchanged (F.at rt.old.files) (F.at rt.new.files) }
-{
-    let rules = read_rules(rt.alloc, &mut rt.files, rules)?;
-    let (bytes, keys) = read_keyed(rt.alloc, &mut rt.files, &mut rt.keys, table)?;
+    let (rules, bytes, keys) = read_target(rt, rules, table)?;
     let table = table_of(rt.alloc, &bytes, keys)?;
-    Ok((rules, table))
+    explain_query(rt.alloc, &rules, &table, query, output)
 }
 
 /// Prints what the rules give for the query on each row of the table that is tried.

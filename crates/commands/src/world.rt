@@ -31,7 +31,9 @@ impl<F: Files, K: KeySource, P: Ports> World for System<F, K, P> {
       FileState = F;
       files = λ s. s.files;
       at = F.at;
+      mode_at = F.mode_at;
       fails = F.fails;
+      runs_out = F.runs_out;
       KeyState = K;
       keys = λ s. s.keys;
       draws = K.draws;

@@ -1,31 +1,34 @@
-use Rattle.std.proofs.Common.{subst}
+use Rattle.std.proofs.Common.{subst, sym, true≢false}
 use Rattle.code_file.specs.Grammar.{IsCodeFile}
 use Rattle.answers.specs.Code.{IsCodeOf, GivesMeaning}
-use Rattle.answers.proofs.RefusalLemmas.{exit, no_code}
+use Rattle.answers.proofs.RefusalLemmas.{is_err, faulty}
 use Rattle.answers.proofs.code.code_of.Goals as goal
 
-pub returns-in_err-rules-clause-err : goal.returns-in_err-rules-clause-err
-returns-in_err-rules-clause-err c = exit _ _ _ c.from_residual.ensures.1 (IsCodeOf.no_rules _ c.in_err-rules.ensures.err)
+pub returns-in_err-rules : goal.returns-in_err-rules
+returns-in_err-rules c = rw (is_err _ _ c.from_residual.ensures.1) (IsCodeOf.no_rules _ c.in_err-rules.ensures.err)
 
-pub returns-in_err-code-clause-err : goal.returns-in_err-code-clause-err
-returns-in_err-code-clause-err c =
-    exit _ _ _ c.from_residual-in_err-code.ensures.1
-    (no_code c.args.bytes.now c.in_ok-rules.rules _ c.in_ok-rules.ensures.ok c.in_err-code.ensures.err)
+pub returns-in_err-write-in-Ok : goal.returns-in_err-write-in-Ok
+returns-in_err-write-in-Ok c = rw (is_err _ _ c.from_residual-in_err-write-in-Ok.ensures.1) (IsCodeOf.no_memory _ c.in_ok-rules.ensures.ok)
 
-pub returns-in_err-write-clause-err : goal.returns-in_err-write-clause-err
-returns-in_err-write-clause-err c = exit _ _ _ c.from_residual-in_err-write.ensures.1 IsCodeOf.no_memory
+pub returns-in-Err : goal.returns-in-Err
+returns-in-Err c = IsCodeOf.no_memory _ c.in_ok-rules.ensures.ok
 
-pub returns-clause-ok : goal.returns-clause-ok
-returns-clause-ok c =
+pub returns : goal.returns
+returns c =
+    IsCodeOf.over_limit c.in_ok-rules.rules _ c.in_ok-rules.ensures.ok
+    (faulty _ _ _ (λ same. true≢false (sym (rw same at c.if-eq.ensures))) c.in-Err.ensures.err)
+
+pub returns-in-Ok : goal.returns-in-Ok
+returns-in-Ok c =
     let rules = c.in_ok-rules.rules in
     let read = c.in_ok-rules.ensures.ok in
-    let file = c.in_ok-write.field-0.items in
-    let same = c.in_ok-code.ensures.ok.0 in
-    let is_file = subst (IsCodeFile file) same c.in_ok-write.ensures in
+    let file = c.in_ok-write-in-Ok.field-0.items in
+    let same = c.in-Ok.ensures.ok.0 in
+    let is_file = subst (IsCodeFile file) same c.in_ok-write-in-Ok.ensures in
     let law = c.compiled_code_is_accepted.ensures in
     let form = law.form rules read.sound in
     let typable = law.kinds rules read.sound in
-    IsCodeOf.compiled rules file read c.in_ok-code.ensures.ok.1
+    IsCodeOf.compiled rules file read c.in-Ok.ensures.ok.1
     (record {
       is_file = is_file;
       accepted = record {
@@ -37,4 +40,4 @@ returns-clause-ok c =
       };
       no_fault = c.accepted_file_has_no_fault.ensures file _ is_file form typable;
     })
-    (subst (λ code. GivesMeaning code rules) same c.in_ok-code.ensures.means)
+    (subst (λ code. GivesMeaning code rules) same c.in-Ok.ensures.means)

@@ -10,7 +10,7 @@ use Rattle.rule_parser.specs.Rules.{RuleSet}
 use Rattle.rule_parser.specs.Names.{each_once}
 use Rattle.rule_parser.specs.Meaning.{meaning}
 use Rattle.answers.specs.Link.{Means, IsLinkOf}
-use Rattle.answers.proofs.RefusalLemmas.{exit}
+use Rattle.answers.proofs.RefusalLemmas.{is_err}
 use Rattle.answers.proofs.link.link_of.Goals as goal
 
 -- what the rules mean in the environment that was filled
@@ -22,31 +22,31 @@ means rules query lists link listed accepted meant =
       meant = meant ∙ ap (λ names. meaning rules (filled names [] (pairs_of query))) listed;
     }
 
-pub returns-in_err-rules-clause-err : goal.returns-in_err-rules-clause-err
-returns-in_err-rules-clause-err c = exit _ _ _ c.from_residual.ensures.1 (IsLinkOf.no_rules _ c.in_err-rules.ensures.err)
+pub returns-in_err-rules : goal.returns-in_err-rules
+returns-in_err-rules c = rw (is_err _ _ c.from_residual.ensures.1) (IsLinkOf.no_rules _ c.in_err-rules.ensures.err)
 
-pub returns-in_err-lists-clause-err : goal.returns-in_err-lists-clause-err
-returns-in_err-lists-clause-err c = exit _ _ _ c.from_residual-in_err-lists.ensures.1 IsLinkOf.no_memory
+pub returns-in_err-lists : goal.returns-in_err-lists
+returns-in_err-lists c = rw (is_err _ _ c.from_residual-in_err-lists.ensures.1) (IsLinkOf.no_memory _ c.in_ok-rules.ensures.ok)
 
-pub returns-in_err-env-clause-err : goal.returns-in_err-env-clause-err
-returns-in_err-env-clause-err c =
-    exit _ _ _ c.from_residual-in_err-env.ensures.1 (IsLinkOf.no_request c.in_ok-rules.rules _ c.in_ok-rules.ensures.ok c.in_err-env.ensures.err)
+pub returns-in_err-env : goal.returns-in_err-env
+returns-in_err-env c =
+    rw (is_err _ _ c.from_residual-in_err-env.ensures.1) (IsLinkOf.no_request c.in_ok-rules.rules _ c.in_ok-rules.ensures.ok c.in_err-env.ensures.err)
 
-pub returns-in_err-link-clause-err : goal.returns-in_err-link-clause-err
-returns-in_err-link-clause-err c = exit _ _ _ c.from_residual-in_err-link.ensures.1 IsLinkOf.no_memory
+pub returns-in_err-link : goal.returns-in_err-link
+returns-in_err-link c = rw (is_err _ _ c.from_residual-in_err-link.ensures.1) (IsLinkOf.no_memory _ c.in_ok-rules.ensures.ok)
 
-pub returns-in_err-ended-in-Some-clause-err : goal.returns-in_err-ended-in-Some-clause-err
-returns-in_err-ended-in-Some-clause-err c = exit _ _ _ c.from_residual-in_err-ended-in-Some.ensures.1 IsLinkOf.no_memory
+pub returns-in_err-ended-in-Some : goal.returns-in_err-ended-in-Some
+returns-in_err-ended-in-Some c = rw (is_err _ _ c.from_residual-in_err-ended-in-Some.ensures.1) (IsLinkOf.no_memory _ c.in_ok-rules.ensures.ok)
 
-pub returns-in-Some-clause-ok : goal.returns-in-Some-clause-ok
-returns-in-Some-clause-ok c =
+pub returns-in-Some : goal.returns-in-Some
+returns-in-Some c =
     let value = c.in_ok-link.ensures.value ∙ ap (meaning c.in_ok-rules.rules) c.in_ok-env.ensures.entries in
     IsLinkOf.linked c.in_ok-rules.rules (string_bytes c.in-Some.link) _ c.in_ok-rules.ensures.ok
     (means _ _ _ _ (ap texts_of c.deref.ensures.value ∙ c.in_ok-lists.ensures) c.in_ok-env.ensures.accepted
     (sym (ap (option_map string_bytes) c.in-Some.is) ∙ value)) c.in_ok-ended-in-Some.ensures
 
-pub returns-clause-err : goal.returns-clause-err
-returns-clause-err c =
+pub returns : goal.returns
+returns c =
     let value = c.in_ok-link.ensures.value ∙ ap (meaning c.in_ok-rules.rules) c.in_ok-env.ensures.entries in
     IsLinkOf.no_link c.in_ok-rules.rules c.in_ok-rules.ensures.ok
     (means _ _ _ _ (ap texts_of c.deref.ensures.value ∙ c.in_ok-lists.ensures) c.in_ok-env.ensures.accepted

@@ -1,14 +1,23 @@
-use Rattle.answers.proofs.RefusalLemmas.{exit, not_accepted}
+use Rattle.std.proofs.Common.{◌≡◌, rules, sym, true≢false}
+use Rattle.verifier.specs.declared.error.LoadError.TheVariants.{NoMemory}
+use Rattle.answers.specs.Reading.{IsNotAccepted}
+use Rattle.answers.proofs.RefusalLemmas.{is_file}
 use Rattle.answers.proofs.reading.accepted_code.Goals as goal
 
-pub returns-in_err-code-clause-err : goal.returns-in_err-code-clause-err
-returns-in_err-code-clause-err c = exit _ _ _ c.from_residual.ensures.1 (not_accepted c.args.bytes.now _ c.in_err-code.ensures.refused)
-
-pub returns-clause-ok : goal.returns-clause-ok
-returns-clause-ok c =
+pub returns-in-Ok-clause-ok : goal.returns-in-Ok-clause-ok
+returns-in-Ok-clause-ok c =
     let known = c.code-accepted.ensures in
     record {
-      is_file = c.in_ok-code.ensures.code;
+      is_file = c.in-Ok.ensures.code;
       accepted = record { is_code = known.is_code; form = known.form; typable = known.typable; file = known.file; safe = known.safe };
-      no_fault = c.accepted_file_has_no_fault.ensures _ _ c.in_ok-code.ensures.code c.in_ok-code.ensures.form c.in_ok-code.ensures.typable;
+      no_fault = c.accepted_file_has_no_fault.ensures _ _ c.in-Ok.ensures.code c.in-Ok.ensures.form c.in-Ok.ensures.typable;
     }
+
+pub returns-in-Err-clause-err : goal.returns-in-Err-clause-err
+returns-in-Err-clause-err c =
+    let same : c.in-Err.e ≡ NoMemory = search rules in
+    let file = is_file _ _ c.in-Err.ensures.refused same in
+    IsNotAccepted.no_memory file.0 file.1
+
+pub returns-in-Err-2-clause-err : goal.returns-in-Err-2-clause-err
+returns-in-Err-2-clause-err c = IsNotAccepted.refused _ c.in-Err.ensures.refused (λ same. true≢false (sym (rw same at c.if-eq.ensures)))

@@ -1,5 +1,6 @@
 use Rattle.std.proofs.Common.{Ok, refl, sym, ap, ◌∙◌}
-use Rattle.commands.specs.Output.{fails, text_result}
+use Rattle.answers.specs.Results.{text_result}
+use Rattle.commands.specs.Output.{fails}
 use Rattle.commands.proofs.OutputLemmas.{prints_by}
 use Rattle.commands.proofs.printing.print.Goals as goal
 

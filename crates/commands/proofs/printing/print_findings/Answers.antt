@@ -1,6 +1,7 @@
 use Rattle.std.proofs.Common.{refl, sym, ap}
 use Rattle.answers.specs.Findings.{report}
-use Rattle.commands.specs.Output.{fails, unprinted, warns, clean, report_result}
+use Rattle.answers.specs.Results.{report_result}
+use Rattle.commands.specs.Output.{fails, unprinted, warns, clean}
 use Rattle.commands.proofs.printing.print_findings.Goals as goal
 
 pub returns-in-Ok-write_text : goal.returns-in-Ok-write_text

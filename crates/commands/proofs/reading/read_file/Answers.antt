@@ -8,4 +8,5 @@ pub returns-in-Err-File-Failed-clause-err : goal.returns-in-Err-File-Failed-clau
 returns-in-Err-File-Failed-clause-err g c = no_read (c.read_whole.ensures.failed (cc))
 
 pub returns-in-Err-File-NoMemory-clause-err : goal.returns-in-Err-File-NoMemory-clause-err
-returns-in-Err-File-NoMemory-clause-err g c = no_memory (λ absent. cc (c.read_whole.ensures.absent absent))
+returns-in-Err-File-NoMemory-clause-err g c =
+    no_memory (λ absent. cc (c.read_whole.ensures.absent absent)) (c.read_whole.ensures.ran_out (cc))

@@ -3,7 +3,7 @@ use Rattle.std.proofs.lemmas.Result.{err_from_is_err_and}
 use Rattle.rule_explanation.specs.Explanation.{explanation}
 use Rattle.rule_explanation.specs.Rows.{has_web_link}
 use Rattle.commands.specs.Explaining.{no_request, explained, no_web_link, unprinted, in_part}
-use Rattle.commands.specs.Output.{Output, output_of}
+use Rattle.commands.specs.Output.{output_of}
 use Rattle.commands.proofs.targets.explain_query.Goals as goal
 
 pub returns-in_err-request : goal.returns-in_err-request
