@@ -16,7 +16,7 @@ const SEPARATORS = [
 const DROPPED = [
     ['a prefix alone', 'rft_val_fmt=x&rft_id=info%3Apmid%2F&rft_id=info:doi/', '', 'rft_val_fmt=x'],
     ['keys of the front door', 'rft_val_fmt=x&x.doi=10.1/x&%78.issn=2901-0012', '', 'rft_val_fmt=x'],
-    ['columns', 'rft_val_fmt=x&title_url=https://e.org/&title%5Fid=3&access_type=F', '', 'rft_val_fmt=x'],
+    ['columns', 'rft_val_fmt=x&title_url=https://e.org/&title%5Fid=3&access_type=F&notes=n', '', 'rft_val_fmt=x'],
     ['ANY', 'rft_val_fmt=x&rft.issn=ANY&rft.eissn=any&rft.isbn=%41ny&issn=ANY&isbn=Any', '', 'rft_val_fmt=x'],
     ['ANY as the program reads it', 'rft_val_fmt=x&rft.issn=A-N-Y&rft.isbn=+a+n+y+', '', 'rft_val_fmt=x'],
     ['ANY elsewhere', 'rft_val_fmt=x&rft.atitle=any', '']
@@ -33,7 +33,7 @@ const OLD = [
         + '&atitle=Storm+surges&spage=101&pages=101-118&sid=EBSCO:Academic+Search&aulast=Smith',
         'rft.genre=article rft.issn=2901-0012 rft.volume=12 rft.issue=3 rft.spage=101 rft.pages=101-118'
         + ' rft.date=2003-05-01 rft.atitle=Storm+surges rft.aulast=Smith rfr_id=info:sid/EBSCO:Academic+Search'
-        + ' rft.jtitle=Annals+of+Tidal+Studies rft_val_fmt=J x.issn=2901-0012'],
+        + ' rft.jtitle=Annals+of+Tidal+Studies rft_val_fmt=J x.issn=2901-0012 x.from=20030501 x.to=20030501'],
     ['Web of Science', 'sid=ISI:WoS&genre=article&aulast=Smith&auinit=J&stitle=ANN+TIDAL+STUD&pid=%3Cut%3E1%3C/ut%3E',
         'rft.genre=article rft.stitle=ANN+TIDAL+STUD rft.aulast=Smith rft.auinit=J rft_dat=<ut>1</ut>'
         + ' rfr_id=info:sid/ISI:WoS rft_val_fmt=J'],
@@ -85,6 +85,8 @@ const NUMBERS = [
         'rft.issn=2901-0012 x.issn=2901-0012'],
     ['ProQuest, several', 'rft_val_fmt=x&rft.issn=29010012,+29080142', 'rft.issn=2901-0012 x.issn=2901-0012'
         + ' rft.eissn=2908-0142 x.eissn=2908-0142'],
+    ['Zotero, several as they should be', 'rft_val_fmt=x&rft.issn=2901-0012,+2908-0142',
+        'rft.issn=2901-0012 x.issn=2901-0012 rft.eissn=2908-0142 x.eissn=2908-0142'],
     ['the online one alone', 'rft_val_fmt=x&rft.eissn=2971-1312', 'rft.issn=2971-1312 x.issn=2971-1312'],
     ['ten digits', 'rft_val_fmt=x&rft.isbn=0-19-853453-1+(pbk.)', 'rft.isbn=9780198534532 x.isbn=9780198534532'],
     ['ten digits and X', 'rft_val_fmt=x&rft.isbn=080442957x', 'rft.isbn=9780804429573 x.isbn=9780804429573'],
@@ -95,27 +97,47 @@ const NUMBERS = [
 ];
 
 const DATES = [
-    ['YYYYMMDD', 'rft_val_fmt=x&rft.date=20130801', 'rft.date=2013-08-01'],
-    ['slashes', 'rft_val_fmt=x&rft.date=2013/08/01', 'rft.date=2013-08-01'],
-    ['YYYYMM', 'rft_val_fmt=x&rft.date=201308', 'rft.date=2013-08'],
-    ['no month', 'rft_val_fmt=x&rft.date=20130000', 'rft.date=2013'],
-    ['a month by name', 'rft_val_fmt=x&rft.date=Aug+2013', 'rft.date=2013-08'],
-    ['a range', 'rft_val_fmt=x&rft.date=2013-08/2013-09', 'rft.date=2013-08'],
-    ['years', 'rft_val_fmt=x&rft.date=2013-2014', 'rft.date=2013'],
-    ['a season', 'rft_val_fmt=x&rft.date=Winter+2012/2013', 'rft.date=2012'],
-    ['a time', 'rft_val_fmt=x&rft.date=2013-08-01T10:15:00Z', 'rft.date=2013-08-01'],
-    ['a time without marks', 'rft_val_fmt=x&rft.date=20130801101500', 'rft.date=2013-08-01'],
-    ['day or month', 'rft_val_fmt=x&rft.date=08/01/2013', 'rft.date=2013'],
-    ['day first', 'rft_val_fmt=x&rft.date=25/12/2013', 'rft.date=2013-12-25'],
-    ['month first', 'rft_val_fmt=x&rft.date=12/25/2013', 'rft.date=2013-12-25'],
-    ['month and year', 'rft_val_fmt=x&rft.date=08/2013', 'rft.date=2013-08'],
-    ['as the standard writes it', 'rft_val_fmt=x&rft.date=2013-08-01', ''],
-    ['a year', 'rft_val_fmt=x&rft.date=2013', ''],
-    ['a year that is guessed', 'rft_val_fmt=x&rft.date=c2013', 'rft.date=2013'],
-    ['rft.year', 'rft_val_fmt=x&rft.year=2013', 'rft.date=2013'],
+    ['YYYYMMDD', 'rft_val_fmt=x&rft.date=20130801', 'rft.date=2013-08-01 x.from=20130801 x.to=20130801'],
+    ['slashes', 'rft_val_fmt=x&rft.date=2013/08/01', 'rft.date=2013-08-01 x.from=20130801 x.to=20130801'],
+    ['YYYYMM', 'rft_val_fmt=x&rft.date=201308', 'rft.date=2013-08 x.from=20130801 x.to=20130831'],
+    ['no month', 'rft_val_fmt=x&rft.date=20130000', 'rft.date=2013 x.from=20130101 x.to=20131231'],
+    ['a month by name', 'rft_val_fmt=x&rft.date=Aug+2013', 'rft.date=2013-08 x.from=20130801 x.to=20130831'],
+    ['a range', 'rft_val_fmt=x&rft.date=2013-08/2013-09', 'rft.date=2013-08 x.from=20130801 x.to=20130831'],
+    ['years', 'rft_val_fmt=x&rft.date=2013-2014', 'rft.date=2013 x.from=20130101 x.to=20131231'],
+    ['a season', 'rft_val_fmt=x&rft.date=Winter+2012/2013', 'rft.date=2012 x.from=20120101 x.to=20121231'],
+    ['a time', 'rft_val_fmt=x&rft.date=2013-08-01T10:15:00Z', 'rft.date=2013-08-01 x.from=20130801 x.to=20130801'],
+    ['a time without marks', 'rft_val_fmt=x&rft.date=20130801101500',
+        'rft.date=2013-08-01 x.from=20130801 x.to=20130801'],
+    ['day or month', 'rft_val_fmt=x&rft.date=08/01/2013', 'rft.date=2013 x.from=20130101 x.to=20131231'],
+    ['day first', 'rft_val_fmt=x&rft.date=25/12/2013', 'rft.date=2013-12-25 x.from=20131225 x.to=20131225'],
+    ['month first', 'rft_val_fmt=x&rft.date=12/25/2013', 'rft.date=2013-12-25 x.from=20131225 x.to=20131225'],
+    ['month and year', 'rft_val_fmt=x&rft.date=08/2013', 'rft.date=2013-08 x.from=20130801 x.to=20130831'],
+    ['as the standard writes it', 'rft_val_fmt=x&rft.date=2013-08-01', 'x.from=20130801 x.to=20130801'],
+    ['a year', 'rft_val_fmt=x&rft.date=2013', 'x.from=20130101 x.to=20131231'],
+    ['a year that is guessed', 'rft_val_fmt=x&rft.date=c2013', 'rft.date=2013 x.from=20130101 x.to=20131231'],
+    ['rft.year', 'rft_val_fmt=x&rft.year=2013', 'rft.date=2013 x.from=20130101 x.to=20131231'],
     ['no year', 'rft_val_fmt=x&rft.date=in+press', '', 'rft_val_fmt=x'],
-    ['no year but in rft.year', 'rft_val_fmt=x&rft.date=in+press&rft.year=2013', 'rft.date=2013'],
-    ['a month of no year', 'rft_val_fmt=x&rft.date=2013-13-45', 'rft.date=2013']
+    ['no year but in rft.year', 'rft_val_fmt=x&rft.date=in+press&rft.year=2013',
+        'rft.date=2013 x.from=20130101 x.to=20131231'],
+    ['a month of no year', 'rft_val_fmt=x&rft.date=2013-13-45', 'rft.date=2013 x.from=20130101 x.to=20131231']
+];
+
+// The first and the last day of a date, and none for a request without one.
+const DAYS = [
+    ['a leap year', 'rft_val_fmt=x&rft.date=2024-02', 'x.from=20240201 x.to=20240229'],
+    ['no leap year', 'rft_val_fmt=x&rft.date=2023-02', 'x.from=20230201 x.to=20230228'],
+    ['no leap year at the end of a century', 'rft_val_fmt=x&rft.date=1900-02', 'x.from=19000201 x.to=19000228'],
+    ['but of every fourth', 'rft_val_fmt=x&rft.date=2000-02', 'x.from=20000201 x.to=20000229'],
+    ['a leap day', 'rft_val_fmt=x&rft.date=2024-02-29', 'x.from=20240229 x.to=20240229'],
+    ['a day that there is not', 'rft_val_fmt=x&rft.date=2023-02-29', 'x.from=20230201 x.to=20230228'],
+    ['the 31st of a month of 30 days', 'rft_val_fmt=x&rft.date=2023-04-31', 'x.from=20230401 x.to=20230430'],
+    ['a month of 30 days', 'rft_val_fmt=x&rft.date=2023-11', 'x.from=20231101 x.to=20231130'],
+    ['a month of 31 days', 'rft_val_fmt=x&rft.date=2023-12', 'x.from=20231201 x.to=20231231'],
+    ['no date', 'rft_val_fmt=x&rft.volume=3', ''],
+    ['set by the request', 'rft_val_fmt=x&x.from=0&X.TO=99999999&%78.to=99999999', '', 'rft_val_fmt=x&X.TO=99999999'],
+    ['set by the request, with a date', 'x.from=0&rft_val_fmt=x&x%2Efrom=1&rft.date=2013&x.to=99999999',
+        'x.from=20130101 x.to=20131231', 'rft_val_fmt=x&rft.date=2013'],
+    ['cells of the table', 'rft_val_fmt=x&coverage_from=0&coverage%5Fto=99999999', '', 'rft_val_fmt=x']
 ];
 
 const PAGES = [
@@ -144,6 +166,8 @@ const PREFIXES = [
     ['an old address as a DOI', 'rft_val_fmt=x&id=doi:http://dx.doi.org/10.5555/a.',
         'x.doi=10.5555/a rft_id=info:doi/10.5555/a'],
     ['escaped', 'rft_val_fmt=x&rft_id=info%3Adoi%2Fhttps%3A%2F%2Fdoi.org%2F10.5555%2Fa%28b%29', 'x.doi=10.5555/a(b)'],
+    ['an address without a scheme', 'rft_val_fmt=x&rft_id=%2F%2Fdx.doi.org%2F10.5555%2Fa&id=doi.org/10.5555/a',
+        'x.doi=10.5555/a'],
     ['two forms of a prefix', 'rft_val_fmt=x&rft_id=info:doi/doi:10.5555/a', 'x.doi=10.5555/a'],
     ['an address of PubMed', 'rft_val_fmt=x&rft_id=info:pmid/https://pubmed.ncbi.nlm.nih.gov/7/', 'x.pmid=7'],
     ['prefixes alone', 'rft_val_fmt=x&rft_id=info:doi/https://doi.org/', '', 'rft_val_fmt=x']
@@ -188,6 +212,11 @@ const VOLUMES = [
     ['no space', 'volume=vol53&rft_val_fmt=x', 'rft.volume=53'],
     ['the issue in the volume', 'rft_val_fmt=x&rft.volume=53(2)', 'rft.volume=53 rft.issue=2'],
     ['the volume in the issue', 'rft_val_fmt=x&rft.issue=53+(2A)', 'rft.issue=2A rft.volume=53'],
+    ['a part of an issue', 'rft_val_fmt=x&rft.volume=12&rft.issue=3+PART+1', ''],
+    ['a part of a volume', 'rft_val_fmt=x&rft.volume=12+Pt+2', ''],
+    ['a part in brackets', 'rft_val_fmt=x&rft.volume=12&rft.issue=3+(Pt+1)', ''],
+    ['an issue of several', 'rft_val_fmt=x&rft.volume=12&rft.issue=3(1)', ''],
+    ['the same volume twice', 'rft_val_fmt=x&rft.volume=12&rft.issue=12(3)', 'rft.issue=3'],
     ['an issue that the request has', 'rft_val_fmt=x&rft.volume=Vol.+53,+no.+2&rft.issue=3', 'rft.volume=53'],
     ['letters', 'rft_val_fmt=x&rft.volume=12A&rft.issue=S1', ''],
     ['several numbers', 'rft_val_fmt=x&rft.issue=nos.+5-6', 'rft.issue=5-6'],
@@ -242,6 +271,6 @@ const FIELDS = [
 ];
 
 export default {
-    SEPARATORS, DROPPED, VERSIONS, OLD, IDENTIFIERS, NUMBERS, DATES, PAGES, ENCODINGS, PREFIXES, CORE, QUESTION_MARKS,
-    CAPITALS, VOLUMES, MARKUP, TWICE, OTHER_ENCODINGS, UNKNOWN_ENCODINGS, FIELDS
+    SEPARATORS, DROPPED, VERSIONS, OLD, IDENTIFIERS, NUMBERS, DATES, DAYS, PAGES, ENCODINGS, PREFIXES, CORE,
+    QUESTION_MARKS, CAPITALS, VOLUMES, MARKUP, TWICE, OTHER_ENCODINGS, UNKNOWN_ENCODINGS, FIELDS
 };

@@ -145,9 +145,15 @@ def test_certain(it):
         for headers, words in (({}, NOTHING[0]), (GERMAN, NOTHING[1])):
             reply = it.site.get(f"/find?{query}", headers=headers)
             it.expect(f"not known: {query}", (words in reply.text, '<p class="nothing">' in reply.text,
-                                              f'<a href="/cite?{html.escape(query)}">' in reply.text),
-                      (False, True, True))
+                                              main_of(reply).count('<form action="/find" method="get"')),
+                      (False, True, 1))
         it.tidy(f"not known: {query}", reply.text)
+    filled = it.site.get("/find?id=pmid:99990001&volume=12&lang=de").text
+    for name, value in (("identifier", "99990001"), ("volume", "12"), ("title", "")):
+        it.expect(f"the form, filled in: {name}", f'name="{name}" maxlength="300" value="{value}"' in filled)
+    it.expect("the form keeps the language", '<input type="hidden" name="lang" value="de">' in filled)
+    known = it.site.get("/find?issn=2901-0012&date=1950").text
+    it.expect("no form where the number is known", (NOTHING[0] in known, "<form" in known), (True, False))
     it.expect("known, and nothing found", NOTHING[0] in it.site.get("/find?issn=3006-1962&atitle=x").text)
 
 

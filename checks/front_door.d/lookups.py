@@ -18,6 +18,7 @@ HOSTILE = {"title": ["<script>alert(1)</script>\r\nX-Evil: 1\u202e\u0000"], "vol
            "page": None, "ISSN": "2901-0012", "container-title": [["deep"]], "issued": {"date-parts": [[None]]},
            "author": [None], "type": ["x"], "__proto__": {"rft.issn": ["2901-0012"]}, "constructor": "x",
            "rft.issn": "2901-0012", "x.issn": "2901-0012"}
+READERS = 60  # at once, for the limits
 FULL_TEXT = "tidal-press aggregate-net catalogue"
 ALONE = "so we do not know whether the library has the full text."
 
@@ -42,21 +43,24 @@ def replies():
         "10.5555/large": (200, message({**WORK, "reference": [{"unstructured": "x" * 200}] * 3000}), ""),
         "10.5555/hostile": (200, message(HOSTILE), ""), "10.5555/slow": (200, message(WORK), "slow"),
         "10.5555/drip": (200, message(WORK), "drip"),
+        **{f"10.5555/held{i}": (200, message(WORK), "held") for i in range(READERS)},
     }
 
 
 class Services:
-    """Both services at one port, with a certificate of their own."""
+    """Both services at one port, with a certificate of their own. They know the numbers of `replies`, or some of
+    them."""
 
-    def __init__(self, folder):
+    def __init__(self, folder, numbers=None):
         self.port, self.asked, self.heads = free_ports(1)[0], collections.Counter(), []
+        self.held, self.most_held, self.lock = 0, 0, threading.Lock()
         key, certificate = f"{folder}/services.key", f"{folder}/services.pem"
         subprocess.run(["openssl", "req", "-x509", "-newkey", "rsa:2048", "-nodes", "-days", "2", "-keyout", key,
                         "-out", certificate, "-subj", "/CN=api.crossref.org", "-addext",
                         "subjectAltName=DNS:api.crossref.org,DNS:eutils.ncbi.nlm.nih.gov"], check=True,
                        capture_output=True)
         self.certificate = certificate
-        services, known = self, replies()
+        services, known = self, {name: it for name, it in replies().items() if numbers is None or name in numbers}
 
         class Service(http.server.BaseHTTPRequestHandler):
             def do_GET(self):
@@ -69,6 +73,8 @@ class Services:
                 body = text.encode()
                 if kind == "slow":
                     time.sleep(6)
+                if kind == "held":
+                    return services.hold(self.connection)
                 self.send_response(status)
                 self.send_header("Content-Type", "application/json")
                 self.send_header("Content-Length", str(len(body)))
@@ -85,12 +91,27 @@ class Services:
             def log_message(self, *_):
                 pass
 
-        self.server = http.server.ThreadingHTTPServer(("127.0.0.1", self.port), Service)
-        self.server.daemon_threads = True
+        class Server(http.server.ThreadingHTTPServer):
+            request_queue_size = 2 * READERS
+
+        self.server = Server(("127.0.0.1", self.port), Service)
         context = ssl.SSLContext(ssl.PROTOCOL_TLS_SERVER)
         context.load_cert_chain(certificate, key)
-        self.server.socket = context.wrap_socket(self.server.socket, server_side=True)
+        # Each connection's thread shakes hands, so that one does not wait for another.
+        self.server.socket = context.wrap_socket(self.server.socket, server_side=True, do_handshake_on_connect=False)
         threading.Thread(target=self.server.serve_forever, daemon=True).start()
+
+    def hold(self, connection):
+        """Sends nothing until the other side ends the connection."""
+        with self.lock:
+            self.held += 1
+            self.most_held = max(self.most_held, self.held)
+        try:
+            connection.recv(1)
+        except OSError:
+            pass
+        with self.lock:
+            self.held -= 1
 
     def stop(self):
         self.server.shutdown()
@@ -104,17 +125,27 @@ def uncommented(text):
     return head + re.sub(r"(?m)^#(?=[a-z}]| {4})", "", text[at:])
 
 
-def configured(site, services, text, certificate):
-    port = free_ports(1)[0]
-    text = uncommented(text)
-    for old, new in (("127.0.0.1:8078", f"127.0.0.1:{port}"), ("/var/lib/nginx/openlink", site.path("lookups")),
-                     ("openlink_crossref api.crossref.org", f"openlink_crossref 127.0.0.1:{services.port}"),
-                     ("openlink_ncbi eutils.ncbi.nlm.nih.gov", f"openlink_ncbi 127.0.0.1:{services.port}"),
-                     ("/etc/ssl/certs/ca-certificates.crt", certificate), ("rate=3r/s", "rate=300r/s")):
+def replaced(text, pairs):
+    for old, new in pairs:
         assert old in text, f"openlink.conf has no {old}"
         text = text.replace(old, new)
+    return text
+
+
+def switched_on(text, services, certificate, cache):
+    """The site with the look-up on, which asks these services if they have this certificate."""
+    port = free_ports(1)[0]
+    return replaced(uncommented(text), (
+        ("127.0.0.1:8078", f"127.0.0.1:{port}"), ("/var/lib/nginx/openlink", cache),
+        ("openlink_crossref api.crossref.org", f"openlink_crossref 127.0.0.1:{services.port}"),
+        ("openlink_ncbi eutils.ncbi.nlm.nih.gov", f"openlink_ncbi 127.0.0.1:{services.port}"),
+        ("/etc/ssl/certs/ca-certificates.crt", certificate)))
+
+
+def configured(site, services, text, certificate, rate="rate=300r/s", burst="burst=3;"):
+    text = switched_on(text, services, certificate, site.path("lookups"))
     with open(site.path("openlink.conf"), "w") as file:
-        file.write(text)
+        file.write(replaced(text, (("rate=3r/s", rate), ("burst=3;", burst))))
     site.reload()
 
 
@@ -201,6 +232,36 @@ def test_connection(it):
         list(pool.map(asked, ("slow", "drip")))
 
 
+def ask_at_once(it, name):
+    """Readers of that many addresses, each with a number of its own. All get the page. Returns the seconds of all."""
+    def asked(i):
+        peer = http.client.HTTPConnection("127.0.0.1", it.site.port, timeout=patience(30),
+                                          source_address=(f"127.0.1.{i + 1}", 0))
+        peer.request("GET", f"/find?id=doi:10.5555/{name}{i}")
+        reply = peer.getresponse()
+        page = reply.read().decode()
+        peer.close()
+        return reply.status, "</html>" in page, "doi.example.org" in page
+
+    start = time.monotonic()
+    with concurrent.futures.ThreadPoolExecutor(READERS) as pool:
+        results = list(pool.map(asked, range(READERS)))
+    it.expect(f"{name}: the pages", results, [(200, True, True)] * READERS)
+    return time.monotonic() - start
+
+
+def test_limits(it, text):
+    """All readers together ask the services three times a second, after three that may come at once, and with twenty
+    requests at a time."""
+    configured(it.site, it.services, text, it.services.certificate, rate="rate=3r/s")
+    seconds = ask_at_once(it, "rate")
+    asked = sum(count for number, count in it.services.asked.items() if number.startswith("10.5555/rate"))
+    it.expect(f"asked {asked} times in {seconds:.1f} s", 4 <= asked <= 4 + 3 * seconds)
+    configured(it.site, it.services, text, it.services.certificate, burst=f"burst={READERS} nodelay;")
+    ask_at_once(it, "held")
+    it.expect("asked at once", it.services.most_held, 20)
+
+
 def test(site, expect, tidy):
     with open(site.path("openlink.conf")) as file:
         text = file.read()
@@ -213,6 +274,7 @@ def test(site, expect, tidy):
         configured(site, services, text, services.certificate)
         for part in (test_found, test_privacy, test_faults, test_connection):
             part(it)
+        test_limits(it, text)
         configured(site, services, text, "/etc/ssl/certs/ca-certificates.crt")
         before = sum(services.asked.values())
         expect("a certificate of a stranger", ALONE in site.get("/find?id=doi:10.5555/again").text)

@@ -2,6 +2,8 @@
 // and in node, in a folder with the module and sample.js, which run.py writes; prints each failure, and a last line
 // that counts.
 import door from './find.js';
+import health from './health.js';
+import index from './index.js';
 import languages from './languages.js';
 import menus from './menu.js';
 import openurl from './openurl.js';
@@ -57,8 +59,8 @@ function testGoodForm() {
         const out = openurl.requestOf(request);
         expect('good form', out.slice(-request.length - 1), '&' + request);
         out.slice(0, -request.length - 1).split('&').forEach(function (pair) {
-            expect('added to good form: ' + pair, /^(x\.(issn|eissn|isbn|doi|pmid)|rft\.(issn|isbn))=/.test(pair),
-                true);
+            expect('added to good form: ' + pair,
+                /^(x\.(issn|eissn|isbn|doi|pmid|from|to)|rft\.(issn|isbn))=/.test(pair), true);
         });
     });
 }
@@ -91,6 +93,9 @@ function testMenus() {
     const joined = program.joined(['a\tx\nb\ty\n', 'b\tz\nc\tw', 'd\tv\nc\tu\n']);
     expect('menus are joined', joined.text, 'a\tx\nb\ty\nc\tw\nd\tv');
     expect('the menu of each target', JSON.stringify(joined.sources), '{"a":0,"b":0,"c":1,"d":2}');
+    const parts = program.joined(['b.2\tx\nb.3\ty\nc\tz\nd.1\tw\n', 'b\tv\na.12.2\tu\n.2\tt\n']);
+    expect('parts of a table', parts.text, 'b\tx\nc\tz\nd.1\tw\na.12\tu\n.2\tt');
+    expect('the menu of their target', JSON.stringify(parts.sources), '{"b":0,"c":0,"d.1":0,"a.12":1,".2":1}');
     const reports = ['a\tlink 0\nb\tno row\nc\tno link\nd\tno row\n', 'a\tno row\nb\tlink 2\nc\tlink 1\nd\tno row\n'];
     expect('reports are joined', program.joinedReports(reports),
         'a\tlink 0\nb\tlink 2\nc\tlink 1\nd\tno row\n');
@@ -104,9 +109,10 @@ function testMenus() {
     expect('a group alone', listed('b\thttp://b/\n'),
         '[{"name":"B","links":[{"target":"b","label":"Bee","url":"http://b/","note":"n"}]}]');
     expect('links that are none', listed('a\tjavascript:x\na\thttp://a/ b\na\thttp://\u00e9/\nx\n'), '[]');
-    expect('names of every object', listed('toString\thttp://t/\nconstructor\thttp://c/\n'),
+    expect('names of every object', listed('toString\thttp://t/\n__proto__\thttp://p/\nconstructor\thttp://c/\n'),
         '[{"name":"A","links":[{"target":"constructor","label":"constructor","url":"http://c/"}]},'
-        + '{"name":"More","links":[{"target":"toString","label":"toString","url":"http://t/"}]}]');
+        + '{"name":"More","links":[{"target":"toString","label":"toString","url":"http://t/"},'
+        + '{"target":"__proto__","label":"__proto__","url":"http://p/"}]}]');
 }
 
 // A header, the languages that are offered, and the one that is chosen.
@@ -124,6 +130,7 @@ const HEADERS = [
     ['d', 'en de', 'en'],
     ['de;q=2, en', 'de en', 'en'], ['de;q=0.1234, en', 'de en', 'en'], ['de;q=, en', 'de en', 'en'],
     ['de;level=1, en', 'de en', 'en'],
+    ['de-AT, de;q=0', 'de en', 'en'], ['de-AT, de;q=0.0, fr', 'de en', 'en'], ['de, en;q=0.05', 'en de', 'de'],
     ['de_AT, en', 'de en', 'en'], ['<de>, "en", \u00e9, de\r\nX: y', 'en de', 'en'], [',,,de,,', 'en de', 'de'],
     ['__proto__', 'en', 'en']
 ];
@@ -261,6 +268,22 @@ function requestWith(uri, statuses) {
     };
 }
 
+function testHealth() {
+    const site = '# server 127.0.0.1:1;\nupstream openlink {\n    server 127.0.0.1:8081 max_fails=0;\n'
+        + '\tserver  127.0.0.1:8082;\n    #server 127.0.0.1:8083;\n    server 192.0.2.1:80;\n}\nserver {\n';
+    expect('ports of a site', health.portsOf(site).join(' '), '8081 8082');
+    const day = Date.UTC(2028, 1, 29, 12);  // a leap day
+    [['20280229T120000Z', 0], ['20280228T120001Z', 0], ['20280228T120000Z', 1], ['20270301T000000Z', 365],
+        ['20280301T000000Z', 0], ['20280229T1200Z', -1], ['none', -1]].forEach(function (it) {
+        expect('the age of ' + it[0], health.ageOf('/etc/openlink/versions/' + it[0], day), it[1]);
+    });
+    [[[true, true], '200 ok'], [[true, false], '200 some processes do not answer'],
+        [[false, false], '503 no process answers'], [[], '503 no process answers']].forEach(function (it) {
+        const reply = health.replyOf(it[0].map(String), it[0], 'version');
+        expect('health ' + it[0], reply.status + ' ' + reply.text.split('\n')[0], it[1]);
+    });
+}
+
 async function expectReply(name, handler, request, expected) {
     await handler(request);
     expect(name, request.replied + ', requested ' + request.requested, expected);
@@ -303,7 +326,43 @@ async function testReplies() {
     expect('an exception in the log', broken.variables.openlink_found, 'exception:no_reply');
 }
 
+// The lines of a file of the index that begin so, against a search through all of them. The lines have up to 13,000
+// bytes, some keys have several, and the texts after the keys have characters of two and three bytes, as the keys may.
+const ARABIC = '0123456789';
+const THREE_BYTES = '\u2460\u2461\u2462\u2463\u2464\u2465\u2466\u2467\u2468\u2469';
+function numeral(number, digits) { return String(number).split('').map((digit) => digits[Number(digit)]).join(''); }
+function madeLines(digits, count, longest) {
+    const lines = [];
+    let number = 7;
+    for (let i = 0; lines.length < count; i++) {
+        number = (number * 1103515245 + 12345) % 2147483648;
+        const length = number % 9 === 0 ? number % longest : number % 150;
+        const text = repeated(number % 2 === 0 ? '\u00e9' : number % 3 === 0 ? 'a\u20ac' : 'a', length);
+        for (let j = 0; j <= number % 3; j++) lines.push(numeral(10000 + 3 * i, digits) + '\t' + j + text);
+    }
+    return lines;
+}
+function testLines() {
+    [[ARABIC, 0, 1], [ARABIC, 1, 50], [ARABIC, 3, 50], [ARABIC, 40, 50], [ARABIC, 300, 50], [ARABIC, 300, 4500],
+        [THREE_BYTES, 300, 50], [THREE_BYTES, 300, 4500]].forEach(function (it) {
+        const lines = madeLines(it[0], it[1], it[2]);
+        const bytes = Buffer.from('\n' + lines.map(function (line) { return line + '\n'; }).join(''));
+        const wrong = [];
+        const sought = ['!', '\u30ff'];
+        for (let key = 9990; key < 10010 + 3 * lines.length; key += it[1] > 40 ? 5 : 1) {
+            sought.push(numeral(key, it[0]) + (key % 2 === 0 ? '\t' : ''), numeral(key, it[0]).slice(0, 4));
+        }
+        sought.forEach(function (beginning) {
+            const expected = lines.filter(function (line) { return line.slice(0, beginning.length) === beginning; });
+            const found = index.linesWith(bytes, beginning, 50).map(function (cells) { return cells.join('\t'); });
+            if (found.join('\n') !== expected.slice(0, 50).join('\n')) wrong.push(beginning);
+        });
+        expect('lines found among ' + it.join(' of '), wrong.join(), '');
+    });
+}
+
 testCases();
+testLines();
 testGoodForm();
 testLimits();
 testMenus();
@@ -312,4 +371,5 @@ testWords();
 testCases();
 testCommands();
 testReasons();
+testHealth();
 testReplies().then(() => { console.log((failures === 0 ? 'ok ' : 'FAILED ') + count); });

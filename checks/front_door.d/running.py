@@ -1,11 +1,14 @@
 """Starts nginx with the front door and processes of the program, in a temporary folder and on free local ports."""
-import http.client, json, os, random, re, shutil, signal, socket, subprocess, sys, tempfile
+import datetime, http.client, json, os, re, shutil, signal, socket, subprocess, sys, tempfile
 
 sys.path.insert(0, os.path.join(os.path.dirname(os.path.dirname(os.path.abspath(__file__))), "shared"))
 from library_index import write_index
+from local_ports import free_ports
+from served_tables import write_table
 from patience import patience, wait_until
 
 PROGRAM = os.path.abspath("crates/openlink/out/openlink")
+DAY = datetime.date(2026, 11, 20)  # that of the sample's requests
 LIBRARY = {
     "open-shelf": "OpenShelf_Global_AllTitles_2026-11-01",
     "tidal-press": "TidalPress_Global_AllTitles_2026-11-01",
@@ -16,6 +19,9 @@ LIBRARY = {
     "aggregate-net": "AggregateNet_Global_CoastalComplete_2026-11-01",
     "catalogue": "ExampleLibrary_Shelves_AllTitles_2026-11-20",
 }
+# Where the front door's own files are installed, and those that the site includes.
+INSTALLED = "/usr/local/share/openlink/nginx/"
+INCLUDED = ("http.conf", "readers.conf", "why.conf")
 # Targets that answer every request that has what their links need.
 FOR_EVERY_REQUEST = {
     "interlibrary-loan":
@@ -44,21 +50,6 @@ http {{
 """
 
 
-def free_ports(count):
-    """Ports at which nothing listens, below those that the system gives to clients (from 32768 on). While a process is
-    down, a client at such a port could get it as its own, and then hear itself."""
-    ports = []
-    while len(ports) < count:
-        port = random.randrange(20000, 32000)
-        try:
-            socket.create_server(("127.0.0.1", port)).close()
-        except OSError:
-            continue
-        if port not in ports:
-            ports.append(port)
-    return ports
-
-
 class Reply:
     def __init__(self, status, headers, body):
         self.status, self.headers, self.body = status, headers, body
@@ -74,7 +65,7 @@ class Site:
         self.nginx = None
         # The paths of a registry are relative to the folder in which the program runs.
         self.program_folder = None if is_sample else self.folder
-        for name in ("log", "temp", "rules", "code", "tables"):
+        for name in ("log", "temp", "rules", "code", "tables", "www"):
             os.mkdir(f"{self.folder}/{name}")
         shutil.copytree("deploy/nginx", f"{self.folder}/openlink")
         if is_sample:
@@ -99,7 +90,7 @@ class Site:
             tables[name] = "deploy/tables/ANY.tsv"
         with open(self.path("registry.tsv"), "w") as registry:
             for name, table in tables.items():
-                shutil.copy(table, self.path("tables"))
+                write_table(table, self.path(f"tables/{os.path.basename(table)}"), DAY)
                 code = f"code/{name}.olk"
                 subprocess.run([PROGRAM, "compile", self.path(f"rules/{name}.rules"), self.path(code)], check=True,
                                stdout=subprocess.DEVNULL)
@@ -113,22 +104,42 @@ class Site:
         write_index(self.path("registry.tsv"), self.program_folder or ".", self.version())
 
     def write_configuration(self):
-        """The site as it is copied, with the paths and ports of this folder."""
-        with open("deploy/nginx/openlink.conf") as file:
-            text = file.read()
+        """The site and the files that it includes as they are installed, with the paths and ports of this folder."""
+        texts = {}
+        for name in ("openlink.conf", *INCLUDED):
+            with open(f"deploy/nginx/{name}") as file:
+                texts[name] = file.read()
         servers = "".join(f"    server 127.0.0.1:{port} max_fails=0;\n" for port in self.ports)
-        text, count = re.subn(r"(    server 127\.0\.0\.1:\d+ max_fails=0;\n)+", servers, text)
+        texts["openlink.conf"], count = re.subn(r"(    server 127\.0\.0\.1:\d+ max_fails=0;\n)+", servers,
+                                                texts["openlink.conf"])
         assert count == 1, "openlink.conf has no list of processes"
-        for old, new in (("/etc/nginx/openlink/", self.path("openlink/")), ("/var/log/nginx/", self.path("log/")),
-                         ("/etc/openlink/current", self.version()),
-                         ("listen 80;", f"listen 127.0.0.1:{self.port};"),
+        for old, new in ((INSTALLED, self.path("openlink/")), ("/etc/nginx/openlink/", self.path("openlink/")),
+                         ("/etc/nginx/conf.d/openlink.conf", self.path("openlink.conf")),
+                         ("/var/log/nginx/", self.path("log/")), ("/etc/openlink/current", self.version()),
+                         ("/var/www/html", self.path("www")), ("listen 80;", f"listen 127.0.0.1:{self.port};"),
                          ("127.0.0.1:8079", f"127.0.0.1:{self.report_port}")):
-            assert old in text, f"openlink.conf has no {old}"
-            text = text.replace(old, new)
-        with open(self.path("openlink.conf"), "w") as file:
-            file.write(text)
+            assert any(old in text for text in texts.values()), f"the site has no {old}"
+            texts = {name: text.replace(old, new) for name, text in texts.items()}
+        for name, text in texts.items():
+            with open(self.path(name if name == "openlink.conf" else f"openlink/{name}"), "w") as file:
+                file.write(text)
         with open(self.path("nginx.conf"), "w") as file:
             file.write(MAIN.format(folder=self.folder, user="user root;\n" if os.getuid() == 0 else ""))
+
+    def edit(self, *changes):
+        """Edits the site as an operator does: pairs of a text that it has once and another. Returns the text before."""
+        with open(self.path("openlink.conf")) as file:
+            before = text = file.read()
+        for old, new in changes:
+            assert text.count(old) == 1, f"openlink.conf has {text.count(old)} times {old}"
+            text = text.replace(old, new)
+        self.write_site(text)
+        return before
+
+    def write_site(self, text):
+        with open(self.path("openlink.conf"), "w") as file:
+            file.write(text)
+        self.reload()
 
     def command(self, *words):
         return ["nginx", "-c", self.path("nginx.conf"), "-p", self.folder, *words]

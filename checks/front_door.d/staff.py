@@ -108,7 +108,7 @@ def test_hostile_titles(staff):
                 expected = READ.get(title, title)
                 staff.expect(f"{name}: the title {title!r}", got[:1], [expected] if expected.strip() else [])
     for raw in (b"'$(id)`\"\\<b>", b"\xe9'\xff", b"a'b%'%2'7"):
-        head = b" HTTP/1.1\r\nHost: a\r\nConnection: close\r\n\r\n"
+        head = b" HTTP/1.1\r\nHost: 127.0.0.1\r\nConnection: close\r\n\r\n"
         reply = staff.site.send(b"GET /why?atitle=" + raw + b"&issn=2901-0012" + head, staff.site.report_port)
         queries, _, _, commands = page_parts(reply.split(b"\r\n\r\n", 1)[1].decode())
         argument = staff.arguments_of(commands["tidal-press"])[3]
@@ -195,7 +195,8 @@ def test_server(staff):
 
 def address_in(page):
     """The address of "Report a problem" as the browser sees it; None if there is no such link."""
-    found = re.search(r'<p class="problem"><a href="([^"]*)">Report a problem</a></p>', page)
+    found = re.search(r'<p class="problem"><a href="([^"]*)">Report a problem \(your request is sent '
+                      r'to the library\)</a></p>', page)
     return html.unescape(found[1]) if found else None
 
 

@@ -106,15 +106,17 @@ def test_cells():
 
 
 def test_related():
-    """Earlier and later titles, within a table."""
+    """Earlier and later titles, within a table and all its parts."""
     one = table(
         journal("Old", "2901-0012", title_id="o"), journal("New", "2908-0142", title_id="n", preceding="o"),
         journal("New", "2908-0142", title_id="n", preceding="o"), journal("Last", "2915-0272", preceding="n"),
         journal("Self", "2922-0408", title_id="s", preceding="s"), journal("Lone", "2929-0538", preceding="x"),
         (*book("Part", "1234560106"), "p", "o"))
-    with Index({"one": one, "two": table(journal("Other", "2936-0668", preceding="o"))}) as found:
+    with Index({"one": one, "one.2": table(journal("Next", "2943-081X", preceding="o")),
+                "two": table(journal("Other", "2936-0668", preceding="o"))}) as found:
         for number, expected in [
-                ("2901-0012", [">2908-0142 New", ">9781234560102 Part"]),
+                ("2901-0012", [">2908-0142 New", ">9781234560102 Part", ">2943-081X Next"]),
+                ("2943-081X", ["<2901-0012 Old"]),
                 ("2908-0142", ["<2901-0012 Old", ">2915-0272 Last"]), ("2915-0272", ["<2908-0142 New"]),
                 ("9781234560102", ["<2901-0012 Old"]), ("2922-0408", []), ("2929-0538", []), ("2936-0668", [])]:
             expect(f"titles before and after {number}", found.of_key(number)[0][4:], expected)

@@ -1,6 +1,6 @@
 """Tables of made titles, as like those of providers as a test needs: words as frequent as in texts, numbers with check
 digits, and years. The same seed gives the same tables."""
-import itertools, random
+import collections, itertools, os, random
 
 HEADER = ("publication_title\tprint_identifier\tonline_identifier\tdate_first_issue_online\tnum_first_vol_online\t"
           "num_first_issue_online\tdate_last_issue_online\tnum_last_vol_online\tnum_last_issue_online\ttitle_url\t"
@@ -59,3 +59,25 @@ class Made:
 
 def table(rows):
     return "\n".join([HEADER, *("\t".join(row) for row in rows)]).encode() + b"\n"
+
+
+JOURNALS, TARGETS, PART = 7653, 22, 50000  # PART books are 13 MB
+
+
+def write_library(folder, books):
+    """Writes the tables of a library: journals of 22 targets, and books in parts. Returns the title and the numbers of
+    each row, by target."""
+    made, source, rows = Made(), random.Random(2), collections.OrderedDict()
+    journals = list(made.journals(JOURNALS))
+    rows["j0"] = journals
+    for number in range(1, TARGETS):
+        rows[f"j{number}"] = [row for row in journals if source.random() < 0.06]
+    every = list(made.books(books))
+    for start in range(0, books, PART):
+        rows[f"b{start // PART}"] = every[start:start + PART]
+    for target, found in rows.items():
+        with open(os.path.join(folder, target), "wb") as file:
+            file.write(table(found))
+    with open(os.path.join(folder, "registry.tsv"), "w") as file:
+        file.write("".join(f"{target}\tcode\t{folder}/{target}\n" for target in rows))
+    return {target: [(row[0], row[1:3]) for row in found] for target, found in rows.items()}

@@ -28,9 +28,10 @@ def test_bad_files():
         table, rules = library.input.read("book-house.txt"), library.input.read("book-house.rules")
         rules_path = library.input.path("book-house.rules")
         cases = [
-            ("a table that is an HTML page", "book-house.txt", HTML, "identifiers 0"),
-            ("a table that is not UTF-8", "book-house.txt", table + b"caf\xe9\t9781234560102\n", "table: NotUtf8"),
-            ("an empty table", "book-house.txt", b"", "table: NoHeader"),
+            ("a table that is an HTML page", "book-house.txt", HTML, "a web page, not a table"),
+            ("a table of no encoding", "book-house.txt", table + b"caf\x81\t9781234560102\n",
+             f"line {len(table.splitlines()) + 1} is neither UTF-8 nor windows-1252"),
+            ("an empty table", "book-house.txt", b"", "it is empty"),
             ("a table of a header alone", "book-house.txt", table.splitlines(keepends=True)[0], "rows 0"),
             ("less than half of the table", "book-house.txt", b"".join(table.splitlines(keepends=True)[:2]),
              f"less than half of the rows: 1, and {len(table.splitlines()) - 1} before"),

@@ -41,7 +41,7 @@ def test_no_file_left():
             if folder is None:
                 return
             with Library(folder=os.path.join(folder, "library")) as library:
-                statuses = fill(library, (0, 20, 40, 80, 100, 110, 120, 130), lambda room: fill_files(folder, room))
+                statuses = fill(library, (0, 20, 40, 80, 100, 108, 120, 130), lambda room: fill_files(folder, room))
                 expect(f"no file left: {statuses}", (set(statuses[:-1]), len(statuses) > 4, statuses[-1]),
                        ({4}, True, 0))
             with Library(folder=os.path.join(folder, "other")) as library:

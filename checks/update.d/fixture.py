@@ -56,7 +56,12 @@ class FrontDoor(Site):
         super().__init__(processes)
 
     def write_registry(self):
-        """The library has one."""
+        """The library has one. `targets.json` names its targets, and no others."""
+        with open(self.path("openlink/targets.json"), encoding="utf-8") as file:
+            site = json.load(file)
+        site["targets"] = {name: site["targets"][name] for name in self.library.input.names}
+        with open(self.path("openlink/targets.json"), "w", encoding="utf-8") as file:
+            json.dump(site, file)
 
     def version(self):
         return self.library.path("current")
@@ -108,7 +113,7 @@ class Library:
     def words(self, *options, restart=None):
         return [UPDATE, "--library", self.folder, "--input", self.input.folder, "--program", PROGRAM, "--site",
                 self.site.path("openlink.conf"), "--seconds", whole(patience(10)), "--restart", restart or self.restart,
-                *options]
+                "--reload", f"kill -HUP {self.site.nginx.pid}" if self.site.nginx else "true", *options]
 
     def begin(self, *options, before=PYTHON, **how):
         """Starts a run."""

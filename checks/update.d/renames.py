@@ -1,5 +1,5 @@
 """Runs that are killed directly before and after each rename."""
-import signal
+import os, signal
 from counting import expect
 from ends import OTHER, served
 from fixture import HERE, PYTHON, Library, ended
@@ -36,4 +36,33 @@ def test_killed_at_renames():
             expect(f"{name}: moments", (moments, number), (expected, expected + 1))
 
 
-TESTS = [test_killed_at_renames]
+def age_walls(library):
+    """Gives the version in use a wall of another day."""
+    with open(library.path("current", "tables", "coastal-law.txt"), "r+", encoding="utf-8") as file:
+        text = file.read()
+        file.seek(0)
+        file.write(text.replace(text.splitlines()[-1].split("\t")[-1], "20200229"))
+
+
+def test_walls_killed_at_renames():
+    """SIGKILL around the last renames of a run that moves walls, when the new version takes the place of another."""
+    with Library(probes=5) as library:
+        row = "Walls\t3040-0005\t\t2000\t\t\t\t\t\thttps://x.example.org\t\tw\tP9M"
+        library.input.add_row("coastal-law", row.encode())
+        expect("a wall of months", library.run()[0], 0)
+        number, moments = 14, None
+        while moments is None:
+            age_walls(library)
+            moments = killed_at(library, number, "--walls")
+            served(f"walls, killed at moment {number}", library)
+            whole = [os.path.exists(library.path("versions", name, "index", "format")) for name in library.versions()
+                     if not name.endswith(".new")]
+            expect(f"walls, complete versions after {number}", set(whole), {True})
+            number += 1
+            status, printed = library.run("--walls")
+            expect(f"walls, the run after {number - 1}: {printed}",
+                   (status, library.weeks_served(), library.left_behind()), (0, {"A"}, []))
+        expect("walls: moments", (moments, number), (22, 23))
+
+
+TESTS = [test_killed_at_renames, test_walls_killed_at_renames]

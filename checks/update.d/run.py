@@ -1,12 +1,14 @@
 """The tests of deploy/update; checks/update starts it at the top of the repository. The modules run side by side; with
 the name of one, it runs this one alone, prints how long each test takes, and last the numbers of tests and failures."""
-import importlib, subprocess, sys, time
+import importlib, signal, subprocess, sys, time
 from counting import counts
 
-MODULES = ("good_weeks", "bad_weeks", "index_weeks", "disks", "ends", "renames")
+MODULES = ("good_weeks", "bad_weeks", "index_weeks", "site_weeks", "disks", "ends", "renames")
 
 
 def run(module):
+    # What a shell starts in the background ignores SIGINT, and so would the updates that this starts.
+    signal.signal(signal.SIGINT, signal.default_int_handler)
     for test in importlib.import_module(module).TESTS:
         start = time.time()
         test()

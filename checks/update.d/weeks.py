@@ -6,7 +6,7 @@ SAMPLE = "examples/library"
 TITLE = ("Papers on Piers\t3030-0009\t3030-0017\t1990-01-01\t1\t1\t\t\t\thttps://press.example.com/pp\t\tpp\t"
          "\tfulltext\t\tPress\tserial")
 MOVED = ("https://coastal.example.com/journals/", "https://coastal.example.com/titles/")
-QUERY = "rft.issn=3030-0009&rft.volume=5&rft.date=1994"
+QUERY = "rft.issn=3030-0009&rft.volume=5&rft.date=1994&x.from=19940101&x.to=19941231"
 MENUS = {
     "A": {"coastal-law": "https://coastal.example.com/journals/pp"},
     "B": {"tidal-press": "https://press.example.com/3030-0017/5",
@@ -29,7 +29,7 @@ class Input:
 
     def __init__(self, folder, names, probes):
         self.folder, self.names, self.probes = folder, list(names), probes
-        self.allowed = {}
+        self.allowed = {"tidal-press": "gone up to 25%"}  # week A lacks a title of the four of week B
         os.makedirs(folder)
         for name, table in tables().items():
             if name in self.names:

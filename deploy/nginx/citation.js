@@ -9,46 +9,53 @@ const filled = words.filled;
 
 function authorOf(q, site) {
     const authors = q.has('rft.au') ? q.all('rft.au').map(clean).filter(Boolean) : [];
-    const given = clean(q.first('rft.aufirst') || q.first('rft.auinit') || q.first('rft.auinit1'));
-    const last = clean(q.first('rft.aulast'));
     if (authors.length > 3) return filled(site, 'others', authors.slice(0, 3).join('; '));
     if (authors.length > 0) return authors.join('; ');
-    return last === '' ? clean(q.first('rft.aucorp')) : given === '' ? last : last + ', ' + given;
+    const last = clean(q.first('rft.aulast'));
+    if (last === '') return clean(q.first('rft.aucorp'));
+    const given = clean(q.first('rft.aufirst') || q.first('rft.auinit') || q.first('rft.auinit1'));
+    return given === '' ? last : last + ', ' + given;
 }
 
 // What the page and the JSON say of a request, and the keys that it is taken from.
-const CITED = {
-    title: ['rft.atitle', 'rft.btitle', 'rft.title'], journal: ['rft.jtitle', 'rft.stitle', 'rft.btitle', 'rft.title'],
-    year: ['rft.date'], volume: ['rft.volume'], issue: ['rft.issue'], pages: ['rft.pages', 'rft.spage', 'rft.artnum'],
-    doi: ['x.doi'], pmid: ['x.pmid'], issn: ['x.issn'], isbn: ['x.isbn']
-};
-const NAMES = Object.keys(CITED);
+const CITED = [
+    ['title', 'rft.atitle', 'rft.btitle', 'rft.title'],
+    ['journal', 'rft.jtitle', 'rft.stitle', 'rft.btitle', 'rft.title'], ['year', 'rft.date'], ['volume', 'rft.volume'],
+    ['issue', 'rft.issue'], ['pages', 'rft.pages', 'rft.spage', 'rft.artnum'], ['doi', 'x.doi'], ['pmid', 'x.pmid'],
+    ['issn', 'x.issn'], ['isbn', 'x.isbn']
+];
 function citationOf(q, site) {
     const citation = {};
     const author = authorOf(q, site);
     if (author !== '') citation.author = author;
-    NAMES.forEach((name) => {
-        let found = '';
-        for (let i = 0; found === '' && i < CITED[name].length; i++) found = clean(q.first(CITED[name][i]));
-        if (found !== '') citation[name] = name === 'year' ? found.slice(0, 4) : found;
+    CITED.forEach((it) => {
+        const found = firstOf(q, it);
+        if (found !== '') citation[it[0]] = it[0] === 'year' ? found.slice(0, 4) : found;
     });
     if (citation.journal === citation.title) delete citation.journal;
     return citation;
 }
+function firstOf(q, keys) {
+    let found = '';
+    for (let i = 1; found === '' && i < keys.length; i++) found = clean(q.first(keys[i]));
+    return found;
+}
 
+const NAMED = ['volume', 'issue', 'pages', 'doi', 'pmid', 'issn', 'isbn'];
+function textHtml(value) { return '<bdi>' + escape(value) + '</bdi>'; }
 function citationHtml(c, site) {
-    const text = (value) => value ? '<bdi>' + escape(value) + '</bdi>' : '';
-    const named = (name) => c[name] ? text(filled(site, name, c[name])) : '';
-    const parts = [text(c.author), c.title ? '<strong>' + text(c.title) + '</strong>' : '',
-        c.journal ? '<cite>' + text(c.journal) + '</cite>' : '', text(c.year)]
-        .concat(['volume', 'issue', 'pages', 'doi', 'pmid', 'issn', 'isbn'].map(named)).filter(Boolean);
+    const parts = [];
+    if (c.author) parts.push(textHtml(c.author));
+    if (c.title) parts.push('<strong>' + textHtml(c.title) + '</strong>');
+    if (c.journal) parts.push('<cite>' + textHtml(c.journal) + '</cite>');
+    if (c.year) parts.push(textHtml(c.year));
+    NAMED.forEach((name) => { if (c[name]) parts.push(textHtml(filled(site, name, c[name]))); });
     return '<p class="citation">' + (parts.length > 0 ? parts.join(', ') : escape(word(site, 'noCitation'))) + '</p>';
 }
 
 // `clean` leaves no line end in a value, so no value begins a field of its own.
 const TYPES = { journal: 'JOUR', book: 'BOOK', dissertation: 'THES' };
-const FIELDS = [['TI', 'title'], ['T2', 'journal'], ['PY', 'year'], ['VL', 'volume'], ['IS', 'issue'], ['SP', 'first'],
-    ['EP', 'last'], ['SN', 'number'], ['DO', 'doi']];
+const FIELDS = 'TI title,T2 journal,PY year,VL volume,IS issue,SP first,EP last,SN number,DO doi';
 function authorsOf(q) {
     const authors = q.all('rft.au');
     const name = [q.first('rft.aulast'), q.first('rft.aufirst') || q.first('rft.auinit')].filter(Boolean).join(', ');
@@ -67,7 +74,9 @@ function risOf(q, kind, site) {
     };
     authorsOf(q).forEach((name) => { put('AU', name); });
     if (!c.title) c.title = c.journal;
-    FIELDS.forEach((field) => { if (field[1] !== 'journal' || c.journal !== c.title) put(field[0], c[field[1]]); });
+    FIELDS.split(',').map((field) => field.split(' ')).forEach((field) => {
+        if (field[1] !== 'journal' || c.journal !== c.title) put(field[0], c[field[1]]);
+    });
     if (c.pmid) put('AN', 'PMID ' + c.pmid);
     return lines.concat(['ER  - ', '']).join('\r\n');
 }

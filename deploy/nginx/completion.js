@@ -16,7 +16,12 @@ const MOST_MAYBE = 20;
 const TITLE_KEYS = { j: ['rft.jtitle', 'rft.title', 'rft.stitle'], b: ['rft.btitle', 'rft.title'] };
 TITLE_KEYS[''] = ['rft.jtitle', 'rft.btitle', 'rft.title', 'rft.stitle'];
 
-function titleAsked(q) { return TITLE_KEYS[openurl.kindAsked(q)].map((key) => q.first(key)).filter(Boolean)[0] || ''; }
+function titleAsked(q) {
+    const keys = TITLE_KEYS[openurl.kindAsked(q)];
+    let title = '';
+    for (let i = 0; title === '' && i < keys.length; i++) title = q.first(keys[i]);
+    return title;
+}
 function ofKind(q, list) {
     const kind = openurl.kindAsked(q);
     return list.filter((it) => kind === '' || it.kind === kind);
@@ -55,7 +60,8 @@ function setKind(q, found) {
 // The ISBN in the DOI of a chapter or a book.
 function isbnInDoi(q) {
     if (!q.has('x.doi')) return NONE;
-    const name = q.first('x.doi').replace(/^[^\/]*\//, '').replace(/_.*$/, '');
+    const doi = q.first('x.doi');
+    const name = doi.slice(doi.indexOf('/') + 1).replace(/_.*$/, '');
     return is(/^97[89]/, name) ? numbers.numbersIn([name], numbers.ISBN, 1) : NONE;
 }
 function numbersAsked(q) {
@@ -90,11 +96,12 @@ async function titlesFor(r, sought) {
 // Puts the numbers in the form that the tables have, fills a free place for a second ISSN, and gives the further
 // queries: each has two ISSNs or one ISBN.
 function furtherQueries(q, known) {
-    const all = known.reduce((list, it) => list.concat(it.numbers), []);
+    const all = known.length === 1 ? known[0].numbers : known.reduce((list, it) => list.concat(it.numbers), []);
     const first = q.first('x.isbn');
     const forms = all.filter((it) => !numbers.isIssn(it) && numbers.standard(it) === first);
     if (forms.length > 0 && forms.indexOf(first) < 0) q.lead('rft.isbn', forms[0]);
-    let sent = ['rft.issn', 'rft.eissn', 'rft.isbn'].map((key) => q.first(key));
+    const sent = [q.first('rft.issn'), q.first('rft.eissn'), q.first('rft.isbn')];
+    if (all.every((it) => sent.indexOf(it) >= 0)) return NONE;
     const isNew = (it, i) => sent.indexOf(it) < 0 && all.indexOf(it) === i;
     const issns = all.filter((it, i) => numbers.isIssn(it) && isNew(it, i));
     if (q.has('rft.issn') && !q.has('rft.eissn') && issns.length > 0) q.add('rft.eissn', issns.shift());

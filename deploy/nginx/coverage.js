@@ -8,7 +8,6 @@ const PART = /^([RP])(\d{1,5})([YMD])$/;
 const UNITS = { Y: 'Year', M: 'Month', D: 'Day' };
 
 function given(cell) { return cell === undefined || cell === '-' ? '' : cell; }
-function yearOf(cell) { return given(cell).slice(0, 4); }
 function embargoText(part, site) {
     const found = PART.exec(part);
     if (found === null) return '';
@@ -18,8 +17,8 @@ function embargoText(part, site) {
 
 // For example `since 1995, without the last 12 months`; '' if nothing is known.
 function textOf(row, site) {
-    const first = yearOf(row.first);
-    const last = yearOf(row.last);
+    const first = given(row.first).slice(0, 4);
+    const last = given(row.last).slice(0, 4);
     const years = first && last ? (first === last ? first : words.filled(site, 'between', [first, last]))
         : first ? words.filled(site, 'since', first) : last ? words.filled(site, 'until', last) : '';
     const embargo = given(row.embargo);

@@ -50,4 +50,20 @@ function dateOf(value) {
     return '';
 }
 
-export default { dateOf: dateOf };
+const LENGTHS = [31, 28, 31, 30, 31, 30, 31, 31, 30, 31, 30, 31];
+function lengthOf(year, month) {
+    const isLeap = year % 4 === 0 && (year % 100 !== 0 || year % 400 === 0);
+    return month === 2 && isLeap ? 29 : LENGTHS[month - 1];
+}
+// The first and the last day of a date that dateOf has given, as eight digits each. A day that its month does not have
+// counts as missing.
+function daysOf(date) {
+    const parts = date.split('-');
+    if (parts.length === 1) return [date + '0101', date + '1231'];
+    const month = parts[0] + parts[1];
+    const length = lengthOf(Number(parts[0]), Number(parts[1]));
+    if (parts.length === 3 && Number(parts[2]) <= length) return [month + parts[2], month + parts[2]];
+    return [month + '01', month + length];
+}
+
+export default { dateOf: dateOf, daysOf: daysOf };

@@ -12,11 +12,12 @@ function targetsOf() { return typeof targets === 'undefined' ? {} : targets; }
 const LANGUAGE = /(?:^|&)lang=([a-z]{2,8}(?:-[a-z0-9]{1,8})*)(?=&|$)/i;
 // The site in the reader's language. `path` and `args` are the page's own address without the language.
 function siteOf(r) {
-    const sent = r.uri === '/fault' ? '' : sentBy(r);
+    const isFault = r.uri === '/fault';
+    const sent = isFault ? '' : sentBy(r);
     const asked = hasLanguage(sent) ? LANGUAGE.exec(sent)[1] : undefined;
     const site = languages.siteIn(targetsOf(), String(r.headersIn['Accept-Language'] || ''), asked);
-    site.path = r.uri === '/fault' ? '' : r.uri;
-    site.args = withoutLanguage(sent);
+    site.path = isFault ? '' : r.uri;
+    site.args = asked === undefined ? sent : withoutLanguage(sent);
     site.hasList = r.variables.openlink_list !== 'off';
     return site;
 }

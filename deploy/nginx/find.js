@@ -7,6 +7,7 @@ import exchange from './exchange.js';
 import form from './form.js';
 import index from './index.js';
 import lists from './lists.js';
+import log from './log.js';
 import menu from './menu.js';
 import openurl from './openurl.js';
 import program from './program.js';
@@ -16,22 +17,27 @@ import texts from './text.js';
 // Asks the program, unless the query is empty, and gives the query and the groups to `reply`.
 async function answer(r, q, reply) {
     const site = exchange.siteOf(r);
-    r.variables.openlink_source = texts.replaced(q.first('rfr_id').slice(0, 60), /[^\w:.\/-]/g, '_').slice(0, 60);
+    r.variables.openlink_source = log.sourceOf(q);
     if (q.pairs.length === 0) return reply(r, q, menu.groupsOf('', site), site);
     const menus = await program.menusOf(r, q);
     if (menus.status !== 200) return exchange.sendFault(r, program.faultStatus(menus), site);
     const groups = menu.groupsOf(menus.text, site);
     menu.describe(groups, menus, site);
-    logLinks(r, groups);
+    logLinks(r, q, groups);
     reply(r, q, groups, site);
 }
 
-function linksOf(groups) { return groups.reduce((links, group) => links.concat(group.links), []); }
-function logTargets(r, links) { r.variables.openlink_targets = links.map((link) => link.target).join(','); }
+function logTargets(r, names) { r.variables.openlink_targets = names.join(','); }
 // Writes to the log how many links there are, and the targets that the reader sees.
-function logLinks(r, groups) {
-    r.variables.openlink_found = groups[0].links.length + '/' + linksOf(groups).length;
-    logTargets(r, linksOf(menu.shownGroups(groups)));
+function logLinks(r, q, groups) {
+    const names = [];
+    let count = 0;
+    groups.forEach((group) => { count += group.links.length; });
+    menu.shownGroups(groups).forEach((group) => { group.links.forEach((link) => { names.push(link.target); }); });
+    r.variables.openlink_found = groups[0].links.length + '/' + count;
+    logTargets(r, names);
+    const isWanted = groups[0].links.length === 0 && r.variables.openlink_log_wanted === 'on';
+    if (isWanted) r.variables.openlink_wanted = log.wantedOf(q);
 }
 
 function replyPage(r, q, groups, site) {
@@ -56,7 +62,7 @@ async function go(r) {
         const links = groups[0].links;
         const isOne = links.length === 1 || (isFirst && links.length > 0);
         if (!isOne || q.maybe.length > 0) return replyPage(r, q, groups, site);
-        logTargets(r, links.slice(0, 1));
+        logTargets(r, [links[0].target]);
         r.return(302, links[0].url);
     });
 }

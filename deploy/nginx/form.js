@@ -20,15 +20,19 @@ function fieldHtml(q, field, site) {
     return '<p>' + label + ' <input id="' + name + '" name="' + name + '" maxlength="300" value="' + escape(value)
         + '"></p>';
 }
-function formOf(q, site) {
-    const heading = word(site, 'form');
+// The form alone, filled in with what is known.
+function formHtml(q, site) {
     const genre = texts.clean(q.first('rft.genre')).slice(0, 30);
     const hidden = [['genre', genre], ['lang', site.chosen || '']].filter((it) => it[1] !== '')
         .map((it) => '<input type="hidden" name="' + it[0] + '" value="' + escape(it[1]) + '">');
-    return pages.documentOf(heading, heading, ['<p>' + escape(word(site, 'formNote')) + '</p>',
-        '<form action="/find" method="get" class="citation">', hidden.join('')].filter(Boolean)
+    return ['<form action="/find" method="get" class="citation">', hidden.join('')].filter(Boolean)
         .concat(FIELDS.map((field) => fieldHtml(q, field, site)),
-            ['<p><button>' + escape(word(site, 'search')) + '</button></p>', '</form>']), site);
+            ['<p><button>' + escape(word(site, 'search')) + '</button></p>', '</form>']).join('\n');
+}
+function formOf(q, site) {
+    const heading = word(site, 'form');
+    const note = '<p>' + escape(word(site, 'formNote')) + '</p>';
+    return pages.documentOf(heading, heading, [note, formHtml(q, site)], site);
 }
 
-export default { formOf: formOf };
+export default { formHtml: formHtml, formOf: formOf };

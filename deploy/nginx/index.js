@@ -11,7 +11,8 @@ const NONE = [];
 const KEY_DIGITS = 3;
 const HASH_DIGITS = 13;     // of a title's key, after these
 const MOST_LINES = 50;      // of one key
-const READ_BYTES = 4096;
+const READ_BYTES = 512;
+const PROBED_BYTES = 256;
 const PAGE = 50;            // titles of a page of the list
 const MOST_FEW = 64;        // places in the lines of a beginning that is in few titles
 const MOST_WORDS = 6;
@@ -29,23 +30,47 @@ async function linesOf(r, name) {
     return bytes.toString().split('\n').slice(1, -1);
 }
 
-// The lines that begin with a text, as arrays of their cells. A search through bytes takes 0.1 microseconds a byte in
-// njs, so the file is halved, down to a part that is quick to read as text.
+// The lines that begin with a text, as arrays of their cells. njs takes 0.1 microseconds for a byte that it searches in
+// a buffer, and a tenth of that in a text, so the file is halved, and little of it is read as text.
 function linesWith(bytes, beginning, most) {
-    const key = Buffer.from(beginning);
     let low = 0;
     let high = bytes.length;
+    // The first line sought begins after `low`, and not after the first line end from `high` on.
     while (high - low > READ_BYTES) {
         const middle = (low + high) >> 1;
-        const at = bytes.indexOf('\n', middle);
-        if (at >= 0 && at < high && Buffer.compare(bytes.slice(at + 1, at + 1 + key.length), key) < 0) low = at;
+        const start = startAfter(bytes, middle, beginning.length);
+        if (start !== null && start < beginning) low = middle;
         else high = middle;
     }
-    const text = bytes.slice(low).toString();
+    let found = null;
+    for (let size = high - low + READ_BYTES; found === null; size *= 8) {
+        const text = bytes.slice(low, low + size).toString();
+        found = linesIn(text, beginning, most, high - low, low + size >= bytes.length);
+    }
+    return found;
+}
+// The first characters of the line that begins after a place; null if no line has so many.
+const CUT = 4;  // bytes at the end of a part may be those of half a character
+function startAfter(bytes, place, length) {
+    for (let size = PROBED_BYTES; ; size *= 8) {
+        const isEnd = place + size >= bytes.length;
+        const text = bytes.slice(place, place + size).toString();
+        const at = text.indexOf('\n');
+        if (at >= 0 && at + length + (isEnd ? 0 : CUT) < text.length) return text.slice(at + 1, at + 1 + length);
+        if (isEnd) return null;
+    }
+}
+// The lines of a text that begin so; null if more may follow after the text, or if it ends before the line of `last`.
+function linesIn(text, beginning, most, last, isEnd) {
     const found = [];
     let at = text.indexOf('\n' + beginning);
-    while (at >= 0 && found.length < most && text.slice(at + 1, at + 1 + beginning.length) === beginning) {
+    if (at < 0) {
+        const end = text.indexOf('\n', last);
+        return isEnd || (end >= 0 && end + beginning.length + CUT < text.length) ? found : null;
+    }
+    while (found.length < most && text.slice(at + 1, at + 1 + beginning.length) === beginning) {
         const end = text.indexOf('\n', at + 1);
+        if (!isEnd && (end < 0 || end + beginning.length + CUT >= text.length)) return null;
         found.push(text.slice(at + 1, end).split('\t'));
         at = end;
     }
@@ -53,21 +78,29 @@ function linesWith(bytes, beginning, most) {
 }
 
 // ---------------------------------------------------------------- Titles
+// An entry of COVERAGE, whose target alone is read at first: a page needs few of a title's rows.
+function targetOf(entry) { return texts.targetOf(entry.slice(0, entry.indexOf(' '))); }
 function rowOf(entry) {
     const parts = entry.split(' ');
-    return { target: parts[0], row: parts[1], first: parts[2], last: parts[3], embargo: parts[4] };
+    return {
+        target: texts.targetOf(parts[0]), part: parts[0], row: parts[1], first: parts[2], last: parts[3],
+        embargo: parts[4]
+    };
 }
 function relatedOf(cell) {
     const at = cell.indexOf(' ');
     return { isLater: cell.charAt(0) === '>', number: cell.slice(1, at), title: cell.slice(at + 1) };
 }
-// `numbers` are in the form that finds a row, `standard` as the standards write them, each once.
+// `numbers` are in the form that finds a row, `standard` as the standards write them, each once, and `rows` entries.
 function titleOf(kind, cells) {
     const sent = cells[1].split(' ');
-    const standard = sent.map(numbers.standard);
+    const standard = [];
+    sent.forEach((it) => {
+        const number = numbers.standard(it);
+        if (standard.indexOf(number) < 0) standard.push(number);
+    });
     return {
-        kind: kind, title: cells[0], numbers: sent, standard: standard.filter((it, i) => standard.indexOf(it) === i),
-        rows: cells[2] ? cells[2].split(';').map(rowOf) : NONE,
+        kind: kind, title: cells[0], numbers: sent, standard: standard, rows: cells[2] ? cells[2].split(';') : NONE,
         related: cells.length > 3 ? cells.slice(3).map(relatedOf) : NONE
     };
 }
@@ -202,5 +235,6 @@ async function joined(r, kind, sets) {
 }
 
 export default {
-    titlesOf: titlesOf, titlesOfAll: titlesOfAll, isThere: isThere, lettersOf: lettersOf, pageOf: pageOf, search: search
+    linesWith: linesWith, targetOf: targetOf, rowOf: rowOf, titlesOf: titlesOf, titlesOfAll: titlesOfAll,
+    isThere: isThere, lettersOf: lettersOf, pageOf: pageOf, search: search
 };

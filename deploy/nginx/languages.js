@@ -14,7 +14,6 @@ const RANGE = /^(\*|[a-z]{1,8}(?:-[a-z0-9]{1,8})*)\s*(?:;\s*q=(0(?:\.\d{0,3})?|1
 const LANGUAGES_RTL = ' ar arc ckb dv fa he nqo ps sd syr ug ur yi ';
 const SCRIPTS_RTL = ' arab hebr nkoo syrc thaa ';
 
-const HAS = Object.prototype.hasOwnProperty;
 const own = texts.own;
 const is = texts.is;
 const isObject = texts.isObject;
@@ -49,7 +48,18 @@ function named(range, languages) {
 // with the same quality, and the first of all if the header prefers none. `*` matches every language that no other
 // range matches. A quality of 0 rejects a language.
 function chosen(header, languages) {
-    const ranges = rangesOf(header);
+    if (header === '') return languages[0];
+    return preferred(header, languages) || chosenOf(rangesOf(header), languages);
+}
+// The language of the first range alone, which is what browsers prefer: undefined if that range is not enough.
+const REJECTION = /=0(?:\.0*)?\s*(?:,|$)/;
+function preferred(header, languages) {
+    const end = header.indexOf(',');
+    const first = end < 0 ? header : header.slice(0, end);
+    if (header.length > MOST_BYTES || !is(TAG, first) || is(REJECTION, header)) return undefined;
+    return named(first.toLowerCase(), languages);
+}
+function chosenOf(ranges, languages) {
     const isIn = (range, language) => range.tag !== '*' && covers(range.tag, language.toLowerCase());
     const free = languages.filter((language) => !ranges.some((range) => range.quality === 0 && isIn(range, language)));
     const others = free.filter((language) => !ranges.some((range) => isIn(range, language)));
@@ -63,7 +73,9 @@ function chosen(header, languages) {
 }
 
 // ---------------------------------------------------------------- Words
-function wordsIn(language) { return globalThis['words_' + language.split('-').join('_')]; }
+function wordsIn(language) {
+    return globalThis['words_' + (language.indexOf('-') < 0 ? language : language.split('-').join('_'))];
+}
 
 // The languages that targets.json offers and openlink.conf has loaded; English if it names none. The first is the
 // default.
@@ -78,6 +90,7 @@ function offered(targets) {
 }
 
 function isRightToLeft(language) {
+    if (language.indexOf('-') < 0) return LANGUAGES_RTL.indexOf(' ' + language.toLowerCase() + ' ') >= 0;
     const parts = language.toLowerCase().split('-').map((part) => ' ' + part + ' ');
     return parts.indexOf(' latn ') < 0 && (LANGUAGES_RTL.indexOf(parts[0]) >= 0
         || parts.slice(1).some((part) => SCRIPTS_RTL.indexOf(part) >= 0));
@@ -95,30 +108,34 @@ function siteIn(targets, header, asked) {
     const isChosen = asked !== undefined && languages.indexOf(asked) >= 0;
     const language = isChosen ? asked : chosen(header, languages);
     return { language: language, main: languages[0], dir: isRightToLeft(language) ? 'rtl' : 'ltr',
-        known: Object.create(null), languages: languages, chosen: isChosen ? asked : '',
+        known: Object.create(null), labels: Object.create(null), languages: languages, chosen: isChosen ? asked : '',
         file: wordsIn(language), mainFile: wordsIn(languages[0]),
         words: own(targets, 'words'), groups: own(targets, 'groups'), targets: own(targets, 'targets'),
         folder: own(targets, 'folder') };
 }
 
-// A text of targets.json in a language. It is the same in all languages, or an object of texts by language.
-function textIn(value, language) { return isObject(value) ? own(value, language) : value; }
-// Such a text for a reader: in the default language if there is none in the reader's.
+// A text of targets.json for a reader, '' if there is none. It is the same in all languages, or an object of texts by
+// language: then it is in the default language if there is none in the reader's.
 function textOf(value, site) {
-    const text = textIn(value, site.language);
-    return text === undefined ? textIn(value, site.main) : text;
+    if (!isObject(value)) return textAt(value);
+    const text = own(value, site.language);
+    return textAt(text === undefined ? own(value, site.main) : text);
 }
 
 function textAt(value) { return typeof value === 'string' ? value.trim() : ''; }
-function inFile(name, words) { return words && HAS.call(words, name) ? textAt(words[name]) : ''; }
+function inFiles(name, site) { return textAt(own(site.file, name)) || textAt(own(site.mainFile, name)); }
 // The text of a word, '' if there is none. Those of targets.json come before those of the files, but a plain text there
 // is in the default language.
 function wordOf(name, site) {
     const text = own(site.words, name);
-    if (text === undefined) return inFile(name, site.file) || inFile(name, site.mainFile);
-    const isOther = site.language !== site.main && !isObject(text);
-    return (!isOther && textAt(textIn(text, site.language))) || inFile(name, site.file)
-        || textAt(textIn(text, site.main)) || inFile(name, site.mainFile);
+    if (text === undefined) return inFiles(name, site);
+    const isByLanguage = isObject(text);
+    const isMain = site.language === site.main;
+    return (isByLanguage ? textAt(own(text, site.language)) : isMain && textAt(text))
+        || textAt(own(site.file, name)) || textAt(isByLanguage ? own(text, site.main) : text)
+        || textAt(own(site.mainFile, name));
 }
 
-export default { chosen: chosen, nameOf: nameOf, siteIn: siteIn, textOf: textOf, wordOf: wordOf };
+export default {
+    chosen: chosen, nameOf: nameOf, siteIn: siteIn, textAt: textAt, textOf: textOf,
+    wordOf: wordOf };

@@ -1,6 +1,7 @@
 // The pages of the library's journals and books: by letter, and those that a search finds. text.js says in which njs
 // it runs.
 import coverage from './coverage.js';
+import index from './index.js';
 import numbers from './numbers.js';
 import pages from './pages.js';
 import texts from './text.js';
@@ -23,7 +24,7 @@ function addressOf(it, args, site) {
 }
 function rowsHtml(it, site) {
     const known = Object.create(null);
-    const rows = it.rows.map((row) => {
+    const rows = it.rows.map(index.rowOf).map((row) => {
         const text = coverage.textOf(row, site);
         return escape(words.labelOf(site, row.target) + (text ? ': ' + text : ''));
     }).filter((text) => {

@@ -2,6 +2,7 @@
 // text.js says in which njs it runs.
 import citation from './citation.js';
 import coverage from './coverage.js';
+import form from './form.js';
 import lists from './lists.js';
 import pages from './pages.js';
 import texts from './text.js';
@@ -17,67 +18,70 @@ const MOST_ARGS = pages.MOST_ARGS;
 
 function emptyGroups(site) {
     const groups = [];
-    const named = own(site, 'groups') || NONE;
+    const named = site.groups || NONE;
     for (let i = 0; i < named.length; i++) {  // a preloaded array has no methods in njs 0.7.9
-        const name = words.textOr(own(named[i], 'name'), '');
+        const name = words.textAt(own(named[i], 'name'));
         const label = words.inLanguage(own(named[i], 'label'), site) || name;
-        const onlyWithout = own(named[i], 'onlyWithout');
-        if (name !== '') groups.push({ name: name, label: label, onlyWithout: onlyWithout, links: [] });
+        if (name !== '') {
+            groups.push({ name: name, label: label, onlyWithout: own(named[i], 'onlyWithout'), links: [] });
+        }
     }
+    if (groups.length > 0) return groups;
     const name = word(site, 'group');
-    return groups.length > 0 ? groups : [{ name: name, label: name, links: [] }];
-}
-// The group of a target that targets.json does not name: the last one, unless there is only one.
-function othersOf(groups, site) {
-    const name = word(site, 'more') || 'More';
-    const known = groups.filter((g) => g.name === name)[0];
-    return own(site, 'groups') === undefined || groups.length === 0 ? groups[0]
-        : known || { name: name, label: name, links: [] };
+    return [{ name: name, label: name, links: [] }];
 }
 
-function linkOf(name, url, site) {
-    const target = own(own(site, 'targets'), name);
+function linkOf(name, target, url, site) {
     const link = { target: name, label: words.labelOf(site, name), url: url };
     const note = words.inLanguage(own(target, 'note'), site);
     if (note !== '') link.note = note;
     return link;
 }
-// All groups of the site with the links of a menu's text. A target without a group is in the first.
+// All groups of the site with the links of a menu's text. A target without a group is in the first, and one that
+// targets.json does not name in the last, unless there is only one.
 function groupsOf(menu, site) {
     const groups = emptyGroups(site);
-    const others = othersOf(groups, site);
+    const places = Object.create(null);
+    groups.forEach((g) => { if (places[g.name] === undefined) places[g.name] = g; });
+    const more = word(site, 'more') || 'More';
+    const others = site.groups === undefined ? groups[0] : places[more] || { name: more, label: more, links: [] };
     menu.split('\n').forEach((line) => {
         const at = line.indexOf('\t');
         const url = line.slice(at + 1);
         if (at < 0 || !texts.isWeb(url)) return;
-        const target = own(own(site, 'targets'), line.slice(0, at));
-        const group = words.textOr(own(target, 'group'), '');
-        const place = target === undefined ? others : groups.filter((g) => g.name === group)[0] || groups[0];
-        place.links.push(linkOf(line.slice(0, at), url, site));
+        const name = line.slice(0, at);
+        const target = own(site.targets, name);
+        const group = target === undefined ? others : places[words.textAt(own(target, 'group'))] || groups[0];
+        group.links.push(linkOf(name, target, url, site));
     });
-    return groups.indexOf(others) < 0 ? groups.concat([others]) : groups;
+    if (groups.indexOf(others) < 0) groups.push(others);
+    return groups;
 }
 
 // The groups that a reader sees: those with links, except where `onlyWithout` names a group that has some.
 function shownGroups(groups) {
     const full = groups.filter((g) => g.links.length > 0);
-    return full.filter((g) => !full.some((other) => other.name === g.onlyWithout))
-        .map((g) => g.label === g.name ? { name: g.name, links: g.links }
-            : { name: g.name, label: g.label, links: g.links });
+    const names = full.map((g) => g.name);
+    return full.filter((g) => names.indexOf(g.onlyWithout) < 0).map((g) => {
+        if (g.label === g.name) return { name: g.name, links: g.links };
+        return { name: g.name, label: g.label, links: g.links };
+    });
 }
 
 // Adds to each link which edition it is of, where that is not the first, and what its target has.
 function describe(groups, menus, site) {
     groups.forEach((g) => { g.links.forEach((link) => {
-        const numbers = own(menus.editions, link.target);
-        const row = own(menus.rows, link.target);
+        const numbers = menus.editions[link.target];
+        const row = menus.rows[link.target];
         if (numbers) link.edition = numbers.join(', ');
-        const data = row ? coverage.dataOf(row) : undefined;
-        if (data) {
-            link.coverage = data;
-            link.covered = coverage.textOf(row, site);
-        }
+        if (row) addCoverage(link, row, site);
     }); });
+}
+function addCoverage(link, row, site) {
+    const data = coverage.dataOf(row);
+    if (data === undefined) return;
+    link.coverage = data;
+    link.covered = coverage.textOf(row, site);
 }
 
 function noteHtml(note) { return note ? '<p>' + escape(note) + '</p>' : ''; }
@@ -94,60 +98,68 @@ const PROBLEM_LINK = /^(?:https?:\/\/|mailto:)[\x21-\x7e]*\{\}[\x21-\x7e]*$/i;
 function problemHtml(q, site) {
     const text = word(site, 'problem');
     const link = word(site, 'problemLink');
-    if (q.args === '' || text === '' || !is(PROBLEM_LINK, link)) return [];
-    const request = encodeURIComponent(q.args).split("'").join('%27');  // thousands of quotes would be slow to escape
-    return ['<p class="problem">' + pages.anchor(link.split('{}').join(request), text) + '</p>'];
+    if (q.args === '' || text === '' || !is(PROBLEM_LINK, link)) return '';
+    const encoded = encodeURIComponent(q.args);
+    const request = encoded.indexOf("'") < 0 ? encoded : encoded.split("'").join('%27');  // nothing is left to escape
+    return '<p class="problem"><a href="' + escape(link).split('{}').join(request) + '">' + escape(text) + '</a></p>';
 }
 
 // What the reader can do with the request: change it, take it along, come back to it.
 function actionsHtml(q, site) {
-    if (q.args === '' || q.args.length > MOST_ARGS) return [];
+    if (q.args === '' || q.args.length > MOST_ARGS) return '';
     const args = escape(pages.addressOf('', q.args, site));
-    const link = (path, name) => '<li><a href="' + path + args + '">' + escape(word(site, name)) + '</a></li>';
-    return ['<ul class="actions">', link('/cite', 'change'), link('/find.ris', 'ris'), link('/find', 'permanent'),
-        '</ul>'];
+    const link = (path, name) => '<li><a href="' + path + args + '">' + escape(word(site, name)) + '</a></li>\n';
+    return '<ul class="actions">\n' + link('/cite', 'change') + link('/find.ris', 'ris') + link('/find', 'permanent')
+        + '</ul>';
 }
 
 // What is said of a request without full text: only what is certain.
 const NOTICES = { number: 'nothing', title: 'unknownTitle', identifier: 'numberAlone', nothing: 'incomplete' };
+function hasNotice(q, groups) { return groups[0].links.length === 0 && q.maybe.length === 0 && q.pairs.length > 0; }
 function noticeHtml(q, groups, site) {
-    if (groups[0].links.length > 0 || q.maybe.length > 0 || q.pairs.length === 0) return [];
-    const text = pages.notice(NOTICES[q.knowledge] || 'incomplete', site);
-    if (q.knowledge === 'number' || q.args.length > MOST_ARGS) return [text];
-    return [text, '<p>' + pages.anchor(pages.addressOf('/cite', q.args, site), word(site, 'complete')) + '</p>'];
+    return hasNotice(q, groups) ? pages.notice(NOTICES[q.knowledge] || 'incomplete', site) : '';
+}
+// The form, filled in, if more of a citation may find it.
+function completeHtml(q, groups, site) {
+    if (!hasNotice(q, groups) || q.knowledge === 'number' || q.args.length > MOST_ARGS) return '';
+    return '<h2>' + escape(word(site, 'complete')) + '</h2>\n' + form.formHtml(q, site);
 }
 function foundHtml(q, site) {
-    if (!q.byTitle) return [];
+    if (!q.byTitle) return '';
     const text = q.byTitle.title + ', ' + numberText(q.byTitle.standard[0], site);
-    return ['<p class="found">' + escape(filled(site, 'byTitle', text)) + '</p>'];
+    return '<p class="found">' + escape(filled(site, 'byTitle', text)) + '</p>';
+}
+function listHtml(heading, items) {
+    return '<h2>' + escape(heading) + '</h2>\n<ul>\n' + items.join('\n') + '\n</ul>';
 }
 function maybeHtml(q, site) {
-    if (q.maybe.length === 0) return [];
-    return ['<h2>' + escape(word(site, 'maybe')) + '</h2>', '<ul>']
-        .concat(q.maybe.map((it) => lists.titleHtml(it, site, q.args.length <= MOST_ARGS ? q.args : '')), ['</ul>']);
+    if (q.maybe.length === 0) return '';
+    const args = q.args.length <= MOST_ARGS ? q.args : '';
+    return listHtml(word(site, 'maybe'), q.maybe.map((it) => lists.titleHtml(it, site, args)));
 }
-function relatedHtml(q, site) {
-    const related = q.titles.length > 0 ? q.titles[0].related : NONE;
-    return related.map((it) => {
-        const name = it.isLater ? 'later' : 'earlier';
-        const key = is(/-/, it.number) ? 'rft.issn=' : 'rft.isbn=';
-        const link = pages.anchor(pages.addressOf('/find', key + encodeURIComponent(it.number), site), it.title);
-        return '<p class="related">' + filled(site, name, '\t').split('\t').map(escape).join(link) + '</p>';
-    });
+function relatedHtml(it, site) {
+    const name = it.isLater ? 'later' : 'earlier';
+    const key = is(/-/, it.number) ? 'rft.issn=' : 'rft.isbn=';
+    const link = pages.anchor(pages.addressOf('/find', key + encodeURIComponent(it.number), site), it.title);
+    return '<p class="related">' + filled(site, name, '\t').split('\t').map(escape).join(link) + '</p>';
 }
 
 function pageOf(q, groups, site) {
     const cited = citation.citationOf(q, site);
     const heading = word(site, 'heading');
-    let body = [citation.citationHtml(cited, site)].concat(foundHtml(q, site), noticeHtml(q, groups, site),
-        maybeHtml(q, site));
+    const body = [citation.citationHtml(cited, site)];
+    const put = (html) => { if (html !== '') body.push(html); };
+    put(foundHtml(q, site));
+    put(noticeHtml(q, groups, site));
+    put(maybeHtml(q, site));
     shownGroups(groups).forEach((g) => {
-        body = body.concat(['<h2>' + escape(g.label || g.name) + '</h2>', '<ul>'],
-            g.links.map((link) => linkHtml(link, site)), ['</ul>']);
+        body.push(listHtml(g.label || g.name, g.links.map((link) => linkHtml(link, site))));
     });
-    const title = (cited.title || cited.journal || heading).slice(0, 100);
-    body = body.concat(relatedHtml(q, site), actionsHtml(q, site), problemHtml(q, site));
-    return pages.documentOf(title, heading, body, site);
+    if (q.titles.length > 0) q.titles[0].related.forEach((it) => { body.push(relatedHtml(it, site)); });
+    put(completeHtml(q, groups, site));
+    put(actionsHtml(q, site));
+    put(problemHtml(q, site));
+    return pages.documentOf((cited.title || cited.journal || heading).slice(0, 100), heading, body, site);
 }
 
 // The same as data. What a link's `coverage` says is left to the reader of the data.

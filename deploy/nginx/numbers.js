@@ -9,8 +9,12 @@ function plain(value) {
     const text = value.slice(0, 200);
     return (is(/^[ -~]*$/, text) ? text : texts.replaced(texts.replaced(text, DASHES, '-'), SPACES, ' ')).trim();
 }
-const ISSN = { form: /(?<![\d-])\d{4}[- ]?\d{3}[\dX](?![\d-])/gi, write: issn };
-const ISBN = { form: /(?<!\d)(?:97[89](?:[- ]?\d){10}|\d(?:[- ]?\d){8}[- ]?[\dX])(?!\d)/gi, write: isbn13 };
+// `form` finds a number in a text, and `exact` matches one as the standards write it.
+const ISSN = { exact: /^\d{4}-\d{3}[\dX]$/, write: issn, form: /(?<![\d-])\d{4}[- ]?\d{3}[\dX](?![\d-])/gi };
+const ISBN = {
+    exact: /^97[89]\d{10}$/, write: isbn13,
+    form: /(?<!\d)(?:97[89](?:[- ]?\d){10}|\d(?:[- ]?\d){8}[- ]?[\dX])(?!\d)/gi
+};
 function issn(digits) { return digits.slice(0, 4) + '-' + digits.slice(4); }
 
 function isbn13(digits) {
@@ -24,11 +28,12 @@ function isbn13(digits) {
 // The first `count` different numbers of a kind in texts, written as the standards do.
 function numbersIn(values, kind, count) {
     const found = [];
+    const put = (number) => { if (found.length < count && found.indexOf(number) < 0) found.push(number); };
     values.forEach((value) => {
+        if (is(kind.exact, value)) return put(value);
         const text = plain(value);
         if (is(kind.form, text)) texts.padded(text).match(kind.form).forEach((it) => {
-            const number = kind.write(it.split('-').join('').split(' ').join('').toUpperCase());
-            if (found.length < count && found.indexOf(number) < 0) found.push(number);
+            put(kind.write(it.split('-').join('').split(' ').join('').toUpperCase()));
         });
     });
     return found;

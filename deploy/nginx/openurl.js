@@ -9,7 +9,6 @@ import titles from './titles.js';
 
 const is = texts.is;
 const own = texts.own;
-const set = texts.set;
 const NONE = query.NONE;
 
 // ---------------------------------------------------------------- The rules
@@ -27,14 +26,17 @@ const FINDING = [
 ];
 const WRITING = [
     isxns,        // ISSNs and ISBNs are found in their values, and written as the standards do
-    date,         // a date becomes YEAR-MONTH-DAY, YEAR-MONTH or YEAR
+    date,         // a date becomes YEAR-MONTH-DAY, YEAR-MONTH or YEAR, and its first and last day are x.from and x.to
     volume,       // volume and issue are numbers without a word before them
     page,         // the first page is found in the range of pages
     encoding      // what had another encoding is UTF-8 now, and says so
 ];
 
 function correct(q, key, value) { if (q.has(key) && q.first(key) !== value) q.set(key, value); }
-function version(q) { ['ctx_ver', 'url_ver'].forEach((key) => { correct(q, key, 'Z39.88-2004'); }); }
+function version(q) {
+    correct(q, 'ctx_ver', 'Z39.88-2004');
+    correct(q, 'url_ver', 'Z39.88-2004');
+}
 
 // The form has one field for ISSN or ISBN, and one for DOI or PubMed number.
 function fields(q) {
@@ -45,7 +47,7 @@ function fields(q) {
 }
 
 function oldKeys(q) {
-    query.OLD_KEYS.split(' ').forEach((key) => { if (q.given[key]) q.copy(key, 'rft.' + key); });
+    query.OLD_KEYS.forEach((key) => { if (q.given[key]) q.copy(key, 'rft.' + key); });
     q.copy('pid', 'rft_dat');
     if (!q.has('sid') || q.has('rfr_id')) return;
     q.add('rfr_id', 'info:sid/' + q.first('sid').replace(/^info:sid\//, ''));
@@ -57,7 +59,8 @@ const KINDS = { book: 'book', bookitem: 'book', report: 'book', document: 'book'
 const TITLES = { book: 'rft.btitle', dissertation: 'rft.title', journal: 'rft.jtitle' };
 // What a request is for: a book, a dissertation or a journal. Conferences and proceedings may be either of two.
 function kindOf(q) {
-    const kind = own(KINDS, q.first('rft.genre').trim().toLowerCase());
+    const genre = q.first('rft.genre');
+    const kind = genre === '' ? undefined : own(KINDS, genre.trim().toLowerCase());
     if (kind) return kind;
     const hasIsbn = q.has('rft.isbn') || q.has('rft.eisbn');
     const hasIssn = q.has('rft.issn') || q.has('rft.eissn');
@@ -112,7 +115,7 @@ function dublinCore(q) {
 }
 
 function title(q) {
-    if (q.has('rft.btitle') || q.has('rft.title') || q.has('rft.jtitle')) return;
+    if (!q.has('title') || q.has('rft.btitle') || q.has('rft.title') || q.has('rft.jtitle')) return;
     q.copy('title', TITLES[kindOf(q)]);
 }
 function format(q) {
@@ -120,8 +123,8 @@ function format(q) {
 }
 
 // Titles and names as text: some sources send HTML, or encode them twice.
-const WRITTEN = ('rft.atitle rft.jtitle rft.btitle rft.title rft.stitle rft.au rft.aulast rft.aufirst rft.aucorp')
-    .split(' ');
+const WRITTEN = ['rft.atitle', 'rft.jtitle', 'rft.btitle', 'rft.title', 'rft.stitle', 'rft.au', 'rft.aulast',
+    'rft.aufirst', 'rft.aucorp'];
 function decodedAgain(value) {
     if (is(/\s/, value)) return value;
     const hasEscapes = is(/%[0-9a-f]{2}/i, value) && !is(/%(?![0-9a-f]{2})/i, value);
@@ -141,7 +144,7 @@ function markup(q) {
     WRITTEN.forEach((key) => {
         if (!q.has(key)) return;
         const values = q.all(key);
-        if (!values.some((value) => ['<', '&', '%', '+'].some((char) => value.indexOf(char) >= 0))) return;
+        if (!values.some((value) => is(/[<&%+]/, value))) return;
         const read = values.map(readable);
         if (read.every((value, i) => value === values[i])) return;
         q.drop(key);
@@ -152,7 +155,7 @@ function markup(q) {
 // The key, the beginning of the URI in OpenURL 1.0, and the forms in which sources send it.
 const IDENTIFIERS = [
     ['x.doi', 'info:doi/',
-        /^(?:(?:info:doi[\/:]|doi:|(?:https?:\/\/)?(?:dx\.|www\.)?doi\.org\/)\s*){0,3}(10\.[\d.]{4,20}\/\S+)$/i],
+        /^(?:(?:info:doi[\/:]|doi:|(?:(?:https?:)?\/\/)?(?:dx\.|www\.)?doi\.org\/)\s*){0,3}(10\.[\d.]{4,20}\/\S+)$/i],
     ['x.pmid', 'info:pmid/', /^(?:info:pmid[\/:]|pmid:)\s*(\d{1,9})$/i],
     ['x.pmid', 'info:pmid/', /^https?:\/\/(?:www\.)?pubmed\.gov\/(?:\?term=)?(\d+)\b/i],
     ['x.pmid', 'info:pmid/',
@@ -184,10 +187,13 @@ function identifierIn(value, key) {
     return null;
 }
 
+const SOURCES = ['rft_id', 'id', 'rft.doi', 'doi', 'pmid', 'rft.pmid', 'rft.identifier'];
 function identifiers(q) {
+    const sources = SOURCES.filter((source) => q.has(source));
+    if (sources.length === 0) return;
     const known = Object.create(null);
     const numbersOf = { 'rft.issn': [], 'rft.isbn': [] };
-    ['rft_id', 'id', 'rft.doi', 'doi', 'pmid', 'rft.pmid', 'rft.identifier'].forEach((source) => {
+    sources.forEach((source) => {
         q.all(source).map((value) => identifierIn(value, source)).filter(Boolean).forEach((found) => {
             if (numbersOf[found[0]]) numbersOf[found[0]].push(found[1]);
             else if (!q.has(found[0])) q.add(found[0], found[1]);
@@ -205,9 +211,11 @@ function identifiers(q) {
 }
 
 const MOST_ISBNS = 4;
-function issnsOf(q) { return numbers.numbersIn(q.all('rft.issn').concat(q.all('rft.eissn')), numbers.ISSN, 2); }
-function isbnsOf(q) {
-    return numbers.numbersIn(q.all('rft.isbn').concat(q.all('rft.eisbn')), numbers.ISBN, MOST_ISBNS);
+function issnsOf(q) { return numbersUnder(q, 'rft.issn', 'rft.eissn', numbers.ISSN, 2); }
+function isbnsOf(q) { return numbersUnder(q, 'rft.isbn', 'rft.eisbn', numbers.ISBN, MOST_ISBNS); }
+function numbersUnder(q, key, other, kind, most) {
+    if (!q.has(key) && !q.has(other)) return NONE;
+    return numbers.numbersIn(q.has(other) ? q.all(key).concat(q.all(other)) : q.all(key), kind, most);
 }
 // Whether a request has a number before the rules of WRITING. What was read is kept for them if nothing is added.
 function hasNumber(q) {
@@ -219,26 +227,37 @@ function isxns(q) {
     const isRead = q.issnsRead && (q.issnsRead.length > 0 || q.isbns.length > 0);
     const issns = isRead ? q.issnsRead : issnsOf(q);
     if (!isRead) q.isbns = isbnsOf(q);
-    const found = { issn: issns[0], eissn: issns[1], isbn: q.isbns[0] };
-    Object.keys(found).forEach((name) => {
-        if (found[name]) ['rft.', 'x.'].forEach((form) => { q.lead(form + name, found[name]); });
-    });
+    leadNumber(q, 'issn', issns[0]);
+    leadNumber(q, 'eissn', issns[1]);
+    leadNumber(q, 'isbn', q.isbns[0]);
+}
+function leadNumber(q, name, number) {
+    if (number === undefined) return;
+    q.lead('rft.' + name, number);
+    q.lead('x.' + name, number);
 }
 
 function date(q) {
     const values = q.all('rft.date').slice(0, 1).concat(q.all('rft.year').slice(0, 1));
     const found = values.map(dates.dateOf).filter(Boolean);
-    if (found.length > 0) q.lead('rft.date', found[0]);
-    else q.drop('rft.date');
+    if (found.length === 0) {
+        q.drop('rft.date');
+        return;
+    }
+    q.lead('rft.date', found[0]);
+    const days = dates.daysOf(found[0]);
+    q.lead('x.from', days[0]);
+    q.lead('x.to', days[1]);
 }
 
 // `Vol. 53`, `No. 5`, `Pt 8`, `53(2)`. A value of other words stays what it is.
-const WORD = '(?:(?:vol(?:ume)?s?|bd|band|tom[eo]?|jg|jahrgang|nos?|nr|num(?:ber)?|n[\u00b0\u00ba]|iss(?:ue)?|heft|pt'
-    + '|part)[.:]?\\s*|[vtnh][.:\\s]\\s*)';
+const OF_ISSUE = 'nos?|nr|num(?:ber)?|n[\u00b0\u00ba]|iss(?:ue)?|heft';
+const WORD = '(?:(?:vol(?:ume)?s?|bd|band|tom[eo]?|jg|jahrgang|pt|part|' + OF_ISSUE + ')[.:]?\\s*|[vtnh][.:\\s]\\s*)';
+const ISSUE = '(?:(?:' + OF_ISSUE + ')[.:]?\\s*|[nh][.:\\s]\\s*)';
 const COUNT = '([a-z]{0,3}\\d+[a-z]{0,3}(?:[-\\/\u2013]\\d+[a-z]{0,3})?)';
 const ONE = texts.lazy('^' + WORD + '?' + COUNT + '[.,]?$', 'i');
-const BOTH = texts.lazy('^' + WORD + '?' + COUNT + '\\s*(?:\\(\\s*' + WORD + '?' + COUNT + '\\s*\\)|[,;]?\\s*'
-    + WORD + COUNT + ')$', 'i');
+const BOTH = texts.lazy('^' + WORD + '?' + COUNT + '\\s*(?:\\(\\s*' + ISSUE + '?' + COUNT + '\\s*\\)|[,;]?\\s*'
+    + ISSUE + COUNT + ')$', 'i');
 function volume(q) {
     ['rft.volume', 'rft.issue'].forEach((key) => {
         if (!q.has(key) || String(Number(q.first(key))) === q.first(key)) return;
@@ -248,6 +267,7 @@ function volume(q) {
         const found = BOTH().exec(text);
         const values = { 'rft.volume': found[1], 'rft.issue': found[2] || found[3] };
         const other = key === 'rft.volume' ? 'rft.issue' : 'rft.volume';
+        if (key === 'rft.issue' && q.has(other) && q.first(other) !== found[1]) return;  // parts of an issue
         q.lead(key, values[key]);
         if (!q.has(other)) q.add(other, values[other]);
     });
@@ -276,7 +296,7 @@ function queryOf(args) {
     return q;
 }
 
-const ROW_KEYS = set('rft.issn rft.eissn rft.isbn');
+const ROW_KEYS = { 'rft.issn': true, 'rft.eissn': true, 'rft.isbn': true };
 
 // The query for targets with a table of their own, and the one for targets that answer every request.
 function requestText(q) { return q.text('', NONE); }

@@ -23,61 +23,65 @@ function addressOf(path, args, site) {
     return path + '?' + (args ? args + '&' : '') + 'lang=' + site.chosen;
 }
 
-function headerHtml(site) {
-    const library = escape(word(site, 'library'));
+function headerHtml(library, site) {
     const logo = word(site, 'logo');
-    const image = is(LOGO, logo) ? '<img src="/' + logo + '" alt=""> ' : '';
-    return library || image ? '<header><p>' + image + library + '</p></header>' : '';
+    const image = logo !== '' && is(LOGO, logo) ? '<img src="/' + logo + '" alt=""> ' : '';
+    return library || image ? '<header><p>' + image + escape(library) + '</p></header>\n' : '';
 }
 
-function helpHtml(site) {
+function addHelp(items, site) {
     const help = word(site, 'help');
+    if (help === '') return;
     const link = word(site, 'helpLink');
-    return help === '' ? [] : ['<li class="help">' + (isWeb(link) ? anchor(link, help) : escape(help)) + '</li>'];
+    items.push('<li class="help">' + (isWeb(link) ? anchor(link, help) : escape(help)) + '</li>');
 }
 // The links of the library, such as its imprint. A preloaded array has no methods.
-function linksHtml(site) {
+function addLinks(items, site) {
     const list = own(site.words, 'links');
-    const found = [];
     for (let i = 0; texts.isObject(list) && i < list.length; i++) {
-        const label = words.inLanguage(own(list[i], 'label'), site);
-        const url = words.inLanguage(own(list[i], 'url'), site);
-        if (label !== '' && isWeb(url)) found.push('<li>' + anchor(url, label) + '</li>');
+        const it = list[i];
+        const label = words.inLanguage(own(it, 'label'), site);
+        const url = words.inLanguage(own(it, 'url'), site);
+        if (label !== '' && isWeb(url)) items.push('<li>' + anchor(url, label) + '</li>');
     }
-    return found;
 }
 // The same page in the other languages. A page of a fault has no address of its own.
-function languagesHtml(site) {
-    if (!site.path || site.languages.length < 2 || site.args.length > MOST_ARGS) return [];
-    return site.languages.filter((language) => language !== site.language).map((language) => {
-        const address = addressOf(site.path, site.args, { chosen: language });
-        const name = languages.nameOf(language);
-        return '<li><a href="' + escape(address) + '" hreflang="' + language + '" lang="' + language + '">'
-            + escape(name) + '</a></li>';
+function addLanguages(items, site) {
+    if (!site.path || site.languages.length < 2 || site.args.length > MOST_ARGS) return;
+    const address = escape(site.path + '?' + (site.args === '' ? '' : site.args + '&') + 'lang=');
+    site.languages.forEach((language) => {
+        if (language === site.language) return;
+        items.push('<li><a href="' + address + language + '" hreflang="' + language + '" lang="' + language + '">'
+            + escape(languages.nameOf(language)) + '</a></li>');
     });
 }
 function footerHtml(site) {
-    const link = (path, name) => '<li>' + anchor(addressOf(path, '', site), word(site, name)) + '</li>';
-    const lists = site.hasList ? [link('/journals', 'journals'), link('/books', 'books')] : [];
-    const pages = site.path && !site.isForStaff ? [link('/find', 'form')].concat(lists) : [];
-    const items = pages.concat(helpHtml(site), linksHtml(site), languagesHtml(site));
-    return items.length > 0 ? ['<footer>', '<ul>'].concat(items, ['</ul>', '</footer>']) : [];
+    const items = [];
+    const add = (path, name) => {
+        items.push('<li><a href="' + addressOf(path, '', site) + '">' + escape(word(site, name)) + '</a></li>');
+    };
+    if (site.path && !site.isForStaff) add('/find', 'form');
+    if (site.path && !site.isForStaff && site.hasList) {
+        add('/journals', 'journals');
+        add('/books', 'books');
+    }
+    addHelp(items, site);
+    addLinks(items, site);
+    addLanguages(items, site);
+    return items.length > 0 ? '<footer>\n<ul>\n' + items.join('\n') + '\n</ul>\n</footer>\n' : '';
 }
 
 // Characters that HTML may not hold; those of requests are gone before, those of the library's own texts go here.
 const CONTROLS = /[\u0000-\u0009\u000b-\u001f\u007f-\u009f\u2028\u2029\ufdd0-\ufdef\ufffe\uffff]/g;
 function documentOf(title, heading, body, site) {
-    const text = linesOf(title, heading, body, site).join('\n');
+    const library = word(site, 'library');
+    const text = '<!DOCTYPE html>\n<html lang="' + site.language + '" dir="' + site.dir + '">\n<head>\n'
+        + '<meta charset="utf-8">\n<meta name="viewport" content="width=device-width, initial-scale=1">\n'
+        + '<title>' + escape(library === '' ? title : title + ' – ' + library) + '</title>\n'
+        + '<link rel="stylesheet" href="/menu.css">\n</head>\n<body>\n' + headerHtml(library, site)
+        + '<main>\n<h1>' + escape(heading) + '</h1>\n' + body.join('\n') + '\n</main>\n' + footerHtml(site)
+        + '</body>\n</html>\n';
     return is(CONTROLS, text) ? texts.replaced(text, CONTROLS, ' ') : text;
-}
-function linesOf(title, heading, body, site) {
-    const library = escape(word(site, 'library'));
-    return ['<!DOCTYPE html>', '<html lang="' + site.language + '" dir="' + site.dir + '">', '<head>',
-        '<meta charset="utf-8">', '<meta name="viewport" content="width=device-width, initial-scale=1">',
-        '<title>' + escape(title) + (library && ' – ' + library) + '</title>',
-        '<link rel="stylesheet" href="/menu.css">',
-        '</head>', '<body>', headerHtml(site), '<main>', '<h1>' + escape(heading) + '</h1>'].filter(Boolean)
-        .concat(body, ['</main>'], footerHtml(site), ['</body>', '</html>', '']);
 }
 
 const FAULTS = { 403: 'refused', 404: 'missing', 405: 'refused', 413: 'tooLong', 414: 'tooLong', 429: 'busy' };

@@ -1,5 +1,6 @@
 // The program's replies: subrequests to its processes, and menus and reports of both queries joined. text.js says in
 // which njs it runs.
+import index from './index.js';
 import openurl from './openurl.js';
 import texts from './text.js';
 
@@ -38,15 +39,18 @@ async function askAll(r, place, queries) {
 
 function nameOf(line) { return line.slice(0, line.indexOf('\t')); }
 function linesOf(text) { return text.split('\n').filter((line) => line.indexOf('\t') > 0); }
-// All menus in one, and for each target in which of them it comes first: it is not taken from another again.
+// All menus in one, and for each target in which of them it comes first: it is not taken again from another menu, nor
+// from another part of its table.
 function joined(menus) {
     const sources = Object.create(null);
     const lines = [];
-    menus.forEach((menu, i) => { linesOf(menu).forEach((line) => {
-        const name = nameOf(line);
-        if (sources[name] !== undefined && sources[name] !== i) return;
+    menus.forEach((menu, i) => { menu.split('\n').forEach((line) => {
+        const at = line.indexOf('\t');
+        if (at <= 0) return;
+        const name = texts.targetOf(line.slice(0, at));
+        if (sources[name] !== undefined) return;
         sources[name] = i;
-        lines.push(line);
+        lines.push(name + line.slice(at));
     }); });
     return { text: lines.join('\n'), sources: sources };
 }
@@ -72,30 +76,40 @@ function joinedReports(reports) {
     return reasonsOf(reports).map((it) => it.name + '\t' + it.reasons[it.used] + '\n').join('');
 }
 
+// The entries of the titles' rows, by target.
+function entriesOf(q) {
+    const entries = Object.create(null);
+    q.titles.forEach((it) => { it.rows.forEach((entry) => {
+        const name = index.targetOf(entry);
+        if (entries[name] === undefined) entries[name] = [entry];
+        else if (entries[name].indexOf(entry) < 0) entries[name].push(entry);
+    }); });
+    return entries;
+}
 // The row of each target's link, if the index has the title. The report says which, where a target has several rows.
 async function rowsOf(r, q, queries, sources) {
     const rows = Object.create(null);
-    q.titles.forEach((it) => { it.rows.forEach((row) => {
-        const known = rows[row.target] || (rows[row.target] = []);
-        if (!known.some((one) => one.row === row.row)) known.push(row);
-    }); });
-    const chosen = Object.create(null);
-    const names = Object.keys(sources).filter((name) => rows[name]);
-    names.forEach((name) => { if (rows[name].length === 1) chosen[name] = rows[name][0]; });
-    const open = names.filter((name) => rows[name].length > 1);
+    const entries = entriesOf(q);
+    const open = Object.keys(sources).filter((name) => {
+        if (entries[name] === undefined) return false;
+        if (entries[name].length === 1) rows[name] = index.rowOf(entries[name][0]);
+        return entries[name].length > 1;
+    });
+    if (open.length === 0) return rows;
     const places = open.map((name) => sources[name]).filter((it, i, all) => all.indexOf(it) === i);
     const reports = await Promise.all(places.map((i) => ask(r, '/_report', queries[i])));
     reports.forEach((reply, i) => { linesOf(reply.text).forEach((line) => {
         const found = /^([^\t]+)\tlink (\d+)$/.exec(line);
-        if (found === null || open.indexOf(found[1]) < 0 || sources[found[1]] !== places[i]) return;
-        chosen[found[1]] = rows[found[1]].filter((row) => row.row === found[2])[0];
+        const name = found === null ? '' : texts.targetOf(found[1]);
+        if (open.indexOf(name) < 0 || sources[name] !== places[i] || name in rows) return;
+        rows[name] = entries[name].map(index.rowOf).filter((row) => row.part === found[1] && row.row === found[2])[0];
     }); });
-    return chosen;
+    return rows;
 }
 // The numbers of the targets' links that are not of the request's own edition.
 function editionsOf(q, sources) {
     const editions = Object.create(null);
-    Object.keys(sources).forEach((name) => {
+    if (q.further.length > 0) Object.keys(sources).forEach((name) => {
         const further = q.further[sources[name] - 1];
         if (further && further.numbers[0] !== q.first('x.isbn')) editions[name] = further.numbers;
     });

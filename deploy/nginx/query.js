@@ -18,7 +18,9 @@ const PREFIX = /^(?:info:[\w-]+[\/:]|urn:\w+:|(?:doi|pmid|oclc):|(?:https?:\/\/)
 
 function encode(text) { return is(UNRESERVED, text) ? text : encodeURIComponent(text); }
 
-// The columns of a KBART table. An empty cell is undefined, so a request that could write one would choose the link.
+// The columns of a KBART table, and those that the update adds. An empty cell is undefined, so a request that could
+// write one would choose the link.
+const ADDED_COLUMNS = ' coverage_from coverage_to ';
 const COLUMNS = ' ' + ('publication_title print_identifier online_identifier date_first_issue_online '
     + 'num_first_vol_online num_first_issue_online date_last_issue_online num_last_vol_online '
     + 'num_last_issue_online title_url first_author title_id embargo_info coverage_depth notes '
@@ -28,21 +30,28 @@ const COLUMNS = ' ' + ('publication_title print_identifier online_identifier dat
 
 // The keys that find rows, with their forms in OpenURL 0.1. The program ignores '-' and spaces in their values.
 const NUMBER_KEYS = ' rft.issn rft.eissn rft.isbn issn eissn isbn ';
-function isColumn(key) { return (key.indexOf('_') >= 0 || key === 'notes') && isIn(COLUMNS, key); }
+const OF_OPENURL = /^(?:rf[ter]|ctx|url|req|svc)_/;
+function isColumn(key) {
+    return (key.indexOf('_') >= 0 || key === 'notes') && !is(OF_OPENURL, key)
+        && (isIn(COLUMNS, key) || isIn(ADDED_COLUMNS, key));
+}
 function isDropped(key, value) {
     return value.trim() === '' || key.slice(0, 2) === 'x.' || isColumn(key)
         || (key === 'rft_id' && is(PREFIX, value))
         || (key.slice(-1) === 'n' && isIn(NUMBER_KEYS, key) && is(ANY, value));
 }
 
-// The keys of OpenURL 0.1, and those that it shares with 1.0 behind `rft.`; then all others that a rule reads. As text,
-// since nginx would make a table of them for each request.
-const OLD_KEYS = 'genre issn eissn isbn eisbn volume issue spage epage pages artnum date year atitle jtitle btitle '
-    + 'stitle au aulast aufirst auinit auinit1 aucorp part ssn quarter sici coden';
-const KEYS = ' ' + OLD_KEYS + ' title sid pid id doi pmid number identifier creator source type ctx_ver ctx_enc '
-    + 'url_ver url_ctx_fmt rft_id rft_dat rft_val_fmt rfr_id ';
+// The keys of OpenURL 0.1, and those that it shares with 1.0 behind `rft.`; then all others that a rule reads.
+const OLD_KEYS = ['genre', 'issn', 'eissn', 'isbn', 'eisbn', 'volume', 'issue', 'spage', 'epage', 'pages', 'artnum',
+    'date', 'year', 'atitle', 'jtitle', 'btitle', 'stitle', 'au', 'aulast', 'aufirst', 'auinit', 'auinit1', 'aucorp',
+    'part', 'ssn', 'quarter', 'sici', 'coden'];
+const OTHER_KEYS = ' title sid pid id doi pmid number identifier creator source type ctx_ver ctx_enc url_ver '
+    + 'url_ctx_fmt rft_id rft_dat rft_val_fmt rfr_id ';
 function isIn(names, key) { return names.indexOf(' ' + key + ' ') >= 0 && key.indexOf(' ') < 0; }
-function isKey(key) { return isIn(KEYS, key.slice(0, 4) === 'rft.' ? key.slice(4) : key); }
+function isKey(key) {
+    const name = key.slice(0, 4) === 'rft.' ? key.slice(4) : key;
+    return OLD_KEYS.indexOf(name) >= 0 || isIn(OTHER_KEYS, name);
+}
 
 // A base URL may end with a question mark, or with a query of its own, before the source adds another one.
 const SECOND_QUERY = /^((?:[\w.]+=[\w.:-]*&)*[\w.]+=[\w.:-]*)\?+([\w.]+)(?==)/;
@@ -87,9 +96,10 @@ function Query(args) {
     this.encoding = encodings.declaredIn(args);
     this.decodedTexts = 0;
     const pieces = piecesOf(withoutBase(args));
+    const isEscaped = args.indexOf(';') >= 0;
     for (let i = 0, count = 0; i < pieces.length && count < MOST_PAIRS; i++) {
         let piece = pieces[i];
-        while (piece.slice(0, 4).toLowerCase() === 'amp;') piece = piece.slice(4);
+        while (isEscaped && piece.slice(0, 4).toLowerCase() === 'amp;') piece = piece.slice(4);
         if (this.read(piece)) count++;
     }
 }
@@ -117,10 +127,17 @@ function nameOf(text) {
     return small !== name && isKey(small) ? small : name;
 }
 
+// A pair as most are: a key in small letters that is neither a column nor a number's, and a value without escapes.
+const USUAL = /^(?:rft\.)?(?!notes=|e?is[sb]n=)[a-z]+=[!-$&-~]*[!-$&-*,-~]$/;
 // Reads one pair and returns whether it has a value.
 Query.prototype.read = function (raw) {
     const at = raw.indexOf('=');
     if (at < 0 || at === raw.length - 1) return false;
+    if (is(USUAL, raw)) {
+        const text = raw.slice(at + 1);
+        this.keep(raw.slice(0, at), text.indexOf('+') < 0 ? text : text.split('+').join(' '), raw);
+        return true;
+    }
     const before = this.decodedTexts;
     const hasEscapes = !is(NO_ESCAPE, raw);
     const sent = hasEscapes ? this.decode(raw.slice(0, at)) : raw.slice(0, at);
@@ -128,16 +145,23 @@ Query.prototype.read = function (raw) {
     const value = hasEscapes ? this.decode(raw.slice(at + 1)) : raw.slice(at + 1);
     if (isDropped(key, value)) return true;
     const isKept = key === sent && (!hasEscapes || (this.decodedTexts === before && is(ASCII, raw)));
-    this.pairs.push({ key: key, text: isKept ? raw : encode(key) + '=' + encode(value) });
-    (this.given[key] = this.given[key] || []).push(value);
+    this.keep(key, value, isKept ? raw : encode(key) + '=' + encode(value));
     return true;
+};
+Query.prototype.keep = function (key, value, text) {
+    this.pairs.push({ key: key, text: text });
+    if (this.given[key] === undefined) this.given[key] = [value];
+    else this.given[key].push(value);
 };
 
 Query.prototype.first = function (key) { return (this.added[key] || this.given[key] || NONE)[0] || ''; };
 Query.prototype.has = function (key) { return this.first(key) !== ''; };
 // All values of a key, of a hostile request the first ones.
 Query.prototype.all = function (key) {
-    return (this.added[key] || NONE).concat(this.given[key] || NONE).slice(0, MOST_VALUES);
+    const added = this.added[key] || NONE;
+    const given = this.given[key] || NONE;
+    const values = added.length === 0 ? given : given.length === 0 ? added : added.concat(given);
+    return values.length > MOST_VALUES ? values.slice(0, MOST_VALUES) : values;
 };
 
 // Gives a key values before the request's: these, one more, or one that is the first of all, which counts.
@@ -164,8 +188,6 @@ Query.prototype.set = function (key, value) {
     this.add(key, value);
 };
 
-function partsOf(pairs) { return pairs.map((pair) => pair.text); }
-
 // The pairs of a key that rules have added; a key of a rule needs no escape. Both queries of a request have them.
 function encodedOf(q, key) {
     const known = q.encoded[key];
@@ -178,21 +200,26 @@ function encodedOf(q, key) {
 // The query as text, with `first` before it and without the keys of `omitted`. If it is too long, those pairs are left
 // out that a rule has copied or replaced, then pairs from the end.
 Query.prototype.text = function (first, omitted) {
+    const parts = this.parts(first, omitted, false);
+    const text = parts.join('&');
+    if (text.length <= MOST_BYTES) return text;
+    const needed = this.parts(first, omitted, true);
+    let length = needed.join('&').length;
+    while (length > MOST_BYTES) length -= needed.pop().length + 1;
+    return needed.join('&');
+};
+Query.prototype.parts = function (first, omitted, isShort) {
     const q = this;
-    const front = first === '' ? [] : [first];
+    const parts = first === '' ? [] : [first];
     q.addedKeys.forEach((key) => {
-        if (omitted[key] === true) return;
-        encodedOf(q, key).forEach((text) => { front.push(text); });
+        if (omitted[key] !== true) encodedOf(q, key).forEach((text) => { parts.push(text); });
     });
-    const pairs = q.pairs.filter((pair) => omitted[pair.key] !== true);
-    let parts = front.concat(partsOf(pairs));
-    if (parts.join('&').length > MOST_BYTES) {
-        const isNeeded = (pair) => !q.copied[pair.key] && (!q.added[pair.key] || pair.key === 'rft_id');
-        parts = front.concat(partsOf(pairs.filter(isNeeded)));
-    }
-    let length = parts.join('&').length;
-    while (length > MOST_BYTES) length -= parts.pop().length + 1;
-    return parts.join('&');
+    q.pairs.forEach((pair) => {
+        const key = pair.key;
+        const isNeeded = !isShort || (!q.copied[key] && (!q.added[key] || key === 'rft_id'));
+        if (isNeeded && omitted[key] !== true) parts.push(pair.text);
+    });
+    return parts;
 };
 
 export default { Query: Query, OLD_KEYS: OLD_KEYS, NONE: NONE };

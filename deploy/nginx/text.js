@@ -6,8 +6,11 @@
 // index into a text, and `await` in arguments is no syntax. A preloaded array has no methods. Each use of a regular
 // expression costs 10 microseconds, however short the text, so what every request passes has few.
 
-const HAS = Object.prototype.hasOwnProperty;
-function own(object, key) { return object && HAS.call(object, key) ? object[key] : undefined; }
+// What a value of JSON has under a key, and nothing that every object inherits: functions, and `__proto__`.
+function own(object, key) {
+    const value = object && key !== '__proto__' ? object[key] : undefined;
+    return typeof value === 'function' ? undefined : value;
+}
 function is(form, text) { return text.search(form) >= 0; }
 function isObject(value) { return typeof value === 'object' && value !== null; }
 // njs 0.7.9 throws if a text of 32, 64, .. characters is not ASCII and the last match of a global form ends with it.
@@ -19,15 +22,16 @@ function lazy(source, flags) {
     let form;
     return function () { return form || (form = new RegExp(source, flags)); };
 }
-// The names of a list as an object without a prototype, so that no text of a request finds anything else in it.
-function set(names) {
-    return names.split(' ').reduce((all, name) => { all[name] = true; return all; }, Object.create(null));
-}
+
+// The target that a name of the registry is a part of: NAME.2, NAME.3 and so on are parts of NAME.
+const PART = /^.+(?=\.(?:[2-9]|[1-9]\d\d?)$)/;
+function targetOf(name) { return name.indexOf('.') > 0 && is(PART, name) ? PART.exec(name)[0] : name; }
 
 // Text without control characters and noncharacters, which neither HTML nor a header field may hold.
 const CONTROLS = /[\u0000-\u001f\u007f-\u009f\u2028\u2029\ufdd0-\ufdef\ufffe\uffff]/g;
+const PLAIN = /^[!-~]+(?: [!-~]+)*$/;
 function clean(value) {
-    if (value === '') return value;
+    if (value === '' || (value.length < 300 && is(PLAIN, value))) return value;
     const text = is(CONTROLS, value) ? replaced(value, CONTROLS, ' ') : value;
     return (text.indexOf('  ') >= 0 ? replaced(text, /\s+/g, ' ') : text).trim();
 }
@@ -44,6 +48,6 @@ function escape(text) {
 function isWeb(link) { return is(/^https?:\/\/[\x21-\x7e]+$/i, link); }
 
 export default {
-    own: own, is: is, isObject: isObject, set: set, lazy: lazy, padded: padded, replaced: replaced, clean: clean,
-    escape: escape, isWeb: isWeb
+    own: own, is: is, isObject: isObject, lazy: lazy, padded: padded, replaced: replaced, clean: clean,
+    escape: escape, isWeb: isWeb, targetOf: targetOf
 };

@@ -139,6 +139,6 @@ async function why(r) {
 }
 
 export default {
-    registryOf: registryOf, commandOf: commandOf, quotedQuery: quotedQuery,
+    registryOf: registryOf, commandOf: commandOf, quotedQuery: quotedQuery, folderOf: folderOf,
     why: exchange.guarded(why)
 };

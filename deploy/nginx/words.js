@@ -5,8 +5,6 @@ import texts from './text.js';
 
 const own = texts.own;
 
-function textOr(value, other) { return (typeof value === 'string' && value.trim()) || other; }
-function memory(site, name) { return site[name] || (site[name] = Object.create(null)); }
 function word(site, name) {
     const text = site.known[name];
     return text !== undefined ? text : (site.known[name] = languages.wordOf(name, site));
@@ -17,13 +15,12 @@ function filled(site, name, values) {
     if (!Array.isArray(values)) return parts.join(values);
     return parts.map((part, i) => i === 0 ? part : values[Math.min(i, values.length) - 1] + part).join('');
 }
-function inLanguage(value, site) { return textOr(languages.textOf(value, site), ''); }
 function labelOf(site, target) {
-    const known = memory(site, 'knownLabels');
-    if (known[target] === undefined) {
-        known[target] = inLanguage(own(own(own(site, 'targets'), target), 'label'), site) || target;
-    }
-    return known[target];
+    const label = site.labels[target];
+    if (label !== undefined) return label;
+    return (site.labels[target] = languages.textOf(own(own(site.targets, target), 'label'), site) || target);
 }
 
-export default { textOr: textOr, word: word, filled: filled, inLanguage: inLanguage, labelOf: labelOf };
+export default {
+    word: word, filled: filled, textAt: languages.textAt, inLanguage: languages.textOf, labelOf: labelOf
+};

@@ -1,26 +1,31 @@
 """Processes that end with this one, even if it is killed; and free ports for them."""
-import ctypes, os, random, signal, socket, subprocess, time
+import ctypes, os, random, resource, signal, socket, subprocess, time
 
 DEATH_SIGNAL = 1  # PR_SET_PDEATHSIG of prctl
 LIBC = ctypes.CDLL(None)
 
 
-def tied():
-    """What a child calls before its command starts: it gets SIGTERM when this process ends."""
+def tied(most_bytes=None):
+    """What a child calls before its command starts: it gets SIGTERM when this process ends, and writes no longer
+    files."""
     parent = os.getpid()
 
     def tie():
         LIBC.prctl(DEATH_SIGNAL, signal.SIGTERM)
         if os.getppid() != parent:
             os._exit(1)
+        if most_bytes is not None:
+            hard = resource.getrlimit(resource.RLIMIT_FSIZE)[1]
+            most = most_bytes if hard == resource.RLIM_INFINITY else min(most_bytes, hard)
+            resource.setrlimit(resource.RLIMIT_FSIZE, (most, hard))
 
     return tie
 
 
-def start(words, folder, **how):
+def start(words, folder, most_bytes=None, **how):
     """Starts a command that ends with this process."""
     how = {"stdin": subprocess.DEVNULL, "start_new_session": True, **how}
-    return subprocess.Popen(words, cwd=folder, preexec_fn=tied(), **how)
+    return subprocess.Popen(words, cwd=folder, preexec_fn=tied(most_bytes), **how)
 
 
 def stop(child):

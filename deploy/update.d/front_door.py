@@ -1,10 +1,11 @@
 """A front door of its own for probes: nginx with the module and the texts that the site has, on free ports of this
 machine. It has a door for each list of processes."""
-import os, re, shutil, subprocess
+import json, os, re, shutil, subprocess, time
 import children
 from outcome import DEVICE, Failure
 
 SECONDS = 30  # until nginx listens
+TARGETS = r"js_preload_object\s+targets\s"  # each door has its own
 CONFIGURATION = """load_module {module};
 pid {folder}/nginx.pid;
 daemon off;
@@ -31,6 +32,7 @@ DOOR = """    upstream door{port} {{
 {servers}    }}
     server {{
         listen 127.0.0.1:{port};
+        {targets_line}
         location = /find.json {{ js_content door.json; }}
         location = /report.txt {{ js_content door.report; }}
         location /index/ {{ internal; root "{version}"; try_files $uri =204; }}
@@ -40,20 +42,51 @@ DOOR = """    upstream door{port} {{
 """
 
 
+def text_with_includes(path):
+    """The text of a site, and after it that of the files that it includes."""
+    with open(path, encoding="utf-8") as file:
+        text = file.read()
+    for included in re.findall(r"^\s*include\s+([^\s;*?]+)\s*;", text, re.M):
+        if os.path.isfile(included):
+            text += "\n" + text_with_includes(included)
+    return text
+
+
 class Site:
-    """What the site of the front door (openlink.conf) says: its module, its texts, the ports of the processes, and
-    whether it has the list of titles."""
+    """What the site of the front door (openlink.conf) and the files that it includes say: the module, its texts and its
+    languages, targets.json, the ports of the processes, the base URL, and whether there is a list of titles."""
 
     def __init__(self, path):
         self.path = path
         try:
-            with open(path, encoding="utf-8") as file:
-                text = file.read()
+            text = text_with_includes(path)
         except FileNotFoundError:
             text = ""
         self.ports = [int(port) for port in re.findall(r"^\s*server\s+127\.0\.0\.1:(\d+)", text, re.M)]
         self.module_lines = re.findall(r"^\s*(js_(?:path|import|preload_object|var)\s[^;]*;)", text, re.M)
+        self.targets = re.findall(r"^\s*js_preload_object\s+targets\s+from\s+([^;\s]+)\s*;", text, re.M)
+        words = re.findall(r"^\s*js_preload_object\s+words_(\w+)\s", text, re.M)
+        self.languages = [it.replace("_", "-") for it in words]
         self.has_list = not re.search(r"^\s*js_var\s+\$openlink_list\s+off\s*;", text, re.M)
+        name = re.search(r"^\s*server_name\s+([^\s;]+)", text, re.M)
+        has_tls = re.search(r"^\s*listen\s[^;#]*\bssl\b", text, re.M)
+        self.base = f"{'https' if has_tls else 'http'}://{name[1] if name else 'localhost'}"
+
+    def targets_path(self):
+        """The targets.json that readers see; '' if the site names none."""
+        return self.targets[0].strip("\"'") if self.targets else ""
+
+    @staticmethod
+    def differences(names, path):
+        """Lines about the targets of a version that this targets.json does not name, and the other way round."""
+        try:
+            with open(path, encoding="utf-8") as file:
+                known = json.load(file)["targets"].keys()
+        except (OSError, ValueError, LookupError, TypeError, AttributeError):
+            return []  # nginx says what is wrong with it
+        lines = [("not named, so they are shown last and not as full text", [it for it in names if it not in known]),
+                 ("named, and no target", [it for it in known if it not in names])]
+        return [f"{path}: {text}: {', '.join(found)}" for text, found in lines if found]
 
 
 def modules_of(nginx):
@@ -83,11 +116,13 @@ class FrontDoor:
             children.stop(self.child)
         shutil.rmtree(self.folder, ignore_errors=True)
 
-    def add_door(self, ports, version):
-        """The address of a door to the processes at these ports, which serve the version in a folder."""
+    def add_door(self, ports, version, targets):
+        """The address of a door to the processes at these ports, which serve the version in a folder; its targets.json
+        is at a path, or '' if there is none."""
         port = children.free_port()
         servers = "".join(f"        server 127.0.0.1:{it} max_fails=0;\n" for it in ports)
-        self.doors.append({"port": port, "servers": servers, "version": version})
+        line = f'js_preload_object targets from "{targets}";' if targets else ""
+        self.doors.append({"port": port, "servers": servers, "version": version, "targets_line": line})
         return f"http://127.0.0.1:{port}"
 
     def start(self):
@@ -95,14 +130,24 @@ class FrontDoor:
         os.chmod(self.folder, 0o755)
         path, log = f"{self.folder}/nginx.conf", f"{self.folder}/start.log"
         doors = "".join(DOOR.format(**door) for door in self.doors)
+        lines = [line for line in self.site.module_lines if not re.match(TARGETS, line)]
         with open(path, "w", encoding="utf-8") as file:
             file.write(CONFIGURATION.format(module=self.module, folder=self.folder, doors=doors,
-                                            module_lines="\n    ".join(self.site.module_lines)))
+                                            module_lines="\n    ".join(lines)))
         self.child = children.start([self.nginx, "-e", log, "-p", self.folder, "-c", path], self.folder,
                                     stdout=subprocess.DEVNULL, stderr=subprocess.DEVNULL)
-        if not all(children.wait_for(door["port"], self.child, SECONDS) for door in self.doors):
+        if not all(children.wait_for(door["port"], self.child, SECONDS) for door in self.doors) or not self.has_begun():
             printed = " ".join(text for text in map(read, (log, f"{self.folder}/error.log")) if text)
             raise Failure(f"the front door for probes does not start: {printed or 'nginx gives no reason'}", DEVICE)
+
+    def has_begun(self):
+        """Whether nginx serves: it listens before it writes its number, and ends if it cannot write it."""
+        end = time.monotonic() + SECONDS
+        while time.monotonic() < end and self.child.poll() is None:
+            if read(f"{self.folder}/nginx.pid"):
+                return True
+            time.sleep(0.02)
+        return False
 
 
 def read(path):

@@ -144,6 +144,11 @@ class Library:
             os.unlink(self.path("before"))
             sync(self.folder)
 
+    def remove(self, stamp):
+        """Removes a version. If it is killed meanwhile, no run takes what is left for a version."""
+        os.rename(self.version(stamp), self.version(f"{stamp}.new"))
+        shutil.rmtree(self.version(f"{stamp}.new"))
+
     def remove_old(self, most):
         """Removes the oldest versions, so that `most` remain."""
         for stamp in self.versions()[:-most]:

@@ -1,26 +1,49 @@
 """Makes a version: for each target its new files if they are good, otherwise those of the version before.
 
     registry.tsv           a line for each target
-    received/NAME.rules    the rule file (NAME.olk: the code file) and the table as they came
-    received/NAME.txt
+    received/NAME.rules    the rule file (NAME.olk: the code file) and the files of the table as they came
+    received/NAME.txt      (the second one NAME.txt.2)
     code/NAME.olk          the compiled rules
-    tables/NAME.txt        the table with its moving walls
+    tables/NAME.txt        the table as preparation makes it, with its moving walls and coverage to the day; NAME.2.txt,
+                           .. are further parts
+    dropped/NAME.txt       rows that are not in it, with the reason, if there are any
+    changes/NAME.txt       the titles that came and went, if there are some
+    allowed.tsv            a target, words of its line that allow warnings, and the number up to which they do
     index/                 the index of titles, for the front door
 """
-import dataclasses, filecmp, os
-import holdings, index
+import dataclasses, filecmp, functools, os, re, shutil
+import dropped_rows, file_patterns, holdings, index, preparation
+from judging import Judge
 from outcome import Failure, Refused
-from program import is_allowed
+from served import Tables, targets_in
+from target_list import Target
 
 FEWER = "less than half of the rows"
 
 
 @dataclasses.dataclass
 class Files:
-    """The files of a target, as they came."""
+    """The files of a target, as they came, and the table that is prepared from them."""
     rules: bytes
-    table: bytes
+    tables: tuple  # of bytes
     has_code: bool
+    paths: tuple = dataclasses.field(compare=False)  # of the tables
+
+    @functools.cached_property
+    def prepared(self):
+        """Refused if one of the files cannot be read as a table."""
+        return preparation.prepare(list(zip(self.paths, self.tables)))
+
+    @property
+    def table(self):
+        return self.prepared.table
+
+    def table_or_none(self):
+        """The table, or nothing in place of one that cannot be prepared: a version may be older than preparation."""
+        try:
+            return self.table
+        except Refused:
+            return b""
 
 
 def content(path):
@@ -31,22 +54,31 @@ def content(path):
 def received(target):
     """The files that the list names for a target. Refused if one of them cannot be read."""
     reasons, parts = [], []
-    for path in (target.rules, target.table):
+    tables = [file_patterns.path_of(path) for path in target.tables]
+    for path in (target.rules, *tables):
         try:
             parts.append(content(path))
         except OSError as fault:
             reasons.append(f"{path}: {fault.strerror}")
     if reasons:
         raise Refused(reasons)
-    return Files(*parts, target.has_code())
+    return Files(parts[0], tuple(parts[1:]), target.has_code(), tuple(tables))
+
+
+def received_names(folder, name):
+    """The names of the files of a target's table in `received` of a version, in their order."""
+    found = [(len(it), it) for it in os.listdir(os.path.join(folder, "received"))
+             if re.fullmatch(rf"{re.escape(name)}\.txt(\.\d+)?", it)]
+    return [it for _, it in sorted(found)]
 
 
 def kept(version, name):
     """The files of a target in an older version, or None if it has none."""
     for suffix, has_code in ((".rules", False), (".olk", True)):
-        place = os.path.join(version, "received", name)
-        if os.path.isfile(place + suffix) and os.path.isfile(f"{place}.txt"):
-            return Files(content(place + suffix), content(f"{place}.txt"), has_code)
+        rules = os.path.join(version, "received", name + suffix)
+        tables = [os.path.join(version, "received", it) for it in received_names(version, name)]
+        if os.path.isfile(rules) and tables:
+            return Files(content(rules), tuple(map(content, tables)), has_code, tuple(tables))
     return None
 
 
@@ -56,7 +88,8 @@ class Maker:
     def __init__(self, folder, older, program, today, report):
         self.folder, self.older, self.program, self.today, self.report = folder, older, program, today, report
         self.names, self.kept, self.left_out = [], [], []
-        for part in ("received", "code", "tables"):
+        self.tables, self.judge = Tables(folder, today), Judge(folder, older, program)
+        for part in ("received", "code", "tables", "dropped"):
             os.mkdir(os.path.join(folder, part))
 
     def make(self, targets, has_list):
@@ -68,18 +101,33 @@ class Maker:
                 self.report(f"{name}: gone, since the list does not name it")
         if not self.names:
             raise Failure("no target is left")
-        lines = [f"{name}\tcode/{name}.olk\ttables/{name}.txt\n" for name in self.names]
-        self.write("registry.tsv", "".join(lines).encode())
+        self.finish(has_list)
+
+    def move_walls(self, has_list):
+        """Makes all but the index from the files of the older version, with the walls of today."""
+        for name in self.names_before():
+            self.names.append(name)
+            self.put_again(Target(name, f"{name}.rules", (f"{name}.txt",), frozenset()), kept(self.older, name))
+        self.judge.allowed = self.judge.before
+        changes = os.path.join(self.older, "changes")
+        if os.path.isdir(changes):
+            shutil.copytree(changes, os.path.join(self.folder, "changes"))
+        self.finish(has_list)
+
+    def finish(self, has_list):
+        self.write("registry.tsv", self.tables.registry(self.names))
+        self.write("allowed.tsv", self.judge.text(self.names).encode())
         index.begin(os.path.join(self.folder, "index"), has_list)
 
     def make_index(self, has_list):
-        """Makes the index, which takes longest. Its tables are those that came, without moving walls."""
+        """Makes the index, which takes longest. Its tables are the prepared ones, without moving walls."""
+        tables = ((name, kept(self.folder, name).table) for name in self.names)
         index.make(os.path.join(self.folder, "index"), has_list,
-                   ((name, content(os.path.join(self.folder, f"received/{name}.txt"))) for name in self.names))
+                   (part for name, table in tables for part in self.tables.for_index(name, table)))
 
     def names_before(self):
         """The names of the targets of the older version."""
-        return names_in(self.older) if self.older else []
+        return targets_in(self.older) if self.older else []
 
     def add(self, target):
         """Adds a target with its new files, or its old ones, or leaves it out."""
@@ -97,6 +145,7 @@ class Maker:
         self.names.append(target.name)
         if reasons or new == old:
             self.put_again(target, old)
+            self.judge.keep(target, self.tables.parts_of(target.name), not old.has_code, is_used=not reasons)
         else:
             self.say_changes(target.name, old, new)
 
@@ -105,9 +154,7 @@ class Maker:
         reasons = self.put(target, old)
         if reasons:
             raise Failure(f"{target.name}: its old files are refused too: {reasons[0]}")
-        table = f"tables/{target.name}.txt"
-        before = os.path.join(self.older, table)
-        if not os.path.isfile(before) or content(before) != content(os.path.join(self.folder, table)):
+        if not self.tables.is_same(target.name, self.older):
             self.report(f"{target.name}: moving walls changed")
 
     def write(self, name, data):
@@ -120,17 +167,24 @@ class Maker:
         rules = f"received/{name}{'.olk' if files.has_code else '.rules'}"
         self.discard(name)
         self.write(rules, files.rules)
-        self.write(f"received/{name}.txt", files.table)
-        self.write(f"tables/{name}.txt", holdings.with_walls(files.table, self.today))
+        for number, table in enumerate(files.tables, 1):
+            self.write(f"received/{name}.txt" + (f".{number}" if number > 1 else ""), table)
+        try:
+            reasons = self.tables.put(target, files.table)
+        except Refused as refusal:
+            return refusal.reasons
+        if files.prepared.dropped:
+            self.write(f"dropped/{name}.txt", files.prepared.dropped_table())
         if files.has_code:
             self.write(f"code/{name}.olk", files.rules)
-            return self.rejected(target.rules, "verify", f"code/{name}.olk")
-        return self.rejected(target.rules, "compile", rules, f"code/{name}.olk")
+            return reasons + self.rejected(target.rules, "verify", f"code/{name}.olk")
+        return reasons + self.rejected(target.rules, "compile", rules, f"code/{name}.olk")
 
     def discard(self, name):
         """Removes what a target has in this version."""
-        for place in (f"received/{name}.rules", f"received/{name}.olk", f"received/{name}.txt", f"code/{name}.olk",
-                      f"tables/{name}.txt"):
+        self.tables.discard(name)
+        for place in (f"received/{name}.rules", f"received/{name}.olk", f"code/{name}.olk", f"dropped/{name}.txt",
+                      *(f"received/{it}" for it in received_names(self.folder, name))):
             if os.path.lexists(os.path.join(self.folder, place)):
                 os.unlink(os.path.join(self.folder, place))
 
@@ -142,23 +196,17 @@ class Maker:
             return [f"{path}: {refusal.reasons[0]}"]
         return []
 
-    def doubts(self, path, allowed, *words):
-        """The warnings of `inspect` or `lint` that are not allowed, or why the command rejects a file."""
-        try:
-            lines = [line for line in self.program.warnings(*words) if not is_allowed(line, allowed)]
-        except Refused as refusal:
-            lines = refusal.reasons
-        return [f"{path}: {line}" for line in lines]
-
     def reasons_against(self, target, old, new):
-        """Writes the new files of a target, and returns why they cannot be used."""
-        table, rejections = f"tables/{target.name}.txt", self.put(target, new)
-        reasons = rejections + self.doubts(target.table, target.allowed, "inspect", table)
-        if not new.has_code and not rejections:
-            lint = self.doubts(target.rules, target.allowed, "lint", f"received/{target.name}.rules", table)
-            known = [it.partition(": ")[2] for it in reasons]
-            reasons += [line for line in lint if line.partition(": ")[2] not in known]
-        before, after = len(holdings.rows(old.table)) if old else 0, len(holdings.rows(new.table))
+        """Writes the new files of a target, and returns why they cannot be used. Refused if its table cannot be
+        prepared."""
+        prepared = new.prepared
+        reasons = self.put(target, new)
+        parts = self.tables.parts_of(target.name)
+        if parts:
+            reasons += self.judge.reasons(target, parts, not new.has_code and not reasons, old is not None)
+        dropped = dropped_rows.reasons_against(prepared.dropped, prepared.count, target.allowed)
+        reasons += [f"{target.table}: {line}" for line in dropped]
+        before, after = len(holdings.rows(old.table_or_none())) if old else 0, len(holdings.rows(new.table))
         if after * 2 < before and FEWER not in target.allowed:
             reasons.append(f"{target.table}: {FEWER}: {after}, and {before} before")
         return reasons
@@ -166,12 +214,16 @@ class Maker:
     def say_changes(self, name, old, new):
         if old is None:
             self.report(f"{name}: new, {count(len(holdings.rows(new.table)))}")
-            return
-        parts = [] if new.rules == old.rules else ["rules changed"]
-        if new.table != old.table:
-            added, gone = holdings.changes(old.table, new.table)
-            parts.append(f"{count(added)} added, {gone} gone")
-        self.report(f"{name}: {', '.join(parts)}")
+        else:
+            changes = [] if new.rules == old.rules else ["rules changed"]
+            if new.tables != old.tables:
+                added, gone = holdings.changes(old.table_or_none(), new.table)
+                changes.append(f"{count(added)} added, {gone} gone")
+            self.report(f"{name}: {', '.join(changes)}")
+        lines = self.judge.write_changes(name, self.tables.parts_of(name)) if old else []
+        prepared = new.prepared.told if old is None or new.tables != old.tables else []
+        for line in [*prepared, *self.tables.told[name], *lines]:
+            self.report(f"  {line}")
 
     def say_refusal(self, name, old, reasons):
         (self.left_out if old is None else self.kept).append(name)
@@ -185,15 +237,12 @@ def count(rows):
     return f"{rows} row" if rows == 1 else f"{rows} rows"
 
 
-def names_in(version):
-    """The names of the targets of a version, in the order of its menu."""
-    with open(os.path.join(version, "registry.tsv"), encoding="utf-8") as file:
-        return [line.split("\t")[0] for line in file if line.strip()]
-
-
 def is_same(one, other):
     """Whether two versions serve the same. The first may have no index yet, but its format."""
-    parts = ["registry.tsv", "index/format"] + [f"{part}/{name}" for part in ("code", "tables", "received")
-                                                for name in os.listdir(os.path.join(one, part))]
-    return all(os.path.isfile(os.path.join(other, part))
-               and filecmp.cmp(os.path.join(one, part), os.path.join(other, part), shallow=False) for part in parts)
+    folders = ("code", "tables", "received")
+    names = [[f"{part}/{name}" for part in folders for name in sorted(os.listdir(os.path.join(version, part)))]
+             for version in (one, other)]
+    parts = ["registry.tsv", "allowed.tsv", "index/format", *names[0]]
+    return names[0] == names[1] and all(
+        os.path.isfile(os.path.join(other, part))
+        and filecmp.cmp(os.path.join(one, part), os.path.join(other, part), shallow=False) for part in parts)

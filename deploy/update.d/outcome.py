@@ -21,3 +21,7 @@ class Refused(Exception):
 
 class Interrupted(Exception):
     """A signal asked the run to end."""
+
+
+class Unreadable(Exception):
+    """The bytes of a file are no table. Its text says why."""

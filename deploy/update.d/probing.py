@@ -49,6 +49,14 @@ class Probes:
             raise Failure(str(fault)) from fault
         return found
 
+    def keep_those_that_hold(self, links):
+        """Leaves out the probes that do not hold with these links. Returns the links of the others, and the lines of
+        those that are left out."""
+        holds = [set(found) == set(expected) for found, (_, _, expected) in zip(links, self.list)]
+        left_out = [str(number) for (number, _, _), it in zip(self.list, holds) if not it]
+        self.list = [probe for probe, it in zip(self.list, holds) if it]
+        return [found for found, it in zip(links, holds) if it], left_out
+
     def changes(self, old, new):
         """Lines that say which links each probe gains and loses, and those that lead elsewhere."""
         lines = []

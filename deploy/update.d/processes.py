@@ -28,11 +28,24 @@ def answers(port):
         return False
 
 
+def run(words):
+    """Runs a command. A Failure says why it did not succeed."""
+    try:
+        done = subprocess.run(words, stdin=subprocess.DEVNULL, capture_output=True, text=True, errors="replace",
+                              timeout=SECONDS_TO_RESTART, start_new_session=True)
+    except OSError as fault:
+        raise Failure(f"{words[0]}: {fault.strerror}") from fault
+    except subprocess.TimeoutExpired as fault:
+        raise Failure(f"{' '.join(words)}: no end after {SECONDS_TO_RESTART} seconds") from fault
+    if done.returncode != 0:
+        raise Failure(f"{' '.join(words)}: status {done.returncode}, {done.stderr.strip() or 'no message'}")
+
+
 class Processes:
-    def __init__(self, ports, restart, seconds):
-        """Ports, the command that restarts a process (PORT is its port), and the seconds that it has to listen
-        again."""
-        self.ports, self.restart, self.seconds = ports, restart, seconds
+    def __init__(self, ports, restart, reload, seconds):
+        """Ports, the command that restarts a process (PORT is its port), the one that has nginx read its files again,
+        and the seconds that a process has to listen again."""
+        self.ports, self.restart, self.reload, self.seconds = ports, restart, reload, seconds
         self.restarted = []
 
     def wait_for_all(self):
@@ -51,17 +64,11 @@ class Processes:
 
     def restart_one(self, port, names):
         self.restarted.append(port)
-        words = [word.replace("PORT", str(port)) for word in shlex.split(self.restart)]
-        try:
-            done = subprocess.run(words, stdin=subprocess.DEVNULL, capture_output=True, text=True, errors="replace",
-                                  timeout=SECONDS_TO_RESTART, start_new_session=True)
-        except OSError as fault:
-            raise Failure(f"{words[0]}: {fault.strerror}") from fault
-        except subprocess.TimeoutExpired as fault:
-            raise Failure(f"{' '.join(words)}: no end after {SECONDS_TO_RESTART} seconds") from fault
-        if done.returncode != 0:
-            raise Failure(f"{' '.join(words)}: status {done.returncode}, {done.stderr.strip() or 'no message'}")
+        run([word.replace("PORT", str(port)) for word in shlex.split(self.restart)])
         self.ask(port, names)
+
+    def reload_site(self):
+        run(shlex.split(self.reload))
 
     def ask(self, port, names):
         """Asks the process at a port until it answers with these targets."""

@@ -19,11 +19,6 @@ def words_of(warning):
     return re.split(r'[0-9"]', PLACE.sub("", warning, count=1))[0].strip(" :,")
 
 
-def is_allowed(warning, allowed):
-    """Whether the list allows a warning. `rule` allows every warning of `lint`, since a number follows this word."""
-    return words_of(warning) in allowed or (PLACE.match(warning) is not None and "rule" in allowed)
-
-
 def is_plain(line):
     return any(pattern.fullmatch(line) for pattern in PLAIN)
 

@@ -1,11 +1,13 @@
 """One run: makes the next version, tries it, puts it in use, and goes back to the version before if something fails."""
 import contextlib, datetime, os, sys
-import children, interrupts, making, target_list
+import children, coverage, export_files, interrupts, making, target_list
 from front_door import FrontDoor
-from making import Maker, names_in
+from making import Maker
+from names_file import NAME, NamesFile
 from outcome import ALL_NEW, KEPT, Failure
 from probing import Trial
 from program import Program
+from served import names_in, path_of
 
 
 def report(line, stream="stdout"):
@@ -21,34 +23,84 @@ class Run:
         """`probes_of` reads the library's probes; see Probes."""
         self.library, self.processes, self.program, self.site = library, processes, program, site
         self.probes_of = probes_of
+        self.names_file = NamesFile(site, library.path("current"))
 
     def update(self, folder, most, is_trial):
         """Makes a version from a folder and, unless it is only a trial, puts it in use. Returns the exit status."""
+        targets = target_list.read(os.path.join(folder, "targets.tsv"))
+        for line in self.site.differences([target.name for target in targets], self.names_file.path_of_next(folder)):
+            report(line)
+        return self.next_version(folder, is_trial, lambda maker: maker.make(targets, self.site.has_list),
+                                 lambda _: self.library.remove_old(most), tries_all=True)
+
+    def move_walls(self, folder):
+        """Makes a version from the files of the one in use, whose walls have moved, and puts it in its place. Probes
+        that may be for new files, since they do not hold now, are not tried. Returns the exit status."""
+        old = self.library.current()
+        if old is None:
+            raise Failure("there is no version in use")
+        if not self.has_walls(self.library.version(old)):
+            report(f"no walls of months or days: {old} stays in use")
+            return ALL_NEW
+        return self.next_version(folder, False, lambda maker: maker.move_walls(self.site.has_list),
+                                 self.library.remove, tries_all=False)
+
+    def has_walls(self, version):
+        for name in names_in(version):
+            with open(os.path.join(version, path_of(name)), "rb") as file:
+                if coverage.has_walls(file.read()):
+                    return True
+        return False
+
+    def next_version(self, folder, is_trial, make, remove, tries_all):
+        """Makes a version, tries the probes of a folder, and puts it in use. Then `remove` gets the version that was in
+        use. If it does not try all probes, it tries those that hold in the version in use. Returns the exit status."""
         library = self.library
         old = library.current()
-        targets = target_list.read(os.path.join(folder, "targets.tsv"))
         probes = self.probes_of(os.path.join(folder, "probes.tsv"))
         new = library.begin()
         unfinished = library.version(f"{new}.new")
         older, program = old and library.version(old), Program(self.program, unfinished)
         maker = Maker(unfinished, older, program, datetime.date.today(), report)
-        maker.make(targets, self.site.has_list)
-        if old and making.is_same(unfinished, library.version(old)):
+        make(maker)
+        self.add_names(maker, folder if tries_all else None, unfinished, older)
+        if old and making.is_same(unfinished, older) and self.names_file.is_same(unfinished, older):
             return self.say_end(maker, f"nothing new: {old} stays in use")
         maker.make_index(self.site.has_list)
+        self.export(unfinished)
         with self.front_door(probes) as door:
-            links = self.try_version(probes, door, unfinished, old)
+            links = self.try_version(probes, door, unfinished, old, tries_all)
             if is_trial:
                 return self.say_end(maker, "a trial: nothing was put in use")
             library.complete(new)
             library.remember(old)
             library.move(new)
-            self.processes.restart_all(maker.names)
+            self.processes.restart_all(names_in(library.version(new)))
+            self.reload_site()
             self.try_again(probes, door, links)
         interrupts.are_ignored()
         library.settle()
-        library.remove_old(most)
+        remove(old)
         return self.say_end(maker, f"{new} is in use")
+
+    def add_names(self, maker, folder, unfinished, older):
+        """Puts targets.json in the version, if the input has one."""
+        lines, is_kept = self.names_file.add(unfinished, folder, older)
+        for line in lines:
+            report(line)
+        if is_kept:
+            maker.kept.append(NAME)
+
+    def export(self, version):
+        """Writes the version's holdings for others."""
+        fault = export_files.make(version, self.site, self.names_file.path_in(version))
+        if fault:
+            report(f"the lists for others name targets without labels: {fault}")
+
+    def reload_site(self):
+        """Has nginx read targets.json again, if it is that of the version in use."""
+        if self.names_file.is_served():
+            self.processes.reload_site()
 
     def front_door(self, probes):
         """The front door for the probes; none is needed if there are no probes."""
@@ -57,18 +109,23 @@ class Run:
             return contextlib.nullcontext()
         return FrontDoor(self.site, self.library.path("trial"))
 
-    def try_version(self, probes, door, unfinished, old):
+    def try_version(self, probes, door, unfinished, old, tries_all):
         """Loads the new version and resolves the probes. A Failure says which differ. Returns the links of each
         probe."""
-        port = children.free_port()
+        port, version_before = children.free_port(), old and self.library.version(old)
         if not probes.list:
             with Trial(self.program, unfinished, port):
                 return None
-        trial = door.add_door([port], unfinished)
-        door.running = door.add_door(self.processes.ports, self.library.path("current"))
-        older = door.add_door([port], self.library.version(old)) if old else None
+        targets = self.names_file.path_in(unfinished)
+        trial = door.add_door([port], unfinished, targets)
+        door.running = door.add_door(self.processes.ports, self.library.path("current"), targets)
+        older = door.add_door([port], version_before, self.names_file.path_in(version_before)) if old else None
         door.start()
         before = self.links_before(probes, older, port, old)
+        if before is not None and not tries_all:
+            before, left_out = probes.keep_those_that_hold(before)
+            if left_out:
+                report(f"not tried, since they differ with the version in use too: probes {', '.join(left_out)}")
         with Trial(self.program, unfinished, port):
             differing = probes.differences(trial)
             links = probes.links(trial)
@@ -135,6 +192,12 @@ class Run:
             except Failure as failure:
                 is_well = False
                 report(f"{stamp} again: {failure}")
+        try:
+            if stamp:
+                self.reload_site()
+        except Failure as failure:
+            is_well = False
+            report(f"{stamp} again: {failure}")
         if is_well:
             self.library.settle()
             report(f"{stamp} is in use again" if stamp else "no version is in use")

@@ -1,7 +1,9 @@
-"""The list of targets, targets.tsv: a line for each, in the order of the menu. A line has a name, a rule file, a table,
-and the warnings that are allowed for it, separated by semicolons; the last cell may be missing. Paths are relative to
-the folder of the list. Empty lines and lines that begin with # are skipped."""
+"""The list of targets, targets.tsv: a line for each, in the order of the menu. A line has a name, a rule file, the
+files of its table, and the warnings that are allowed for it, the last two separated by semicolons; the last cell may be
+missing. Paths are relative to the folder of the list; those of tables may have *. Empty lines and lines that begin with
+# are skipped."""
 import dataclasses, os, re
+import parts
 from outcome import Failure
 
 NAME = re.compile(r"[A-Za-z0-9_.-]{1,64}")
@@ -12,8 +14,13 @@ MOST = 256
 class Target:
     name: str
     rules: str  # a path; one that ends in .olk is a code file, which needs no compiler
-    table: str
+    tables: tuple  # paths, which may have *
     allowed: frozenset
+
+    @property
+    def table(self):
+        """What messages call the table."""
+        return "; ".join(self.tables)
 
     def has_code(self):
         return self.rules.endswith(".olk")
@@ -44,9 +51,18 @@ def target_of(line, folder, place):
     cells = [cell.strip() for cell in line.split("\t")]
     if len(cells) not in (3, 4) or not all(cells[:3]):
         raise Failure(f"{place}: not a name, a rule file, a table and allowed warnings, with tabs between them")
-    name, rules, table = cells[:3]
+    name, rules, tables = cells[:3]
     if not NAME.fullmatch(name):
         raise Failure(f"{place}: no target can have the name {name}")
-    allowed = cells[3].split(";") if len(cells) == 4 else []
-    return Target(name, os.path.join(folder, rules), os.path.join(folder, table),
-                  frozenset(words.strip() for words in allowed if words.strip()))
+    if parts.base_of(name) != name:
+        raise Failure(f"{place}: no target can have the name {name}, which is that of a part of {parts.base_of(name)}")
+    paths = parts_of(tables)
+    if not paths:
+        raise Failure(f"{place}: no table")
+    return Target(name, os.path.join(folder, rules), tuple(os.path.join(folder, path) for path in paths),
+                  frozenset(parts_of(cells[3]) if len(cells) == 4 else ()))
+
+
+def parts_of(cell):
+    """The parts of a cell, which are separated by semicolons."""
+    return [part.strip() for part in cell.split(";") if part.strip()]

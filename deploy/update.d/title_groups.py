@@ -1,6 +1,7 @@
 """The titles of all tables. Rows are of one title if they have the same key and a number in common."""
 import collections, functools
 from identifiers import standard
+from parts import base_of
 from title_rows import ONLINE, PRINT, rows_of
 from titles import article_and_key
 
@@ -70,16 +71,25 @@ class Titles:
         self.alone = {}    # by key: the title, if no other has this key
         self.several = {}  # by key: titles by number
         self.followed = []  # pairs of an earlier and a later title
+        # Of the target whose table, or a part of it, was added last: titles by the provider's identifiers, and pairs of
+        # the identifier of an earlier title and the later one.
+        self.target, self.ids, self.later = "", {}, []
 
     def add_table(self, target, table):
-        ids, later = {}, []
+        """Adds the table of a target, or the next part of it."""
+        if base_of(target) != self.target:
+            self.follow(base_of(target))
         for row in rows_of(target, table):
             title = self.add(row)
             if row.title_id:
-                ids.setdefault(row.title_id, title)
+                self.ids.setdefault(row.title_id, title)
             if row.preceding_id:
-                later.append((row.preceding_id, title))
-        self.followed += [(ids[name], title) for name, title in later if name in ids]
+                self.later.append((row.preceding_id, title))
+
+    def follow(self, target=""):
+        """Finds the earlier titles of the last target, and begins another."""
+        self.followed += [(self.ids[name], title) for name, title in self.later if name in self.ids]
+        self.target, self.ids, self.later = target, {}, []
 
     def add(self, row):
         """Adds a row to its title."""
@@ -108,6 +118,7 @@ class Titles:
 
     def finish(self):
         """Returns all titles, and the earlier and later ones of each that has some."""
+        self.follow()
         found = list(self.alone.values())
         for by_number in self.several.values():
             titles = [title for title in dict.fromkeys(by_number.values()) if title.into is None]

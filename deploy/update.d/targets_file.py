@@ -1,12 +1,15 @@
-"""Checks a targets.json, and files of words, and says where they are wrong: nginx gives no reason."""
-import glob, json, os, re
+"""Checks a targets.json, and files of words, and says where they are wrong: nginx gives no reason. Run as a program it
+checks those that it is given: targets_file.py /etc/nginx/openlink/targets.json"""
+import glob, json, os, re, sys
 
-SAMPLE = "deploy/nginx/words/en.json"
+WORDS = os.path.join(os.path.dirname(os.path.dirname(os.path.realpath(__file__))), "nginx", "words")
+SAMPLE = os.path.join(WORDS, "en.json")
 # Texts that depend on the library, so no file of a language has them.
 OF_THE_LIBRARY = ("library", "help", "helpLink", "problemLink", "logo")
 LOGO = r"[\w-]{1,60}\.(svg|png|jpg|gif|webp)"
 # Names of groups, and paths, which are the same in all languages.
 PLAIN = ("name", "group", "onlyWithout", "rules")
+SCHOLAR = ("label", "otherLabel", "keywords", "contact", "addresses", "base")
 TAG = r"[A-Za-z]{2,8}(-[A-Za-z0-9]{1,8})*"
 
 
@@ -124,11 +127,12 @@ def faults_of(data, loaded=None):
     if site is None:
         return faults
     faults += [f"unknown name {json.dumps(name)}" for name in site
-               if name not in ("languages", "words", "groups", "targets", "folder")]
+               if name not in ("languages", "words", "groups", "targets", "folder", "scholar")]
     languages = languages_of(site, loaded, faults)
     logo_and_links(site, languages, faults)
     texts("words", site.get("words", {}), words(), languages, faults)
     problem_link(site, faults)
+    texts("scholar", site.get("scholar", {}), SCHOLAR, languages, faults)
     if not str(site.get("folder", "/")).startswith("/"):
         faults.append("folder is not an absolute path")
     groups = site.get("groups", [])
@@ -155,12 +159,23 @@ def faults_of(data, loaded=None):
 
 
 def faults_in(path):
-    """Returns the errors in a targets.json and in the files of texts in words/ next to it."""
+    """Returns the errors in a targets.json and in the files of texts in words/ next to it, which are the library's
+    own."""
     files = sorted(glob.glob(os.path.join(glob.escape(os.path.dirname(path)), "words", "*.json")))
-    loaded = {os.path.basename(file)[:-len(".json")] for file in files}
+    loaded = {os.path.basename(file)[:-len(".json")] for file in [*files, *os.listdir(WORDS)]}
     with open(path, "rb") as file:
         faults = [f"{path}: {fault}" for fault in faults_of(file.read(), loaded)]
     for name in files:
         with open(name, "rb") as file:
             faults += [f"{name}: {fault}" for fault in faults_of_words(file.read())]
     return faults
+
+
+def main(paths):
+    faults = [fault for path in paths for fault in faults_in(path)]
+    print("\n".join(faults) or "ok")
+    return 1 if faults else 0
+
+
+if __name__ == "__main__":
+    sys.exit(main(sys.argv[1:]))

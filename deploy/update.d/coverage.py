@@ -1,0 +1,106 @@
+"""Coverage to the day: the columns `coverage_from` and `coverage_to` of a table as it is served. They have the first
+and the last day that is open today as numbers of eight digits, 0 and 99999999 where there is no bound, and the other
+way round where no day is open. So the cells are never empty, and no request can fill them.
+
+Run as a program it prints a table with these columns, as of a day: coverage.py TABLE YYYY-MM-DD"""
+import calendar, datetime, functools, re, sys
+from outcome import Refused
+from table_cells import bytes_of, cell, cells_of, columns_of
+from title_rows import NONE, date_in, embargo_in
+
+COLUMNS = ("coverage_from", "coverage_to")
+DATES = ("date_first_issue_online", "date_last_issue_online", "embargo_info")
+EARLIEST, LATEST = 0, 99999999
+NO_DAY = ("99999999", "0")
+PART = re.compile(r"([RP])(\d+)([YMD])", re.A)
+MOST_CHARACTERS = 40  # of a cell that is quoted
+
+
+def number_of(day):
+    return day.year * 10000 + day.month * 100 + day.day
+
+
+def last_day_of(year, month):
+    return calendar.monthrange(year, month)[1]
+
+
+@functools.lru_cache(maxsize=4096)  # the same dates come again
+def day_in(text, is_last):
+    """The first or the last day of a date; None if a cell has no date. A month or a day that there is not counts as
+    missing."""
+    date = date_in(text)
+    if date == NONE:
+        return None
+    year, month, day = map(int, f"{date}-00-00".split("-")[:3])
+    if not 1 <= month <= 12:
+        return year * 10000 + (1231 if is_last else 101)
+    last = last_day_of(year, month)
+    if not 1 <= day <= last:
+        day = last if is_last else 1
+    return year * 10000 + month * 100 + day
+
+
+def day_before(today, number, unit):
+    """The same day that many years, months or days before; the last of its month, if that has no such day."""
+    if unit == "D":
+        return today - datetime.timedelta(min(number, today.toordinal() - 1))
+    months = today.year * 12 + today.month - 1 - number * (12 if unit == "Y" else 1)
+    year, month = divmod(months, 12)
+    if year < 1:
+        return datetime.date.min
+    return datetime.date(year, month + 1, min(today.day, last_day_of(year, month + 1)))
+
+
+def open_days(first, last, embargo, today):
+    """The two cells for a first date, a last date and an embargo. `P` leaves open what is up to the day before which
+    it counts, and `R` what is after it."""
+    start, end = day_in(first, False), day_in(last, True)
+    start, end = (EARLIEST if start is None else start), (LATEST if end is None else end)
+    for kind, number, unit in PART.findall(embargo_in(embargo)):
+        day = day_before(today, int(number), unit)
+        if kind == "P":
+            end = min(end, number_of(day))
+        else:
+            start = max(start, number_of(day + datetime.timedelta(1)))
+    if start > end:
+        return NO_DAY
+    return (f"{start:08}" if start else "0"), f"{end:08}"
+
+
+def step(header, rows, today):
+    """The table with the two columns after its own, and a line for embargoes that are not used. Refused if it brings
+    one of the columns."""
+    brought = [name for name in COLUMNS if name in header]
+    if brought:
+        raise Refused([f"it has a column {name}, which only the update may write" for name in brought])
+    if not header:
+        return header, rows, []
+    width, places = len(header), columns_of(header, DATES)
+    made, unused = [], []
+    for number, row in enumerate(rows):
+        first, last, embargo = (cell(row, place) for place in places)
+        if embargo.strip() and embargo_in(embargo) == NONE:
+            unused.append((number, embargo))
+        short = [""] * (width - len(row))
+        made.append([*row[:width], *short, *open_days(first, last, embargo, today), *row[width:]])
+    return [*header, *COLUMNS], made, told(unused)
+
+
+def told(unused):
+    if not unused:
+        return []
+    number, text = unused[0]
+    return [f'embargo_info not an embargo {len(unused)}, first {number} "{text[:MOST_CHARACTERS]}": not used']
+
+
+def has_walls(table):
+    """Whether an embargo of a table, as it is served, counts in months or days, so that it ends within a year."""
+    header, rows = cells_of(table)
+    place, = columns_of(header, ("embargo_info",))
+    return any(unit != "Y" for row in rows for _, _, unit in PART.findall(embargo_in(cell(row, place))))
+
+
+if __name__ == "__main__":
+    with open(sys.argv[1], "rb") as file:
+        columns, lines, _ = step(*cells_of(file.read()), datetime.date.fromisoformat(sys.argv[2]))
+    sys.stdout.buffer.write(bytes_of(columns, lines))
