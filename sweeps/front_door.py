@@ -4,13 +4,15 @@
 addresses of 127.0.0.0/8 are free, /etc/nginx is a copy with deploy/nginx in it, and every process ends with the script.
 It needs root. `Door` starts nginx and the processes of the program, with the sample library.
 """
-import os, re, resource, shutil, signal, socket, subprocess, sys, tempfile, threading, time
+import glob, os, re, resource, shutil, signal, socket, subprocess, sys, tempfile, threading, time
 
 TOP = os.path.dirname(os.path.dirname(os.path.abspath(__file__)))
 sys.path.insert(0, f"{TOP}/checks/shared")
 from library_index import write_index
 from patience import wait_until
 INSIDE = "FRONT_DOOR_NAMESPACES"
+SHARED = "/usr/local/share"  # where the files are that the site includes
+HOSTILE_NUMBERS = ["10.5555/slow", "10.5555/drip", "10.5555/huge", "10.5555/deep"]
 
 
 def enter():
@@ -44,6 +46,14 @@ def on_cores(numbers, *words):
 def kibibytes(pid, field):
     with open(f"/proc/{pid}/status") as status:
         return next(int(line.split()[1]) for line in status if line.startswith(field + ":"))
+
+
+def most_kibibytes(pid):
+    """The most memory that a process has had; 0 if it has just ended."""
+    try:
+        return kibibytes(pid, "VmHWM")
+    except (OSError, StopIteration):
+        return 0
 
 
 def processor_seconds(pid):
@@ -103,10 +113,16 @@ def listens(port):
         return False
 
 
-class Door:
-    """nginx and a supervised process of the program on each port of the site's upstream."""
+def hostile_lookups():
+    """Addresses with a number alone, of which a service knows nothing, or which it answers badly."""
+    return [f"/find?id=doi:{number}" for number in (*HOSTILE_NUMBERS, *(f"10.5555/attack{i}" for i in range(40)))]
 
-    def __init__(self, program, site, worker_connections=4096):
+
+class Door:
+    """nginx and a supervised process of the program on each port of the site's upstream. `edit` makes the site's text
+    from that of its file."""
+
+    def __init__(self, program, site, worker_connections=4096, edit=lambda text: text):
         self.folder = tempfile.mkdtemp()
         os.chmod(self.folder, 0o755)
         self.nginx = None
@@ -117,20 +133,28 @@ class Door:
         build = ["examples/library/build", self.program, f"{self.folder}/library"]
         subprocess.run(build, check=True, stdout=subprocess.DEVNULL)
         write_index(f"{self.folder}/library/registry.tsv", TOP, f"{self.folder}/version")
-        self.install(os.path.abspath(site), worker_connections)
+        self.install(os.path.abspath(site), worker_connections, edit)
         self.processes = {port: None for port in self.ports}
         for port in self.ports:
             threading.Thread(target=self.supervise, args=(port,), daemon=True).start()
 
-    def install(self, site, worker_connections):
+    def install(self, site, worker_connections, edit):
         etc = f"{self.folder}/nginx"
         shutil.copytree("/etc/nginx", etc, symlinks=True)
         for part in ("conf.d", "sites-enabled", "openlink"):
             shutil.rmtree(f"{etc}/{part}", ignore_errors=True)
             os.mkdir(f"{etc}/{part}")
-        with open(f"{site}/openlink.conf") as conf, open(f"{etc}/conf.d/openlink.conf", "w") as file:
-            file.write(conf.read().replace("/etc/openlink/current", f"{self.folder}/version"))
         shutil.copytree(site, f"{etc}/openlink", dirs_exist_ok=True)
+        subprocess.run(["mount", "-t", "tmpfs", "none", SHARED], check=True)
+        shutil.copytree(site, f"{SHARED}/openlink/nginx")
+        for path in (f"{etc}/openlink/openlink.conf", *glob.glob(f"{SHARED}/openlink/nginx/*.conf")):
+            with open(path) as file:
+                text = file.read().replace("/etc/openlink/current", f"{self.folder}/version")
+            if path == f"{etc}/openlink/openlink.conf":
+                text = edit(text)
+            with open(path, "w") as file:
+                file.write(text)
+        shutil.move(f"{etc}/openlink/openlink.conf", f"{etc}/conf.d")
         with open(f"{etc}/nginx.conf", "r+") as file:
             text = re.sub(r"worker_connections \d+", f"worker_connections {worker_connections}", file.read())
             file.seek(0)
@@ -179,6 +203,11 @@ class Door:
         """The most memory that a worker of nginx has had, in MB."""
         return max(kibibytes(pid, "VmHWM") for pid in self.workers()) * 1024 / 1e6
 
+    def peak_of_program(self):
+        """The most memory that a process of the program has had, in MB."""
+        found = [most_kibibytes(pid) for pid in self.program_pids()]
+        return max(found) * 1024 / 1e6
+
     def seconds_of_nginx(self):
         return sum(processor_seconds(pid) for pid in self.workers())
 
@@ -187,7 +216,7 @@ class Door:
 
     def unmount(self):
         """Makes place for another site."""
-        for place in ("/run", "/var/lib/nginx", "/var/log/nginx", "/etc/nginx"):
+        for place in ("/run", "/var/lib/nginx", "/var/log/nginx", "/etc/nginx", SHARED):
             subprocess.run(["umount", place], check=True)
 
     def end(self):
