@@ -192,14 +192,22 @@ def test_days():
                                                                "3 files asked for, 0 new or changed, 0 not fetched\n"))
 
 
-def curls():
-    return {number for number in filter(str.isdigit, os.listdir("/proc")) for path in [f"/proc/{number}/cmdline"]
-            if os.path.exists(path) and is_curl(path)}
+def curls_of(parent):
+    """The numbers of the curl processes that a process has started and that run."""
+    return {number for number in filter(str.isdigit, os.listdir("/proc")) if is_curl_of(parent, number)}
 
 
-def is_curl(path):
+def is_curl_of(parent, number):
     try:
-        with open(path, "rb") as file:
+        with open(f"/proc/{number}/stat", encoding="ascii") as file:
+            return file.read().rpartition(")")[2].split()[1] == str(parent) and is_curl(number)
+    except OSError:  # it has ended
+        return False
+
+
+def is_curl(number):
+    try:
+        with open(f"/proc/{number}/cmdline", "rb") as file:
             return file.read().startswith(b"curl\0-q\0")
     except OSError:
         return False
@@ -211,16 +219,15 @@ def test_ends():
         folder.write_sources(f"drip.txt\t{address('/raw/drip')}")
         folder.write("drip.txt", OLD)
         for number, status in ((signal.SIGTERM, 4), (signal.SIGKILL, -9)):
-            before = curls()
             child = folder.begin()
-            expect("it runs", wait_until(lambda: curls() - before) != set())
-            ours = curls() - before
+            ours = wait_until(lambda: curls_of(child.pid))
+            expect("it runs", len(ours), 1)
             expect("another run", folder.fetch(),
                    (4, f"deploy/fetch: {folder.path('.fetch', 'lock')}: another run has not ended\n"))
             child.send_signal(number)
             got, printed = ended(child)
             expect(f"after {number.name}: {printed}", (got, folder.read("drip.txt")), (status, OLD))
-            expect("no curl is left", wait_until(lambda: not ours & curls()))
+            expect("no curl is left", wait_until(lambda: not any(map(is_curl, ours))))
         folder.write_sources(f"drip.txt\t{address('/table.txt')}")
         folder.write(".fetch/7", OLD)
         expect("the next run", (folder.fetch()[0], folder.read("drip.txt"), folder.names()),

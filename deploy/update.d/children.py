@@ -3,6 +3,7 @@ import ctypes, os, random, resource, signal, socket, subprocess, time
 
 DEATH_SIGNAL = 1  # PR_SET_PDEATHSIG of prctl
 LIBC = ctypes.CDLL(None)
+claimed = []  # the sockets whose names are those of ports that this process took
 
 
 def tied(most_bytes=None):
@@ -48,14 +49,17 @@ def is_open(port):
 
 
 def free_port():
-    """A port at which nothing listens, below those that the system gives to clients (from 32768 on)."""
+    """A port at which nothing listens, below those that the system gives to clients (from 32768 on). No process gets
+    it from here again until this one ends: for so long it holds the name openlink-port-N of an abstract socket."""
     while True:
-        port = random.randrange(20000, 32000)
+        port, claim = random.randrange(20000, 32000), socket.socket(socket.AF_UNIX)
         try:
+            claim.bind(f"\0openlink-port-{port}")
             socket.create_server(("127.0.0.1", port)).close()
+            claimed.append(claim)
             return port
         except OSError:
-            continue
+            claim.close()
 
 
 def wait_for(port, child, seconds):
