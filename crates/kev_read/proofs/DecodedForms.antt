@@ -1,0 +1,46 @@
+-- What the bytes of a form's name or value decode to, from the first one on.
+use Rattle.std.proofs.Common.{◌≡◌, ℕ, ◌+◌, ◌*◌, ◌<◌, ◌≤◌, List, [], ◌∷◌, length, map, drop, get_or, sym, ap, ◌∙◌, subst, arith}
+use Rattle.std.specs.Char.{digit_value}
+use Rattle.std.proofs.lemmas.Bool.Decides.{nat_tests}
+use Rattle.percent_encoding.proofs.PercentLemmas.{percent_decode-nil, percent_decode_escape, KeepsFirst_from_no_escape}
+use Rattle.form_urlencoded.specs.Form as form
+
+pub decoded_nothing : (bytes : List ℕ) → length bytes ≡ 0 → form.decode bytes ≡ []
+decoded_nothing [] e = percent_decode-nil
+decoded_nothing (b ∷ bytes) e = absurd (omega arith)
+
+percent_before : (b : ℕ) → form.plus_to_space b ≡ 37 → b ≡ 37
+percent_before b e = grind (arith, nat_tests)
+
+digit_before : (b : ℕ) → digit_value (form.plus_to_space b) < 16 → digit_value b < 16
+digit_before b h = grind (arith, nat_tests)
+
+digit_stays : (b : ℕ) → digit_value b < 16 → form.plus_to_space b ≡ b
+digit_stays b h = grind (arith, nat_tests)
+
+-- bytes that begin with no escape
+pub decoded_first : (bytes : List ℕ) → 0 < length bytes
+    → (3 ≤ length bytes → get_or bytes 0 0 ≡ 37 → digit_value (get_or bytes 1 0) < 16 → digit_value (get_or bytes 2 0) < 16 → ⊥)
+    → form.decode bytes ≡ form.plus_to_space (get_or bytes 0 0) ∷ form.decode (drop 1 bytes)
+decoded_first [] some never = absurd (omega arith)
+decoded_first (b ∷ []) some never = KeepsFirst_from_no_escape (form.plus_to_space b ∷ []) (λ long percent high low. absurd (omega (arith, long)))
+decoded_first (b ∷ c ∷ []) some never =
+    KeepsFirst_from_no_escape (form.plus_to_space b ∷ form.plus_to_space c ∷ []) (λ long percent high low. absurd (omega (arith, long)))
+decoded_first (b ∷ c ∷ d ∷ bytes) some never =
+    KeepsFirst_from_no_escape (form.plus_to_space b ∷ form.plus_to_space c ∷ form.plus_to_space d ∷ map form.plus_to_space bytes)
+    (λ long percent high low. never (omega arith) (percent_before b percent) (digit_before c high) (digit_before d low))
+
+-- and bytes that begin with one
+pub decoded_escape : (bytes : List ℕ) → 3 ≤ length bytes → get_or bytes 0 0 ≡ 37 → digit_value (get_or bytes 1 0) < 16 → digit_value (get_or bytes 2 0) < 16
+    → form.decode bytes ≡ (16 * digit_value (get_or bytes 1 0) + digit_value (get_or bytes 2 0)) ∷ form.decode (drop 3 bytes)
+decoded_escape [] long percent high low = absurd (omega arith)
+decoded_escape (b ∷ []) long percent high low = absurd (omega arith)
+decoded_escape (b ∷ c ∷ []) long percent high low = absurd (omega arith)
+decoded_escape (b ∷ c ∷ d ∷ bytes) long percent high low =
+    let first : form.plus_to_space b ≡ 37 = ap form.plus_to_space percent in
+    let second = digit_stays c high in
+    let third = digit_stays d low in
+    percent_decode_escape (form.plus_to_space b) (form.plus_to_space c) (form.plus_to_space d) (map form.plus_to_space bytes) first
+    (subst (λ x. digit_value x < 16) (sym second) high) (subst (λ x. digit_value x < 16) (sym third) low)
+    ∙ (ap (λ x. (16 * digit_value x + digit_value (form.plus_to_space d)) ∷ form.decode bytes) second
+    ∙ ap (λ x. (16 * digit_value c + digit_value x) ∷ form.decode bytes) third)
