@@ -1,11 +1,12 @@
 //! Decoding the names and values of a form (URL Standard, section 5.1).
 
-ghost use Rattle.std.specs.Prelude.{◌≡◌, ◌+◌, ◌<◌, ◌≤◌, ◌++◌, ◌∷◌, MatchOption, OnErr, OnOk, drop, false, length, slice_index};
+ghost use Rattle.std.specs.Prelude.{◌≡◌, ◌+◌, ◌<◌, ◌≤◌, ◌++◌, ◌∷◌, EachIndex, MatchOption, OnErr, OnOk, drop, false, length, slice_index};
 ghost use Rattle.std.specs.Prelude.{string_bytes, string_capacity, string_len, take, true, vec_capacity, vec_len, IsUtf8};
 ghost use Rattle.form_urlencoded.specs.Form as form;
 ghost use Rattle.kev_read.specs.Pairs.{decoded};
 
 use form_urlencoded::decode;
+use percent_encoding::ascii_str;
 use std::alloc::AllocError;
 use std::mem;
 use std::str::from_utf8;
@@ -16,6 +17,9 @@ pub(crate) fn push_decoded(out: &mut String, input: &[u8]) -> Result<(), AllocEr
     ensures utf8 { OnOk result (IsUtf8 (decoded input.now)) }
     ensures err { OnErr result (string_bytes out.new ≡ string_bytes out.old) }
 {
+    if is_plain(input) {
+        return out.push_str(ascii_str(input));
+    }
     out.reserve(input.len())?;
     if push_utf8(out, input) {
         return Ok(());
@@ -78,16 +82,30 @@ fn push_first<'t>(bytes: &mut Vec<u8>, input: &'t [u8]) -> &'t [u8]
     ensures items { bytes.new.items ++ form.decode result.now ≡ bytes.old.items ++ form.decode input.now }
     ensures room { vec_len bytes.new + length result.now ≤ vec_capacity bytes.new }
 {
+    if input[0] != b'%' {
+        bytes.push_reserved(plus_to_space(input[0]));
+        return input.split_at(1).1;
+    }
     match escaped_byte(input) {
         Some(byte) => {
             bytes.push_reserved(byte);
             input.split_at(3).1
         }
         None => {
-            bytes.push_reserved(plus_to_space(input[0]));
+            bytes.push_reserved(b'%');
             input.split_at(1).1
         }
     }
+}
+
+/// Whether all bytes are ASCII, and stand for themselves.
+fn is_plain(input: &[u8]) -> bool
+    ensures { result ≡ true → EachIndex input.now
+        (λ i. (slice_index input.now i < 128) × form.IsPlain (slice_index input.now i)) }
+{
+    input
+        .iter()
+        .all(|byte| byte.is_ascii() && *byte != b'+' && *byte != b'%')
 }
 
 /// The byte of the escape with which the input begins: `%` and two hexadecimal digits.
