@@ -42,7 +42,8 @@ pub fn targets_have_their_shares()
 /// except under that name. So are the bodies of the replies for `/openurl.txt` and `/report`, which are these texts.
 /// Under each name the text has at most one line, and so has the report.
 ///
-/// What couples targets is outside a menu: one file that is rejected stops `load_registry`, and memory can run out.
+/// It is false if the lines under the name count too. What couples targets is outside a menu: one file that is rejected
+/// stops `load_registry`, and memory can run out.
 pub fn targets_are_independent()
     ensures text { (old new : List TargetValue) (name : Text) (pairs : List KeyValue) → IsRegistry old → IsRegistry new
         → other_targets name old ≡ other_targets name new
