@@ -9,8 +9,8 @@ use Rattle.std.proofs.lemmas.List.Elements.{All-nil}
 use Rattle.std.proofs.lemmas.Str.{IsUtf8-from_is_utf8}
 use Rattle.csv.specs.Reading.{Reached}
 use Rattle.httparse.specs.Grammar.{IsField, IsRequestHead, RequestHead, crlf, is_token_byte, is_uri_byte, print_request}
-use Rattle.text_model.specs.Texts.{Text, is_reserved, is_unreserved}
-use Rattle.text_model.specs.Writing.{written_u, written_ur}
+use Rattle.text_model.specs.Texts.{Text, is_unreserved}
+use Rattle.text_model.specs.Writing.{written_u}
 use Rattle.code_model.specs.Code.{reading}
 use Rattle.machine_model.specs.Budget.{is_kept, longest_compared, total}
 use Rattle.machine_model.specs.Form.{body_at}
@@ -162,15 +162,15 @@ reply =
     codes "HTTP/1.1 200 OK\r\nContent-Type: text/plain; charset=utf-8\r\nContent-Length: 21\r\nConnection: close\r\n\r\nalpha\thttp://e.org/b\n"
 
 page_of_the_rules : printed (page_by_rules by_rules page.Text (pairs_of query)) false ≡ reply
-unfolding kbart_rows_on_literals reading is_unreserved is_reserved written_u written_ur chars encode_utf8 longest_compared is_kept total body_at digits
+unfolding kbart_rows_on_literals reading is_unreserved written_u chars encode_utf8 longest_compared is_kept total body_at digits
 page_of_the_rules = refl
 
 abbrev value : ReplyValue
 value = menu_reply (menu_of targets) page.Text (pairs_of query)
 
 page_of_the_code : printed value false ≡ reply
-unfolding kbart_rows_on_literals fate_in course_from reading has_right_operands is_unreserved is_reserved written_u written_ur chars encode_utf8 longest_compared
-    is_kept total body_at digits
+unfolding kbart_rows_on_literals fate_in course_from reading has_right_operands is_unreserved written_u chars encode_utf8 longest_compared is_kept total
+    body_at digits
 page_of_the_code = refl
 
 is_reply : IsReply (menu_of targets) sent 200 reply

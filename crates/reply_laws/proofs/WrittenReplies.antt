@@ -1,7 +1,8 @@
 -- From an exchange to all that is written.
-use Rattle.std.proofs.Common.{◌≡◌, ◌≤◌, ◌<◌, ◌⊎◌, ℕ, inl, inr, Bool, true, List, [], Option, Some, None, length, sym, ap, ◌∙◌, subst, arith}
-use Rattle.std.specs.Prelude.{Result, Ok, Err, drop, take}
+use Rattle.std.proofs.Common.{◌≡◌, ◌≤◌, ◌<◌, ◌⊎◌, ℕ, inl, inr, Bool, true, List, [], ◌∷◌, Option, Some, None, length, sym, ap, ◌∙◌, subst, arith}
+use Rattle.std.specs.Prelude.{All, Result, Ok, Err, drop, take}
 use Rattle.std.proofs.lemmas.Bool.{cases_lt, false≢true}
+use Rattle.std.proofs.lemmas.List.Elements.{All-cons, All-nil}
 use Rattle.std.proofs.lemmas.List.{drop_all, length-append, length-take, take-append-drop}
 use Rattle.std.proofs.lemmas.Option.{same_Some}
 use Rattle.kev_read.specs.Pairs.{KeyValue, pairs_of}
@@ -15,6 +16,7 @@ use Rattle.http_streams.specs.Streams.{AreFresh, InputState, IsBlank, OutputStat
 use Rattle.http_streams.specs.declared.read.TheConstants.{MAX_HEAD_BYTES}
 use Rattle.http_request.specs.Routes.{IsRouted, RouteValue}
 use Rattle.http_request.specs.Routes as route
+use Rattle.http_exchange.specs.Connections.{AreServed, Connection, Exchanged, IsServed, Unread}
 use Rattle.http_exchange.specs.Exchange.{IsExchange, IsReply, IsReplyToInput, front, no_memory, no_room, request}
 use Rattle.http_exchange.specs.Replies.{ReplyValue}
 use Rattle.http_exchange.specs.RouteReplies.{IsQueryReply, IsReplyTo, is_html, page_text}
@@ -24,7 +26,7 @@ use Rattle.http_exchange.specs.declared.exchange.ServeError.{ServeError}
 use Rattle.http_exchange.specs.declared.exchange.ServeError.TheVariants.{ReadFault, WriteFault}
 use Rattle.rule_menus.specs.RuleMenus.{RuleTarget, menu_by_rules}
 use Rattle.reply_laws.specs.Written as written
-use Rattle.reply_laws.specs.Written.{IsReplyByRules, IsWrittenByRules}
+use Rattle.reply_laws.specs.Written.{IsReplyByRules, IsWrittenByRules, IsWrittenOn}
 use Rattle.reply_laws.proofs.OneEnd.{IsFurther, IsPart, further, is_further, no_further, part_of}
 use Rattle.reply_laws.proofs.OneReply.{LawsOfRoutes, all_written, routed_further}
 use Rattle.reply_laws.proofs.ServedFiles.{blank_before}
@@ -140,3 +142,21 @@ module _ (laws : LawsOfRoutes) (targets : List RuleTarget) (menus : Menus) (same
         exchange.3,
         sym (all_written before.written sends.before.written (take n exchange.1) bytes blank at_fault sends.output_state.written),
       )
+
+-- ---- connections
+
+-- what holds of each exchange holds of each connection that is served
+module _ {L I O : Type 0} (targets : List RuleTarget) (menus : Menus) (gives : L → Option (I × O) → L → Type 0) (closes : L → I × O → L → Type 0)
+    (input_state : I → InputState) (output_state : O → OutputState) (wait : ℕ)
+    (exchanged : (first last : InputState) (before after : OutputState) (end : Result Served ServeError) (sent bytes : List ℕ) → AreFresh wait first before
+    → IsExchange menus first before end last after → first.left ≡ Some sent → after.written ≡ Some bytes → IsWrittenByRules targets sent end bytes) where
+  one_connection : (c : Connection I O) → IsServed menus input_state output_state wait c → IsWrittenOn targets input_state output_state c
+  one_connection Unread h = tt
+  one_connection (Exchanged input output end input2 output2) h =
+      λ sent bytes. exchanged (input_state input) (input_state input2) (output_state output) (output_state output2) end sent bytes h.0 h.1
+
+  pub each_connection : (old new : L) (all : List (Connection I O)) → AreServed menus gives closes input_state output_state wait old all new
+      → All (IsWrittenOn targets input_state output_state) all
+  each_connection old new [] h = All-nil (IsWrittenOn targets input_state output_state)
+  each_connection old new (c ∷ cs) h =
+      All-cons (IsWrittenOn targets input_state output_state) c cs (one_connection c h.2) (each_connection h.0 new cs h.3)

@@ -1,6 +1,8 @@
 -- All that is written to a peer, by rules, tables and the bytes that the peer sends.
-use Rattle.std.specs.Prelude.{◌≡◌, ◌<◌, ℕ, false, List, [], Result, Ok, Err, length, take}
+use Rattle.std.specs.Prelude.{◌≡◌, ◌<◌, ℕ, false, List, [], Result, Some, Ok, Err, length, take}
+use Rattle.http_streams.specs.Streams.{InputState, OutputState}
 use Rattle.http_streams.specs.declared.read.TheConstants.{MAX_HEAD_BYTES}
+use Rattle.http_exchange.specs.Connections.{Connection, Unread, Exchanged}
 use Rattle.http_exchange.specs.Exchange.{IsReply}
 use Rattle.http_exchange.specs.Replies.{printed, unavailable}
 use Rattle.http_exchange.specs.declared.exchange.Served.{Served}
@@ -23,3 +25,10 @@ IsWrittenByRules targets sent (Ok (Replied status)) written = IsReplyByRules tar
 IsWrittenByRules targets sent (Err ReadFault) written = written ≡ []
 IsWrittenByRules targets sent (Err (WriteFault n)) written =
     (status : ℕ) × (reply : List ℕ) × IsReplyByRules targets sent status reply × (n < length reply) × (written ≡ take n reply)
+
+-- what is written on a connection, if the bytes that its peer sends and those that are written are known; one that is not read has no exchange
+abbrev pub IsWrittenOn : {I O : Type 0} → List RuleTarget → (I → InputState) → (O → OutputState) → Connection I O → Type 0
+IsWrittenOn targets input_state output_state Unread = Unit {0}
+IsWrittenOn targets input_state output_state (Exchanged input output end input2 output2) =
+    (sent written : List ℕ) → (input_state input).left ≡ Some sent → (output_state output2).written ≡ Some written
+    → IsWrittenByRules targets sent end written

@@ -7,5 +7,5 @@ mod replies;
 mod served_files;
 
 pub use pieces::pieces_do_not_matter;
-pub use replies::files_decide_replies;
+pub use replies::{files_decide_replies, files_decide_services};
 pub use served_files::files_decide_the_page;

@@ -1,13 +1,14 @@
 //! All that a service writes to a peer.
 
-ghost use Rattle.std.specs.Prelude.{◌≡◌, ℕ, List, Some, Result};
+ghost use Rattle.std.specs.Prelude.{◌≡◌, ℕ, List, All, Some, Result};
 ghost use Rattle.text_model.specs.Texts.{Text};
 ghost use Rattle.kbart_rows.specs.declared.keys.Keys.{Keys};
 ghost use Rattle.registry.specs.Entries.{menu_of};
 ghost use Rattle.registry.specs.Targets.{TargetValue};
 ghost use Rattle.files.specs.Found.{Disk, Gives};
-ghost use Rattle.registry_file.specs.Loading.{AreTargetsOf};
+ghost use Rattle.registry_file.specs.Loading.{AreTargetsOf, IsLoaded};
 ghost use Rattle.http_streams.specs.Streams.{AreFresh, InputState, OutputState};
+ghost use Rattle.http_exchange.specs.Connections.{AreServed, Connection};
 ghost use Rattle.http_exchange.specs.Exchange.{IsExchange};
 ghost use Rattle.http_exchange.specs.declared.exchange.Served.{Served};
 ghost use Rattle.http_exchange.specs.declared.exchange.ServeError.{ServeError};
@@ -15,11 +16,13 @@ ghost use Rattle.rule_menus.specs.CodeFiles.{AreReadFrom};
 ghost use Rattle.rule_menus.specs.RuleFiles.{TargetFiles, AreOfFiles};
 ghost use Rattle.rule_menus.specs.RuleMenus.{RuleTarget};
 ghost use Rattle.reply_laws.specs.Files.{IsRegistryOf};
-ghost use Rattle.reply_laws.specs.Written.{IsWrittenByRules};
+ghost use Rattle.reply_laws.specs.Written.{IsWrittenByRules, IsWrittenOn};
 
 use http_request::laws::{
     a_head_ends_where_it_is_closed, one_route, what_follows_a_head_is_ignored,
 };
+use http_streams::Listener;
+use kbart_rows::KeySource;
 use rule_menus::laws::compiled_files_have_one_menu;
 
 /// From files to whole replies. If the code files that a registry file names are those of rule texts, all that is
@@ -48,4 +51,18 @@ pub fn files_decide_replies()
     what_follows_a_head_is_ignored();
     a_head_ends_where_it_is_closed();
     compiled_files_have_one_menu();
+}
+
+/// The same of a whole service, from what the contracts of `load_registry` and `serve_on` say: on each connection that
+/// is served, whether all are served or the listener stops early, all that is written follows from the rule texts, the
+/// tables and the bytes that its peer sends.
+pub fn files_decide_services<K: KeySource, L: Listener>()
+    ensures { (disk : Disk) (old_keys new_keys : K) (path : Text) (targets : List TargetValue)
+        (files : List TargetFiles) (by_rules : List RuleTarget) (wait : ℕ) (old new : L)
+        (all : List (Connection L.In L.Out)) → IsRegistryOf disk path files → AreOfFiles files by_rules
+        → IsLoaded K.draws disk old_keys path new_keys targets
+        → AreServed (menu_of targets) L.gives L.closes L.In.input_state L.Out.output_state wait old all new
+        → All (IsWrittenOn by_rules L.In.input_state L.Out.output_state) all }
+{
+    files_decide_replies();
 }
