@@ -13,4 +13,5 @@ pub mod CleanTables
 pub mod SmallRegistries
 pub mod ClosedHosts
 mod RegistryExamples
+mod PageExamples
 mod HostExamples
