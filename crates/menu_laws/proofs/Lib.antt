@@ -1,6 +1,7 @@
 pub mod CutLines
 pub mod MenuLines
 pub mod ShareLemmas
+pub mod OneByOne
 pub mod SameRuns
 pub mod SameRows
 pub mod RowsInOrder
