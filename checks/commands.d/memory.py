@@ -1,4 +1,5 @@
-"""What is printed, and what the service replies, where memory is refused: 503, and no body for HEAD."""
+"""What is printed, and what the service replies, where memory is refused: 503, and no body for HEAD; and that a request
+can reserve many more addresses than it uses."""
 import resource
 from assembler import code
 from service import Service, reply_of, request_of, to_head
@@ -14,6 +15,16 @@ APOSTROPHES = code([], [("link", "http://e.org/"), ("link", "'" * 32768)], ["EMI
 PAGE_LIMIT = 800_000_000
 
 REFUSED = reply_of(503, "out of memory\n")
+
+# A run reserves the bytes that its code may print, three for each byte of the request and each of the 40 names. So 200
+# runs of this code for this request, each of nearly the largest bound, reserve 200 MB. They print short links.
+FORTY_NAMES = "rule\nlink http://e.org/" + "{x}" * 40 + "\n"
+RESERVING = "/openurl.txt?rft.issn=1&y=" + "a" * 8_700
+TARGETS = 200
+RESERVED = 200_000_000
+
+# What the service may use for all this, and what it may add to its addresses when they are limited.
+USED = 50_000_000
 
 # A method, and whether the reply has its body.
 METHODS = [("GET", True), ("HEAD", False), ("GET", True)]
@@ -38,6 +49,31 @@ def test_replies_without_memory(program):
             answer = service.reply(request_of("/openurl.txt?rft.issn=2", method=method))
             program.expect(f"{method} without memory", answer, REFUSED if has_body else to_head(REFUSED))
         program.expect("a request that needs no more", service.reply(request), small)
+
+
+def kilobytes(process, name):
+    with open(f"/proc/{process}/status") as lines:
+        return next(int(line.split()[1]) for line in lines if line.startswith(f"{name}:"))
+
+
+def test_reserved_addresses(program):
+    """A limit of addresses refuses a request that uses little memory."""
+    program.write("rules", FORTY_NAMES)
+    program.run(["compile", "rules", "code"])
+    program.write("table", "print_identifier\n1\n")
+    program.write("registry", "".join(f"t{n}\tcode\ttable\n" for n in range(TARGETS)))
+    page = reply_of(200, "".join(f"t{n}\thttp://e.org/\n" for n in range(TARGETS)))
+    with Service(program, 2) as service:
+        process = service.process.pid
+        before = kilobytes(process, "VmPeak")
+        program.expect("a request that reserves much", service.reply(request_of(RESERVING)), page)
+        reserved = (kilobytes(process, "VmPeak") - before) * 1024
+        program.expect(f"{reserved} bytes are reserved", reserved > RESERVED, True)
+        used = kilobytes(process, "VmHWM") * 1024
+        program.expect(f"{used} bytes are used", used < USED, True)
+        limit = kilobytes(process, "VmSize") * 1024 + USED
+        resource.prlimit(process, resource.RLIMIT_AS, (limit, limit))
+        program.expect("the same under a limit of addresses", service.reply(request_of(RESERVING)), REFUSED)
 
 
 def test_a_command_without_memory(program):

@@ -10,4 +10,5 @@ pub mod HostWalk
 pub mod RowHosts
 pub mod PrintedHosts
 mod HostExamples
+mod BrowserExamples
 pub mod BrowserHosts

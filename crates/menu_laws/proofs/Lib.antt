@@ -1,6 +1,7 @@
 pub mod CutLines
 pub mod MenuLines
 pub mod ShareLemmas
+pub mod OneByOne
 pub mod SameRuns
 pub mod SameRows
 pub mod RowsInOrder
@@ -13,4 +14,5 @@ pub mod CleanTables
 pub mod SmallRegistries
 pub mod ClosedHosts
 mod RegistryExamples
+mod PageExamples
 mod HostExamples

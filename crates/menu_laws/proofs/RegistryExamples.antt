@@ -1,13 +1,18 @@
 -- Two small registries, requests and tables that meet the premises of the laws, and what the laws say of them, computed: `targets_are_independent`,
--- `text_is_read_as_its_links`, `readers_keys_stay_out`, `appended_rows_keep_links`, `other_rows_change_numbers_alone`, `work_of_a_request_is_bounded` and
--- `clean_tables_have_no_dead_row`.
+-- `text_is_read_as_its_links`, `readers_keys_stay_out`, `appended_rows_keep_links`, `other_rows_change_numbers_alone`, `rows_over_requests_are_small`,
+-- `work_of_a_request_is_bounded` and `clean_tables_have_no_dead_row`.
 use Rattle.std.proofs.Common.{List, [], arith, codes, false, refl, ℕ, ◌++◌, ◌∷◌, ◌≡◌, ◌≤◌}
 use Rattle.std.specs.Fmt.{digits}
 use Rattle.std.proofs.lemmas.List.Elements.{All-cons, All-nil}
+use Rattle.std.proofs.lemmas.Str.{IsUtf8-from_is_utf8}
+use Rattle.csv.specs.Reading.{Reached}
 use Rattle.text_model.specs.Texts.{Text}
+use Rattle.environment_model.specs.Environment.{byte_count, member_count}
 use Rattle.code_model.specs.Code.{row}
-use Rattle.kev_read.specs.Pairs.{KeyValue, all_of}
-use Rattle.kbart_rows.specs.Cells.{Holdings}
+use Rattle.kev_read.specs.Pairs.{KeyValue, all_of, pairs_of}
+use Rattle.kev_read.specs.ReadQuery.{IsBounded, ReadQuery}
+use Rattle.kbart_rows.specs.Cells.{Holdings, row_bytes}
+use Rattle.kbart_rows.specs.Reading.{IsTable}
 use Rattle.kbart_rows.specs.Identifiers.{ids_of, matching_rows}
 use Rattle.kbart_rows.proofs.OnLiterals.{kbart_rows_on_literals}
 use Rattle.menu.specs.Printed.{report, text}
@@ -29,7 +34,7 @@ use Rattle.verified_runs.specs.declared.run.TheConstants.{MAX_LINK_BYTES}
 use Rattle.verified_runs.specs.Fates.{fate_in, most_bytes_in}
 use Rattle.registry.specs.RowEnvironments.{row_environment}
 use Rattle.menu_laws.specs.Keys.{HaveSameValues, IsWithinBudget}
-use Rattle.menu_laws.proofs.SmallRegistries.{beta, registry, request, run_on_literals, spoilt_registry, table, url_code}
+use Rattle.menu_laws.proofs.SmallRegistries.{alpha, beta, registry, request, run_on_literals, spoilt_registry, table, url_code}
 
 -- ---- targets are independent
 
@@ -119,6 +124,35 @@ report_after = refl
 text_after : text (menu_of (shorter_beta ∷ []) request) ≡ codes "beta\thttp://e.org/b\n"
 unfolding kbart_rows_on_literals run_on_literals fate_in
 text_after = refl
+
+-- ---- rows over requests
+
+-- the row has a number and an address, and the request a number and two authors
+abbrev authors : ReadQuery
+authors = record { pairs = pairs_of (codes "rft.issn=1&rft.au=Li&rft.au=Wu"); query_bytes = 30 }
+
+alpha_is_read : IsTable (codes "print_identifier\ttitle_url\n1\thttp://e.org/a\n") alpha.table
+unfolding kbart_rows_on_literals Reached
+alpha_is_read =
+    record {
+      text = (omega arith, IsUtf8-from_is_utf8 _ refl);
+      lines = (_, _, (_, refl, refl, (_, refl, refl, (refl, refl))), refl);
+      few = omega arith;
+      fit = All-cons (λ line. row_bytes line ≤ 65536) alpha.table.header alpha.table.rows (omega arith)
+          (All-cons (λ line. row_bytes line ≤ 65536) (codes "1" ∷ codes "http://e.org/a" ∷ []) [] (omega arith) (All-nil (λ line. row_bytes line ≤ 65536)));
+    }
+
+authors_are_bounded : IsBounded authors
+unfolding kbart_rows_on_literals
+authors_are_bounded = record { query_bytes = omega arith; pairs = omega arith; values = omega arith }
+
+members_of_the_row : member_count (row_environment alpha authors.pairs 0) ≡ 2
+unfolding kbart_rows_on_literals
+members_of_the_row = refl
+
+bytes_of_the_row : byte_count (row_environment alpha authors.pairs 0) ≡ 20
+unfolding kbart_rows_on_literals
+bytes_of_the_row = refl
 
 -- ---- work
 

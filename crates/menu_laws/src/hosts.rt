@@ -24,7 +24,7 @@ use rule_menus::laws::first_web_link_is_chosen;
 /// request. `text` says it of the links that a reader cuts out of the plain text.
 ///
 /// The host is the text between `//` and the next `/`, `?` or `#`. A browser has the same host, whose triplets it
-/// decodes.
+/// decodes. The law is false if the lines `a request can set the host by NAME` do not count.
 pub fn no_open_redirect()
     ensures target { (target : RuleTarget) (pairs : List KeyValue) (row : ℕ) (link : Text) → HasSoundRules target
         → IsClosed target → resolution_of (coded target) pairs ≡ Link row link

@@ -27,7 +27,8 @@ pub fn code_reads_its_names_alone()
 /// its link tells its provider nothing else of the request.
 ///
 /// The one channel is the bound on output bytes, which counts all keys of a request: a code that is over its bound on a
-/// row does not run. So both requests must be within it on each matching row.
+/// row does not run. So both requests must be within it on each matching row. The law is false if the members of lists
+/// may differ.
 pub fn readers_keys_stay_out()
     ensures { (target : TargetValue) (pairs others : List KeyValue) → HaveSameValues target.code pairs others
         → ids_of pairs ≡ ids_of others → IsWithinBudget target pairs → IsWithinBudget target others

@@ -14,7 +14,8 @@ ghost use Rattle.menu_laws.specs.OneKey.{by_issn};
 /// matches a request of one key, `rft.issn=ID`, whose value is an ISSN or an ISBN in normal form, or `ANY`, which
 /// stands for any title.
 ///
-/// A row that is found can still give no link, by the rules.
+/// It is false of a key that is no identifier, such as `rft.title`. A row that is found can still give no link, by the
+/// rules.
 pub fn clean_tables_have_no_dead_row()
     ensures { (table : Holdings) (row : ℕ) → have_warning (findings_in_identifiers table) ≡ false
         → row < length table.rows

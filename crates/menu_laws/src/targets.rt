@@ -20,10 +20,17 @@ use registry::laws::menus_are_sound;
 
 /// Whichever targets of a registry are meant, their lines in its plain text are all lines of the text of the registry
 /// that has them alone, in their order; and so are their lines in the report, and their links in the page. The menu is
-/// that of each target alone, one after another.
+/// that of each target alone, one after another, and so are its links, its text and its report: in another order the
+/// same targets have the same lines, in that order.
 pub fn targets_have_their_shares()
     ensures menu { (targets : List TargetValue) (pairs : List KeyValue)
         → menu_of targets pairs ≡ flat_map (λ target. menu_of (target ∷ []) pairs) targets }
+    ensures each_link { (targets : List TargetValue) (pairs : List KeyValue)
+        → links (menu_of targets pairs) ≡ flat_map (λ target. links (menu_of (target ∷ []) pairs)) targets }
+    ensures each_text { (targets : List TargetValue) (pairs : List KeyValue)
+        → text (menu_of targets pairs) ≡ flat_map (λ target. text (menu_of (target ∷ []) pairs)) targets }
+    ensures each_report { (targets : List TargetValue) (pairs : List KeyValue)
+        → report (menu_of targets pairs) ≡ flat_map (λ target. report (menu_of (target ∷ []) pairs)) targets }
     ensures text { (targets : List TargetValue) (pairs : List KeyValue) (test : Text → Bool) → IsRegistry targets
         → lines_under test (text (menu_of targets pairs)) ≡ lines (text (menu_of (targets_under test targets) pairs)) }
     ensures report { (targets : List TargetValue) (pairs : List KeyValue) (test : Text → Bool) → IsRegistry targets
@@ -42,7 +49,8 @@ pub fn targets_have_their_shares()
 /// except under that name. So are the bodies of the replies for `/openurl.txt` and `/report`, which are these texts.
 /// Under each name the text has at most one line, and so has the report.
 ///
-/// What couples targets is outside a menu: one file that is rejected stops `load_registry`, and memory can run out.
+/// It is false if the lines under the name count too. What couples targets is outside a menu: one file that is rejected
+/// stops `load_registry`, and memory can run out.
 pub fn targets_are_independent()
     ensures text { (old new : List TargetValue) (name : Text) (pairs : List KeyValue) → IsRegistry old → IsRegistry new
         → other_targets name old ≡ other_targets name new

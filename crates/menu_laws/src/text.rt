@@ -16,7 +16,7 @@ use registry::laws::menus_are_sound;
 /// the menu, in their order: for each menu whose names are names of targets and whose links are URI text, as those of
 /// every registry are.
 ///
-/// A reason why a target has no link is in the report alone.
+/// It is false if each line is cut at its first space. A reason why a target has no link is in the report alone.
 pub fn text_is_read_as_its_links()
     ensures menu { (menu : List MenuEntry) → HasSoundLinks menu → links_in_text (text menu) ≡ links menu }
     ensures registry { (targets : List TargetValue) (pairs : List KeyValue) → IsRegistry targets

@@ -19,7 +19,7 @@ pub fn appended_rows_keep_links()
 
 /// Rows without any identifier of a request change nothing of its menu but the numbers of rows in the report, however
 /// many of them are added, removed or changed, and wherever they are. `added` says that adding such rows is an update
-/// of this kind; so is, the other way round, removing them.
+/// of this kind; so is, the other way round, removing them. The law is false if the numbers of rows count.
 pub fn other_rows_change_numbers_alone()
     ensures menu { (old new : List TargetValue) (pairs : List KeyValue) → AllZip (KeepsCited pairs) old new
         → unnumbered_menu (menu_of new pairs) ≡ unnumbered_menu (menu_of old pairs) }

@@ -48,7 +48,7 @@ module _ (laws : LawsOfRoutes) where
       by_test true = refl
       by_test false = refl
 
-  routed_further : (bytes more : List ℕ) (at : RouteValue) (without_body : Bool) → is_closed bytes ≡ true → IsRouted bytes at without_body
+  pub routed_further : (bytes more : List ℕ) (at : RouteValue) (without_body : Bool) → is_closed bytes ≡ true → IsRouted bytes at without_body
       → IsRouted (bytes ++ more) at without_body
   routed_further bytes more _ _ closed (by_head head h) = by_head head (laws.ignored bytes more head h)
   routed_further bytes more _ _ closed (without_head none) =
@@ -127,7 +127,7 @@ by_input menus sent first last _ _ peer other (request bytes status reply read s
 by_input menus sent first last _ _ peer other (no_room same) = absurd (other refl)
 
 -- what was written to a blank output is all that is there
-all_written : (old new : Option (List ℕ)) (bytes reply : List ℕ) → old ≡ Some [] → new ≡ Some reply → Writes old bytes new → bytes ≡ reply
+pub all_written : (old new : Option (List ℕ)) (bytes reply : List ℕ) → old ≡ Some [] → new ≡ Some reply → Writes old bytes new → bytes ≡ reply
 all_written None new bytes reply blank is writes = absurd (cc)
 all_written (Some old) None bytes reply blank is writes = absurd writes
 all_written (Some old) (Some new) bytes reply blank is writes =

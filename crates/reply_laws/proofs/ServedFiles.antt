@@ -33,7 +33,7 @@ use Rattle.reply_laws.proofs.OneReply.{LawsOfRoutes, answered, same_route}
 -- ---- files
 
 -- a file that is known gives its bytes alone
-given : (found : Found) (bytes others : Text) → found ≡ File others → Gives found bytes → others ≡ bytes
+pub given : (found : Found) (bytes others : Text) → found ≡ File others → Gives found bytes → others ≡ bytes
 given found bytes others is gives = subst (λ (f : Found). Gives f bytes) is gives
 
 read_target : (disk : Disk) (keys : Keys) (row : Row) (files : TargetFiles) (target : TargetValue) → IsLineOf disk row files
@@ -68,7 +68,7 @@ read_all disk keys (row ∷ rows) (f ∷ files) (t ∷ targets) lines held =
 -- ---- connections
 
 -- nothing was written before, if it is known what was written after
-blank_before : (old new : Option (List ℕ)) (bytes reply : List ℕ) → IsBlank old → Writes old bytes new → new ≡ Some reply → old ≡ Some []
+pub blank_before : (old new : Option (List ℕ)) (bytes reply : List ℕ) → IsBlank old → Writes old bytes new → new ≡ Some reply → old ≡ Some []
 blank_before None None bytes reply blank writes is = absurd (cc)
 blank_before None (Some new) bytes reply blank writes is = absurd writes
 blank_before (Some old) new bytes reply blank writes is = ap (λ (l : List ℕ). Some l) blank

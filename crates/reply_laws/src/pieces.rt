@@ -13,7 +13,7 @@ use http_request::laws::{
 /// reply. Only a peer that sends nothing gets nothing.
 ///
 /// What can differ is left aside: a read or a write that fails, a reply 503 because memory ran out, and how many bytes
-/// after the head are read with its last piece.
+/// after the head are read with its last piece. The law is false if these bytes count.
 pub fn pieces_do_not_matter()
     ensures place { (sent bytes others : List ℕ) → IsReadOf sent bytes → IsReadOf sent others
         → EndAlike bytes others }

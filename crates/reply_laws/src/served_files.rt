@@ -36,7 +36,8 @@ use rule_menus::laws::compiled_files_have_one_reply;
 /// `read` links it with the contract of `load_registry`, and `served` with those of `serve_on` and `serve`, each of
 /// whose connections is fresh and has such an exchange. A head longer than is read of it gets a reply 431.
 ///
-/// The files and the peer's bytes are known here, as those in memory are; the system's files and sockets reveal none.
+/// It is false for code files of other rule texts. The files and the peer's bytes are known here, as those in memory
+/// are; the system's files and sockets reveal none.
 pub fn files_decide_the_page()
     ensures read { (disk : Disk) (keys : Keys) (registry : Text) (targets : List TargetValue) (files : List TargetFiles)
         (held : AreTargetsOf disk keys registry targets) → AreLinesOf disk held.rows files
