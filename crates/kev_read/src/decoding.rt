@@ -11,13 +11,24 @@ use std::alloc::AllocError;
 use std::mem;
 use std::str::from_utf8;
 
+// A dot for each byte that stands for itself, and the byte or `-` for the others.
+static PLAIN: [u8; 256] = *b"\
+    ................................\
+    .....%.....+....................\
+    ................................\
+    ................................\
+    --------------------------------\
+    --------------------------------\
+    --------------------------------\
+    --------------------------------";
+
 /// Appends the text that a form's name or value encodes, with U+FFFD for bytes that are not UTF-8.
 pub(crate) fn push_decoded(out: &mut String, input: &[u8]) -> Result<(), AllocError>
     ensures ok { OnOk result (string_bytes out.new ≡ string_bytes out.old ++ decoded input.now) }
     ensures utf8 { OnOk result (IsUtf8 (decoded input.now)) }
     ensures err { OnErr result (string_bytes out.new ≡ string_bytes out.old) }
 {
-    if is_plain(input) {
+    if are_plain(input) {
         return out.push_str(ascii_str(input));
     }
     out.reserve(input.len())?;
@@ -99,13 +110,19 @@ fn push_first<'t>(bytes: &mut Vec<u8>, input: &'t [u8]) -> &'t [u8]
 }
 
 /// Whether all bytes are ASCII, and stand for themselves.
-fn is_plain(input: &[u8]) -> bool
+fn are_plain(input: &[u8]) -> bool
     ensures { result ≡ true → EachIndex input.now
         (λ i. (slice_index input.now i < 128) × form.IsPlain (slice_index input.now i)) }
 {
-    input
-        .iter()
-        .all(|byte| byte.is_ascii() && *byte != b'+' && *byte != b'%')
+    input.iter().all(|byte| is_plain(*byte))
+}
+
+/// Whether a byte is ASCII, and stands for itself.
+#[inline(always)]
+fn is_plain(byte: u8) -> bool
+    ensures { result ≡ true → (byte < 128) × form.IsPlain byte }
+{
+    PLAIN[byte as usize] == b'.'
 }
 
 /// The byte of the escape with which the input begins: `%` and two hexadecimal digits.

@@ -5,15 +5,15 @@ use Rattle.kev_read.proofs.DecodedForms.{decoded_plain, plain_ascii}
 use Rattle.kev_read.proofs.decoding.push_decoded.Goals as goal
 
 pub ascii_str-requires : goal.ascii_str-requires
-ascii_str-requires c = plain_ascii c.args.input.now (c.is_plain.ensures c.if-is_plain.true)
+ascii_str-requires c = plain_ascii c.args.input.now (c.are_plain.ensures c.if-are_plain.true)
 
-pub returns-then-is_plain-clause-ok : goal.returns-then-is_plain-clause-ok
-returns-then-is_plain-clause-ok c =
-    rw (decoded_plain c.args.input.now (c.is_plain.ensures c.if-is_plain.true)) (search rules)
+pub returns-then-are_plain-clause-ok : goal.returns-then-are_plain-clause-ok
+returns-then-are_plain-clause-ok c =
+    rw (decoded_plain c.args.input.now (c.are_plain.ensures c.if-are_plain.true)) (search rules)
 
-pub returns-then-is_plain-clause-utf8 : goal.returns-then-is_plain-clause-utf8
-returns-then-is_plain-clause-utf8 c =
-    let each = c.is_plain.ensures c.if-is_plain.true in
+pub returns-then-are_plain-clause-utf8 : goal.returns-then-are_plain-clause-utf8
+returns-then-are_plain-clause-utf8 c =
+    let each = c.are_plain.ensures c.if-are_plain.true in
     let utf8 = subst IsUtf8 (sym (decoded_plain c.args.input.now each)) (IsUtf8-from_ascii c.args.input.now (plain_ascii c.args.input.now each)) in
     search (rules, utf8)
 
