@@ -1,7 +1,8 @@
 //! Decoding the names and values of a form (URL Standard, section 5.1).
 
-ghost use Rattle.std.specs.Prelude.{◌≡◌, ◌+◌, ◌<◌, ◌≤◌, ◌++◌, ◌∷◌, EachIndex, MatchOption, OnErr, OnOk, drop, false, length, slice_index};
-ghost use Rattle.std.specs.Prelude.{string_bytes, string_capacity, string_len, take, true, vec_capacity, vec_len, IsUtf8};
+ghost use Rattle.std.specs.Prelude.{◌≡◌, ◌+◌, ◌<◌, ◌≤◌, ◌++◌, ◌∷◌, EachIndex, IsUtf8, MatchOption, OnErr, OnOk, drop};
+ghost use Rattle.std.specs.Prelude.{false, length, slice_index, string_bytes, string_capacity, string_len, take, true};
+ghost use Rattle.std.specs.Prelude.{vec_capacity, vec_len};
 ghost use Rattle.form_urlencoded.specs.Form as form;
 ghost use Rattle.kev_read.specs.Pairs.{decoded};
 

@@ -64,8 +64,8 @@ fn push_first_u<'t>(bytes: &mut Vec<u8>, text: &'t [u8]) -> &'t [u8]
     rest
 }
 
-// Whether UR copies the first byte: one that is unreserved or reserved, or the `%` of a triplet. The digits of a triplet
-// are unreserved.
+// Whether UR copies the first byte: one that is unreserved or reserved, or the `%` of a triplet. The digits of a
+// triplet are unreserved.
 #[inline(always)]
 fn is_copied_by_ur(text: &[u8]) -> bool
     requires { 0 < length text.now }
