@@ -252,6 +252,7 @@ const MARKUP = [
     ['OpenURL 0.1', 'atitle=%3Cb%3ETides%3C/b%3E&rft_val_fmt=x', 'rft.atitle=Tides'],
     ['braces of BibTeX', 'rft_val_fmt=x&rft.jtitle=Annals+of+%7BT%7Didal+%7BStudies%7D',
         'rft.jtitle=Annals+of+Tidal+Studies', 'rft_val_fmt=x'],
+    ['other braces', 'rft_val_fmt=x&rft.atitle=$%7BHOME%7D&rft.jtitle=%7B%7D', ''],
     ['no markup', 'rft_val_fmt=x&rft.atitle=p%3C0.05+and+q%3E3+%26+so', '']
 ];
 

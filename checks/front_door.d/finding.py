@@ -7,8 +7,8 @@ from library_index import write_index
 ARTICLE = "date=2003&volume=12&issue=3&spage=101&atitle=Storm+surges"
 BY_TITLE = "tidal-press aggregate-net catalogue web-search"
 NOTHING = ("We found no full text online.", "Wir haben online keinen Volltext gefunden.")
-HELD = ("The library’s lists have this title. To find the full text, please add the year and the volume.",
-        "Die Listen der Bibliothek haben diesen Titel. Für den Volltext ergänzen Sie bitte Jahr und Band.")
+HELD = ("The library’s lists have this title. With the year and the volume we can look again.",
+        "In den Listen der Bibliothek steht dieser Titel. Mit Jahr und Band können wir noch einmal suchen.")
 UNKNOWN = "The library’s lists have no title of this name."
 HOSTILE = "</title><script>alert(1)</script>\"'><img src=x onerror=alert(1)>&amp;\r\nTY  - X\u202e\u0000\ufffe\u2028é"
 GERMAN = {"Accept-Language": "de"}

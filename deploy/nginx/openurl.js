@@ -125,6 +125,7 @@ function format(q) {
 // Titles and names as text: some sources send HTML or the braces of BibTeX, or encode them twice.
 const WRITTEN = ['rft.atitle', 'rft.jtitle', 'rft.btitle', 'rft.title', 'rft.stitle', 'rft.au', 'rft.aulast',
     'rft.aufirst', 'rft.aucorp'];
+const BRACES = texts.lazy('(?<![$\\\\])\\{([^{}]+)\\}', 'g');
 function decodedAgain(value) {
     if (is(/\s/, value)) return value;
     const hasEscapes = is(/%[0-9a-f]{2}/i, value) && !is(/%(?![0-9a-f]{2})/i, value);
@@ -138,7 +139,7 @@ function decodedAgain(value) {
 }
 function readable(value) {
     const decoded = is(/[%+]/, value) ? decodedAgain(value) : value;
-    const text = is(/\{.*\}/, decoded) ? decoded.split('{').join('').split('}').join('') : decoded;
+    const text = decoded.indexOf('{') < 0 ? decoded : texts.replaced(decoded, BRACES(), '$1').trim();
     return is(/[<&]/, text) ? titles.plain(text) || value : text;
 }
 function markup(q) {
