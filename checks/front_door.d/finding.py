@@ -73,6 +73,7 @@ def test_choices(it):
                             ("rft.issn=1234-5679,+2345-6781&jtitle=Annals+of+Tidal+Studies", annals),
                             ("title=Annals+of+Tidal+Studies;issn=1234-5679", annals),
                             ("genre=book&title=Annals+of+Tidal+Studies", annals),
+                            ("jtitle=Soundings&rft.title=Annals+of+Tidal+Studies", soundings),
                             ("jtitle=Annals+of+Tidal+Studies+/+edited+by+W.+Li", annals),
                             ("jtitle=Annals+of+Tidal+Studies:+a+journal", annals),
                             ("jtitle=Annals+of+Tidal+Studies+(Online)", annals)):
@@ -100,7 +101,8 @@ def test_umlauts(it):
     no title."""
     with open(it.site.path("tables/umlauts.txt"), "w") as table:
         table.write("publication_title\tprint_identifier\tpublication_type\nZeitschrift für Küstenforschung\t2901-0039"
-                    "\tserial\nHaefen und Kanaele\t2901-0047\tserial\n")
+                    "\tserial\nHaefen und Kanaele\t2901-0047\tserial\n"
+                    "A History of Harbours (Online)\t2901-0055\tserial\n")
     with open(it.site.path("registry.tsv")) as registry, open(it.site.path("more.tsv"), "w") as more:
         more.write(f"{registry.read()}umlauts\tnone.olk\ttables/umlauts.txt\n")
     write_index(it.site.path("more.tsv"), it.site.path(""), it.site.path("more"))
@@ -116,6 +118,8 @@ def test_umlauts(it):
         data = it.data(f"jtitle={quote(title)}")
         it.expect(f"titles for {title}", [one["numbers"] for one in data["maybe"]], [[number]])
         it.expect(f"the page of {title}", UNKNOWN in it.site.get(f"/find?jtitle={quote(title)}").text, False)
+    it.expect("a similar title of the kind, and the same of another",
+              [one["numbers"] for one in it.data("genre=article&jtitle=A+History+of+Harbours")["maybe"]], [["2901-0055"]])
     it.expect("another word for &", it.data("jtitle=Harbour+et+Coastal+Engineering")["maybe"][0]["title"],
               "Harbour and Coastal Engineering")
     for text in ("kuesten", "küsten", "kusten", "KÜSTENFORSCHUNG+fuer"):

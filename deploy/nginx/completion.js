@@ -154,11 +154,12 @@ function similarKeys(q) {
     });
     return found.slice(0, MOST_SIMILAR);
 }
-const ANDS = ['and', 'und', 'et'];
+const ANDS = ' and und et ';
+function isAnd(word) { return ANDS.indexOf(' ' + word + ' ') >= 0; }
 function withOtherAnd(key) {
     const words = key.split(' ');
-    if (!words.some((word) => ANDS.indexOf(word) >= 0)) return NONE;
-    return ANDS.map((and) => words.map((word) => ANDS.indexOf(word) >= 0 ? and : word).join(' '));
+    if (!words.some(isAnd)) return NONE;
+    return ANDS.trim().split(' ').map((and) => words.map((word) => isAnd(word) ? and : word).join(' '));
 }
 
 // What is certain of a request: `number` was looked up, `title` is not in the index, `unlisted` is a title without an

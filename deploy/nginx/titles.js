@@ -74,11 +74,10 @@ function withoutLastArticle(text, isAscii) {
 function keyOf(title) { return wordsOf(title).join(' '); }
 
 // A title whose umlauts are written as two letters.
-const UMLAUTS = [['\xe4', 'ae'], ['\xf6', 'oe'], ['\xfc', 'ue'], ['a\u0308', 'ae'], ['o\u0308', 'oe'],
-    ['u\u0308', 'ue']];
+const UMLAUTS = '\xe4 ae,\xf6 oe,\xfc ue,a\u0308 ae,o\u0308 oe,u\u0308 ue';
 function writtenOut(title) {
     let text = plain(title.slice(0, MOST_CHARACTERS)).toLowerCase();
-    UMLAUTS.forEach((it) => { if (text.indexOf(it[0]) >= 0) text = text.split(it[0]).join(it[1]); });
+    UMLAUTS.split(',').map((it) => it.split(' ')).forEach((it) => { text = text.split(it[0]).join(it[1]); });
     return text;
 }
 
