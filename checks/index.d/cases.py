@@ -135,7 +135,7 @@ def test_umlauts():
     rows = [journal("Küstenforschung: Berichte", "2901-0012"), journal("Kuestenforschung", "2908-0142"),
             journal("Cœur", "2915-0272")]
     with Index({"one": table(*rows)}) as found:
-        for key, expected in (("~kustenforschung", 1), ("~kuestenforschung berichte", 1), ("~kuestenforschung", 1),
+        for key, expected in (("~kustenforschung", 1), ("~kuestenforschung", 1), ("~kuestenforschung berichte", 0),
                               ("=kuestenforschung", 1), ("~kustenforschung berichte", 0), ("~coeur", 0)):
             expect(f"titles of {key}", len(found.of_key(key)), expected)
         listed = found.listed("j")

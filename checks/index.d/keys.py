@@ -56,7 +56,8 @@ CASES = [
     ("A" * 600 + ": b", "a" * 500, ""),
 ]
 PIECES = [*" '’:=()[]-–—&;<>/#xliugnABCXYZabcßéÉàñäÖüЙйΣςσ\u0301\u00ad\u200b１Ⅳﬁ漢語😀", "&amp;", "&eacute;", "&#39;",
-          "&#x2019;", "<i>", "</i>", "the ", "The ", "L'", "l’", "un'", "Die ", " : ", " - ", " / ", ", the", ", Les"]
+          "&#x2019;", "<i>", "</i>", "the ", "The ", "L'", "l’", "un'", "Die ", " : ", " - ", " / ", ", the", ", Les",
+          "a\u0308", "O\u0308", "u\u0308"]
 SCRIPT = """import titles from 'titles.js';
 import fs from 'fs';
 globalThis.fold = JSON.parse(fs.readFileSync('fold.json'));

@@ -81,7 +81,9 @@ class Reference:
                 coverage = ";".join(sorted(map(self.entry, title)))
                 found.append((md5(number)[:3], number, names, *cells, coverage))
             name, key = title[0]["publication_title"], title[0]["key"]
-            others = {short_key(name), key_of(as_two_letters(name)), short_key(as_two_letters(name))} - {"", key}
+            others = {short_key(name)} - {"", key}
+            if as_two_letters(name) != name:
+                others |= {short_key(as_two_letters(name)) or key_of(as_two_letters(name))} - {key}
             for sought in (f"={key}", *(f"~{other}" for other in others)):
                 digits = md5(sought)
                 found.append((digits[:3], sought[0] + digits[3:16], names, *cells, None))

@@ -61,9 +61,9 @@ def lines_of(title, related):
 
 
 def similar_keys(title):
-    """The other keys of a title: without its subtitle, and with its umlauts as two letters."""
+    """The other keys of a title without its subtitle, and of that with its umlauts as two letters."""
     written = written_key(title.name)
-    keys = [short_key(title.name), written, short_key(written_out(title.name)) if written else ""]
+    keys = [short_key(title.name), written and (short_key(written_out(title.name)) or written)]
     return [key for key in dict.fromkeys(keys) if key not in ("", title.key)]
 
 
