@@ -61,6 +61,11 @@ def test_by_title(it):
         it.expect(f"the second title of {second}", it.targets(f"{second}&{ARTICLE}"), BY_TITLE)
     it.expect("a book's title as that of a journal", it.targets("genre=bookitem&rft.jtitle=Handbook+of+Tidal+Power"),
               "book-house")
+    it.expect("a title alone, with markup", it.data("rft.jtitle=Harbour+%26amp%3B+Coastal+Engineering")["citation"],
+              {"journal": "Harbour & Coastal Engineering", "issn": "2978-1442"})
+    reply = it.site.get("/find?rft.jtitle=%3Ci%3ENothing%3C/i%3E+of+it")
+    it.expect("the page of a title alone, with markup", ("<h1>Find this item</h1>" in reply.text, UNKNOWN in reply.text),
+              (True, True))
     it.expect("a redirect by title", it.site.get("/go?title=Estuary+Biology&date=2012").status, 302)
 
 

@@ -14,6 +14,7 @@ const NONE = [];
 const MOST_FURTHER = 2;  // queries beside the request's and the one for targets that answer every request
 const MOST_MAYBE = 20;
 const MOST_SIMILAR = 16;  // keys of titles like those of a request
+const MOST_LETTERS = 250; // of a title that may be like others
 const TITLE_KEYS = { j: ['rft.jtitle', 'rft.title', 'rft.stitle'], b: ['rft.btitle', 'rft.title'] };
 TITLE_KEYS[''] = ['rft.jtitle', 'rft.btitle', 'rft.title', 'rft.stitle'];
 
@@ -27,7 +28,10 @@ function titlesAsked(q) {
     return found;
 }
 function keysAsked(q) {
-    return titlesAsked(q).map(titles.keyOf).filter((key, i, all) => key !== '' && all.indexOf(key) === i);
+    if (q.keys === undefined) {
+        q.keys = titlesAsked(q).map(titles.keyOf).filter((key, i, all) => key !== '' && all.indexOf(key) === i);
+    }
+    return q.keys;
 }
 function ofKind(q, list) {
     const kind = openurl.kindAsked(q);
@@ -145,10 +149,10 @@ async function addMaybe(r, q) {
 function similarKeys(q) {
     const found = [];
     const put = (sign, key) => { if (key !== '' && found.indexOf(sign + key) < 0) found.push(sign + key); };
-    titlesAsked(q).forEach((title) => {
+    titlesAsked(q).filter((title) => title.length <= MOST_LETTERS).slice(0, 2).forEach((title) => {
         const keys = [titles.keyOf(title), titles.shortKey(title)];
         const written = titles.writtenOut(title);
-        keys.push(titles.keyOf(written), titles.shortKey(written));
+        if (written !== title.toLowerCase()) keys.push(titles.keyOf(written), titles.shortKey(written));
         keys.slice(1).concat(withOtherAnd(keys[0])).forEach((key) => { put('=', key); });
         keys.forEach((key) => { put('~', key); });
     });
@@ -178,12 +182,12 @@ async function queryOf(r) {
     q.titles = NONE;
     q.further = NONE;
     q.maybe = NONE;
-    if (q.pairs.length > 0) {
+    if (!q.isEmpty()) {
         await lookup.complete(r, q);
         await addNumbers(r, q);
     }
     openurl.finish(q);
-    if (q.pairs.length === 0) return q;
+    if (q.isEmpty()) return q;
     await addTitle(r, q);
     await addMaybe(r, q);
     q.knowledge = await knowledgeOf(r, q);

@@ -119,7 +119,7 @@ const NOTICES = {
     number: 'nothing', held: 'held', title: 'unknownTitle', unlisted: 'numberMissing', identifier: 'numberAlone',
     nothing: 'incomplete'
 };
-function hasNotice(q, groups) { return groups[0].links.length === 0 && q.maybe.length === 0 && q.pairs.length > 0; }
+function hasNotice(q, groups) { return groups[0].links.length === 0 && q.maybe.length === 0 && !q.isEmpty(); }
 // A journal of the first group may have no link because the request has no year or no volume. Then the page says
 // what the group's targets have.
 function knowledgeOf(q, groups, site) {

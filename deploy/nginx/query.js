@@ -158,6 +158,8 @@ Query.prototype.keep = function (key, value, text) {
     else this.given[key].push(value);
 };
 
+// Whether nothing of a request counts. Rules may have moved all its pairs to those that they add.
+Query.prototype.isEmpty = function () { return this.pairs.length === 0 && this.addedKeys.length === 0; };
 Query.prototype.first = function (key) { return (this.added[key] || this.given[key] || NONE)[0] || ''; };
 Query.prototype.has = function (key) { return this.first(key) !== ''; };
 // All values of a key, of a hostile request the first ones.
