@@ -16,6 +16,8 @@ const SEPARATORS = [
         'rft_val_fmt=x&rft.atitle=Silt%20%26%20sand%20%26%20tar'],
     ['a key of its own', 'rft_val_fmt=x&rft.spage=101&noredirect&rft.volume=3', '',
         'rft_val_fmt=x&rft.spage=101&rft.volume=3'],
+    ['a flag with a space', 'rft_val_fmt=x&rft.spage=101&no+redirect&rft.volume=3', '',
+        'rft_val_fmt=x&rft.spage=101&rft.volume=3'],
     ['no pair', '&&&', '', '']
 ];
 

@@ -64,9 +64,10 @@ function withoutBase(args) {
 }
 
 // The pairs of a query. `&amp;` between two of them is `&`; within a value, an entity or an `&` that was not escaped
-// has split it: what follows such an `&` has spaces, and no `=`.
+// has split it: what follows such an `&` in a title or a name has spaces, and no `=`.
 const ENTITY = /^(?:[a-z]{2,8}\d{0,2}|#\d{1,7}|#x[\da-f]{1,6});/i;
 const PAIR = /^(?:amp;)*[\w.?]+=/i;
+const TITLED = texts.lazy('^(?:rft\\.)?(?:[abjs]?title|au|aulast|aufirst|aucorp|source|creator)=', 'i');
 function isText(piece) {
     return piece.indexOf('=') < 0 && (piece.indexOf('+') >= 0 || piece.indexOf('%20') >= 0);
 }
@@ -78,9 +79,10 @@ function piecesOf(args) {
     const joined = [];
     let count = 0;
     pieces.forEach((piece) => {
-        const isPart = joined.length > 0 && count < MOST_REJOINED && (isText(piece) || (is(ENTITY, piece)
-            && !is(PAIR, piece) && !isKey(piece.replace(/^(?:amp;)+/i, '').toLowerCase())));
-        if (isPart && ++count) joined[joined.length - 1] += '%26' + piece;
+        const last = joined.length - 1;
+        const isPart = last >= 0 && count < MOST_REJOINED && ((isText(piece) && is(TITLED(), joined[last]))
+            || (is(ENTITY, piece) && !is(PAIR, piece) && !isKey(piece.replace(/^(?:amp;)+/i, '').toLowerCase())));
+        if (isPart && ++count) joined[last] += '%26' + piece;
         else joined.push(piece);
     });
     return joined;
