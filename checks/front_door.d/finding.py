@@ -81,7 +81,8 @@ def test_choices(it):
                             ("jtitle=Soundings&rft.title=Annals+of+Tidal+Studies", soundings),
                             ("jtitle=Annals+of+Tidal+Studies+/+edited+by+W.+Li", annals),
                             ("jtitle=Annals+of+Tidal+Studies:+a+journal", annals),
-                            ("jtitle=Annals+of+Tidal+Studies+(Online)", annals)):
+                            ("jtitle=Annals+of+Tidal+Studies+(Online)", annals),
+                            ("jtitle=Annals+of+Tidal+Studies+(Online)+:+a+journal", annals)):
         data = it.data(query)
         full = [group for group in data["groups"] if group["name"] == "Full text"]
         it.expect(f"titles for {query}", (sorted(data["maybe"], key=str), full), (expected, []))

@@ -62,7 +62,8 @@ SCRIPT = """import titles from 'titles.js';
 import fs from 'fs';
 globalThis.fold = JSON.parse(fs.readFileSync('fold.json'));
 const list = fs.readFileSync(process.argv[2], 'utf8').split('\\n');
-const keys = (it) => [titles.keyOf(it), titles.shortKey(it), titles.keyOf(titles.writtenOut(it))].join('\\t');
+const short = (it) => titles.shorter(it) === titles.plain(it.slice(0, 500)) ? '' : titles.keyOf(titles.shorter(it));
+const keys = (it) => [titles.keyOf(it), short(it), titles.keyOf(titles.writtenOut(it))].join('\\t');
 fs.writeFileSync(process.argv[3], list.map(keys).join('\\n'));
 """
 PART = 2500  # njs frees no memory, so it gets few titles at a time

@@ -150,13 +150,18 @@ function similarKeys(q) {
     const found = [];
     const put = (sign, key) => { if (key !== '' && found.indexOf(sign + key) < 0) found.push(sign + key); };
     titlesAsked(q).filter((title) => title.length <= MOST_LETTERS).slice(0, 2).forEach((title) => {
-        const keys = [titles.keyOf(title), titles.shortKey(title)];
         const written = titles.writtenOut(title);
-        if (written !== title.toLowerCase()) keys.push(titles.keyOf(written), titles.shortKey(written));
+        const keys = keysWithin(title);
+        if (written !== title.toLowerCase()) keysWithin(written).forEach((key) => { keys.push(key); });
         keys.slice(1).concat(withOtherAnd(keys[0])).forEach((key) => { put('=', key); });
         keys.forEach((key) => { put('~', key); });
     });
     return found.slice(0, MOST_SIMILAR);
+}
+// The key of a title, and those without its subtitle and without brackets before that.
+function keysWithin(title) {
+    const short = titles.shorter(title);
+    return [title, short, titles.shorter(short)].map(titles.keyOf);
 }
 const ANDS = ' and und et ';
 function isAnd(word) { return ANDS.indexOf(' ' + word + ' ') >= 0; }

@@ -81,11 +81,7 @@ function writtenOut(title) {
     return text;
 }
 
-// The key without the subtitle, or without brackets at the end; '' if there are none.
-function shortKey(title) {
-    const text = plain(title.slice(0, MOST_CHARACTERS));
-    const short = text.replace(END, '');
-    return short !== text ? keyOf(short) : '';
-}
+// A title without its subtitle, or without brackets at its end.
+function shorter(title) { return plain(title.slice(0, MOST_CHARACTERS)).replace(END, ''); }
 
-export default { plain: plain, wordsOf: wordsOf, keyOf: keyOf, shortKey: shortKey, writtenOut: writtenOut };
+export default { plain: plain, wordsOf: wordsOf, keyOf: keyOf, shorter: shorter, writtenOut: writtenOut };
