@@ -85,7 +85,7 @@ def test_choices(it):
                             ("jtitle=Annals+of+Tidal+Studies+(Online)+:+a+journal", annals)):
         data = it.data(query)
         full = [group for group in data["groups"] if group["name"] == "Full text"]
-        it.expect(f"titles for {query}", (sorted(data["maybe"], key=str), full), (expected, []))
+        it.expect(f"titles for {query}", (sorted(data.get("maybe", []), key=str), full), (expected, []))
         reply = it.site.get(f"/find?{query}")
         it.tidy(f"titles for {query}", reply.text)
         it.expect(f"the page of {query}", ("Do you mean one of them?" in reply.text, NOTHING[0] in reply.text,
@@ -122,13 +122,13 @@ def test_umlauts(it):
                           ("Haefen und Kan&auml;le: Berichte", "2901-0047"), ("Haefen & Kanaele", "2901-0047"),
                           ("Zeitschrift fuer Kuestenforschung / hrsg. von A. Li", "2901-0039")):
         data = it.data(f"jtitle={quote(title)}")
-        it.expect(f"titles for {title}", [one["numbers"] for one in data["maybe"]], [[number]])
+        it.expect(f"titles for {title}", [one["numbers"] for one in data.get("maybe", [])], [[number]])
         it.expect(f"the page of {title}", UNKNOWN in it.site.get(f"/find?jtitle={quote(title)}").text, False)
-    similar = it.data("genre=article&jtitle=A+History+of+Harbours")["maybe"]
+    similar = it.data("genre=article&jtitle=A+History+of+Harbours").get("maybe", [])
     it.expect("a similar title of the kind, and the same of another", [one["numbers"] for one in similar],
               [["2901-0055"]])
-    it.expect("another word for &", it.data("jtitle=Harbour+et+Coastal+Engineering")["maybe"][0]["title"],
-              "Harbour and Coastal Engineering")
+    similar = it.data("jtitle=Harbour+et+Coastal+Engineering").get("maybe", [])
+    it.expect("another word for &", [one["title"] for one in similar], ["Harbour and Coastal Engineering"])
     for text in ("kuesten", "küsten", "kusten", "KÜSTENFORSCHUNG+fuer"):
         found = it.site.get(f"/journals?q={quote(text, safe='+')}").text
         it.expect(f"a search for {text}", re.findall(r"<a href=[^>]*issn=[^>]*>([^<]*)</a>", found), [coasts])
