@@ -64,8 +64,8 @@ def test_by_title(it):
     it.expect("a title alone, with markup", it.data("rft.jtitle=Harbour+%26amp%3B+Coastal+Engineering")["citation"],
               {"journal": "Harbour & Coastal Engineering", "issn": "2978-1442"})
     reply = it.site.get("/find?rft.jtitle=%3Ci%3ENothing%3C/i%3E+of+it")
-    it.expect("the page of a title alone, with markup", ("<h1>Find this item</h1>" in reply.text, UNKNOWN in reply.text),
-              (True, True))
+    it.expect("the page of a title alone, with markup",
+              ("<h1>Find this item</h1>" in reply.text, UNKNOWN in reply.text), (True, True))
     it.expect("a redirect by title", it.site.get("/go?title=Estuary+Biology&date=2012").status, 302)
 
 
