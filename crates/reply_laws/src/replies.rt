@@ -32,7 +32,8 @@ use rule_menus::laws::compiled_files_have_one_menu;
 ///
 /// The contract of `load_registry` says `Gives` and `AreTargetsOf` of the registry. That of `serve_on` says `AreFresh`
 /// and `IsExchange` of each connection, and that of `http_front::serve_one` says `IsExchange`. There are such rules and
-/// tables for every registry that is loaded (`rules`). The law is false if more bytes are routed than a head may have.
+/// tables for every registry that is loaded (`rules`). The law is false if the route of a request may depend on more
+/// bytes than are read.
 pub fn files_decide_replies()
     ensures rules { (files : List TargetFiles) (targets : List TargetValue) → AreReadFrom files targets
         → (by_rules : List RuleTarget) × AreOfFiles files by_rules }
