@@ -1,4 +1,4 @@
-"""Requests to a service with one target: which page they ask for, or why they are refused."""
+"""Requests to a service with one target or with none: which page they request, or why they are rejected."""
 from service import NO_LINKS, expect_replies, reply_of, to_head
 from targets import DATE_RULES, JOURNAL, write_registry
 

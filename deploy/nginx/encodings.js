@@ -42,7 +42,7 @@ function declaredIn(args) {
     return name === '' ? '' : found ? found[1] : 'unknown';
 }
 
-// The text of an escaped one in an encoding of TABLES. A '%' of no escape is a '%'.
+// A text whose escapes are read in an encoding of TABLES. A '%' that begins no escape stays.
 function decoded(text, encoding) {
     const first = TABLES[encoding][0];
     const characters = TABLES[encoding][1];

@@ -7,20 +7,22 @@ from stored import text_of
 FUNCTION = re.compile(r"( *)(pub |pub\(crate\) )?(?:ghost )?(?:const )?(?:unsafe )?fn \w+")
 PRIVATE_FIELD = re.compile(r"(?:pub\(crate\) )?\w+: ")
 BLOCK = re.compile(r"(?:pub )?(?:unsafe )?(impl|trait|struct)\b")
+PRIVATE_VALUE = re.compile(r" *(?:pub\(crate\) )?(?:static|const) \w+:")
 
 
 def statements(crate):
-    """Returns the statements of a crate as one text, without bodies, comments, imports, and private functions and
-    fields."""
+    """Returns the statements of a crate as one text, without bodies, comments, imports, and private functions, fields
+    and constants."""
     texts = [text_of(path) for path in sorted(glob.glob(f"crates/{crate}/specs/**/*.antt", recursive=True))]
     for path in sorted(glob.glob(f"crates/{crate}/src/**/*.rt", recursive=True)):
-        texts += [f"{path}\n", *stated(text_of(path).split("\n"))]
+        lines = [*stated(text_of(path).split("\n"))]
+        texts += [f"{path}\n", *lines] * bool(lines)
     return "\n".join(texts)
 
 
 def stated(lines):
     """Yields the lines of a source that are statements."""
-    block, at = "", 0
+    block, at, attributes = "", 0, []
     while at < len(lines):
         line = lines[at]
         at += 1
@@ -32,9 +34,20 @@ def stated(lines):
         if function:
             head, at = head_from(lines, at - 1, function[1])
             if function[2] == "pub " or block == "trait":
-                yield from head
+                yield from attributes + head
+        elif line.lstrip().startswith("#["):
+            attributes.append(line)
+            continue
+        elif PRIVATE_VALUE.match(line) and block != "trait":
+            at = after_value(lines, at - 1)
         elif is_stated(line.strip(), block):
-            yield line
+            yield from attributes + [line]
+        attributes = []
+
+
+def after_value(lines, number):
+    """Returns the number of the line after the constant that begins on this line."""
+    return next(at for at in range(number, len(lines)) if lines[at].rstrip().endswith(";")) + 1
 
 
 def kind_of(lines, number):
@@ -47,7 +60,7 @@ def kind_of(lines, number):
 
 
 def is_stated(line, block):
-    if line.startswith(("//", "use ", "ghost use ", "mod ")):
+    if not line or line.startswith(("//", "use ", "ghost use ", "mod ")):
         return False
     return block != "struct" or not PRIVATE_FIELD.match(line)
 

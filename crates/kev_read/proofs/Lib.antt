@@ -1,6 +1,7 @@
 pub mod Examples
 pub mod OnLiterals
 pub mod FillingExamples
+pub mod DecodedForms
 pub mod DecodedLength
 pub mod PairCount
 pub mod ValueBytes

@@ -52,7 +52,7 @@ pairs_stay text more (place ∷ places) are =
 
 -- ---- a pair whose text was appended last
 
-last_part : (text part : Text) (i j : ℕ) → i ≡ length text → j ≡ length (text ++ part) → slice_range (text ++ part) i j ≡ part
+pub last_part : (text part : Text) (i j : ℕ) → i ≡ length text → j ≡ length (text ++ part) → slice_range (text ++ part) i j ≡ part
 last_part text part i j begins ends =
     let whole = length-append text part in
     ap (take (j - i)) (drop_at text part i (sym begins)) ∙ take_all (j - i) part (omega arith)

@@ -10,6 +10,7 @@
 //! ```
 #![tactic(auto)]
 
+mod decoding;
 mod error;
 mod filling;
 mod key_order;

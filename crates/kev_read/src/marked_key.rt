@@ -20,7 +20,7 @@ impl<'a> MarkedKey<'a> {
         ensures { result.text.now ≡ text.now }
     {
         MarkedKey {
-            mark: mark(text),
+            mark: mark(text.as_bytes()),
             text,
         }
     }
@@ -46,11 +46,11 @@ fn compare_texts(text: &str, other: &str) -> Ordering
 }
 
 /// The mark of a key: its bytes as the digits of one number, of which 64 bits are kept.
-pub(crate) fn mark(key: &str) -> u64
+pub(crate) fn mark(key: &[u8]) -> u64
     ensures { result ≡ mark_of key.now }
 {
     let mut mark: u64 = 0;
-    for byte in key.as_bytes() {
+    for byte in key {
         mark = mark.wrapping_mul(257).wrapping_add(*byte as u64);
     }
     mark

@@ -2,9 +2,11 @@
 
 ghost use Rattle.std.specs.Prelude.{◌≡◌, ◌<◌, ◌++◌, ◌∷◌, [], length, slice_get, IfOk, OnOk, Some};
 ghost use Rattle.std.specs.Option.{option_map};
+ghost use Rattle.kev_read.specs.Pairs.{decoded_pair};
 ghost use Rattle.kev_read.specs.Private.KeyOrder.{key_at};
 ghost use Rattle.kev_read.specs.Private.Layout.{key_text, key_value};
 
+use crate::decoding::push_decoded;
 use crate::marked_key::{MarkedKey, mark};
 use std::alloc::{AllocError, Global};
 use std::marker::Model;
@@ -57,15 +59,16 @@ impl Pairs {
         })
     }
 
-    pub(crate) fn push(&mut self, key: &str, value: &str) -> Result<(), AllocError>
-        ensures { OnOk result (self.new ≡ self.old ++ record { key = key.now; value = value.now } ∷ []) }
+    /// Adds the pair that an encoded key and an encoded value stand for.
+    pub(crate) fn push(&mut self, key: &[u8], value: &[u8]) -> Result<(), AllocError>
+        ensures { OnOk result (self.new ≡ self.old ++ decoded_pair (key.now, value.now) ∷ []) }
     {
         let start = self.text.len();
-        self.text.push_str(key)?;
+        push_decoded(&mut self.text, key)?;
         let middle = self.text.len();
-        self.text.push_str(value)?;
+        let mark = mark(&self.text.as_bytes()[start..]);
+        push_decoded(&mut self.text, value)?;
         let end = self.text.len();
-        let mark = mark(key);
         self.places.push(Place {
             start,
             middle,

@@ -10,7 +10,7 @@ use crate::key_order::key_order;
 use crate::pairs::Pairs;
 use crate::request::Request;
 use crate::version::states_other_version;
-use form_urlencoded::{parse, raw_pairs};
+use form_urlencoded::raw_pairs;
 use std::alloc::{AllocError, Global};
 
 /// The maximum size of a query, in bytes.
@@ -88,9 +88,8 @@ fn read_pairs(alloc: Global, query: &[u8]) -> Result<Pairs, AllocError>
     ensures { IfOk result (λ pairs. pairs ≡ pairs_of query.now) }
 {
     let mut pairs = Pairs::with_capacity(alloc, query.len())?;
-    for pair in parse(alloc, query) {
-        let (key, value) = pair?;
-        pairs.push(key.as_str(), value.as_str())?;
+    for (key, value) in raw_pairs(query) {
+        pairs.push(key, value)?;
     }
     Ok(pairs)
 }

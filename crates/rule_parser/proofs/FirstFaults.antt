@@ -1,4 +1,4 @@
--- First faults.
+-- The lines of rules have no first fault, and any other lines have at most one.
 
 use Rattle.std.proofs.Common.{◌≡◌, ℕ, List, [], ◌∷◌, ◌++◌, Some, None, ◌⊎◌, inl, inr, map, length, refl, ap, subst, sym, ◌∙◌, arith}
 use Rattle.std.specs.Str.Lines.{lines}

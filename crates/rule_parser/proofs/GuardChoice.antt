@@ -1,4 +1,4 @@
--- Tokens are those of a guard, or they are not.
+-- The parts of a guard, each of which a text has or has not: a first word, a quoted text, bounds.
 
 use Rattle.std.proofs.Common.{◌≡◌, ◌≢◌, ℕ, [], ◌∷◌, ◌++◌, true, false, Option, Some, None, ◌⊎◌, inl, inr, length, refl, ap, subst, sym, ◌∙◌, codes, arith}
 use Rattle.std.specs.Char.{is_ascii_digit}

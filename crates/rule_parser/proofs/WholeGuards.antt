@@ -1,4 +1,4 @@
--- Guards.
+-- Any text is read as one guard, or as none.
 
 use Rattle.std.proofs.Common.{◌≡◌, ◌∷◌, ◌++◌, Option, Some, None, inl, inr, ap, subst, sym, codes}
 use Rattle.text_model.specs.Texts.{Text}

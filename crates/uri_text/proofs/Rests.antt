@@ -1,4 +1,4 @@
--- A loop that writes a text piece by piece: the bytes so far, and the capacity for the rest.
+-- A loop that writes a text piece by piece: the bytes so far, and the capacity for the next.
 use Rattle.std.proofs.Common.{◌≡◌, ℕ, ◌+◌, ◌≤◌, List, ◌++◌, length, sym, ap, ◌∙◌, arith, append_assoc, length-append}
 
 -- after a piece is written, the rest is still to write
@@ -8,11 +8,6 @@ bytes_left before piece whole rest all after e f g = rw e (append_assoc before p
 pub len_left : (used used_after all : ℕ) (piece whole rest : List ℕ) → used_after ≡ used + length piece → whole ≡ piece ++ rest → used + length whole ≡ all
     → used_after + length rest ≡ all
 len_left used used_after all piece whole rest e f g = omega (arith, ap length f, length-append piece rest)
-
--- and the capacity for it is left
-pub room_left : (used used_after : ℕ) (piece whole rest : List ℕ) (room room_after : ℕ) → used_after ≡ used + length piece → whole ≡ piece ++ rest
-    → used + length whole ≤ room → room ≤ room_after → used_after + length rest ≤ room_after
-room_left used used_after piece whole rest room room_after e f g h = omega (arith, ap length f, length-append piece rest)
 
 -- there is capacity for the piece
 pub room_for : (used room : ℕ) (piece whole rest : List ℕ) → whole ≡ piece ++ rest → used + length whole ≤ room → used + length piece ≤ room

@@ -3,6 +3,7 @@
 #![tactic(auto)]
 
 mod any_case;
+mod classes;
 mod items;
 pub mod laws;
 mod number;

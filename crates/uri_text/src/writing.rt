@@ -1,163 +1,93 @@
 //! The two percent-encodings of a text, U and UR.
 
-ghost use Rattle.std.specs.Prelude.{◌≡◌, true, ◌+◌, ◌*◌, ◌<◌, ◌≤◌, ◌++◌, length, string_bytes, string_len};
-ghost use Rattle.std.specs.Prelude.{string_capacity};
-ghost use Rattle.std.specs.List.{prefix_len};
-ghost use Rattle.std.specs.Str.{IsAscii};
-ghost use Rattle.text_model.specs.Texts.{is_unreserved, is_reserved, begins_with_triplet};
+ghost use Rattle.std.specs.Prelude.{◌≡◌, ◌+◌, ◌*◌, ◌<◌, ◌≤◌, ◌++◌, ◌||◌, length, slice_index};
+ghost use Rattle.std.specs.Prelude.{string_bytes, string_len, string_capacity, vec_len, vec_capacity};
+ghost use Rattle.std.specs.Str.{IsUtf8};
+ghost use Rattle.text_model.specs.Texts.{begins_with_triplet};
 ghost use Rattle.text_model.specs.Writing.{written, written_u, written_ur, written_byte, is_unreserved_or_reserved};
 ghost use Rattle.text_model.specs.UriText.{IsUriText};
 
+use crate::classes::{high_digit, is_unreserved, is_unreserved_or_reserved, low_digit};
 use crate::triplet::begins_with_triplet;
-use percent_encoding::{ascii_str, percent_encode_byte};
+use std::mem;
 use text_model::Writing;
 
-#[tactic(auto, unfolding(text_model::specs::Texts::is_unreserved))]
-fn is_unreserved(byte: u8) -> bool
-    ensures value { result ≡ is_unreserved byte }
-    ensures ascii { is_unreserved byte ≡ true → byte < 128 }
+// Takes the bytes of a string, which `put_back` returns to it. The functions between them hold the vector in a variable
+// of their own: its length then stays in a register.
+fn take_bytes(out: &mut String) -> Vec<u8>
+    ensures items { result.items ≡ string_bytes out.old }
+    ensures len { vec_len result ≡ string_len out.old }
+    ensures capacity { vec_capacity result ≡ string_capacity out.old }
 {
-    byte.is_ascii_alphanumeric() || matches!(byte, b'-' | b'.' | b'_' | b'~')
+    let empty = String::new(*out.allocator());
+    mem::replace(out, empty).into_bytes()
 }
 
-#[tactic(auto, unfolding(text_model::specs::Texts::is_reserved))]
-fn is_reserved(byte: u8) -> bool
-    ensures value { result ≡ is_reserved byte }
-    ensures ascii { is_reserved byte ≡ true → byte < 128 }
+fn put_back(out: &mut String, bytes: Vec<u8>)
+    requires { IsUtf8 bytes.items }
+    ensures bytes { string_bytes out.new ≡ bytes.items }
+    ensures len { string_len out.new ≡ vec_len bytes }
+    ensures capacity { string_capacity out.new ≡ vec_capacity bytes }
 {
-    matches!(
-        byte,
-        b':' | b'/'
-            | b'?'
-            | b'#'
-            | b'['
-            | b']'
-            | b'@'
-            | b'!'
-            | b'$'
-            | b'&'
-            | b'\''
-            | b'('
-            | b')'
-            | b'*'
-            | b'+'
-            | b','
-            | b';'
-            | b'='
-    )
-}
-
-fn is_unreserved_or_reserved(byte: u8) -> bool
-    ensures value { result ≡ is_unreserved_or_reserved byte }
-    ensures ascii { is_unreserved_or_reserved byte ≡ true → byte < 128 }
-{
-    is_unreserved(byte) || is_reserved(byte)
-}
-
-// How many bytes at the beginning are unreserved.
-fn unreserved_len(text: &[u8]) -> usize
-    ensures value { result ≡ prefix_len is_unreserved text.now }
-    ensures within { result ≤ length text.now }
-{
-    text.iter().take_while(|byte| is_unreserved(**byte)).count()
-}
-
-// How many bytes at the beginning are unreserved or reserved.
-fn unreserved_or_reserved_len(text: &[u8]) -> usize
-    ensures value { result ≡ prefix_len is_unreserved_or_reserved text.now }
-    ensures within { result ≤ length text.now }
-{
-    text.iter()
-        .take_while(|byte| is_unreserved_or_reserved(**byte))
-        .count()
-}
-
-// Appends characters as they are.
-fn push_run(out: &mut String, run: &[u8])
-    requires ascii { IsAscii run.now }
-    requires room { string_len out.old + length run.now ≤ string_capacity out.old }
-    ensures bytes { string_bytes out.new ≡ string_bytes out.old ++ run.now }
-    ensures len { string_len out.new ≡ string_len out.old + length run.now }
-    ensures capacity { string_capacity out.old ≤ string_capacity out.new }
-{
-    out.push_str(ascii_str(run)).unwrap();
+    *out = unsafe { String::from_utf8_unchecked(bytes) };
 }
 
 // Appends a byte, as it is or as its triplet.
-#[tactic(auto, using(crate::proofs::PercentBytes::percent_encode_byte_triplet))]
-fn push_byte(out: &mut String, byte: u8, stays: bool)
-    requires ascii { stays ≡ true → byte < 128 }
-    requires room { string_len out.old + length (written_byte stays byte) ≤ string_capacity out.old }
-    ensures bytes { string_bytes out.new ≡ string_bytes out.old ++ written_byte stays byte }
-    ensures len { string_len out.new ≡ string_len out.old + length (written_byte stays byte) }
-    ensures capacity { string_capacity out.old ≤ string_capacity out.new }
+#[inline(always)]
+fn push_byte(bytes: &mut Vec<u8>, byte: u8, stays: bool)
+    requires room { vec_len bytes.old + length (written_byte stays byte) ≤ vec_capacity bytes.old }
+    ensures items { bytes.new.items ≡ bytes.old.items ++ written_byte stays byte }
+    ensures len { vec_len bytes.new ≡ vec_len bytes.old + length (written_byte stays byte) }
+    ensures capacity { vec_capacity bytes.new ≡ vec_capacity bytes.old }
 {
     if stays {
-        out.push(char::from(byte)).unwrap();
+        bytes.push_reserved(byte);
     } else {
-        out.push_str(percent_encode_byte(byte)).unwrap();
+        bytes.push_reserved(b'%');
+        bytes.push_reserved(high_digit(byte));
+        bytes.push_reserved(low_digit(byte));
     }
 }
 
-// Appends a triplet unchanged.
-fn push_triplet(out: &mut String, triplet: &[u8])
-    requires whole { begins_with_triplet triplet.now ≡ true }
-    requires three { length triplet.now ≡ 3 }
-    requires room { string_len out.old + 3 ≤ string_capacity out.old }
-    ensures bytes { string_bytes out.new ≡ string_bytes out.old ++ triplet.now }
-    ensures len { string_len out.new ≡ string_len out.old + length triplet.now }
-    ensures capacity { string_capacity out.old ≤ string_capacity out.new }
-{
-    if let [percent, high, low, ..] = triplet {
-        push_byte(out, *percent, true);
-        push_byte(out, *high, true);
-        push_byte(out, *low, true);
-    }
-}
-
-// Appends the characters at the beginning that stay, and the byte after them as U encodes it. Returns what is left.
-fn push_front_u<'t>(out: &mut String, text: &'t [u8]) -> &'t [u8]
+// Appends the first byte as U encodes it. Returns what is left.
+#[inline(always)]
+fn push_first_u<'t>(bytes: &mut Vec<u8>, text: &'t [u8]) -> &'t [u8]
     requires some { 0 < length text.now }
-    requires room { string_len out.old + length (written_u text.now) ≤ string_capacity out.old }
+    requires room { vec_len bytes.old + length (written_u text.now) ≤ vec_capacity bytes.old }
     ensures shorter { length result.now < length text.now }
-    ensures bytes { string_bytes out.new ++ written_u result.now ≡ string_bytes out.old ++ written_u text.now }
-    ensures len { string_len out.new + length (written_u result.now) ≡ string_len out.old
-        + length (written_u text.now) }
-    ensures capacity { string_capacity out.old ≤ string_capacity out.new }
+    ensures items { bytes.new.items ++ written_u result.now ≡ bytes.old.items ++ written_u text.now }
+    ensures len { vec_len bytes.new + length (written_u result.now) ≡ vec_len bytes.old + length (written_u text.now) }
+    ensures capacity { vec_capacity bytes.new ≡ vec_capacity bytes.old }
 {
-    let (run, after) = text.split_at(unreserved_len(text));
-    push_run(out, run);
-    if after.is_empty() {
-        return after;
-    }
-    let (byte, rest) = after.split_at(1);
-    push_byte(out, byte[0], is_unreserved(byte[0]));
+    let (first, rest) = text.split_at(1);
+    push_byte(bytes, first[0], is_unreserved(first[0]));
     rest
 }
 
-// Appends the characters at the beginning that stay, and the triplet or byte after them as UR encodes it. Returns what
-// is left.
-fn push_front_ur<'t>(out: &mut String, text: &'t [u8]) -> &'t [u8]
-    requires some { 0 < length text.now }
-    requires room { string_len out.old + length (written_ur text.now) ≤ string_capacity out.old }
-    ensures shorter { length result.now < length text.now }
-    ensures bytes { string_bytes out.new ++ written_ur result.now ≡ string_bytes out.old ++ written_ur text.now }
-    ensures len { string_len out.new + length (written_ur result.now) ≡ string_len out.old
-        + length (written_ur text.now) }
-    ensures capacity { string_capacity out.old ≤ string_capacity out.new }
+// Whether UR copies the first byte: one that is unreserved or reserved, or the `%` of a triplet. The digits of a
+// triplet are unreserved.
+#[inline(always)]
+fn is_copied_by_ur(text: &[u8]) -> bool
+    requires { 0 < length text.now }
+    ensures { result
+        ≡ (is_unreserved_or_reserved (slice_index text.now 0) || begins_with_triplet text.now) }
 {
-    let (run, after) = text.split_at(unreserved_or_reserved_len(text));
-    push_run(out, run);
-    if after.is_empty() {
-        return after;
-    }
-    if begins_with_triplet(after) {
-        let (triplet, rest) = after.split_at(3);
-        push_triplet(out, triplet);
-        return rest;
-    }
-    let (byte, rest) = after.split_at(1);
-    push_byte(out, byte[0], is_unreserved_or_reserved(byte[0]));
+    is_unreserved_or_reserved(text[0]) || begins_with_triplet(text)
+}
+
+// Appends the first byte as UR encodes it. Returns what is left.
+#[inline(always)]
+fn push_first_ur<'t>(bytes: &mut Vec<u8>, text: &'t [u8]) -> &'t [u8]
+    requires some { 0 < length text.now }
+    requires room { vec_len bytes.old + length (written_ur text.now) ≤ vec_capacity bytes.old }
+    ensures shorter { length result.now < length text.now }
+    ensures items { bytes.new.items ++ written_ur result.now ≡ bytes.old.items ++ written_ur text.now }
+    ensures len { vec_len bytes.new + length (written_ur result.now) ≡ vec_len bytes.old
+        + length (written_ur text.now) }
+    ensures capacity { vec_capacity bytes.new ≡ vec_capacity bytes.old }
+{
+    let (first, rest) = text.split_at(1);
+    push_byte(bytes, first[0], is_copied_by_ur(text));
     rest
 }
 
@@ -174,10 +104,12 @@ pub fn encode_u(out: &mut String, text: &[u8])
     ensures at_most_triples { length (written_u text.now) ≤ 3 * length text.now }
     ensures uri_text { IsUriText (written_u text.now) }
 {
+    let mut bytes = take_bytes(out);
     let mut rest = text;
     while !rest.is_empty() {
-        rest = push_front_u(out, rest);
+        rest = push_first_u(&mut bytes, rest);
     }
+    put_back(out, bytes);
 }
 
 /// Appends the text encoded by UR: unreserved and reserved characters and whole triplets stay, and every other byte
@@ -193,10 +125,12 @@ pub fn encode_ur(out: &mut String, text: &[u8])
     ensures at_most_triples { length (written_ur text.now) ≤ 3 * length text.now }
     ensures uri_text { IsUriText (written_ur text.now) }
 {
+    let mut bytes = take_bytes(out);
     let mut rest = text;
     while !rest.is_empty() {
-        rest = push_front_ur(out, rest);
+        rest = push_first_ur(&mut bytes, rest);
     }
+    put_back(out, bytes);
 }
 
 /// Appends the text encoded by U or by UR, as [`encode_u`] and [`encode_ur`] do.

@@ -1,20 +1,29 @@
-use Rattle.std.proofs.Common.{◌∙◌, sym, length, string_bytes, string_len, append-nil, add-zero}
+use Rattle.std.proofs.Common.{sym, subst, ◌∙◌, length, append-nil, add-zero, IsUtf8, string_bytes, vec_len}
 use Rattle.std.proofs.lemmas.Bool.{eqb-true}
+use Rattle.std.proofs.lemmas.Str.{IsUtf8-string_bytes, IsUtf8-append}
+use Rattle.text_model.specs.Writing.{written_ur}
+use Rattle.text_model.proofs.UriAscii.{IsUriText-utf8}
 use Rattle.text_model.proofs.UriTexts.{written_ur-uri}
 use Rattle.text_model.proofs.Written.{length-written_ur, written_ur-nothing}
 use Rattle.uri_text.proofs.writing.encode_ur.Goals as goal
 
+pub put_back-requires : goal.put_back-requires
+put_back-requires c =
+    let none = written_ur-nothing c.loop-rest.rest.now (eqb-true (length c.loop-rest.rest.now) 0 (sym c.is_empty.ensures ∙ c.loop-rest-test.false)) in
+    let all = sym (append-nil c.loop-rest.bytes.items) ∙ (rw none at c.loop-rest.invariant.items) in
+    subst IsUtf8 (sym all)
+    (IsUtf8-append (string_bytes c.args.out.now) (written_ur c.args.text.now) (IsUtf8-string_bytes c.args.out.now)
+    (IsUriText-utf8 (written_ur c.args.text.now) (written_ur-uri c.args.text.now)))
+
 pub returns-clause-bytes : goal.returns-clause-bytes
 returns-clause-bytes c =
     let none = written_ur-nothing c.loop-rest.rest.now (eqb-true (length c.loop-rest.rest.now) 0 (sym c.is_empty.ensures ∙ c.loop-rest-test.false)) in
-    let all = rw none at c.loop-rest.invariant.bytes in
-    sym (append-nil (string_bytes c.loop-rest.out)) ∙ all
+    c.put_back.ensures.bytes ∙ (sym (append-nil c.loop-rest.bytes.items) ∙ (rw none at c.loop-rest.invariant.items))
 
 pub returns-clause-len : goal.returns-clause-len
 returns-clause-len c =
     let none = written_ur-nothing c.loop-rest.rest.now (eqb-true (length c.loop-rest.rest.now) 0 (sym c.is_empty.ensures ∙ c.loop-rest-test.false)) in
-    let all = rw none at c.loop-rest.invariant.len in
-    sym (add-zero (string_len c.loop-rest.out)) ∙ all
+    c.put_back.ensures.len ∙ (sym (add-zero (vec_len c.loop-rest.bytes)) ∙ (rw none at c.loop-rest.invariant.len))
 
 pub returns-clause-at_most_triples : goal.returns-clause-at_most_triples
 returns-clause-at_most_triples c = length-written_ur c.args.text.now
