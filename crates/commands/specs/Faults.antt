@@ -1,5 +1,5 @@
 -- The errors of the program: their exit statuses, and what the error of a registry file becomes.
-use Rattle.std.specs.Prelude.{ℕ}
+use Rattle.std.specs.Prelude.{ℕ, Result, Ok, Err}
 use Rattle.std.specs.Borrow.{Bor}
 use Rattle.text_model.specs.Texts.{Text}
 use Rattle.registry_file.specs.declared.error.RegistryError.{RegistryError}
@@ -7,6 +7,7 @@ use Rattle.registry_file.specs.declared.error.RegistryError.TheVariants as file
 use Rattle.registry_file.specs.declared.error.TargetFault.{TargetFault}
 use Rattle.registry_file.specs.declared.error.TargetFault.TheVariants as target
 use Rattle.answers.specs.Refusals.{status_of as status_of_refusal}
+use Rattle.answers.specs.declared.refusal.Refusal.{Refusal}
 use Rattle.answers.specs.declared.refusal.Refusal.TheVariants.{Memory}
 use Rattle.commands.specs.declared.fault.Fault.{Fault}
 use Rattle.commands.specs.declared.fault.Fault.TheVariants.{Usage, Refused, Warning, Registry, Target, Port, Device}
@@ -27,6 +28,11 @@ status_of (Device path) = 4
 
 abbrev pub out_of_memory : Fault
 out_of_memory = Refused Memory
+
+-- the answer, with its error as the program's
+abbrev pub answered : {A : Type 0} → Result A Refusal → Result A Fault
+answered (Ok a) = Ok a
+answered (Err refusal) = Err (Refused refusal)
 
 -- the error of the registry file at the path
 abbrev pub registry_fault : Bor Text → RegistryError → Fault

@@ -9,7 +9,7 @@ ghost use Rattle.answers.specs.Verdict.{IsVerdictOf};
 ghost use Rattle.commands.specs.Answers.{Makes, Tells};
 ghost use Rattle.commands.specs.Reading.{code_file, loaded_file};
 
-use crate::fault::Fault;
+use crate::fault::{Fault, answered};
 use crate::placing::place_counted;
 use crate::reading::read_file;
 use crate::world::{System, World};
@@ -40,7 +40,7 @@ pub(crate) fn verify<'a, F: Files, K: KeySource, P: Ports>(
 {
     let too_long = Refusal::Load(LONG_CODE_TO_LOAD);
     let bytes = read_file(rt, code, MAX_BYTES, too_long)?;
-    Ok(verdict_of(rt.alloc, &bytes)?)
+    answered(verdict_of(rt.alloc, &bytes))
 }
 
 /// `show CODE`: the listing of the code file.
@@ -54,7 +54,7 @@ pub(crate) fn show<'a, F: Files, K: KeySource, P: Ports>(
 {
     let too_long = Refusal::Code(LONG_CODE);
     let bytes = read_file(rt, code, MAX_BYTES, too_long)?;
-    Ok(listing_of(rt.alloc, &bytes)?)
+    answered(listing_of(rt.alloc, &bytes))
 }
 
 /// `upgrade OLD NEW`: writes the code of a file as a file of version 2, and returns the line with the number of its
@@ -85,5 +85,5 @@ pub(crate) fn run<'a, F: Files, K: KeySource, P: Ports>(
 {
     let too_long = Refusal::Load(LONG_CODE_TO_LOAD);
     let bytes = read_file(rt, code, MAX_BYTES, too_long)?;
-    Ok(run_link_of(rt.alloc, &bytes, query)?)
+    answered(run_link_of(rt.alloc, &bytes, query))
 }

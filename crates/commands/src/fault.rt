@@ -2,7 +2,7 @@
 
 ghost use Rattle.std.specs.Prelude.{◌≡◌};
 ghost use Rattle.commands.specs.Faults as faults;
-ghost use Rattle.commands.specs.Faults.{status_of, status_of_target};
+ghost use Rattle.commands.specs.Faults.{answered, status_of, status_of_target};
 
 use answers::{FAILED, NO_LINK, REFUSED, Refusal};
 use files::PrintedPath;
@@ -63,6 +63,16 @@ fn status_of_target(fault: &TargetFault) -> u8
     match fault {
         TargetFault::Device(_) => FAILED,
         TargetFault::Load(_) | TargetFault::Table(_) | TargetFault::Add(_) => REFUSED,
+    }
+}
+
+/// The answer, with its error as the program's.
+pub(crate) fn answered<'a, A>(answer: Result<A, Refusal>) -> Result<A, Fault<'a>>
+    ensures { result ≡ answered answer }
+{
+    match answer {
+        Ok(answer) => Ok(answer),
+        Err(refusal) => Err(Fault::Refused(refusal)),
     }
 }
 

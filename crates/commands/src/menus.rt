@@ -7,7 +7,7 @@ ghost use Rattle.answers.specs.Menu.{IsMenuOf};
 ghost use Rattle.answers.specs.Results.{text_result};
 ghost use Rattle.commands.specs.Answers.{IsNoRegistry, Resolves};
 
-use crate::fault::{Fault, registry_fault};
+use crate::fault::{Fault, answered, registry_fault};
 use crate::world::{System, World};
 use answers::menu_text_of;
 use files::Files;
@@ -27,7 +27,7 @@ pub(crate) fn resolve<'a, F: Files, K: KeySource, P: Ports>(
     ensures same { Unchanged (F.at rt.old.files) (F.at rt.new.files) }
 {
     let targets = open_registry(rt, registry)?;
-    Ok(menu_text_of(rt.alloc, &targets, query)?)
+    answered(menu_text_of(rt.alloc, &targets, query))
 }
 
 /// The registry of the registry file at the path, which has at most 65,536 bytes and 256 targets.

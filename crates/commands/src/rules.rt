@@ -10,7 +10,7 @@ ghost use Rattle.commands.specs.ExpandArguments.{names_of};
 ghost use Rattle.commands.specs.Answers.{Answered, Makes, Tells};
 ghost use Rattle.commands.specs.Reading.{rule_file};
 
-use crate::fault::Fault;
+use crate::fault::{Fault, answered};
 use crate::list_options::{ExpandArguments, list_names};
 use crate::placing::place_counted;
 use crate::reading::{LONG_RULES, read_file};
@@ -28,7 +28,7 @@ pub(crate) fn expand<'a>(alloc: Global, arguments: ExpandArguments) -> Result<St
         arguments.entry.template.now arguments.entry.query.now) (text_result result) }
 {
     let lists = list_names(alloc, arguments.options)?;
-    Ok(expansion_of(alloc, &lists, arguments.template, arguments.query)?)
+    answered(expansion_of(alloc, &lists, arguments.template, arguments.query))
 }
 
 /// `link RULES QUERY`: the line of the link that the rules of the file give for the query.
@@ -43,7 +43,7 @@ pub(crate) fn link<'a, F: Files, K: KeySource, P: Ports>(
 {
     let too_long = Refusal::Rules(LONG_RULES);
     let bytes = read_file(rt, rules, MAX_BYTES, too_long)?;
-    Ok(link_of(rt.alloc, &bytes, query)?)
+    answered(link_of(rt.alloc, &bytes, query))
 }
 
 /// `compile RULES CODE`: writes the code of the rules of the file to a file of its own, and returns the line with the

@@ -8,7 +8,7 @@ ghost use Rattle.commands.specs.Answers.{TellsKeyed, TellsOfTarget};
 ghost use Rattle.commands.specs.Explaining.{Explained, Explains};
 ghost use Rattle.commands.specs.Output.{end_of, output_of};
 
-use crate::fault::Fault;
+use crate::fault::{Fault, answered};
 use crate::reading::{read_keyed, read_target};
 use crate::world::{System, World};
 use answers::{Refusal, inspection_of, lint_of, request_of, table_of};
@@ -31,7 +31,7 @@ pub(crate) fn inspect<'a, F: Files, K: KeySource, P: Ports>(
     ensures same { Unchanged (F.at rt.old.files) (F.at rt.new.files) }
 {
     let (bytes, keys) = read_keyed(rt, table)?;
-    Ok(inspection_of(rt.alloc, &bytes, keys)?)
+    answered(inspection_of(rt.alloc, &bytes, keys))
 }
 
 /// `lint RULES TABLE`: the findings in the rules and the holdings table. The rules are read first.
@@ -45,7 +45,7 @@ pub(crate) fn lint<'a, F: Files, K: KeySource, P: Ports>(
     ensures same { Unchanged (F.at rt.old.files) (F.at rt.new.files) }
 {
     let (rules, bytes, keys) = read_target(rt, rules, table)?;
-    Ok(lint_of(rt.alloc, &rules, &bytes, keys)?)
+    answered(lint_of(rt.alloc, &rules, &bytes, keys))
 }
 
 /// `explain RULES TABLE QUERY`: prints what the rules give for the query on each row of the table that is tried;
