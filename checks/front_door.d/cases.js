@@ -10,6 +10,14 @@ const SEPARATORS = [
     ['a semicolon in a value', 'rft_val_fmt=x&rft.atitle=a;b=c', ''],
     ['Primo, empty keys', 'rft_val_fmt=x&rft.isbn=&rft.volume&rft.isbn=9781234560102&rft.au=+',
         'x.isbn=9781234560102', 'rft_val_fmt=x&rft.isbn=9781234560102'],
+    ['an ampersand that is not escaped', 'rft_val_fmt=x&rft.jtitle=Harbour+&+Coastal+Engineering&rft.volume=3', '',
+        'rft_val_fmt=x&rft.jtitle=Harbour+%26+Coastal+Engineering&rft.volume=3'],
+    ['two of them', 'rft_val_fmt=x&rft.atitle=Silt%20&%20sand%20&%20tar', '',
+        'rft_val_fmt=x&rft.atitle=Silt%20%26%20sand%20%26%20tar'],
+    ['a key of its own', 'rft_val_fmt=x&rft.spage=101&noredirect&rft.volume=3', '',
+        'rft_val_fmt=x&rft.spage=101&rft.volume=3'],
+    ['a flag with a space', 'rft_val_fmt=x&rft.spage=101&no+redirect&rft.volume=3', '',
+        'rft_val_fmt=x&rft.spage=101&rft.volume=3'],
     ['no pair', '&&&', '', '']
 ];
 
@@ -76,6 +84,8 @@ const IDENTIFIERS = [
         + ' rft_id=info:doi/10.5555/A rft_id=info:pmid/7 x.pmid=7'],
     ['the same one twice', 'rft_val_fmt=x&rft_id=info:doi/10.5555/A&doi=10.5555/a', 'x.doi=10.5555/A'],
     ['a number that the request has', 'rft_val_fmt=x&rft.issn=2901-0012&rft_id=urn:ISSN:2908-0142', 'x.issn=2901-0012'],
+    ['no colon', 'rft_val_fmt=x&id=DOI+10.5555/a&pmid=PMID+7',
+        'x.doi=10.5555/a rft_id=info:doi/10.5555/a rft_id=info:pmid/7 x.pmid=7'],
     ['others', 'rft_val_fmt=x&id=oai:arXiv.org:1&rft_id=https://e.org/10.5555/a', '']
 ];
 
@@ -93,6 +103,9 @@ const NUMBERS = [
     ['several books', 'rft_val_fmt=x&rft.isbn=n/a&rft.isbn=9781234560102+9781234560874',
         'rft.isbn=9781234560102 x.isbn=9781234560102'],
     ['no number', 'rft_val_fmt=x&rft.issn=unknown&rft.isbn=123', ''],
+    ['zeros', 'rft_val_fmt=x&rft.issn=00000000&rft.eissn=0000-0000', ''],
+    ['zeros, and the online one', 'rft_val_fmt=x&rft.issn=0000-0000&rft.eissn=29080142',
+        'rft.issn=2908-0142 x.issn=2908-0142'],
     ['an ISBN as ISSN', 'rft_val_fmt=x&rft.issn=9781234560102', '']
 ];
 
@@ -103,6 +116,8 @@ const DATES = [
     ['no month', 'rft_val_fmt=x&rft.date=20130000', 'rft.date=2013 x.from=20130101 x.to=20131231'],
     ['a month by name', 'rft_val_fmt=x&rft.date=Aug+2013', 'rft.date=2013-08 x.from=20130801 x.to=20130831'],
     ['a range', 'rft_val_fmt=x&rft.date=2013-08/2013-09', 'rft.date=2013-08 x.from=20130801 x.to=20130831'],
+    ['months of a year', 'rft_val_fmt=x&rft.date=2013-08/09', 'rft.date=2013-08 x.from=20130801 x.to=20130831'],
+    ['dots', 'rft_val_fmt=x&rft.date=2013.08.01', 'rft.date=2013-08-01 x.from=20130801 x.to=20130801'],
     ['years', 'rft_val_fmt=x&rft.date=2013-2014', 'rft.date=2013 x.from=20130101 x.to=20131231'],
     ['a season', 'rft_val_fmt=x&rft.date=Winter+2012/2013', 'rft.date=2012 x.from=20120101 x.to=20121231'],
     ['a time', 'rft_val_fmt=x&rft.date=2013-08-01T10:15:00Z', 'rft.date=2013-08-01 x.from=20130801 x.to=20130801'],
@@ -211,6 +226,8 @@ const VOLUMES = [
     ['German words', 'rft_val_fmt=x&rft.volume=Bd.+12A&rft.issue=Heft+S1', 'rft.volume=12A rft.issue=S1'],
     ['no space', 'volume=vol53&rft_val_fmt=x', 'rft.volume=53'],
     ['the issue in the volume', 'rft_val_fmt=x&rft.volume=53(2)', 'rft.volume=53 rft.issue=2'],
+    ['a year behind the volume', 'rft_val_fmt=x&rft.volume=53+(2003)', 'rft.volume=53'],
+    ['a year behind the issue', 'rft_val_fmt=x&rft.issue=No.+2+(2003)', 'rft.issue=2'],
     ['the volume in the issue', 'rft_val_fmt=x&rft.issue=53+(2A)', 'rft.issue=2A rft.volume=53'],
     ['a part of an issue', 'rft_val_fmt=x&rft.volume=12&rft.issue=3+PART+1', ''],
     ['a part of a volume', 'rft_val_fmt=x&rft.volume=12+Pt+2', ''],
@@ -235,6 +252,9 @@ const MARKUP = [
     ['names', 'rft_val_fmt=x&rft.aulast=O%26%2339%3BNeill&rft.au=%3Cb%3ELi%3C/b%3E&rft.au=Berg',
         'rft.au=Li rft.au=Berg rft.aulast=O\'Neill', 'rft_val_fmt=x'],
     ['OpenURL 0.1', 'atitle=%3Cb%3ETides%3C/b%3E&rft_val_fmt=x', 'rft.atitle=Tides'],
+    ['braces of BibTeX', 'rft_val_fmt=x&rft.jtitle=Annals+of+%7BT%7Didal+%7BStudies%7D',
+        'rft.jtitle=Annals+of+Tidal+Studies', 'rft_val_fmt=x'],
+    ['other braces', 'rft_val_fmt=x&rft.atitle=$%7BHOME%7D&rft.jtitle=%7B%7D', ''],
     ['no markup', 'rft_val_fmt=x&rft.atitle=p%3C0.05+and+q%3E3+%26+so', '']
 ];
 

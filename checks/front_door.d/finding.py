@@ -1,11 +1,15 @@
 """Tests of what the front door takes from the index of the version: titles, numbers, coverage, lists and searches; and
 of the form, RIS, languages, logo and links. The library is the sample."""
-import html, json, re
+import html, json, os, re
 from urllib.parse import quote
+from library_index import write_index
 
 ARTICLE = "date=2003&volume=12&issue=3&spage=101&atitle=Storm+surges"
 BY_TITLE = "tidal-press aggregate-net catalogue web-search"
 NOTHING = ("We found no full text online.", "Wir haben online keinen Volltext gefunden.")
+HELD = ("The library’s lists have this title. With the year and the volume we can look again.",
+        "In den Listen der Bibliothek steht dieser Titel. Mit Jahr und Band können wir noch einmal suchen.")
+UNKNOWN = "The library’s lists have no title of this name."
 HOSTILE = "</title><script>alert(1)</script>\"'><img src=x onerror=alert(1)>&amp;\r\nTY  - X\u202e\u0000\ufffe\u2028é"
 GERMAN = {"Accept-Language": "de"}
 # Requests that cannot be looked up: an identifier alone, an article without its journal, a title that no list has.
@@ -53,7 +57,15 @@ def test_by_title(it):
     it.expect("a book", it.targets("genre=book&title=A+history+of+harbours"), "book-house aggregate-net catalogue")
     it.expect("a title without a kind", it.data("title=A+history+of+harbours")["citation"],
               {"title": "A History of Harbours", "isbn": "9781234560102"})
-    it.expect("another kind", it.data("genre=book&title=Annals+of+Tidal+Studies")["groups"], [])
+    for second in ("jtitle=Ann+Tidal+Stud&title=Annals+of+Tidal+Studies", "stitle=Annals+of+Tidal+Studies&jtitle=x"):
+        it.expect(f"the second title of {second}", it.targets(f"{second}&{ARTICLE}"), BY_TITLE)
+    it.expect("a book's title as that of a journal", it.targets("genre=bookitem&rft.jtitle=Handbook+of+Tidal+Power"),
+              "book-house")
+    it.expect("a title alone, with markup", it.data("rft.jtitle=Harbour+%26amp%3B+Coastal+Engineering")["citation"],
+              {"journal": "Harbour & Coastal Engineering", "issn": "2978-1442"})
+    reply = it.site.get("/find?rft.jtitle=%3Ci%3ENothing%3C/i%3E+of+it")
+    it.expect("the page of a title alone, with markup",
+              ("<h1>Find this item</h1>" in reply.text, UNKNOWN in reply.text), (True, True))
     it.expect("a redirect by title", it.site.get("/go?title=Estuary+Biology&date=2012").status, 302)
 
 
@@ -63,20 +75,67 @@ def test_choices(it):
                  {"title": "Soundings", "numbers": ["3006-2098", "3013-2223"]}]
     annals = [{"title": "Annals of Tidal Studies", "numbers": ["2901-0012", "2908-0142"]}]
     for query, expected in (("jtitle=Soundings", soundings), ("issn=1234-5679&jtitle=Annals+of+Tidal+Studies", annals),
+                            ("rft.issn=1234-5679,+2345-6781&jtitle=Annals+of+Tidal+Studies", annals),
+                            ("title=Annals+of+Tidal+Studies;issn=1234-5679", annals),
+                            ("genre=book&title=Annals+of+Tidal+Studies", annals),
+                            ("jtitle=Soundings&rft.title=Annals+of+Tidal+Studies", soundings),
+                            ("jtitle=Annals+of+Tidal+Studies+/+edited+by+W.+Li", annals),
                             ("jtitle=Annals+of+Tidal+Studies:+a+journal", annals),
-                            ("jtitle=Annals+of+Tidal+Studies+(Online)", annals)):
+                            ("jtitle=Annals+of+Tidal+Studies+(Online)", annals),
+                            ("jtitle=Annals+of+Tidal+Studies+(Online)+:+a+journal", annals)):
         data = it.data(query)
         full = [group for group in data["groups"] if group["name"] == "Full text"]
-        it.expect(f"titles for {query}", (sorted(data["maybe"], key=str), full), (expected, []))
+        it.expect(f"titles for {query}", (sorted(data.get("maybe", []), key=str), full), (expected, []))
         reply = it.site.get(f"/find?{query}")
         it.tidy(f"titles for {query}", reply.text)
         it.expect(f"the page of {query}", ("Do you mean one of them?" in reply.text, NOTHING[0] in reply.text,
-                                           "Found by its title" in reply.text), (True, False, False))
+                                           "Found by its title" in reply.text, UNKNOWN in reply.text),
+                  (True, False, False, False))
         it.expect(f"no redirect for {query}", it.site.get(f"/go?first=1&{query}").status, 200)
         for address in re.findall(r'<a href="/find\?([^"]*rft\.is[sb]n=[^"]*)">', main_of(reply)):
             chosen = html.unescape(address)
-            it.expect(f"the choice {chosen}", (chosen.startswith(query), it.data(chosen).get("maybe")), (True, None))
+            if chosen == query:  # the permanent link
+                continue
+            data = it.data(chosen)
+            it.expect(f"the choice {chosen}",
+                      (chosen.endswith(query), data.get("maybe"), ";" in str(data["citation"])), (True, None, False))
     it.expect("no titles", "maybe" in it.data("issn=2901-0012"), False)
+
+
+def test_umlauts(it):
+    """Umlauts as two letters, in a request or in a table, offer the title. Without an index no page says that there is
+    no title."""
+    with open(it.site.path("tables/umlauts.txt"), "w") as table:
+        table.write("publication_title\tprint_identifier\tpublication_type\nZeitschrift für Küstenforschung\t2901-0039"
+                    "\tserial\nHaefen und Kanaele\t2901-0047\tserial\n"
+                    "A History of Harbours (Online)\t2901-0055\tserial\n")
+    with open(it.site.path("registry.tsv")) as registry, open(it.site.path("more.tsv"), "w") as more:
+        more.write(f"{registry.read()}umlauts\tnone.olk\ttables/umlauts.txt\n")
+    write_index(it.site.path("more.tsv"), it.site.path(""), it.site.path("more"))
+    os.rename(it.site.version(), it.site.path("before"))
+    os.rename(it.site.path("more"), it.site.version())
+    coasts, harbours = "Zeitschrift für Küstenforschung", "Häfen und Kanäle"
+    for title, number in ((coasts, "2901-0039"), ("Zeitschrift fu\u0308r Ku\u0308stenforschung", "2901-0039"),
+                          ("ZEITSCHRIFT FUR KUSTENFORSCHUNG", "2901-0039"), ("Haefen und Kanaele", "2901-0047")):
+        it.expect(f"the number of {title}", it.data(f"jtitle={quote(title)}")["citation"].get("issn"), number)
+    for title, number in (("Zeitschrift fuer Kuestenforschung", "2901-0039"), (harbours, "2901-0047"),
+                          ("Haefen und Kan&auml;le: Berichte", "2901-0047"), ("Haefen & Kanaele", "2901-0047"),
+                          ("Zeitschrift fuer Kuestenforschung / hrsg. von A. Li", "2901-0039")):
+        data = it.data(f"jtitle={quote(title)}")
+        it.expect(f"titles for {title}", [one["numbers"] for one in data.get("maybe", [])], [[number]])
+        it.expect(f"the page of {title}", UNKNOWN in it.site.get(f"/find?jtitle={quote(title)}").text, False)
+    similar = it.data("genre=article&jtitle=A+History+of+Harbours").get("maybe", [])
+    it.expect("a similar title of the kind, and the same of another", [one["numbers"] for one in similar],
+              [["2901-0055"]])
+    similar = it.data("jtitle=Harbour+et+Coastal+Engineering").get("maybe", [])
+    it.expect("another word for &", [one["title"] for one in similar], ["Harbour and Coastal Engineering"])
+    for text in ("kuesten", "küsten", "kusten", "KÜSTENFORSCHUNG+fuer"):
+        found = it.site.get(f"/journals?q={quote(text, safe='+')}").text
+        it.expect(f"a search for {text}", re.findall(r"<a href=[^>]*issn=[^>]*>([^<]*)</a>", found), [coasts])
+    os.rename(it.site.version(), it.site.path("more"))
+    reply = it.site.get("/find?jtitle=Annals+of+Tidal+Studies&id=pmid:7")
+    it.expect("no index", ("an ISSN or ISBN is missing." in reply.text, UNKNOWN in reply.text), (True, False))
+    os.rename(it.site.path("before"), it.site.version())
 
 
 def test_numbers(it):
@@ -94,8 +153,12 @@ def test_numbers(it):
     it.expect("the second ISBN", it.targets("genre=book&rft.isbn=9780000000002&rft.isbn=9781234564728"),
               "catalogue interlibrary-loan")
     chapter = "rft_id=info:doi/10.1007/978-1-234-56241-0_3&rft.genre=bookitem&rft.spage=215"
-    it.expect("the ISBN in a DOI", it.link(chapter, "book-house").get("url"),
-              "https://books.example.net/isbn/9781234562410?page=215")
+    for doi in ("1007/978-1-234-56241-0_3", "1016/B978-1-234-56241-0.00003-5", "1017/CBO9781234562410.004",
+                "4324/9781234562410-12", "1002/9781234562410.ch5", "1093/acprof:oso/9781234562410.003.0004"):
+        query = chapter.replace("1007/978-1-234-56241-0_3", doi)
+        it.expect(f"the ISBN in {doi}", it.link(query, "book-house").get("url"),
+                  "https://books.example.net/isbn/9781234562410?page=215")
+    it.expect("no ISBN in a DOI", it.data("id=doi:10.5555/j.97812345624101")["citation"].get("isbn"), None)
     it.expect("its title", it.data(chapter)["citation"]["title"], "Handbook of Tidal Power")
     related = shown_in(main_of(it.site.get("/find?issn=2915-0272")))
     it.expect("a later title", re.findall(r"Later title:\s+(.*\S)", related), ["Harbour and Coastal Engineering"])
@@ -152,6 +215,23 @@ def test_certain(it):
     for name, value in (("identifier", "99990001"), ("volume", "12"), ("title", "")):
         it.expect(f"the form, filled in: {name}", f'name="{name}" maxlength="300" value="{value}"' in filled)
     it.expect("the form keeps the language", '<input type="hidden" name="lang" value="de">' in filled)
+    for query in ("rft.genre=journal&rft.issn=2901-0012", "issn=2915-0272&date=2003", "issn=2915-0272&volume=99",
+                  "issn=2943-081X&volume=15"):
+        for headers, held, nothing in (({}, HELD[0], NOTHING[0]), (GERMAN, HELD[1], NOTHING[1])):
+            reply = it.site.get(f"/find?{query}", headers=headers)
+            it.expect(f"held, without a link: {query}", (held in reply.text, nothing in reply.text,
+                                                         main_of(reply).count("<form ")), (True, False, 1))
+        it.tidy(f"held, without a link: {query}", reply.text)
+    held = shown_in(main_of(it.site.get("/find?rft.genre=journal&rft.issn=2901-0012")))
+    it.expect("what is held", [name for name in ("Tidal Press: since 1995", "North Sea Archive: 1992 to 1999",
+                                                 "AggregateNet: since 1992, without the last 12 months",
+                                                 "Library catalogue: 1992") if name in held],
+              ["Tidal Press: since 1995", "North Sea Archive: 1992 to 1999",
+               "AggregateNet: since 1992, without the last 12 months"])
+    for query in ("issn=2915-0272&date=2010", "issn=2915-0272&date=2003&volume=99", "issn=2992-183X", "issn=3006-1962",
+                  "issn=2943-081X&date=1950&volume=1", "isbn=9780000000002"):
+        reply = it.site.get(f"/find?{query}")
+        it.expect(f"nothing: {query}", (NOTHING[0] in reply.text, HELD[0] in reply.text), (True, False))
     known = it.site.get("/find?issn=2901-0012&date=1950").text
     it.expect("no form where the number is known", (NOTHING[0] in known, "<form" in known), (True, False))
     it.expect("known, and nothing found", NOTHING[0] in it.site.get("/find?issn=3006-1962&atitle=x").text)
@@ -302,6 +382,6 @@ def test_off(it):
 
 def test(site, expect, tidy):
     it = Titles(site, expect, tidy)
-    for part in (test_by_title, test_choices, test_numbers, test_staff, test_coverage, test_certain, test_form,
-                 test_lists, test_hostile, test_words, test_off):
+    for part in (test_by_title, test_choices, test_umlauts, test_numbers, test_staff, test_coverage, test_certain,
+                 test_form, test_lists, test_hostile, test_words, test_off):
         part(it)

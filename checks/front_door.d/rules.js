@@ -115,6 +115,32 @@ function testMenus() {
         + '{"target":"__proto__","label":"__proto__","url":"http://p/"}]}]');
 }
 
+// What the page says of a request without full text whose title has a row: the request, the row, and the notice.
+const NOTICES = [
+    ['issn=2901-0012', 't 0 2001', 'held'], ['issn=2901-0012', 't.2 0', 'held'],
+    ['issn=2901-0012&volume=3', 't 0 2001', 'held'], ['issn=2901-0012&volume=3&date=2001', 't 0 2001', 'nothing'],
+    ['issn=2901-0012&date=2000', 't 0 2001-05 2003-04', 'nothing'],
+    ['issn=2901-0012&date=2001', 't 0 2001-05 2003-04', 'held'],
+    ['issn=2901-0012&date=2003-12', 't 0 2001-05 2003-04', 'held'],
+    ['issn=2901-0012&date=2004', 't 0 2001-05 2003-04', 'nothing'],
+    ['issn=2901-0012&date=1900', 't 0 - 2003', 'held'], ['issn=2901-0012&date=2004', 't 0 - 2003', 'nothing'],
+    ['isbn=9781234560102', 't 0 2001', 'nothing'], ['issn=2901-0012', 'other 0 2001', 'nothing'],
+    ['issn=2901-0012', 'unnamed 0 2001', 'nothing'], ['issn=2901-0012', 'plain 0 2001', 'held']
+];
+function testNotices() {
+    const named = { groups: [{ name: 'A' }, { name: 'B' }], words: { held: 'NOTICE held', nothing: 'NOTICE nothing' },
+        targets: { t: { group: 'A' }, other: { group: 'B' }, plain: {} } };
+    NOTICES.forEach(function (it) {
+        const q = openurl.queryOf(it[0]);
+        q.titles = [{ kind: 'j', title: 'x', numbers: [], standard: [], rows: [it[1]], related: [] }];
+        q.maybe = [];
+        q.knowledge = 'number';
+        const site = languages.siteIn(named, '');
+        const page = menus.pageOf(q, menus.groupsOf('', site), site);
+        expect('the notice of ' + it[0] + ', ' + it[1], /NOTICE (\w+)|$/.exec(page)[1], it[2]);
+    });
+}
+
 // A header, the languages that are offered, and the one that is chosen.
 const HEADERS = [
     ['', 'en de', 'en'], ['de', 'en de', 'de'], ['DE', 'en de', 'de'], ['de-AT', 'en de', 'de'],
@@ -366,6 +392,7 @@ testLines();
 testGoodForm();
 testLimits();
 testMenus();
+testNotices();
 testHeaders();
 testWords();
 testCases();

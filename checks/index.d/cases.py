@@ -130,6 +130,21 @@ def test_short_keys():
         expect("the title of that key", [cells[1] for cells in found.of_key("=acta")], ["Acta"])
 
 
+def test_umlauts():
+    """A title with umlauts is found by their two letters too, by its key and by its words."""
+    rows = [journal("Küstenforschung: Berichte", "2901-0012"), journal("Kuestenforschung", "2908-0142"),
+            journal("Cœur", "2915-0272")]
+    with Index({"one": table(*rows)}) as found:
+        for key, expected in (("~kustenforschung", 1), ("~kuestenforschung", 1), ("~kuestenforschung berichte", 0),
+                              ("=kuestenforschung", 1), ("~kustenforschung berichte", 0), ("~coeur", 0)):
+            expect(f"titles of {key}", len(found.of_key(key)), expected)
+        listed = found.listed("j")
+        for start, expected in (("kuest", ["Kuestenforschung", "Küstenforschung: Berichte"]),
+                                ("kust", ["Küstenforschung: Berichte"])):
+            titles = sorted(listed[place] for place in found.places("j", start))
+            expect(f"words that begin with {start}", titles, expected)
+
+
 def test_list():
     """Letters in their order, each with pages of its own."""
     names = ["Zoo", "The Ant", "Älter", "Bee", "Émile", "1848", "42 Days", "Ωmega", "Журнал", "中国", "...", "Ant Hill",
@@ -158,7 +173,7 @@ def test_list():
         expect("a form for the halving", list(check_form(found)), [])
     with Index({"one": table(*rows)}, has_list=False) as found:
         expect("without the list", (found.names(), found.bytes("format"), len(found.of_key("=zoo"))),
-               (["format", "keys"], b"1 no list\n", 1))
+               (["format", "keys"], b"2 no list\n", 1))
 
 
 def test_limits():
@@ -191,5 +206,5 @@ def test_large_files():
         expect(f"the text of a file of words ends at its limit: {longest}", (4 << 20) - 80 < longest <= (4 << 20) + 8)
 
 
-TESTS = [test_titles, test_numbers, test_rows, test_cells, test_related, test_short_keys, test_list, test_limits,
-         test_large_files]
+TESTS = [test_titles, test_numbers, test_rows, test_cells, test_related, test_short_keys, test_umlauts, test_list,
+         test_limits, test_large_files]

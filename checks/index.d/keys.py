@@ -42,17 +42,29 @@ CASES = [
     ("Acta (Online)", "acta online", "acta"),
     ("Acta [1995] (Online)", "acta 1995 online", "acta 1995"),
     ("Acta (Online) B", "acta online b", ""),
+    ("Acta / edited by A. Li", "acta edited by a li", "acta"),
+    ("Input/output", "input output", ""),
+    ("Annals of Tides, The", "annals of tides", ""),
+    ("Annals of Tides, the.", "annals of tides", ""),
+    ("Siècle, Le", "siecle", ""),
+    ("Annals of Tides, A", "annals of tides a", ""),
+    ("Tides, ebb, and the", "tides ebb and the", ""),
+    (", The", "the", ""),
+    ("The Tides, The", "tides", ""),
     (": X", "x", ""),
     ("A" * 499 + " é", "a" * 499, ""),
     ("A" * 600 + ": b", "a" * 500, ""),
 ]
-PIECES = [*" '’:=()[]-–—&;<>/#xliugnABCXYZabcßéÉàñЙйΣςσ\u0301\u00ad\u200b１Ⅳﬁ漢語😀", "&amp;", "&eacute;", "&#39;",
-          "&#x2019;", "<i>", "</i>", "the ", "The ", "L'", "l’", "un'", "Die ", " : ", " - "]
+PIECES = [*" '’:=()[]-–—&;<>/#xliugnABCXYZabcßéÉàñäÖüЙйΣςσ\u0301\u00ad\u200b１Ⅳﬁ漢語😀", "&amp;", "&eacute;", "&#39;",
+          "&#x2019;", "<i>", "</i>", "the ", "The ", "L'", "l’", "un'", "Die ", " : ", " - ", " / ", ", the", ", Les",
+          "a\u0308", "O\u0308", "u\u0308"]
 SCRIPT = """import titles from 'titles.js';
 import fs from 'fs';
 globalThis.fold = JSON.parse(fs.readFileSync('fold.json'));
 const list = fs.readFileSync(process.argv[2], 'utf8').split('\\n');
-fs.writeFileSync(process.argv[3], list.map((it) => titles.keyOf(it) + '\\t' + titles.shortKey(it)).join('\\n'));
+const short = (it) => titles.shorter(it) === titles.plain(it.slice(0, 500)) ? '' : titles.keyOf(titles.shorter(it));
+const keys = (it) => [titles.keyOf(it), short(it), titles.keyOf(titles.writtenOut(it))].join('\\t');
+fs.writeFileSync(process.argv[3], list.map(keys).join('\\n'));
 """
 PART = 2500  # njs frees no memory, so it gets few titles at a time
 
@@ -60,6 +72,13 @@ PART = 2500  # njs frees no memory, so it gets few titles at a time
 def test_cases():
     for title, key, short in CASES:
         expect(f"the key of {title[:40]!r}", (titles.key_of(title), titles.short_key(title)), (key, short))
+
+
+def test_umlauts():
+    for title, written, key in (("Küste & Öl", "kueste & oel", "kueste and oel"), ("Straße", "straße", ""),
+                                ("A\u0308rzte", "aerzte", "aerzte"), ("H&auml;fen", "haefen", "haefen"),
+                                ("Ñandú", "ñandú", ""), ("Hafen", "hafen", ""), ("R&amp;D", "r&d", "")):
+        expect(f"the umlauts of {title}", (titles.written_out(title), titles.written_key(title)), (written, key))
 
 
 def test_table():
@@ -100,9 +119,9 @@ def test_same_keys():
     found = texts()
     for start in range(0, len(found), PART):
         part = found[start:start + PART]
-        differing = [(text, key) for text, key in zip(part, in_njs(part), strict=True)
-                     if key != f"{titles.key_of(text)}\t{titles.short_key(text)}"]
+        differing = [(text, keys) for text, keys in zip(part, in_njs(part), strict=True) if keys != "\t".join(
+            (titles.key_of(text), titles.short_key(text), titles.key_of(titles.written_out(text))))]
         expect(f"njs makes the keys of {len(part)} titles from {start}", differing[:5], [])
 
 
-TESTS = [test_cases, test_table, test_same_keys]
+TESTS = [test_cases, test_umlauts, test_table, test_same_keys]

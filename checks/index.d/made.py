@@ -19,6 +19,10 @@ def standard(cell):
     return text
 
 
+def as_two_letters(title):
+    return re.sub("[äöüÄÖÜ]", lambda umlaut: dict(zip("äöü", ("ae", "oe", "ue")))[umlaut[0].lower()], title)
+
+
 class Reference:
     """Titles as sets of rows, joined again and again until nothing is left to join."""
 
@@ -76,10 +80,13 @@ class Reference:
             for number in self.numbers(title):
                 coverage = ";".join(sorted(map(self.entry, title)))
                 found.append((md5(number)[:3], number, names, *cells, coverage))
-            for sign, key in (("=", title[0]["key"]), ("~", short_key(title[0]["publication_title"]))):
-                if key and (sign == "=" or key != title[0]["key"]):
-                    digits = md5(sign + key)
-                    found.append((digits[:3], sign + digits[3:16], names, *cells, None))
+            name, key = title[0]["publication_title"], title[0]["key"]
+            others = {short_key(name)} - {"", key}
+            if as_two_letters(name) != name:
+                others |= {short_key(as_two_letters(name)) or key_of(as_two_letters(name))} - {key}
+            for sought in (f"={key}", *(f"~{other}" for other in others)):
+                digits = md5(sought)
+                found.append((digits[:3], sought[0] + digits[3:16], names, *cells, None))
         return found
 
     def entry(self, row):
@@ -149,7 +156,8 @@ def check_list(found, kind, titles):
     for letter, (first, pages, count) in found.letters(kind)[1].items():
         keys = [key_of(line[0]) for number in range(first, first + pages) for line in found.page(kind, number)]
         expect(f"the letter {letter}", (len(keys), keys, {key[0] for key in keys}), (count, sorted(keys), {letter}))
-    words = {place: {*key_of(name).split(" "), *name.lower().split(" ")[:1]} for place, name in listed.items()}
+    words = {place: {*key_of(name).split(" "), *key_of(as_two_letters(name)).split(" "), *name.lower().split(" ")[:1]}
+             for place, name in listed.items()}
     starts = {word[:length] for found_words in words.values() for word in found_words for length in range(2, 7)}
     starts = {start for start in starts if len(start) > 1 and re.fullmatch(r"\w+", start) and key_of(start) == start}
     wrong = [start for start in sorted(starts) if found.places(kind, start) !=

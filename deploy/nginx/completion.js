@@ -13,39 +13,54 @@ const is = texts.is;
 const NONE = [];
 const MOST_FURTHER = 2;  // queries beside the request's and the one for targets that answer every request
 const MOST_MAYBE = 20;
+const MOST_SIMILAR = 16;  // keys of titles like those of a request
+const MOST_LETTERS = 250; // of a title that may be like others
 const TITLE_KEYS = { j: ['rft.jtitle', 'rft.title', 'rft.stitle'], b: ['rft.btitle', 'rft.title'] };
 TITLE_KEYS[''] = ['rft.jtitle', 'rft.btitle', 'rft.title', 'rft.stitle'];
 
-function titleAsked(q) {
-    const keys = TITLE_KEYS[openurl.kindAsked(q)];
-    let title = '';
-    for (let i = 0; title === '' && i < keys.length; i++) title = q.first(keys[i]);
-    return title;
+// The titles that a request has for its journal or book, those of its kind first.
+function titlesAsked(q) {
+    const found = [];
+    TITLE_KEYS[openurl.kindAsked(q)].concat(TITLE_KEYS[''], ['title']).forEach((key) => {
+        const title = q.first(key);
+        if (title !== '' && found.indexOf(title) < 0) found.push(title);
+    });
+    return found;
+}
+function keysAsked(q) {
+    if (q.keys === undefined) {
+        q.keys = titlesAsked(q).map(titles.keyOf).filter((key, i, all) => key !== '' && all.indexOf(key) === i);
+    }
+    return q.keys;
 }
 function ofKind(q, list) {
     const kind = openurl.kindAsked(q);
     return list.filter((it) => kind === '' || it.kind === kind);
 }
 
-// A request without a number gets those of the one title that has its title.
+// A request without a number gets those of the one title of its kind that has its title.
 async function addNumbers(r, q) {
     if (openurl.hasNumber(q)) return;
-    const key = titles.keyOf(titleAsked(q));
-    if (key === '') return;
-    const found = await titlesOfKey(r, q, ['=' + key]);
-    if (found.length !== 1) {
-        q.exact = found;
-        return;
+    const keys = keysAsked(q);
+    q.named = NONE;
+    for (let i = 0; i < keys.length; i++) {
+        const all = await index.titlesOf(r, '=' + keys[i]);
+        const found = ofKind(q, all);
+        q.named = q.named.concat(all);
+        if (found.length === 1) addNumbersOf(q, found[0]);
+        if (found.length > 0) return;
     }
-    q.byTitle = found[0];
-    const issns = found[0].numbers.filter(numbers.isIssn);
+}
+function addNumbersOf(q, title) {
+    q.byTitle = title;
+    const issns = title.numbers.filter(numbers.isIssn);
     if (issns.length > 0) {
         q.put('rft.issn', issns.slice(0, 1));
         if (issns.length > 1) q.put('rft.eissn', issns.slice(1, 2));
     } else {
-        q.put('rft.isbn', found[0].standard.slice(0, 1));
+        q.put('rft.isbn', title.standard.slice(0, 1));
     }
-    setKind(q, found[0]);
+    setKind(q, title);
 }
 // The format and the key of the title, where the request does not say them.
 function setKind(q, found) {
@@ -57,12 +72,13 @@ function setKind(q, found) {
     if (q.added.rft_val_fmt) q.set('rft_val_fmt', 'info:ofi/fmt:kev:mtx:' + (found.kind === 'b' ? 'book' : 'journal'));
 }
 
-// The ISBN in the DOI of a chapter or a book.
+// The ISBN in the DOI of a chapter or a book, such as 10.1007/978-.._3, 10.1016/B978-...00003-5, 10.1017/CBO978...004.
+const IN_DOI = texts.lazy('(?:^|[^\\d-])(97[89](?:-?\\d){10})(?!\\d)');
 function isbnInDoi(q) {
-    if (!q.has('x.doi')) return NONE;
     const doi = q.first('x.doi');
-    const name = doi.slice(doi.indexOf('/') + 1).replace(/_.*$/, '');
-    return is(/^97[89]/, name) ? numbers.numbersIn([name], numbers.ISBN, 1) : NONE;
+    const name = doi.slice(doi.indexOf('/') + 1);
+    if (name.indexOf('97') < 0 || !is(IN_DOI(), name)) return NONE;
+    return numbers.numbersIn([IN_DOI().exec(name)[1]], numbers.ISBN, 1);
 }
 function numbersAsked(q) {
     return [q.first('x.issn'), q.first('x.eissn')].concat(q.isbns).filter(Boolean);
@@ -116,30 +132,52 @@ function furtherQueries(q, known) {
     return queries.slice(0, MOST_FURTHER);
 }
 
-// The titles that a request may mean, if its numbers are not known: those of its title, and those without a subtitle.
+// The titles that a request may mean, if its numbers are not known: those of its title, then those of a similar one,
+// then those of another kind.
 async function addMaybe(r, q) {
-    if (q.titles.length > 0) return;
-    const title = titleAsked(q);
-    const key = titles.keyOf(title);
-    if (key === '') return;
-    const exact = q.exact || await titlesOfKey(r, q, ['=' + key]);
-    const short = titles.shortKey(title);
-    const keys = ['~' + key].concat(short ? ['=' + short, '~' + short] : NONE);
-    q.maybe = exact.length > 0 ? exact : await titlesOfKey(r, q, keys);
-    q.maybe = q.maybe.slice(0, MOST_MAYBE);
+    const keys = q.titles.length > 0 ? NONE : keysAsked(q);
+    if (keys.length === 0) return;
+    const named = q.named || await index.titlesOfAll(r, keys.map((key) => '=' + key));
+    const isOfKind = ofKind(q, named).length > 0;
+    const similar = isOfKind ? NONE : await index.titlesOfAll(r, similarKeys(q));
+    const all = index.distinct(named.concat(similar));
+    const found = ofKind(q, all);
+    q.maybe = (found.length > 0 ? found : all).slice(0, MOST_MAYBE);
 }
-async function titlesOfKey(r, q, keys) {
-    const all = keys.length === 1 ? await index.titlesOf(r, keys[0]) : await index.titlesOfAll(r, keys);
-    return ofKind(q, all);
+// Keys of titles with another subtitle or without one, and of those whose umlauts are written as two letters, or whose
+// `&` in another language.
+function similarKeys(q) {
+    const found = [];
+    const put = (sign, key) => { if (key !== '' && found.indexOf(sign + key) < 0) found.push(sign + key); };
+    titlesAsked(q).filter((title) => title.length <= MOST_LETTERS).slice(0, 2).forEach((title) => {
+        const written = titles.writtenOut(title);
+        const keys = keysWithin(title);
+        if (written !== title.toLowerCase()) keysWithin(written).forEach((key) => { keys.push(key); });
+        keys.slice(1).concat(withOtherAnd(keys[0])).forEach((key) => { put('=', key); });
+        keys.forEach((key) => { put('~', key); });
+    });
+    return found.slice(0, MOST_SIMILAR);
+}
+// The key of a title, and those without its subtitle and without brackets before that.
+function keysWithin(title) {
+    const short = titles.shorter(title);
+    return [title, short, titles.shorter(short)].map(titles.keyOf);
+}
+const ANDS = ' and und et ';
+function isAnd(word) { return ANDS.indexOf(' ' + word + ' ') >= 0; }
+function withOtherAnd(key) {
+    const words = key.split(' ');
+    if (!words.some(isAnd)) return NONE;
+    return ANDS.trim().split(' ').map((and) => words.map((word) => isAnd(word) ? and : word).join(' '));
 }
 
-// What is certain of a request: `number` was looked up, `title` is not in the index, an `identifier` alone or `nothing`
-// could not be looked up.
+// What is certain of a request: `number` was looked up, `title` is not in the index, `unlisted` is a title without an
+// index, an `identifier` alone or `nothing` could not be looked up.
 async function knowledgeOf(r, q) {
     if (numbersAsked(q).length > 0 || q.titles.length > 0) return 'number';
-    if (titleAsked(q) !== '') {
+    if (titlesAsked(q).length > 0) {
         const isThere = await index.isThere(r);
-        if (isThere) return 'title';
+        return isThere ? 'title' : 'unlisted';
     }
     return q.has('x.doi') || q.has('x.pmid') || q.has('x.oclc') ? 'identifier' : 'nothing';
 }
@@ -149,12 +187,12 @@ async function queryOf(r) {
     q.titles = NONE;
     q.further = NONE;
     q.maybe = NONE;
-    if (q.pairs.length > 0) {
+    if (!q.isEmpty()) {
         await lookup.complete(r, q);
         await addNumbers(r, q);
     }
     openurl.finish(q);
-    if (q.pairs.length === 0) return q;
+    if (q.isEmpty()) return q;
     await addTitle(r, q);
     await addMaybe(r, q);
     q.knowledge = await knowledgeOf(r, q);

@@ -35,4 +35,11 @@ function dataOf(row) {
     return data.from || data.to || data.embargo ? data : undefined;
 }
 
-export default { textOf: textOf, dataOf: dataOf };
+// Whether a row may have a year; every row may if it is ''.
+function mayHave(row, year) {
+    const first = given(row.first).slice(0, 4);
+    const last = given(row.last).slice(0, 4);
+    return year === '' || ((first === '' || first <= year) && (last === '' || year <= last));
+}
+
+export default { mayHave: mayHave, textOf: textOf, dataOf: dataOf };

@@ -7,15 +7,15 @@ const plain = numbers.plain;
 
 // The forms of a date, tried in this order, and the reader of what their groups are.
 const DATES = [
-    [/^([12]\d{3})[-\/. ]?(\d\d)[-\/. ]?(\d\d)(?=\D|\d{4}(?:\d\d)?$|$)/, yearFirst],  // 2013-08-01, 20130801T1015
-    [/^([12]\d{3})[-\/. ](\d{1,2})(?:[-\/. ](\d{1,2}))?(?!\d)/, yearFirst],  // 2013-08, 2013/8/1, 2013-08/2013-09
-    [/^([12]\d{3})(\d\d)$/, yearFirst],                                      // 201308
+    [/^([12]\d{3})([-\/. ]?)(\d\d)\2(\d\d)(?=\D|\d{4}(?:\d\d)?$|$)/, yearFirst],  // 2013-08-01, 20130801T1015
+    [/^([12]\d{3})([-\/. ])(\d{1,2})(?:\2(\d{1,2}))?(?!\d)/, yearFirst],  // 2013/8/1, 2013-08/2013-09, 2013-08/09
+    [/^([12]\d{3})()(\d\d)$/, yearFirst],                                      // 201308
     [/^(\d{1,2})[-\/.](\d{1,2})[-\/.]([12]\d{3})(?!\d)/, yearLast],         // 25/12/2013, 12/25/2013
     [/^()(\d{1,2})[-\/.]([12]\d{3})$/, yearLast],                            // 08/2013
     [/(?<!\d)([12]\d{3})(?!\d)/, yearInText]                                // Aug 2013, Winter 2012/2013
 ];
 
-function yearFirst(found) { return ymd(found[1], found[2], found[3]); }
+function yearFirst(found) { return ymd(found[1], found[3], found[4]); }
 function yearInText(found, text) { return ymd(found[1], monthIn(text), 0); }
 
 // If both numbers may be months, only the year is certain.

@@ -18,7 +18,7 @@ import texts from './text.js';
 async function answer(r, q, reply) {
     const site = exchange.siteOf(r);
     r.variables.openlink_source = log.sourceOf(q);
-    if (q.pairs.length === 0) return reply(r, q, menu.groupsOf('', site), site);
+    if (q.isEmpty()) return reply(r, q, menu.groupsOf('', site), site);
     const menus = await program.menusOf(r, q);
     if (menus.status !== 200) return exchange.sendFault(r, program.faultStatus(menus), site);
     const groups = menu.groupsOf(menus.text, site);
@@ -41,7 +41,7 @@ function logLinks(r, q, groups) {
 }
 
 function replyPage(r, q, groups, site) {
-    exchange.sendPage(r, 200, q.pairs.length === 0 ? form.formOf(q, site) : menu.pageOf(q, groups, site), site);
+    exchange.sendPage(r, 200, q.isEmpty() ? form.formOf(q, site) : menu.pageOf(q, groups, site), site);
 }
 function replyJson(r, q, groups, site) { exchange.sendJson(r, 200, menu.dataOf(q, groups, site), site); }
 async function find(r) {

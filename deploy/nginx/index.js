@@ -236,5 +236,5 @@ async function joined(r, kind, sets) {
 
 export default {
     linesWith: linesWith, targetOf: targetOf, rowOf: rowOf, titlesOf: titlesOf, titlesOfAll: titlesOfAll,
-    isThere: isThere, lettersOf: lettersOf, pageOf: pageOf, search: search
+    distinct: distinct, isThere: isThere, lettersOf: lettersOf, pageOf: pageOf, search: search
 };

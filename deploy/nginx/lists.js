@@ -15,16 +15,18 @@ const NAMES = { j: 'journals', b: 'books' };
 const MOST_NUMBERS = 4;
 const MOST_ROWS = 12;
 
-// The link of a title: the request's own pairs, if there are some, and the title's number.
+// The link of a title: its number, which comes first to count before others, and the request's own pairs.
 function addressOf(it, args, site) {
     const number = it.numbers[0];
-    const key = numbers.isIssn(number) ? 'rft.issn=' : 'rft.isbn=';
-    const genre = args ? args + '&' : 'rft.genre=' + (it.kind === 'b' ? 'book&' : 'journal&');
-    return pages.addressOf('/find', genre + key + encodeURIComponent(numbers.standard(number)), site);
+    const pair = (numbers.isIssn(number) ? 'rft.issn=' : 'rft.isbn=') + encodeURIComponent(numbers.standard(number));
+    if (!args) return pages.addressOf('/find', 'rft.genre=' + (it.kind === 'b' ? 'book&' : 'journal&') + pair, site);
+    const isOld = args.indexOf('&') < 0 && args.indexOf(';') >= 0;  // as query.js reads it
+    return pages.addressOf('/find', pair + (isOld ? ';' : '&') + args, site);
 }
-function rowsHtml(it, site) {
+// What targets have of a title, of all rows or of those for which `isShown` is true.
+function rowsHtml(it, site, isShown) {
     const known = Object.create(null);
-    const rows = it.rows.map(index.rowOf).map((row) => {
+    const rows = it.rows.map(index.rowOf).filter(isShown || Boolean).map((row) => {
         const text = coverage.textOf(row, site);
         return escape(words.labelOf(site, row.target) + (text ? ': ' + text : ''));
     }).filter((text) => {
@@ -108,4 +110,4 @@ function searchOf(kind, text, found, site) {
         titlesHtml(found === null ? [] : found.titles, site), ['<p>' + link + '</p>']], site);
 }
 
-export default { titleHtml: titleHtml, startOf: startOf, letterOf: letterOf, searchOf: searchOf };
+export default { titleHtml: titleHtml, rowsHtml: rowsHtml, startOf: startOf, letterOf: letterOf, searchOf: searchOf };

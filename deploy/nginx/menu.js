@@ -3,6 +3,7 @@
 import citation from './citation.js';
 import coverage from './coverage.js';
 import form from './form.js';
+import index from './index.js';
 import lists from './lists.js';
 import pages from './pages.js';
 import texts from './text.js';
@@ -114,14 +115,40 @@ function actionsHtml(q, site) {
 }
 
 // What is said of a request without full text: only what is certain.
-const NOTICES = { number: 'nothing', title: 'unknownTitle', identifier: 'numberAlone', nothing: 'incomplete' };
-function hasNotice(q, groups) { return groups[0].links.length === 0 && q.maybe.length === 0 && q.pairs.length > 0; }
+const NOTICES = {
+    number: 'nothing', held: 'held', title: 'unknownTitle', unlisted: 'numberMissing', identifier: 'numberAlone',
+    nothing: 'incomplete'
+};
+function hasNotice(q, groups) { return groups[0].links.length === 0 && q.maybe.length === 0 && !q.isEmpty(); }
+// A journal of the first group may have no link because the request has no year or no volume. Then the page says
+// what the group's targets have.
+function knowledgeOf(q, groups, site) {
+    const isWhole = !q.has('x.issn') || (q.has('x.to') && q.has('rft.volume'));
+    if (q.knowledge !== 'number' || isWhole) return q.knowledge;
+    const isHeld = heldIn(q, groups[0], site);
+    return q.titles.some((it) => it.rows.map(index.rowOf).some(isHeld)) ? 'held' : 'number';
+}
+// Whether a row is of a target of a group, and may have the year of a request.
+function heldIn(q, group, site) {
+    return (row) => {
+        const target = own(site.targets, row.target);
+        const name = words.textAt(own(target, 'group'));
+        const isOfGroup = site.groups === undefined || (target !== undefined && (name === '' || name === group.name));
+        return isOfGroup && coverage.mayHave(row, q.first('rft.date').slice(0, 4));
+    };
+}
 function noticeHtml(q, groups, site) {
-    return hasNotice(q, groups) ? pages.notice(NOTICES[q.knowledge] || 'incomplete', site) : '';
+    if (!hasNotice(q, groups)) return '';
+    const known = knowledgeOf(q, groups, site);
+    const parts = [pages.notice(NOTICES[known] || 'incomplete', site)];
+    const isHeld = heldIn(q, groups[0], site);
+    if (known === 'held') q.titles.forEach((it) => { parts.push(lists.rowsHtml(it, site, isHeld)); });
+    return parts.filter(Boolean).join('\n');
 }
 // The form, filled in, if more of a citation may find it.
 function completeHtml(q, groups, site) {
-    if (!hasNotice(q, groups) || q.knowledge === 'number' || q.args.length > MOST_ARGS) return '';
+    const isShort = hasNotice(q, groups) && q.args.length <= MOST_ARGS;
+    if (!isShort || knowledgeOf(q, groups, site) === 'number') return '';
     return '<h2>' + escape(word(site, 'complete')) + '</h2>\n' + form.formHtml(q, site);
 }
 function foundHtml(q, site) {

@@ -15,6 +15,7 @@ const ISBN = {
     exact: /^97[89]\d{10}$/, write: isbn13,
     form: /(?<!\d)(?:97[89](?:[- ]?\d){10}|\d(?:[- ]?\d){8}[- ]?[\dX])(?!\d)/gi
 };
+const NO_ISSN = '0000-0000';  // what some sources send for none
 function issn(digits) { return digits.slice(0, 4) + '-' + digits.slice(4); }
 
 function isbn13(digits) {
@@ -28,7 +29,9 @@ function isbn13(digits) {
 // The first `count` different numbers of a kind in texts, written as the standards do.
 function numbersIn(values, kind, count) {
     const found = [];
-    const put = (number) => { if (found.length < count && found.indexOf(number) < 0) found.push(number); };
+    const put = (number) => {
+        if (number !== NO_ISSN && found.length < count && found.indexOf(number) < 0) found.push(number);
+    };
     values.forEach((value) => {
         if (is(kind.exact, value)) return put(value);
         const text = plain(value);

@@ -122,9 +122,10 @@ function format(q) {
     if (!q.has('rft_val_fmt') && q.pairs.length > 0) q.add('rft_val_fmt', 'info:ofi/fmt:kev:mtx:' + kindOf(q));
 }
 
-// Titles and names as text: some sources send HTML, or encode them twice.
+// Titles and names as text: some sources send HTML or the braces of BibTeX, or encode them twice.
 const WRITTEN = ['rft.atitle', 'rft.jtitle', 'rft.btitle', 'rft.title', 'rft.stitle', 'rft.au', 'rft.aulast',
     'rft.aufirst', 'rft.aucorp'];
+const BRACES = texts.lazy('(?<![$\\\\])\\{([^{}]+)\\}', 'g');
 function decodedAgain(value) {
     if (is(/\s/, value)) return value;
     const hasEscapes = is(/%[0-9a-f]{2}/i, value) && !is(/%(?![0-9a-f]{2})/i, value);
@@ -137,14 +138,15 @@ function decodedAgain(value) {
     }
 }
 function readable(value) {
-    const text = is(/[%+]/, value) ? decodedAgain(value) : value;
+    const decoded = is(/[%+]/, value) ? decodedAgain(value) : value;
+    const text = decoded.indexOf('{') < 0 ? decoded : texts.replaced(decoded, BRACES(), '$1').trim();
     return is(/[<&]/, text) ? titles.plain(text) || value : text;
 }
 function markup(q) {
     WRITTEN.forEach((key) => {
         if (!q.has(key)) return;
         const values = q.all(key);
-        if (!values.some((value) => is(/[<&%+]/, value))) return;
+        if (!values.some((value) => is(/[<&%+{]/, value))) return;
         const read = values.map(readable);
         if (read.every((value, i) => value === values[i])) return;
         q.drop(key);
@@ -155,8 +157,8 @@ function markup(q) {
 // The key, the beginning of the URI in OpenURL 1.0, and the forms in which sources send it.
 const IDENTIFIERS = [
     ['x.doi', 'info:doi/',
-        /^(?:(?:info:doi[\/:]|doi:|(?:(?:https?:)?\/\/)?(?:dx\.|www\.)?doi\.org\/)\s*){0,3}(10\.[\d.]{4,20}\/\S+)$/i],
-    ['x.pmid', 'info:pmid/', /^(?:info:pmid[\/:]|pmid:)\s*(\d{1,9})$/i],
+        /^(?:(?:info:doi[\/:]|doi:?|(?:(?:https?:)?\/\/)?(?:dx\.|www\.)?doi\.org\/)\s*){0,3}(10\.[\d.]{4,20}\/\S+)$/i],
+    ['x.pmid', 'info:pmid/', /^(?:info:pmid[\/:]|pmid:?)\s*(\d{1,9})$/i],
     ['x.pmid', 'info:pmid/', /^https?:\/\/(?:www\.)?pubmed\.gov\/(?:\?term=)?(\d+)\b/i],
     ['x.pmid', 'info:pmid/',
         /^https?:\/\/(?:www\.|pubmed\.)?ncbi\.nlm\.nih\.gov\/(?:pubmed\/)?(?:\?term=)?(\d+)\b/i],
@@ -250,7 +252,7 @@ function date(q) {
     q.lead('x.to', days[1]);
 }
 
-// `Vol. 53`, `No. 5`, `Pt 8`, `53(2)`. A value of other words stays what it is.
+// `Vol. 53`, `No. 5`, `Pt 8`, `53(2)`, `53 (2003)`. A value of other words stays what it is.
 const OF_ISSUE = 'nos?|nr|num(?:ber)?|n[\u00b0\u00ba]|iss(?:ue)?|heft';
 const WORD = '(?:(?:vol(?:ume)?s?|bd|band|tom[eo]?|jg|jahrgang|pt|part|' + OF_ISSUE + ')[.:]?\\s*|[vtnh][.:\\s]\\s*)';
 const ISSUE = '(?:(?:' + OF_ISSUE + ')[.:]?\\s*|[nh][.:\\s]\\s*)';
@@ -265,6 +267,7 @@ function volume(q) {
         if (is(ONE(), text)) q.lead(key, ONE().exec(text)[1]);
         if (!is(BOTH(), text)) return;
         const found = BOTH().exec(text);
+        if (is(/^[12]\d{3}$/, found[2] || '')) return q.lead(key, found[1]);  // a year in brackets
         const values = { 'rft.volume': found[1], 'rft.issue': found[2] || found[3] };
         const other = key === 'rft.volume' ? 'rft.issue' : 'rft.volume';
         if (key === 'rft.issue' && q.has(other) && q.first(other) !== found[1]) return;  // parts of an issue

@@ -63,20 +63,26 @@ function withoutBase(args) {
     return found[1] + '&' + text.slice(found[0].length - found[2].length);
 }
 
-// The pairs of a query. `&amp;` between two of them is `&`; within a value, an entity that was not escaped has split
-// it.
+// The pairs of a query. `&amp;` between two of them is `&`; within a value, an entity or an `&` that was not escaped
+// has split it: what follows such an `&` in a title or a name has spaces, and no `=`.
 const ENTITY = /^(?:[a-z]{2,8}\d{0,2}|#\d{1,7}|#x[\da-f]{1,6});/i;
 const PAIR = /^(?:amp;)*[\w.?]+=/i;
+const TITLED = texts.lazy('^(?:rft\\.)?(?:[abjs]?title|au|aulast|aufirst|aucorp|source|creator)=', 'i');
+function isText(piece) {
+    return piece.indexOf('=') < 0 && (piece.indexOf('+') >= 0 || piece.indexOf('%20') >= 0);
+}
 function piecesOf(args) {
     const isOld = args.indexOf('&') < 0 && args.indexOf(';') >= 0;
     const pieces = (isOld ? args.replace(/;(?=[\w.]+=)/g, '&') : args).split('&');
-    if (args.indexOf('&') < 0 || args.indexOf(';') < 0) return pieces;
+    const hasEntities = args.indexOf('&') >= 0 && args.indexOf(';') >= 0;
+    if (!hasEntities && !pieces.some(isText)) return pieces;
     const joined = [];
     let count = 0;
     pieces.forEach((piece) => {
-        const isPart = joined.length > 0 && count < MOST_REJOINED && is(ENTITY, piece) && !is(PAIR, piece)
-            && !isKey(piece.replace(/^(?:amp;)+/i, '').toLowerCase());
-        if (isPart && ++count) joined[joined.length - 1] += '%26' + piece;
+        const last = joined.length - 1;
+        const isPart = last >= 0 && count < MOST_REJOINED && ((isText(piece) && is(TITLED(), joined[last]))
+            || (is(ENTITY, piece) && !is(PAIR, piece) && !isKey(piece.replace(/^(?:amp;)+/i, '').toLowerCase())));
+        if (isPart && ++count) joined[last] += '%26' + piece;
         else joined.push(piece);
     });
     return joined;
@@ -154,6 +160,8 @@ Query.prototype.keep = function (key, value, text) {
     else this.given[key].push(value);
 };
 
+// Whether nothing of a request counts. Rules may have moved all its pairs to those that they add.
+Query.prototype.isEmpty = function () { return this.pairs.length === 0 && this.addedKeys.length === 0; };
 Query.prototype.first = function (key) { return (this.added[key] || this.given[key] || NONE)[0] || ''; };
 Query.prototype.has = function (key) { return this.first(key) !== ''; };
 // All values of a key, of a hostile request the first ones.

@@ -20,7 +20,8 @@ const LEADING = texts.lazy('^[' + BETWEEN + APOSTROPHES + ']+');
 const ELIDED = texts.lazy('^(?:gl|un|l)[' + APOSTROPHES + '] *(?=[aeiouhy])');
 const ARTICLES = ' the a an der die das den dem des ein eine einen einem einer eines le la les un une el lo los las '
     + 'una unos unas il i gli uno ';
-const END = / *(?:[:=].*| [-\u2013\u2014] .*|[(\[][^()\[\]]*[)\]] *)$/;
+const LAST_ARTICLES = ' the der die das le la les el los las il gli ';
+const END = / *(?:[:=].*| [-\/\u2013\u2014] .*|[(\[][^()\[\]]*[)\]] *)$/;
 
 function tableOf(name) { return typeof fold === 'undefined' ? {} : fold[name]; }
 
@@ -57,19 +58,30 @@ function wordsOf(title) {
     let text = plain(title.slice(0, MOST_CHARACTERS)).toLowerCase().split('&').join(' and ');
     const isAscii = !is(/[\x80-\uffff]/, text);
     if (!isAscii) text = folded(text);
+    if (text.lastIndexOf(',') > 0) text = withoutLastArticle(text, isAscii);
     text = text.replace(isAscii ? ASCII_LEADING : LEADING(), '');
     const elided = isAscii ? ASCII_ELIDED : ELIDED();
     if (is(elided, text)) return wordsIn(text.replace(elided, ''), isAscii);
     const words = wordsIn(text, isAscii);
     return words.length > 1 && ARTICLES.indexOf(' ' + words[0] + ' ') >= 0 ? words.slice(1) : words;
 }
+// Without an article that a catalogue has put behind the title, after a comma.
+function withoutLastArticle(text, isAscii) {
+    const at = text.lastIndexOf(',');
+    const words = wordsIn(text.slice(at + 1), isAscii);
+    return words.length === 1 && LAST_ARTICLES.indexOf(' ' + words[0] + ' ') >= 0 ? text.slice(0, at) : text;
+}
 function keyOf(title) { return wordsOf(title).join(' '); }
 
-// The key without the subtitle, or without brackets at the end; '' if there are none.
-function shortKey(title) {
-    const text = plain(title.slice(0, MOST_CHARACTERS));
-    const short = text.replace(END, '');
-    return short !== text ? keyOf(short) : '';
+// A title whose umlauts are written as two letters.
+const UMLAUTS = '\xe4 ae,\xf6 oe,\xfc ue,a\u0308 ae,o\u0308 oe,u\u0308 ue';
+function writtenOut(title) {
+    let text = plain(title.slice(0, MOST_CHARACTERS)).toLowerCase();
+    UMLAUTS.split(',').map((it) => it.split(' ')).forEach((it) => { text = text.split(it[0]).join(it[1]); });
+    return text;
 }
 
-export default { plain: plain, wordsOf: wordsOf, keyOf: keyOf, shortKey: shortKey };
+// A title without its subtitle, or without brackets at its end.
+function shorter(title) { return plain(title.slice(0, MOST_CHARACTERS)).replace(END, ''); }
+
+export default { plain: plain, wordsOf: wordsOf, keyOf: keyOf, shorter: shorter, writtenOut: writtenOut };

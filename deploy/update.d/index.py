@@ -4,9 +4,9 @@ import collections, os, sys
 import title_list, word_sets
 from index_files import digest, write, write_lines
 from title_groups import Titles
-from titles import short_key
+from titles import short_key, written_key, written_out
 
-FORMAT = 1  # another number makes a new version, although its tables are the same
+FORMAT = 2  # another number makes a new version, although its tables are the same
 DIGITS, KEY_DIGITS = 3, 16  # of an MD5 sum: in the names of keys/, and before the end of the key of a title
 MOST_LINES = 50  # of a key
 
@@ -52,14 +52,19 @@ def write_keys(folder, titles, related):
 def lines_of(title, related):
     """The lines of a title, each after the name of its file."""
     cells = f"{kind_of(title)}\t{title.name}\t{title.forms}"
-    short = short_key(title.name)
-    for sign, key in (("=", title.key), ("~", short if short != title.key else "")):
-        if key:
-            digits = digest(sign + key)
-            yield digits[:DIGITS], f"{sign}{digits[DIGITS:KEY_DIGITS]}\t{cells}"
+    for name in [f"={title.key}"] * (title.key != "") + [f"~{key}" for key in similar_keys(title)]:
+        digits = digest(name)
+        yield digits[:DIGITS], f"{name[0]}{digits[DIGITS:KEY_DIGITS]}\t{cells}"
     cells += f"\t{title.coverage_text()}{related_text(*related) if related else ''}"
     for number in title.numbers():
         yield digest(number)[:DIGITS], f"{number}\t{cells}"
+
+
+def similar_keys(title):
+    """The other keys of a title without its subtitle, and of that with its umlauts as two letters."""
+    written = written_key(title.name)
+    keys = [short_key(title.name), written and (short_key(written_out(title.name)) or written)]
+    return [key for key in dict.fromkeys(keys) if key not in ("", title.key)]
 
 
 def related_text(earlier, later):

@@ -17,9 +17,14 @@ LEADING = re.compile(f"^{SEPARATORS.pattern[:-2]}{APOSTROPHES}]+")
 ELIDED = re.compile(f"(gl|un|l)[{APOSTROPHES}] *(?=[aeiouhy])")
 ARTICLES = frozenset("the a an der die das den dem des ein eine einen einem einer eines le la les un une el lo los las "
                      "una unos unas il i gli uno".split())
-# Where a title ends without its subtitle or the brackets at its end.
-END = re.compile(" *(?:[:=].*| [-\u2013\u2014] .*|[(\\[][^()\\[\\]]*[)\\]] *)$")
-MAY_END = re.compile("[-:=)\\]\u2013\u2014]")  # what END needs, found in a tenth of its time
+# Those that a catalogue may put behind a title, after a comma.
+LAST_ARTICLES = frozenset("the der die das le la les el los las il gli".split())
+# Where a title ends without its subtitle, its authors or the brackets at its end.
+END = re.compile(" *(?:[:=].*| [-/\u2013\u2014] .*|[(\\[][^()\\[\\]]*[)\\]] *)$")
+MAY_END = re.compile("[-/:=)\\]\u2013\u2014]")  # what END needs, found in a tenth of its time
+# Umlauts, whole and of two characters, as two letters.
+UMLAUTS = {f"{letter}{mark}": f"{plain}e" for letters, mark in (("äöü", ""), ("aou", "\u0308"))
+           for letter, plain in zip(letters, "aou")}
 
 # Small letters that Unicode does not decompose, and the form of sigma that only ends a word.
 LETTERS = {"ß": "ss", "æ": "ae", "ø": "o", "œ": "oe", "ł": "l", "đ": "d", "þ": "th", "ð": "d", "ı": "i", "ħ": "h",
@@ -75,6 +80,7 @@ def article_and_key(title):
     text = plain(title[:MOST_CHARACTERS]).lower().replace("&", " and ")
     if not text.isascii():
         text = text.translate(FOLD)
+    text, last = without_last_article(text)
     if not text[:1].isalnum():
         text = LEADING.sub("", text)
     elided = ELIDED.match(text)
@@ -82,7 +88,14 @@ def article_and_key(title):
         return elided[1], " ".join(words_of(text[elided.end():]))
     words = words_of(text)
     has_article = len(words) > 1 and words[0] in ARTICLES
-    return (words[0], " ".join(words[1:])) if has_article else ("", " ".join(words))
+    return (words[0], " ".join(words[1:])) if has_article else (last, " ".join(words))
+
+
+def without_last_article(text):
+    """A title without an article after its last comma, and this article."""
+    title, _, end = text.rpartition(",")
+    words = words_of(end) if title else []
+    return (title, words[0]) if len(words) == 1 and words[0] in LAST_ARTICLES else (text, "")
 
 
 def words_of(text):
@@ -91,6 +104,20 @@ def words_of(text):
 
 def key_of(title):
     return article_and_key(title)[1]
+
+
+def written_out(title):
+    """A title whose umlauts are written as two letters."""
+    text = plain(title[:MOST_CHARACTERS]).lower()
+    for umlaut, letters in UMLAUTS.items():
+        text = text.replace(umlaut, letters)
+    return text
+
+
+def written_key(title):
+    """The key of a title whose umlauts are written as two letters; '' if it has none."""
+    text = "" if title.isascii() and "&" not in title else written_out(title)
+    return key_of(text) if text and text != plain(title[:MOST_CHARACTERS]).lower() else ""
 
 
 def short_key(title):

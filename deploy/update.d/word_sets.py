@@ -3,6 +3,7 @@ titles in the list."""
 import array, collections, os, sys
 from index_files import MOST_BYTES, digest, text_of, write
 from title_list import PAGE
+from titles import written_key
 
 MOST_LETTERS = 60  # of a word
 FEW = 64  # places that words which begin alike have in all without a line for their beginning
@@ -15,7 +16,8 @@ def digits_for(titles):
 
 
 def words_in(title):
-    return {word[:MOST_LETTERS] for word in (*title.key.split(" "), title.article) if len(word) > 1}
+    words = [*title.key.split(" "), title.article, *written_key(title.name).split(" ")]
+    return {word[:MOST_LETTERS] for word in words if len(word) > 1}
 
 
 def places_by_head(pages):

@@ -47,5 +47,5 @@ pub data IsNoTable (bytes : Text) : Refusal → Type 0 where
 
 -- the query is not a request, or an allocation failed
 pub data IsNoRequest (query : Text) : Refusal → Type 0 where
-  no_memory : IsNoRequest query refusal.Memory
+  no_memory : length query ≤ 65536 → IsNoRequest query refusal.Memory
   refused : (e : KevError) → kev.refusal query ≡ Some e → IsNoRequest query (refusal.Query e)

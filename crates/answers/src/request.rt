@@ -1,6 +1,6 @@
 //! The request of a query, and its environment.
 
-ghost use Rattle.std.specs.Prelude.{◌≡◌, [], None, IfOk, IfErr};
+ghost use Rattle.std.specs.Prelude.{◌≡◌, ◌≤◌, [], None, IfOk, IfErr, length};
 ghost use Rattle.text_model.specs.Texts.{texts_of};
 ghost use Rattle.kev_read.specs.Pairs.{pairs_of};
 ghost use Rattle.kev_read.specs.Refusal.{refusal};
@@ -15,6 +15,7 @@ use target_vars::{Env, VarsError};
 /// The request of a query, which has at most 65,536 bytes and 4,096 pairs.
 pub fn request_of(alloc: Global, query: &str) -> Result<Request, Refusal>
     ensures accepted { IfOk result (λ _. refusal query.now ≡ None) }
+    ensures short { IfOk result (λ _. length query.now ≤ 65536) }
     ensures pairs { IfOk result (λ request. request.pairs ≡ pairs_of query.now) }
     ensures err { IfErr result (IsNoRequest query.now) }
 {

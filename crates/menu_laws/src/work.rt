@@ -36,8 +36,8 @@ pub fn rows_over_requests_are_small()
 /// matching rows times S(M) of their code. The runs take turns, and a round, which tries one row of each target, takes
 /// at most the turns of its longest run.
 ///
-/// It is false for one matching row of each target. The search for the matching rows and the printing of the menu are
-/// not counted.
+/// It is false if only one matching row of each target counts. The search for the matching rows and the printing of the
+/// menu are not counted.
 pub fn work_of_a_request_is_bounded()
     ensures steps { (targets : List TargetValue) (pairs : List KeyValue) → IsRegistry targets
         → sum (runs_of_request targets pairs) ≤ most_steps_of_request targets pairs }

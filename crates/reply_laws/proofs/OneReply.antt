@@ -76,7 +76,7 @@ module _ (laws : LawsOfRoutes) where
 -- ---- replies
 
 -- a route has one reply
-one_value : (menus : Menus) (at : RouteValue) (a b : ReplyValue) → IsReplyTo menus at a → IsReplyTo menus at b → a ≡ b
+pub one_value : (menus : Menus) (at : RouteValue) (a b : ReplyValue) → IsReplyTo menus at a → IsReplyTo menus at b → a ≡ b
 one_value menus (route.Menu page query) a b x y = by_refusal (refusal query) x y
   where
     by_refusal : (f : Option KevError) → IsQueryReply menus page query f a → IsQueryReply menus page query f b → a ≡ b

@@ -1,5 +1,5 @@
 -- From an exchange to all that is written.
-use Rattle.std.proofs.Common.{◌≡◌, ◌≤◌, ◌<◌, ◌⊎◌, ℕ, inl, inr, Bool, true, List, [], ◌∷◌, Option, Some, None, length, sym, ap, ◌∙◌, subst, arith}
+use Rattle.std.proofs.Common.{◌≡◌, ◌≢◌, ◌≤◌, ◌<◌, ◌⊎◌, ℕ, inl, inr, Bool, true, List, [], ◌∷◌, Option, Some, None, length, refl, sym, ap, ◌∙◌, subst, arith}
 use Rattle.std.specs.Prelude.{All, Result, Ok, Err, drop, take}
 use Rattle.std.proofs.lemmas.Bool.{cases_lt, false≢true}
 use Rattle.std.proofs.lemmas.List.Elements.{All-cons, All-nil}
@@ -18,7 +18,7 @@ use Rattle.http_request.specs.Routes.{IsRouted, RouteValue}
 use Rattle.http_request.specs.Routes as route
 use Rattle.http_exchange.specs.Connections.{AreServed, Connection, Exchanged, IsServed, Unread}
 use Rattle.http_exchange.specs.Exchange.{IsExchange, IsReply, IsReplyToInput, front, no_memory, no_room, request}
-use Rattle.http_exchange.specs.Replies.{ReplyValue}
+use Rattle.http_exchange.specs.Replies.{ReplyValue, printed, unavailable}
 use Rattle.http_exchange.specs.RouteReplies.{IsQueryReply, IsReplyTo, is_html, page_text}
 use Rattle.http_exchange.specs.declared.exchange.Served.{Served}
 use Rattle.http_exchange.specs.declared.exchange.Served.TheVariants.{Nothing, Replied}
@@ -28,7 +28,7 @@ use Rattle.rule_menus.specs.RuleMenus.{RuleTarget, menu_by_rules}
 use Rattle.reply_laws.specs.Written as written
 use Rattle.reply_laws.specs.Written.{IsReplyByRules, IsWrittenByRules, IsWrittenOn}
 use Rattle.reply_laws.proofs.OneEnd.{IsFurther, IsPart, further, is_further, no_further, part_of}
-use Rattle.reply_laws.proofs.OneReply.{LawsOfRoutes, all_written, routed_further}
+use Rattle.reply_laws.proofs.OneReply.{LawsOfRoutes, all_written, one_value, routed_further}
 use Rattle.reply_laws.proofs.ServedFiles.{blank_before}
 
 -- ---- the first bytes that a peer sends
@@ -92,6 +92,34 @@ module _ (laws : LawsOfRoutes) where
         front at without_body value (routed_at_most sent bytes at without_body part routed) (replied at value replies)
     reply_at_most sent bytes _ _ part (no_memory at without_body routed) =
         no_memory at without_body (routed_at_most sent bytes at without_body part routed)
+
+-- ---- one reply, but for the one if an allocation failed
+
+abbrev HasOneRoute : Type 0
+HasOneRoute = (bytes : List ℕ) (at other : RouteValue) (without_body other_only : Bool) → IsRouted bytes at without_body → IsRouted bytes other other_only
+    → (at ≡ other) × (without_body ≡ other_only)
+
+module _ (one_route : HasOneRoute) where
+  decided : (menus : Menus) (bytes : List ℕ) (status other : ℕ) (reply another : List ℕ) → IsReply menus bytes status reply
+      → IsReply menus bytes other another → status ≢ unavailable.status → other ≢ unavailable.status
+      → (status ≡ other) × (reply ≡ another)
+  decided menus bytes _ _ _ _ (no_memory at without_body routed) y a b = absurd (a refl)
+  decided menus bytes _ _ _ _ (front at without_body value routed replies) (no_memory at2 without_body2 routed2) a b = absurd (b refl)
+  decided menus bytes _ _ _ _ (front at without_body value routed replies) (front at2 without_body2 value2 routed2 replies2) a b =
+      let routes = one_route bytes at at2 without_body without_body2 routed routed2 in
+      let there : IsReplyTo menus at value2 = subst (λ (at : RouteValue). IsReplyTo menus at value2) (sym routes.0) replies2 in
+      let same : value ≡ value2 = one_value menus at value value2 replies there in (
+        ap (λ (v : ReplyValue). v.status) same,
+        ap (λ (v : ReplyValue). printed v without_body) same ∙ ap (printed value2) routes.1,
+      )
+
+  pub one_reply_by_rules : (targets : List RuleTarget) (sent : List ℕ) (status other : ℕ) (reply another : List ℕ) → IsReplyByRules targets sent status reply
+      → IsReplyByRules targets sent other another → status ≢ unavailable.status → other ≢ unavailable.status
+      → (status ≡ other) × (reply ≡ another)
+  one_reply_by_rules targets sent _ _ _ _ written.no_room y a b = absurd (a refl)
+  one_reply_by_rules targets sent _ _ _ _ (written.to_request status reply some replies) written.no_room a b = absurd (b refl)
+  one_reply_by_rules targets sent _ _ _ _ (written.to_request status reply some replies) (written.to_request other another also others) a b =
+      decided (menu_by_rules targets) (read_at_most sent) status other reply another replies others a b
 
 -- ---- what is written
 

@@ -1,6 +1,6 @@
 //! All that a service writes to a peer.
 
-ghost use Rattle.std.specs.Prelude.{◌≡◌, ℕ, List, All, Some, Result};
+ghost use Rattle.std.specs.Prelude.{◌≡◌, ◌≢◌, ℕ, List, All, Some, Result};
 ghost use Rattle.text_model.specs.Texts.{Text};
 ghost use Rattle.kbart_rows.specs.declared.keys.Keys.{Keys};
 ghost use Rattle.registry.specs.Entries.{menu_of};
@@ -10,13 +10,14 @@ ghost use Rattle.registry_file.specs.Loading.{AreTargetsOf, IsLoaded};
 ghost use Rattle.http_streams.specs.Streams.{AreFresh, InputState, OutputState};
 ghost use Rattle.http_exchange.specs.Connections.{AreServed, Connection};
 ghost use Rattle.http_exchange.specs.Exchange.{IsExchange};
+ghost use Rattle.http_exchange.specs.Replies.{unavailable};
 ghost use Rattle.http_exchange.specs.declared.exchange.Served.{Served};
 ghost use Rattle.http_exchange.specs.declared.exchange.ServeError.{ServeError};
 ghost use Rattle.rule_menus.specs.CodeFiles.{AreReadFrom};
 ghost use Rattle.rule_menus.specs.RuleFiles.{TargetFiles, AreOfFiles};
 ghost use Rattle.rule_menus.specs.RuleMenus.{RuleTarget};
 ghost use Rattle.reply_laws.specs.Files.{IsRegistryOf};
-ghost use Rattle.reply_laws.specs.Written.{IsWrittenByRules, IsWrittenOn};
+ghost use Rattle.reply_laws.specs.Written.{IsReplyByRules, IsWrittenByRules, IsWrittenOn};
 
 use http_request::laws::{
     a_head_ends_where_it_is_closed, one_route, what_follows_a_head_is_ignored,
@@ -28,11 +29,13 @@ use rule_menus::laws::compiled_files_have_one_menu;
 /// From files to whole replies. If the code files that a registry file names are those of rule texts, all that is
 /// written to a peer follows from the rule texts, the tables and the bytes that the peer sends, in any pieces: for each
 /// request the head and the body of its reply, or, if a write fails, the first bytes of them. A peer that sends nothing
-/// gets nothing. One thing is left open: memory can run out at any request, and the reply is the 503.
+/// gets nothing. One thing is left open: memory can run out at any request, and the reply is the 503. Each request has
+/// one other reply (`one`).
 ///
 /// The contract of `load_registry` says `Gives` and `AreTargetsOf` of the registry. That of `serve_on` says `AreFresh`
 /// and `IsExchange` of each connection, and that of `http_front::serve_one` says `IsExchange`. There are such rules and
-/// tables for every registry that is loaded (`rules`). The law is false if more bytes are routed than a head may have.
+/// tables for every registry that is loaded (`rules`). The law is false if the route of a request may depend on more
+/// bytes than are read.
 pub fn files_decide_replies()
     ensures rules { (files : List TargetFiles) (targets : List TargetValue) → AreReadFrom files targets
         → (by_rules : List RuleTarget) × AreOfFiles files by_rules }
@@ -46,6 +49,9 @@ pub fn files_decide_replies()
         → Gives (disk path) bytes → AreTargetsOf disk keys bytes targets
         → AreFresh wait first before → IsExchange (menu_of targets) first before end last after
         → first.left ≡ Some sent → after.written ≡ Some written → IsWrittenByRules by_rules sent end written }
+    ensures one { (by_rules : List RuleTarget) (sent : List ℕ) (status other : ℕ) (reply another : List ℕ)
+        → IsReplyByRules by_rules sent status reply → IsReplyByRules by_rules sent other another
+        → status ≢ unavailable.status → other ≢ unavailable.status → (status ≡ other) × (reply ≡ another) }
 {
     one_route();
     what_follows_a_head_is_ignored();

@@ -6,4 +6,4 @@ pub returns-in_err-request-clause-err : goal.returns-in_err-request-clause-err
 returns-in_err-request-clause-err c = exit _ _ _ c.from_residual.ensures.1 c.in_err-request.ensures.err
 
 pub returns-in-Err-NoMemory-clause-err : goal.returns-in-Err-NoMemory-clause-err
-returns-in-Err-NoMemory-clause-err c = IsNoRequest.no_memory
+returns-in-Err-NoMemory-clause-err c = IsNoRequest.no_memory c.in_ok-request.ensures.short

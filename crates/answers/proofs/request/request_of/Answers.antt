@@ -1,10 +1,13 @@
-use Rattle.std.proofs.Common.{sym, true≢false}
+use Rattle.std.proofs.Common.{◌≡◌, rules, sym, true≢false}
+use Rattle.kev_read.specs.declared.error.KevError.TheVariants.{NoMemory}
 use Rattle.answers.specs.Reading.{IsNoRequest}
-use Rattle.answers.proofs.RefusalLemmas.{faulty}
+use Rattle.answers.proofs.RefusalLemmas.{faulty, short}
 use Rattle.answers.proofs.request.request_of.Goals as goal
 
 pub returns-in-Err-clause-err : goal.returns-in-Err-clause-err
-returns-in-Err-clause-err c = IsNoRequest.no_memory
+returns-in-Err-clause-err c =
+    let same : c.in-Err.e ≡ NoMemory = search rules in
+    IsNoRequest.no_memory (rw c.as_bytes.ensures.value at (short _ _ _ _ _ c.in-Err.is (λ long. cc (same, long)) c.read_kev.ensures.too_long))
 
 pub returns-in-Err-2-clause-err : goal.returns-in-Err-2-clause-err
 returns-in-Err-2-clause-err c =

@@ -1,6 +1,6 @@
 use Rattle.reply_laws.proofs.OneReply.{LawsOfRoutes}
 use Rattle.reply_laws.proofs.RegistryLines.{loaded, some_rules}
-use Rattle.reply_laws.proofs.WrittenReplies.{all_by_rules}
+use Rattle.reply_laws.proofs.WrittenReplies.{all_by_rules, one_reply_by_rules}
 use Rattle.registry.specs.Entries.{menu_of}
 use Rattle.reply_laws.proofs.replies.files_decide_replies.Goals as goal
 
@@ -20,3 +20,6 @@ returns-clause-written c = λ disk keys path bytes targets files by_rules wait f
     let read = loaded disk keys path bytes targets files is_registry gives held in
     all_by_rules laws by_rules (menu_of targets) (λ pairs. c.compiled_files_have_one_menu.ensures.meant files targets by_rules pairs read of_files) wait first
     last before after end sent written
+
+pub returns-clause-one : goal.returns-clause-one
+returns-clause-one c = one_reply_by_rules c.one_route.ensures
