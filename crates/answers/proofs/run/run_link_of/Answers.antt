@@ -35,7 +35,7 @@ returns-in_err-ended-in-Ok-Link c =
 pub returns-in-Ok-Link : goal.returns-in-Ok-Link
 returns-in-Ok-Link c =
     let filled = request c.in_ok-code.code _ c.args.query.now c.in_ok-env.env _ c.in_ok-env.ensures.accepted c.in_ok-env.ensures.entries
-            (ap texts_of c.deref.ensures.value ∙ c.in_ok-lists.ensures) c.code-2.ensures.code in
+    (ap texts_of c.deref.ensures.value ∙ c.in_ok-lists.ensures) c.code-2.ensures.code in
     IsRunLinkOf.linked c.in_ok-code.code (string_bytes c.in-Ok-Link.link) _ c.in_ok-code.ensures.ok
     (record {
       env = c.in_ok-env.env;
@@ -48,7 +48,7 @@ returns-in-Ok-Link c =
 pub returns-in-Ok-NoLink : goal.returns-in-Ok-NoLink
 returns-in-Ok-NoLink c =
     let filled = request c.in_ok-code.code _ c.args.query.now c.in_ok-env.env _ c.in_ok-env.ensures.accepted c.in_ok-env.ensures.entries
-            (ap texts_of c.deref.ensures.value ∙ c.in_ok-lists.ensures) c.code-2.ensures.code in
+    (ap texts_of c.deref.ensures.value ∙ c.in_ok-lists.ensures) c.code-2.ensures.code in
     IsRunLinkOf.no_link c.in_ok-code.code c.in_ok-code.ensures.ok
     (record {
       env = c.in_ok-env.env;
@@ -60,7 +60,7 @@ returns-in-Ok-NoLink c =
 pub returns-in-Err-OverBudget : goal.returns-in-Err-OverBudget
 returns-in-Err-OverBudget c =
     let filled = request c.in_ok-code.code _ c.args.query.now c.in_ok-env.env _ c.in_ok-env.ensures.accepted c.in_ok-env.ensures.entries
-            (ap texts_of c.deref.ensures.value ∙ c.in_ok-lists.ensures) c.code-2.ensures.code in
+    (ap texts_of c.deref.ensures.value ∙ c.in_ok-lists.ensures) c.code-2.ensures.code in
     let bound = (c.run_verified.ensures.over _).0 (cc) in
     IsRunLinkOf.over_budget c.in_ok-code.code _ c.in_ok-code.ensures.ok
     (record { env = c.in_ok-env.env; request = filled; bound = bound.0; over = bound.1 })
