@@ -3,7 +3,7 @@ import gzip, io, os, resource, stat, subprocess, time, zipfile
 from counting import expect, expect_lines
 from input import OLD, TABLE, Input
 from patience import patience
-from providers import DATE, HOSTS, SENT, TAG, WHOLE, Providers
+from providers import ANOTHER, DATE, HOSTS, SENT, TAG, WHOLE, Providers
 
 PROVIDERS = Providers(TABLE)
 AUTHORITY = PROVIDERS.path("authority.pem")
@@ -63,9 +63,13 @@ def test_bad_replies():
     with Input(AUTHORITY) as folder:
         lines = [f"{name}.txt\t{address(path, number % 4)}" for number, (name, (path, _)) in enumerate(cases.items())]
         lines.append(f"stranger.txt\thttps://{HOSTS[0]}:{PROVIDERS.stranger}/table.txt")
+        lines.append(f"expired.txt\thttps://{HOSTS[0]}:{PROVIDERS.expired}/table.txt")
+        lines.append(f"another.txt\thttps://{ANOTHER}:{PROVIDERS.port}/table.txt")
         lines.append(f"closed.txt\thttps://{HOSTS[7]}:{PROVIDERS.plain}/table.txt")
         reasons = {name: reason for name, (_, reason) in cases.items()}
-        reasons.update(stranger="the certificate is not trusted", closed="no connection")
+        reasons.update(stranger="the certificate is not trusted", expired="the certificate has expired",
+                       another="the certificate is that of another host",
+                       closed="no connection")
         folder.write_sources(*lines)
         for name in reasons:
             folder.write(f"{name}.txt", OLD)

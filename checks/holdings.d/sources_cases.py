@@ -1,6 +1,6 @@
 """deploy/fetch: its lists, its secrets, its dates, and how a run ends."""
 import datetime, json, os, signal, threading, time
-import sources
+import downloads, sources
 from counting import expect, expect_lines
 from input import OLD, TABLE, Input, ended
 from patience import wait_until
@@ -192,6 +192,40 @@ def test_days():
                                                                "3 files asked for, 0 new or changed, 0 not fetched\n"))
 
 
+def test_again():
+    """A file that came before and comes again after another one is said, with the day on which it came first."""
+    today, more = datetime.date.today(), TABLE + b"More\t2957-1057\t\t\n"
+    with Input(AUTHORITY) as folder:
+        folder.write_sources(f"again.txt\t{address('/again.txt')}")
+        for data, lines in ((TABLE, ["new"]), (more, ["changed"]), (TABLE, [f"the file of {today} again", "changed"]),
+                            (more, [f"the file of {today} again", "changed"]), (more + b"\n", ["changed"])):
+            PROVIDERS.write("again.txt", data)
+            printed = folder.fetch()[1].splitlines()[:-1]
+            expect("a file that comes again", [line.split(": ")[1].split(",")[0] for line in printed], lines)
+        folder.write("again.txt", OLD)
+        expect("the last one, after it was changed here", folder.fetch()[1].splitlines()[:-1],
+               [f"again.txt: changed, {len(more) + 1} bytes"])
+
+
+class Ended(Exception):
+    pass
+
+
+class NoTransfer(downloads.Download):
+    """A download that a signal ends while it starts."""
+
+    def start(self):
+        raise Ended
+
+
+def test_signal_at_a_start():
+    """A signal while a transfer starts ends the run as at any other moment."""
+    try:
+        list(downloads.run([NoTransfer(address("/table.txt"), [], [], "/nonexistent", 1, 0)]))
+    except Ended as ending:
+        expect("its end", ending.__context__, None)
+
+
 def curls_of(parent):
     """The numbers of the curl processes that a process has started and that run."""
     return {number for number in filter(str.isdigit, os.listdir("/proc")) if is_curl_of(parent, number)}
@@ -237,4 +271,5 @@ def test_ends():
 
 
 PROVIDERS.write("table.txt", TABLE)
-TESTS = [test_secrets, test_who_may_read_secrets, test_lists, test_examples, test_days, test_ends]
+TESTS = [test_secrets, test_who_may_read_secrets, test_lists, test_examples, test_days, test_again,
+         test_signal_at_a_start, test_ends]

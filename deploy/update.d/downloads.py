@@ -115,7 +115,8 @@ def run(downloads):
             time.sleep(0.02)
     finally:
         for download in running.values():
-            download.transfer.stop()
+            if download.transfer:  # a signal may come before it is there; curl then ends with this process
+                download.transfer.stop()
 
 
 def is_next(download, running):
