@@ -180,13 +180,16 @@ class Run:
         return KEPT if maker.kept or maker.left_out else ALL_NEW
 
     def go_back(self, ports):
-        """Serves the version that `before` names, at these ports. What fails is said, and does not stop it, nor do
-        signals."""
+        """Serves the version that `before` names, at these ports, and then at the others: a process that has ended in
+        the meantime may have started with the new version. What fails is said, and does not stop it, nor do signals."""
         interrupts.are_ignored()
         stamp = self.library.version_of("before")
         self.library.move_back(stamp)
         is_well = True
-        for port in ports if stamp else []:
+        others = [port for port in self.processes.ports if port not in ports] if ports else []
+        for port in [*ports, *others] if stamp else []:
+            if port in others and not is_well:
+                break  # if restarts fail, the other processes are left as they are
             try:
                 self.processes.restart_one(port, names_in(self.library.version(stamp)))
             except Failure as failure:
