@@ -71,7 +71,7 @@ def test_gone():
             ("thirteen digits", [("A", "1234560106", "", "", "", "", "a")],
              [("A", "", "9781234560102", "", "", "", "a")], "", []),
             ("less than half of the rows", [*rows(0, 30), *later(0, 30)], rows(0, 29), "",
-             ["less than half of the rows: 29, and 60 before"])]:
+             ["less than half of the rows: 29, and 60 before; to allow it: less than half of the rows"])]:
         with Weeks() as weeks:
             expect(f"{name}: the first week", weeks.week("press", table(*before)), [])
             expect(name, weeks.week("press", table(*after), allowed), reasons)

@@ -244,8 +244,8 @@ def test_dropped_rows():
         made = preparation.dropped_rows.reasons_against([["no identifier", "Tides", ""]] * dropped, rows, set(allowed))
         expect(f"{dropped} of {rows} dropped, with {allowed}", made == [], is_allowed)
     expect("what is said", preparation.dropped_rows.reasons_against(prepared.dropped, 3, set()),
-           ["2 of 3 rows dropped, and 1 may be: no identifier: 1, no ISSN or ISBN: 1; the first: None 1995-03-01 "
-            "https://press.example.com/ats"])
+           ["2 of 3 rows dropped, and 1 may be: no identifier: 1, no ISSN or ISBN: 1; to allow it: dropped up to 2; "
+            "the first: None 1995-03-01 https://press.example.com/ats"])
 
 
 def test_shown_rows():

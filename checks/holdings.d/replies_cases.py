@@ -39,8 +39,9 @@ def write_files():
 def test_bad_replies():
     """Each of these replies leaves the old file as it is, and a line says why."""
     cases = {
-        "401": ("/401", "401"), "404": ("/404", "404"), "500": ("/500", "500"), "204": ("/204", "204"),
-        "nowhere": ("/302", "302"),
+        "401": ("/401", "401 Unauthorized"), "404": ("/404", "404 Not Found"),
+        "500": ("/500", "500 Internal Server Error"), "204": ("/204", "204 No Content"),
+        "nowhere": ("/302", "302 Found"),
         "login": ("/login", "a web page, not a table: the address may want a login"),
         "page": ("/page.gz", "a web page, not a table: the address may want a login"),
         "to-http": ("/to-http", "a redirect that leads to no https: address"),

@@ -56,7 +56,7 @@ def test_secrets():
             f"refused.txt\t{address('/kbart?token={OTHER}', 4)}", f"slow.txt\t{address('/raw/slow?{TOKEN}', 5)}")
         status, printed = folder.fetch()
         expect("a token and a key", (status, folder.read("kbart.txt"), folder.read("key.txt")), (1, TABLE, TABLE))
-        expect_lines("what fails", printed, "refused.txt: not fetched, and there is no old file: 401",
+        expect_lines("what fails", printed, "refused.txt: not fetched, and there is no old file: 401 Unauthorized",
                      f"bad.txt: not fetched, and there is no old file: ended after {SENT:,} of {WHOLE:,} bytes")
         last = PROVIDERS.requests("/table.txt")[-1]
         expect("another host gets no header with a secret", (folder.read("elsewhere.txt"), last[0], last[3]),

@@ -81,7 +81,8 @@ def received(target):
             marks[path], data = marked_content(path)
             parts.append(data)
         except OSError as fault:
-            reasons.append(f"{path}: {fault.strerror}")
+            is_pattern = "*" in path and isinstance(fault, FileNotFoundError)
+            reasons.append(f"{path}: {'no file has such a name' if is_pattern else fault.strerror}")
     if reasons:
         raise Refused(reasons)
     return Files(parts[0], tuple(parts[1:]), target.has_code(), tuple(tables), marks)
@@ -233,7 +234,7 @@ class Maker:
             *date_order.reasons_against(prepared.reversed, prepared.count, target.allowed))]
         before, after = len(holdings.rows(old.table_or_none())) if old else 0, len(holdings.rows(new.table))
         if after * 2 < before and FEWER not in target.allowed:
-            reasons.append(f"{target.table}: {FEWER}: {after}, and {before} before")
+            reasons.append(f"{target.table}: {FEWER}: {after}, and {before} before; to allow it: {FEWER}")
         return reasons
 
     def say_changes(self, name, old, new):

@@ -1,6 +1,6 @@
 """One run: makes the next version, tries it, puts it in use, and goes back to the version before if something fails."""
 import contextlib, datetime, os, sys
-import children, coverage, export_files, interrupts, making, target_list
+import children, coverage, export_files, fetching, interrupts, making, target_list
 from front_door import FrontDoor
 from making import Maker
 from names_file import NAME, NamesFile
@@ -28,7 +28,8 @@ class Run:
     def update(self, folder, most, is_trial):
         """Makes a version from a folder and, unless it is only a trial, puts it in use. Returns the exit status."""
         targets = target_list.read(os.path.join(folder, "targets.tsv"))
-        for line in self.site.differences([target.name for target in targets], self.names_file.path_of_next(folder)):
+        for line in (*self.site.differences([target.name for target in targets], self.names_file.path_of_next(folder)),
+                     *fetching.unused(folder, [path for it in targets for path in (*it.tables, it.rules)])):
             report(line)
         return self.next_version(folder, is_trial, lambda maker: maker.make(targets, self.site.has_list),
                                  lambda _: self.library.remove_old(most), tries_all=True)
