@@ -1,7 +1,8 @@
 """Judged by numbers: warnings up to a number, numbers of titles that are gone, and the titles that came and went."""
-import gzip, json, os
+import datetime, gzip, json, os
 from unittest import mock
 from counting import expect
+from earlier_files import EarlierFiles
 from front_door import Site
 from made_titles import Made, issn, table as made_table
 from preparation import prepare
@@ -85,9 +86,10 @@ def test_order_of_dates():
 
     words = "first dates after the last ones"
     for name, data, allowed, count in [
-            ("two", exchanged(2), "", 0), ("three", exchanged(3), "", 3), ("three, allowed", exchanged(3), f"{words} up to 3", 0),
-            ("four, and three allowed", exchanged(4), f"{words} up to 3", 4), ("in the same year", exchanged(50, "1990"), "", 0),
-            ("none allowed", exchanged(1), f"{words} up to 0", 1)]:
+            ("two", exchanged(2), "", 0), ("three", exchanged(3), "", 3),
+            ("three, allowed", exchanged(3), f"{words} up to 3", 0),
+            ("four, and three allowed", exchanged(4), f"{words} up to 3", 4),
+            ("in the same year", exchanged(50, "1990"), "", 0), ("none allowed", exchanged(1), f"{words} up to 0", 1)]:
         with Weeks() as weeks:
             most = allowed.split(" ")[-1] or 2
             reasons = [f"{words}: {count} of 100 rows, and {most} may be, the first with 1990 and 1989-12-31; "
@@ -189,6 +191,26 @@ def differences(conf, names):
     return site.differences(names, site.targets_path())
 
 
+def test_again():
+    """A table that was in use before is said, with its first day, if another one was in use since."""
+    a, b, bad = (table(*rows(0, count)) for count in (20, 21, 1))
+    weeks_of = ((a, []), (b, []), (bad, []), (b, []), (a, ["2026-11-01"]), (a, []), (b, ["2026-11-02"]),
+                (table(*rows(0, 22)), []))
+    with Weeks() as weeks:
+        for number, (data, days) in enumerate(weeks_of, 1):
+            weeks.deliver("press", data)
+            said = weeks.make(datetime.date(2026, 11, number))
+            expect(f"week {number}", [line for line in said if "again" in line],
+                   [f"  the table of {day} again" for day in days])
+    many = EarlierFiles(None)
+    for number in range(40):
+        many.put("press", [b"%d" % number])
+        many.days["press"] = dict(line.split("\t")[1:] for line in many.text(
+            ["press"], datetime.date(2026, 1, 1) + datetime.timedelta(number)).splitlines())
+    expect("how many are remembered", sum(many.day_of("press", [b"%d" % it]) is not None for it in range(40)), 26)
+    expect("the newest", many.day_of("press", [b"39"]), "2026-02-09")
+
+
 class Writing(Program):
     """The program, beside which a file is written while it compiles."""
 
@@ -251,5 +273,5 @@ def test_labels():
         expect("no site", differences("/dev/null", ["a"]), [])
 
 
-TESTS = [test_collapse, test_gone, test_order_of_dates, test_warnings, test_lint, test_changes, test_written_meanwhile,
-         test_labels]
+TESTS = [test_collapse, test_gone, test_order_of_dates, test_warnings, test_lint, test_changes, test_again,
+         test_written_meanwhile, test_labels]

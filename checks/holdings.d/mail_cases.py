@@ -36,7 +36,8 @@ def test_weeks():
         status, printed = library.update("--fetch")
         expect("all is fetched", (status, printed.splitlines()[0]),
                (0, "1 file asked for, 0 new or changed, 0 not fetched"))
-        library.write("sources.tsv", library.read("sources.tsv") + f"More.txt\t{PROVIDERS.address('/table.txt')}\n".encode())
+        more = f"More.txt\t{PROVIDERS.address('/table.txt')}\n".encode()
+        library.write("sources.tsv", library.read("sources.tsv") + more)
         expect_lines("a file that no target has", library.update("--fetch")[1],
                      f"{library.path('sources.tsv')}: fetched, and no target has it: More.txt")
         os.unlink(library.path("sources.tsv"))

@@ -193,8 +193,8 @@ def test_sample():
     """The table of the sample library that has to be prepared: windows-1252, commas, and lines above the header."""
     with open("examples/library/OpenShelf_Global_AllTitles_2026-11-01.csv", "rb") as file:
         table, said = prepare(file.read())
-    expect("what is said of the sample", said, ["not UTF-8, read as windows-1252: 1 line", "commas between cells: 4 rows",
-                                                "above the header, left out: 2 lines"])
+    expect("what is said of the sample", said, [
+        "not UTF-8, read as windows-1252: 1 line", "commas between cells: 4 rows", "above the header, left out: 2 lines"])
     expect("the first row of the sample", table.splitlines()[1].split("\t")[:4],
            ["Études océanographiques ouvertes", "", "2971-1312", "2010-01-15"])
 

@@ -74,7 +74,7 @@ def test_secrets():
                                                if name != "secrets.tsv" for text in [folder.read(name).decode()])]
         expect("no output and no file has a secret", [it for it in secrets for text in texts if it in text], [])
     expect("no process has one", spy.found, set())
-    expect("curl was seen", {data.split(b"\0")[1] for data in spy.curls}, {b"-q"})
+    expect("curl was seen", b"-q" in {data.split(b"\0")[1] for data in spy.curls})
 
 
 def test_who_may_read_secrets():
@@ -192,21 +192,6 @@ def test_days():
                                                                "3 files asked for, 0 new or changed, 0 not fetched\n"))
 
 
-def test_again():
-    """A file that came before and comes again after another one is said, with the day on which it came first."""
-    today, more = datetime.date.today(), TABLE + b"More\t2957-1057\t\t\n"
-    with Input(AUTHORITY) as folder:
-        folder.write_sources(f"again.txt\t{address('/again.txt')}")
-        for data, lines in ((TABLE, ["new"]), (more, ["changed"]), (TABLE, [f"the file of {today} again", "changed"]),
-                            (more, [f"the file of {today} again", "changed"]), (more + b"\n", ["changed"])):
-            PROVIDERS.write("again.txt", data)
-            printed = folder.fetch()[1].splitlines()[:-1]
-            expect("a file that comes again", [line.split(": ")[1].split(",")[0] for line in printed], lines)
-        folder.write("again.txt", OLD)
-        expect("the last one, after it was changed here", folder.fetch()[1].splitlines()[:-1],
-               [f"again.txt: changed, {len(more) + 1} bytes"])
-
-
 class Ended(Exception):
     pass
 
@@ -271,5 +256,5 @@ def test_ends():
 
 
 PROVIDERS.write("table.txt", TABLE)
-TESTS = [test_secrets, test_who_may_read_secrets, test_lists, test_examples, test_days, test_again,
-         test_signal_at_a_start, test_ends]
+TESTS = [test_secrets, test_who_may_read_secrets, test_lists, test_examples, test_days, test_signal_at_a_start,
+         test_ends]

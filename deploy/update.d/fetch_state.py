@@ -6,7 +6,6 @@ from library import sync
 # What a server calls a file: a key here, the header of the reply, and that of the next request.
 NAMES = (("etag", "etag", "If-None-Match"), ("modified", "last-modified", "If-Modified-Since"))
 MOST_CHARACTERS = 1000  # of such a name
-MOST_SUMS = 12  # that are remembered of a file, with the days on which it came
 
 
 def sum_of(path):
@@ -62,11 +61,6 @@ class State:
         except (KeyError, TypeError, ValueError):
             return None
 
-    def came_before(self, source, total):
-        """The day on which a file with this sum came first, if another one came after it; otherwise None."""
-        entry = self.entry(source)
-        return entry.get("sums", {}).get(total) if entry.get("sum") != total else None
-
     def is_due(self, source):
         days = self.days_since(source, "checked")
         is_known = self.entry(source).get("source") == source.text() and os.path.exists(self.place(source))
@@ -92,5 +86,3 @@ class State:
         entry.update(source=source.text(), sum=sum_of(self.place(source)), secrets=self.version,
                      **{key: name_in(reply, header) for key, header, _ in NAMES})
         self.set_date(source, "checked")
-        sums = {entry["sum"]: self.today.isoformat(), **entry.get("sums", {})}
-        entry["sums"] = dict(sorted(sums.items(), key=lambda it: it[1])[-MOST_SUMS:])

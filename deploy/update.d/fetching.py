@@ -44,7 +44,7 @@ class Fetch:
 
     def __init__(self, folder, report, seconds, pause):
         self.folder, self.report, self.seconds, self.pause = os.path.abspath(folder), report, seconds, pause
-        self.faults, self.old, self.changes = [], [], []  # pairs of a file and a line
+        self.faults, self.changes = [], []  # pairs of a file and a line
         self.has_failed, self.state = False, None  # whether a file could not be written
 
     def path(self, *names):
@@ -141,11 +141,8 @@ class Fetch:
     def replace(self, source, data, download):
         """Gives the file of a source these bytes, unless it has them."""
         path, is_new = self.path(source.file), not os.path.exists(self.path(source.file))
-        total = hashlib.sha256(data).hexdigest()
-        if sum_of(path) == total:
+        if sum_of(path) == hashlib.sha256(data).hexdigest():
             return
-        if day := self.state.came_before(source, total):
-            self.old.append((source.file, f"the file of {day} again"))
         os.makedirs(os.path.dirname(path), exist_ok=True)
         with open(download.body, "wb") as file:
             file.write(data)
@@ -163,10 +160,10 @@ class Fetch:
 
     def say(self, listed, count):
         """What could not be fetched comes first."""
-        self.old += [(source.file, f"not changed for {days} days") for source in listed for days in
-                     [self.state.days_since(source, "changed")] if days and days > max(MOST_DAYS, source.every)]
+        old = [(source.file, f"not changed for {days} days") for source in listed
+               for days in [self.state.days_since(source, "changed")] if days and days > max(MOST_DAYS, source.every)]
         order = [None] + [source.file for source in listed]
-        for lines in (self.faults, self.old, self.changes):
+        for lines in (self.faults, old, self.changes):
             for file, line in sorted(lines, key=lambda it: order.index(it[0])):
                 self.report(line if file is None else f"{file}: {line}")
         self.report(f"{headers.number(count, 'file')} asked for, {len(self.changes)} new or changed, "

@@ -8,11 +8,13 @@
                            .. are further parts
     dropped/NAME.txt       rows that are not in it, with the reason, if there are any
     changes/NAME.txt       the titles that came and went, if there are some
+    earlier.tsv            see earlier_files.py
     allowed.tsv            a target, words of its line that allow warnings, and the number up to which they do
     index/                 the index of titles, for the front door
 """
 import dataclasses, filecmp, functools, os, re, shutil
-import date_order, dropped_rows, file_patterns, holdings, index, preparation
+import date_order, dropped_rows, earlier_files, file_patterns, holdings, index, preparation
+from earlier_files import EarlierFiles
 from judging import Judge
 from outcome import Failure, Refused
 from served import Tables, targets_in
@@ -112,6 +114,7 @@ class Maker:
         self.folder, self.older, self.program, self.today, self.report = folder, older, program, today, report
         self.names, self.kept, self.left_out = [], [], []
         self.tables, self.judge = Tables(folder, today), Judge(folder, older, program)
+        self.earlier = EarlierFiles(older)
         for part in ("received", "code", "tables", "dropped"):
             os.mkdir(os.path.join(folder, part))
 
@@ -140,6 +143,7 @@ class Maker:
     def finish(self, has_list):
         self.write("registry.tsv", self.tables.registry(self.names))
         self.write("allowed.tsv", self.judge.text(self.names).encode())
+        self.write(earlier_files.NAME, self.earlier.text(self.names, self.today).encode())
         index.begin(os.path.join(self.folder, "index"), has_list)
 
     def make_index(self, has_list):
@@ -196,6 +200,7 @@ class Maker:
             reasons = self.tables.put(target, files.table)
         except Refused as refusal:
             return refusal.reasons
+        self.earlier.put(name, files.tables)
         if files.prepared.dropped:
             self.write(f"dropped/{name}.txt", files.prepared.dropped_table())
         if files.has_code:
@@ -248,6 +253,9 @@ class Maker:
             self.report(f"{name}: {', '.join(changes)}")
         lines = self.judge.write_changes(name, self.tables.parts_of(name)) if old else []
         prepared = new.prepared.told if old is None or new.tables != old.tables else []
+        day = self.earlier.day_of(name, new.tables) if prepared is new.prepared.told else None
+        if day:
+            self.report(f"  the table of {day} again")
         for line in [*prepared, *self.tables.told[name], *lines]:
             self.report(f"  {line}")
 
