@@ -111,8 +111,10 @@ FILES = {
         ["quotes around a cell removed: 1 cell", "dates cut to their year: 1 cell",
          "the same as an earlier row, left out: 2 rows"]),
     "a first date after the last": (
-        of_rows(row(last="1994"), row("Tides", last="1995-03"), row("Piers", last="1995-02-28")),
-        of_rows(row(last="1994"), row("Tides", last="1995-03"), row("Piers", last="1995-02-28")),
+        of_rows(row(last="1994"), row("Tides", last="1995-03"), row("Piers", last="1995-02-28"),
+                row("Quays", last="1995-03-01"), row("Locks", first="1995-03-15", last="1995-03")),
+        of_rows(row(last="1994"), row("Tides", last="1995-03"), row("Piers", last="1995-02-28"),
+                row("Quays", last="1995-03-01"), row("Locks", first="1995-03-15", last="1995-03")),
         ["first dates after the last ones: 2 rows, the first with 1995-03-01 and 1994"]),
     "a target that answers every request": ("print_identifier\nANY\n", "print_identifier\nANY\n", []),
     "a table without identifiers' columns": ("publication_title|title_url|notes\nA|b|c\n",
