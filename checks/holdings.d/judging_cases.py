@@ -202,6 +202,8 @@ def test_again():
             said = weeks.make(datetime.date(2026, 11, number))
             expect(f"week {number}", [line for line in said if "again" in line],
                    [f"  the table of {day} again" for day in days])
+        weeks.deliver("press", table(*rows(0, 22)), rules=RULE)
+        expect("other rules alone", weeks.make(), ["press: rules changed"])
     many = EarlierFiles(None)
     for number in range(40):
         many.put("press", [b"%d" % number])

@@ -196,7 +196,8 @@ def test_sample():
     with open("examples/library/OpenShelf_Global_AllTitles_2026-11-01.csv", "rb") as file:
         table, said = prepare(file.read())
     expect("what is said of the sample", said, [
-        "not UTF-8, read as windows-1252: 1 line", "commas between cells: 4 rows", "above the header, left out: 2 lines"])
+        "not UTF-8, read as windows-1252: 1 line", "commas between cells: 4 rows",
+        "above the header, left out: 2 lines"])
     expect("the first row of the sample", table.splitlines()[1].split("\t")[:4],
            ["Études océanographiques ouvertes", "", "2971-1312", "2010-01-15"])
 
