@@ -178,13 +178,14 @@ def test_signals_at_restarts():
 def test_process_that_ends_meanwhile():
     """A process that ends before its turn is started again with the new version. A run that goes back later restarts
     it too; one whose restarts fail leaves it as it is."""
-    for name, last, weeks in (("goes back", "exec {}", {"A"}), ("fails again", "exit 9", {"A", "B"})):
+    cases = (("goes back", "[ -e {1} ] || ", {"A"}), ("fails again", "[ PORT != {0} ] || ", {"A", "B"}))
+    for name, fails, weeks in cases:
         with Library() as library:
-            first, mark = library.current(), library.aside("mark")
+            first, mark, (port, other) = library.current(), library.aside("mark"), library.site.ports
             library.input.deliver("B")
-            other = f"{HERE}/restart {library.room} {library.site.ports[1]}"
-            fails = f"[ -e {mark} ] || {{ touch {mark}; {other}; exit 9; }}; {last.format(library.restart)}"
-            status, printed = library.run(restart=f"sh -c '{fails}'")
+            restart = (f"[ -e {mark} ] || {HERE}/restart {library.room} {other}; {fails.format(port, mark)}"
+                       f"{{ touch {mark}; exit 9; }}; exec {library.restart}")
+            status, printed = library.run(restart=f"sh -c '{restart}'")
             expect(f"a run that {name}: {printed}", (status, library.current(), library.weeks_served()),
                    (3, first, weeks))
 

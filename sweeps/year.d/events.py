@@ -81,9 +81,12 @@ def sabotaged_update(year):
         year.update()
 
 
+MOST_ROOM = {"input": 8_000, "library": 400_000}  # less than the files of a week need
+
+
 def full_disk(year, name):
     """A disk with little room: nothing new is used. Then there is room, and all is."""
-    empty = year.machine.fill(name, year.source.randrange(0, 400_000))
+    empty = year.machine.fill(name, year.source.randrange(MOST_ROOM[name]))
     year.explain_kill()
     year.expect(r".*(No space left on device|the disk is full or cannot be written).*",
                 r"press-\d\d\.txt: .*(No space|disk is full).*")

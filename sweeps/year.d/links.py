@@ -102,6 +102,14 @@ def open_days(row, today):
     return (start, end) if start <= end else None
 
 
+def days_around(row, today):
+    """The first and the last open day, and the days before and after them."""
+    days, one = open_days(row, today), datetime.timedelta(1)
+    first, last = days or (datetime.date.min, datetime.date.max)
+    found = [first - one, first] if first > datetime.date.min else []
+    return [str(day) for day in found + ([last, last + one] if last < datetime.date.max else [])]
+
+
 def path_of(row, held, request, today):
     """What comes after the edition in the link that a row gives, or None."""
     if held.rules == "books":

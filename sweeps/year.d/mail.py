@@ -38,7 +38,6 @@ class Week:
     def __init__(self, providers, path_of):
         self.forms, self.path_of = {it.name: tables.said_of(it) for it in providers}, path_of
         self.slips, self.explained, self.required = {}, [], []
-        self.is_used = True  # whether the files of the week were read by the update at all
 
     def faults(self, text):
         """What the mail does not say, and what it says without a reason."""

@@ -5,6 +5,8 @@ from collection import PLAIN
 
 OWN = {"a table too large": PLAIN + 2, "an expired certificate": PLAIN + 3}  # the providers whose slips these are
 AN_OLD_FILE = "an old file"
+ONE_OF = ({"a name that targets.json lacks", "targets.json without its end"},  # in a week
+          {"secrets that others may read", "a secret that is missing"})
 KINDS = [*slips.KINDS, *operator_slips.USABLE, AN_OLD_FILE]
 BEFORE_FETCH = {
     "the fetch is killed": lambda year: events.ended_fetch(year, signal.SIGKILL),
@@ -45,12 +47,12 @@ def weeks(source, count):
     kinds = KINDS + source.choices(KINDS, k=max(0, SLIPS - len(KINDS)))
     for number, kind in enumerate(source.sample(kinds, len(kinds))[:3 * len(busy)]):
         plan = busy[number % len(busy)]
-        if kind not in plan.kinds:
+        if not any(kind in group and group & set(plan.kinds) for group in (*ONE_OF, {kind})):
             plan.kinds.append(kind)
     every = [*BEFORE_FETCH, *BEFORE_UPDATE, *IN_PLACE, *AFTER]
     found = [name for name in every for _ in range(OFTEN.get(name, 2))]
     source.shuffle(found)
-    for number, name in enumerate(found):
+    for number, name in enumerate(found[:2 * len(busy)]):
         turn = number % len(busy)
         plan = next((it for it in busy[turn:] + busy[:turn] if not clashes(name, it)), None)
         if plan:

@@ -130,6 +130,10 @@ class Year:
             changed = set(self.before[provider.name]) ^ set(provider.rows)
             for row in self.source.sample(sorted(changed, key=repr), min(2, len(changed))):
                 reader.ask(links.Request(row.online, row.first or "2003", "7"), "/find.json")
+            held = self.state.providers[provider.name].rows
+            for row in self.source.sample(held, 1) if provider.rules in ("days", "undated") else ():
+                for date in links.days_around(row, self.state.day):
+                    reader.ask(links.Request(row.printed, date, "7"), "/find.json")
         self.readers.append(reader)
         if reader.unanswered:
             self.fault(f"{reader.unanswered} requests without an answer after the run")
@@ -144,7 +148,7 @@ class Year:
 
     def check_mail(self):
         text = "".join(self.printed)
-        if KEY in text:
+        if KEY[:6] in text:
             self.fault("a secret in the mail")
         for fault in self.mail.faults(text):
             self.fault(fault)
