@@ -32,6 +32,7 @@ def rule_with_another_name(year, provider):
 def table_that_is_not_there(year, provider):
     path = year.path(f"{provider.name}-new.txt")
     year.mail.slips[provider.name] = Slip(KEPT, (f"  {path}: No such file or directory",))
+    year.expect(rf"{re.escape(year.path('sources.tsv'))}: fetched, and no target has it: {provider.file}")
     return replaced(year, "targets.tsv", f"\t{provider.file}\t", f"\t{provider.name}-new.txt\t")
 
 

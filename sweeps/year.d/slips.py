@@ -145,7 +145,7 @@ KINDS = {
     "a file of 300 MB": reply("large", "more than 256 MB"),
     "an expired certificate": reply("expired", "the certificate has expired"),
     "an empty file": no_table(lambda provider: b"", "empty"),
-    "the header alone": no_table(lambda provider: text(cells(provider)[:1]), "0 rows, and at least 1 must be there"),
+    "the header alone": no_table(lambda provider: text(cells(provider)[:1]), "0 rows, and at least 20 must be there"),
     "a page as a table": no_table(lambda provider: b"\n<!DOCTYPE html><html><body>Sorry</body></html>", NO_PAGE),
     "two tables in an archive": no_table(
         lambda provider: tables.zipped({"journals.txt": text(cells(provider)), "books.txt": text(cells(provider))}),
