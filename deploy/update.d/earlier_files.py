@@ -1,13 +1,13 @@
-"""The tables that a target had in earlier weeks, so that an old file is seen if it comes again. A version knows them by
-lines of a target, the sum of its files, and the day on which a version had them first."""
+"""The tables that a target had in earlier weeks, so that an old one is seen if it comes again. A version knows them by
+lines of a target, the sum of its prepared table, and the day on which a version had it first."""
 import hashlib, os
 
 NAME = "earlier.tsv"
 MOST = 26  # that are remembered of a target
 
 
-def sum_of(tables):
-    return hashlib.sha256(b"".join(hashlib.sha256(table).digest() for table in tables)).hexdigest()
+def sum_of(table):
+    return hashlib.sha256(table).hexdigest()
 
 
 class EarlierFiles:
@@ -20,12 +20,12 @@ class EarlierFiles:
                 target, total, day = line.rstrip("\n").split("\t")
                 self.days.setdefault(target, {})[total] = day
 
-    def day_of(self, target, tables):
-        """The day on which a version had these tables first, or None."""
-        return self.days.get(target, {}).get(sum_of(tables))
+    def day_of(self, target, table):
+        """The day on which a version had this table first, or None."""
+        return self.days.get(target, {}).get(sum_of(table))
 
-    def put(self, target, tables):
-        self.now[target] = sum_of(tables)
+    def put(self, target, table):
+        self.now[target] = sum_of(table)
 
     def text(self, targets, today):
         """What the next version has to know."""

@@ -200,7 +200,7 @@ class Maker:
             reasons = self.tables.put(target, files.table)
         except Refused as refusal:
             return refusal.reasons
-        self.earlier.put(name, files.tables)
+        self.earlier.put(name, files.table)
         if files.prepared.dropped:
             self.write(f"dropped/{name}.txt", files.prepared.dropped_table())
         if files.has_code:
@@ -253,8 +253,8 @@ class Maker:
             self.report(f"{name}: {', '.join(changes)}")
         lines = self.judge.write_changes(name, self.tables.parts_of(name)) if old else []
         prepared = new.prepared.told if old is None or new.tables != old.tables else []
-        day = self.earlier.day_of(name, new.tables) if prepared is new.prepared.told else None
-        if day:
+        day = self.earlier.day_of(name, new.table)
+        if old and day and new.table != old.table_or_none():
             self.report(f"  the table of {day} again")
         for line in [*prepared, *self.tables.told[name], *lines]:
             self.report(f"  {line}")

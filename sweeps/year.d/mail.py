@@ -6,6 +6,7 @@ import slips, tables
 TARGET = re.compile(r"(press-\d\d): (.*)")
 FILE = re.compile(r"(press-\d\d)\.txt: (.*)")
 KEPT = "kept its old rules and table"
+AGAIN = "  the table of "
 CHANGED = re.compile(r"new, \d+ rows?|(rules changed)?(, )?(\d+ rows? added, \d+ gone)?|moving walls changed")
 TITLES = re.compile(r"  titles: \d+ came, \d+ gone: changes/press-\d\d\.txt")
 FETCHED = re.compile(r"(new|changed), [\d,]+ bytes")
@@ -38,6 +39,7 @@ class Week:
     def __init__(self, providers, path_of):
         self.forms, self.path_of = {it.name: tables.said_of(it) for it in providers}, path_of
         self.slips, self.explained, self.required = {}, [], []
+        self.mended = frozenset()  # targets with a slip in the week before, which may have their older table again
 
     def faults(self, text):
         """What the mail does not say, and what it says without a reason."""
@@ -77,7 +79,7 @@ class Week:
         slip = self.slips.get(name)
         if text == KEPT:
             return [] if slip and slip.outcome == slips.KEPT else [f"kept without a reason: {name}: {lines}"]
-        known = (*self.forms[name], *(slip.says if slip else ()))
+        known = (*self.forms[name], *(slip.says if slip else ()), *([AGAIN] if name in self.mended else []))
         others = [line for line in lines if not TITLES.fullmatch(line)
                   and not any(part in line for part in map(self.full(name), known))]
         wrong = [f"said of {name} without a reason: {line}" for line in others]

@@ -54,6 +54,7 @@ class Year:
         if number:
             self.collection.advance()
         self.mail, self.printed = Week(self.collection.providers, self.path), []
+        self.mail.mended = frozenset(self.busy)
         for provider in self.collection.providers:
             self.machine.input.write(f"{provider.name}.rules", links.rules_of(provider))
 
