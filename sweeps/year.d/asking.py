@@ -134,7 +134,9 @@ class Reader(threading.Thread):
         self.wrong.append(f"{kind}?{request.query()}: {str(reply)[:1500]}\n  right are: {expected}")
 
     def reply(self, target):
-        peer = http.client.HTTPConnection("127.0.0.1", self.port, timeout=SECONDS)
+        # From an address of its own: nginx goes on counting the connections of a worker that was killed as open.
+        address = ".".join(["127", *(str(self.source.randrange(1, 255)) for _ in range(3))])
+        peer = http.client.HTTPConnection("127.0.0.1", self.port, timeout=SECONDS, source_address=(address, 0))
         try:
             peer.request("GET", target)
             reply = peer.getresponse()
