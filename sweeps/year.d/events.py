@@ -150,6 +150,8 @@ def unusable(year, slip):
 def back_and_forward(year):
     """The version before, and the one of this week again."""
     older = [it for it in year.machine.versions() if it < year.machine.current()]
+    if not older:  # the update before it has failed, which has been said
+        return
     state, new = year.states[older[-1]], year.state
     year.allowed.add(state)
     year.run("back", year.machine.begin("--back"), (0,))
