@@ -10,14 +10,14 @@ from patience import patience, wait_until
 PROGRAM = os.path.abspath("crates/openlink/out/openlink")
 DAY = datetime.date(2026, 11, 20)  # that of the sample's requests
 LIBRARY = {
-    "open-shelf": "OpenShelf_Global_AllTitles_2026-11-01",
-    "tidal-press": "TidalPress_Global_AllTitles_2026-11-01",
-    "coastal-law": "CoastalLawSociety_Global_Journals_2026-10-15",
-    "estuary-online": "EstuaryOnline_ExampleLibrary_Subscribed_2026-11-01",
-    "north-sea-archive": "NorthSeaArchive_Global_AllTitles_2026-09-30",
-    "book-house": "BookHouse_ExampleLibrary_Purchased_2026-11-01",
-    "aggregate-net": "AggregateNet_Global_CoastalComplete_2026-11-01",
-    "catalogue": "ExampleLibrary_Shelves_AllTitles_2026-11-20",
+    "open-shelf": "OpenShelf_Global_AllTitles_2026-11-01.csv",
+    "tidal-press": "TidalPress_Global_AllTitles_2026-11-01.txt",
+    "coastal-law": "CoastalLawSociety_Global_Journals_2026-10-15.txt",
+    "estuary-online": "EstuaryOnline_ExampleLibrary_Subscribed_2026-11-01.txt",
+    "north-sea-archive": "NorthSeaArchive_Global_AllTitles_2026-09-30.txt",
+    "book-house": "BookHouse_ExampleLibrary_Purchased_2026-11-01.txt",
+    "aggregate-net": "AggregateNet_Global_CoastalComplete_2026-11-01.txt",
+    "catalogue": "ExampleLibrary_Shelves_AllTitles_2026-11-20.txt",
 }
 # Where the front door's own files are installed, and those that the site includes.
 INSTALLED = "/usr/local/share/openlink/nginx/"
@@ -83,7 +83,7 @@ class Site:
         tables = {}
         for name, table in LIBRARY.items():
             shutil.copy(f"examples/library/{name}.rules", self.path("rules"))
-            tables[name] = f"examples/library/{table}.txt"
+            tables[name] = f"examples/library/{table}"
         for name, rules in FOR_EVERY_REQUEST.items():
             with open(self.path(f"rules/{name}.rules"), "w") as file:
                 file.write(rules)

@@ -1,15 +1,25 @@
 """Judged by numbers: warnings up to a number, numbers of titles that are gone, and the titles that came and went."""
-import json, os
+import datetime, gzip, json, os
+from unittest import mock
 from counting import expect
+from earlier_files import EarlierFiles
 from front_door import Site
 from made_titles import Made, issn, table as made_table
+from preparation import prepare
+from program import Program
 from versions import Weeks, table
 
+WRITTEN = "it changed while it was read: update again when it is written"
 RULE = "rule\nlink https://press.example.com/{title_id}\n"
 
 
 def rows(first, last):
     return [(f"Title {at}", issn(at), "", "1990", "", "", f"t{at}") for at in range(first, last)]
+
+
+def later(first, last):
+    """The same titles in other years."""
+    return [(*row[:3], "2005", *row[4:]) for row in rows(first, last)]
 
 
 def test_collapse():
@@ -61,11 +71,37 @@ def test_gone():
              [(title, "", number, *rest) for title, number, _, *rest in rows(0, 20)], "", []),
             ("thirteen digits", [("A", "1234560106", "", "", "", "", "a")],
              [("A", "", "9781234560102", "", "", "", "a")], "", []),
-            ("less than half of the rows", rows(0, 30) * 2, rows(0, 29), "",
-             ["less than half of the rows: 29, and 60 before"])]:
+            ("less than half of the rows", [*rows(0, 30), *later(0, 30)], rows(0, 29), "",
+             ["less than half of the rows: 29, and 60 before; to allow it: less than half of the rows"])]:
         with Weeks() as weeks:
             expect(f"{name}: the first week", weeks.week("press", table(*before)), [])
             expect(name, weeks.week("press", table(*after), allowed), reasons)
+
+
+def test_order_of_dates():
+    """First dates after the last ones: two rows in a hundred may be so, a share rounded up, or as many as the list
+    says. A month or a year ends with its last day."""
+    def exchanged(count, last="1989-12-31"):
+        return table(*rows(count, 100), *((*row[:4], last, *row[5:]) for row in rows(0, count)))
+
+    words = "first dates after the last ones"
+    for name, data, allowed, count in [
+            ("two", exchanged(2), "", 0), ("three", exchanged(3), "", 3),
+            ("three, allowed", exchanged(3), f"{words} up to 3", 0),
+            ("four, and three allowed", exchanged(4), f"{words} up to 3", 4),
+            ("in the same year", exchanged(50, "1990"), "", 0), ("none allowed", exchanged(1), f"{words} up to 0", 1)]:
+        with Weeks() as weeks:
+            most = allowed.split(" ")[-1] or 2
+            reasons = [f"{words}: {count} of 100 rows, and {most} may be, the first with 1990 and 1989-12-31; "
+                       f"to allow it: {words} up to {count}"] if count else []
+            expect(name, weeks.week("press", data, allowed), reasons)
+    with Weeks() as weeks:
+        started = [(*row[:3], "2026-06-01", "", "", "t", "P1Y") for row in rows(0, 9)]
+        expect("journals that begin within their embargo", weeks.week("press", table(*started)), [])
+    with Weeks() as weeks:
+        expect("those that are served", weeks.week("press", exchanged(2)), [])
+        expect("what is said of them", weeks.said[:2], [
+            "press: new, 100 rows", f"  {words}: 2 rows, the first with 1990 and 1989-12-31"])
 
 
 def bad(count):
@@ -155,6 +191,68 @@ def differences(conf, names):
     return site.differences(names, site.targets_path())
 
 
+def test_again():
+    """A table that was in use before is said, with its first day, if another one was in use since."""
+    a, b, bad = (table(*rows(0, count)) for count in (20, 21, 1))
+    weeks_of = ((a, []), (b, []), (bad, []), (b, []), (a, ["2026-11-01"]), (a, []), (b, ["2026-11-02"]),
+                (b.decode().encode("utf-16"), []), (b, []), (table(*rows(0, 22)), []))
+    with Weeks() as weeks:
+        for number, (data, days) in enumerate(weeks_of, 1):
+            weeks.deliver("press", data)
+            said = weeks.make(datetime.date(2026, 11, number))
+            expect(f"week {number}", [line for line in said if "again" in line],
+                   [f"  the table of {day} again" for day in days])
+        weeks.deliver("press", table(*rows(0, 22)), rules=RULE)
+        expect("other rules alone", weeks.make(), ["press: rules changed"])
+    many = EarlierFiles(None)
+    for number in range(40):
+        many.put("press", b"%d" % number)
+        many.days["press"] = dict(line.split("\t")[1:] for line in many.text(
+            ["press"], datetime.date(2026, 1, 1) + datetime.timedelta(number)).splitlines())
+    expect("how many are remembered", sum(many.day_of("press", b"%d" % it) is not None for it in range(40)), 26)
+    expect("the newest", many.day_of("press", b"39"), "2026-02-09")
+
+
+class Writing(Program):
+    """The program, beside which a file is written while it compiles."""
+
+    def __init__(self, program, write):
+        super().__init__(program.path, program.folder)
+        self.write = write
+
+    def run(self, *words, **how):
+        if words[0] == "compile":
+            self.write()
+        return super().run(*words, **how)
+
+
+def test_written_meanwhile():
+    """A file that is written after it was read is not used; one that was replaced or removed is, as it was read."""
+    def append(path):
+        with open(path, "ab") as file:
+            file.write(b"\n")
+
+    def replace(path):
+        with open(f"{path}.new", "wb") as file:
+            file.write(b"another")
+        os.rename(f"{path}.new", path)
+
+    with Weeks() as weeks:
+        half = gzip.compress(table(*rows(0, 99)))[:-9]
+        weeks.deliver("press", half)
+        with mock.patch("preparation.prepare", lambda files: append(files[0][0]) or prepare(files)):
+            said = [line.split(".txt: ")[1] for line in weeks.make() if line.startswith("  ")]
+        expect("half of a file, which is written on", said, ["a gzip file that is cut short or damaged", WRITTEN])
+        expect("the first week", weeks.week("press", table(*rows(0, 20))), [])
+        for number, (write, file) in enumerate(((append, "press.txt"), (append, "press.rules"), (replace, "press.txt"),
+                                                (os.unlink, "press.txt")), 1):
+            path = weeks.path("input", file)
+            weeks.deliver("press", table(*rows(0, 20 + number)))
+            said = weeks.make(program_of=lambda program: Writing(program, lambda: write(path)))
+            expect(f"{write.__name__} {file}", [line for line in said if line.startswith("  /")],
+                   [f"  {path}: {WRITTEN}"] if write is append else [])
+
+
 def test_labels():
     """Targets that `targets.json` does not name, and names there without a target."""
     with Weeks() as weeks:
@@ -177,4 +275,5 @@ def test_labels():
         expect("no site", differences("/dev/null", ["a"]), [])
 
 
-TESTS = [test_collapse, test_gone, test_warnings, test_lint, test_changes, test_labels]
+TESTS = [test_collapse, test_gone, test_order_of_dates, test_warnings, test_lint, test_changes, test_again,
+         test_written_meanwhile, test_labels]

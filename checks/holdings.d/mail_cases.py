@@ -25,17 +25,21 @@ def test_weeks():
         expect("without --fetch", library.update()[0], 1)
         status, printed = library.update("--fetch")
         expect("the first lines", printed.splitlines()[:4], [
-            "refused.txt: kept the old file: 401", f"good.txt: new, {len(TABLE)} bytes",
+            "refused.txt: kept the old file: 401 Unauthorized", f"good.txt: new, {len(TABLE)} bytes",
             "2 files asked for, 1 new or changed, 1 not fetched", "good: new, 2 rows"])
         expect("what was fetched is served, and the status says that one file was not",
                (status, library.table("good")), (1, TABLE.decode()))
         again = library.update("--fetch", "--dry-run")
-        expect("a trial", (again[0], again[1].splitlines()[0]), (1, "refused.txt: kept the old file: 401"))
+        expect("a trial", (again[0], again[1].splitlines()[0]), (1, "refused.txt: kept the old file: 401 Unauthorized"))
         expect("no secret in the mail", [text for text in (printed, again[1]) if "s3cr3t" in text], [])
         library.write_sources(f"good.txt\t{PROVIDERS.address('/kbart?token={TOKEN}')}")
         status, printed = library.update("--fetch")
         expect("all is fetched", (status, printed.splitlines()[0]),
                (0, "1 file asked for, 0 new or changed, 0 not fetched"))
+        more = f"More.txt\t{PROVIDERS.address('/table.txt')}\n".encode()
+        library.write("sources.tsv", library.read("sources.tsv") + more)
+        expect_lines("a file that no target has", library.update("--fetch")[1],
+                     f"{library.path('sources.tsv')}: fetched, and no target has it: More.txt")
         os.unlink(library.path("sources.tsv"))
         status, printed = library.update("--fetch")
         expect("no list of sources", (status, printed.splitlines()[0].split(":")[0]), (0, "nothing new"))

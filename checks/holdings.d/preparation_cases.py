@@ -95,13 +95,27 @@ FILES = {
         of_rows(row(print_id="9780306406157", online_id="9780804429573"), row(print_id="9780306406157")),
         ["ISBNs of ten digits written with thirteen: 2 cells"]),
     "last dates that mean today": (
-        of_rows(*(row(last=last) for last in ("present", "Current", "9999", "9999-12-31", "31/12/9999", "2001-05"))),
-        of_rows(*(row(last=last) for last in ("", "", "", "", "", "2001-05"))),
+        of_rows(*(row(last, last=last) for last in ("present", "Current", "9999", "9999-12-31", "31/12/9999",
+                                                    "2001-05"))),
+        of_rows(*(row(title, last=last) for title, last in (
+            ("present", ""), ("Current", ""), ("9999", ""), ("9999-12-31", ""), ("31/12/9999", ""),
+            ("2001-05", "2001-05")))),
         ["dates in the standard's form: 1 cell", "last dates that mean today removed: 5 cells"]),
     "a first date is not today": (of_rows(row(first="present")), of_rows(row(first="present")), []),
     "rows without an identifier": (
         of_rows(row(), row("No number", "", ""), row("Rounded", "9.78123E+12", "-"), row("One of two", "soon")),
         of_rows(row(), row("One of two", "soon")), ["dropped: 2 rows"]),
+    "rows that occur again": (
+        of_rows(row(), row("Tides"), row(), row("Tides", first="1/3/1995"), row('"Tides"'), row(last="1999")),
+        of_rows(row(), row("Tides"), row("Tides", first="1995"), row(last="1999")),
+        ["quotes around a cell removed: 1 cell", "dates cut to their year: 1 cell",
+         "the same as an earlier row, left out: 2 rows"]),
+    "a first date after the last": (
+        of_rows(row(last="1994"), row("Tides", last="1995-03"), row("Piers", last="1995-02-28"),
+                row("Quays", last="1995-03-01"), row("Locks", first="1995-03-15", last="1995-03")),
+        of_rows(row(last="1994"), row("Tides", last="1995-03"), row("Piers", last="1995-02-28"),
+                row("Quays", last="1995-03-01"), row("Locks", first="1995-03-15", last="1995-03")),
+        ["first dates after the last ones: 2 rows, the first with 1995-03-01 and 1994"]),
     "a target that answers every request": ("print_identifier\nANY\n", "print_identifier\nANY\n", []),
     "a table without identifiers' columns": ("publication_title|title_url|notes\nA|b|c\n",
                                              "publication_title|title_url|notes\nA|b|c\n", []),
@@ -177,6 +191,17 @@ def test_files():
         expect(name, prepare(came), (tabs(served), told))
 
 
+def test_sample():
+    """The table of the sample library that has to be prepared: windows-1252, commas, and lines above the header."""
+    with open("examples/library/OpenShelf_Global_AllTitles_2026-11-01.csv", "rb") as file:
+        table, said = prepare(file.read())
+    expect("what is said of the sample", said, [
+        "not UTF-8, read as windows-1252: 1 line", "commas between cells: 4 rows",
+        "above the header, left out: 2 lines"])
+    expect("the first row of the sample", table.splitlines()[1].split("\t")[:4],
+           ["Études océanographiques ouvertes", "", "2971-1312", "2010-01-15"])
+
+
 def test_dates():
     for came, served in DATES.items():
         expect(f"the date {came!r}", prepare(of_rows(row(first=came)))[0], tabs(of_rows(row(first=served))))
@@ -222,8 +247,8 @@ def test_dropped_rows():
         made = preparation.dropped_rows.reasons_against([["no identifier", "Tides", ""]] * dropped, rows, set(allowed))
         expect(f"{dropped} of {rows} dropped, with {allowed}", made == [], is_allowed)
     expect("what is said", preparation.dropped_rows.reasons_against(prepared.dropped, 3, set()),
-           ["2 of 3 rows dropped, and 1 may be: no identifier: 1, no ISSN or ISBN: 1; the first: None 1995-03-01 "
-            "https://press.example.com/ats"])
+           ["2 of 3 rows dropped, and 1 may be: no identifier: 1, no ISSN or ISBN: 1; to allow it: dropped up to 2; "
+            "the first: None 1995-03-01 https://press.example.com/ats"])
 
 
 def test_shown_rows():
@@ -265,5 +290,5 @@ def test_newest_files():
             expect(f"the newest of {order}", file_patterns.newest(list(order)), newest)
 
 
-TESTS = [test_files, test_dates, test_refused_files, test_joined_files, test_dropped_rows, test_shown_rows,
-         test_patterns, test_newest_files]
+TESTS = [test_files, test_sample, test_dates, test_refused_files, test_joined_files, test_dropped_rows,
+         test_shown_rows, test_patterns, test_newest_files]

@@ -5,6 +5,7 @@ import children
 from patience import patience, wait_until
 
 HOSTS = tuple(f"127.0.0.{number}" for number in range(2, 10))
+ANOTHER = "127.0.0.10"  # for which the certificate is not
 WHOLE, SENT = 8_000_000, 3_145_728  # bytes that /raw/cut announces and sends
 TAG, DATE = '"a \\"b\\" c"', "Sun, 01 Nov 2026 10:00:00 GMT"  # what /raw/named calls its file
 CONFIGURATION = """pid {folder}/nginx.pid;
@@ -66,7 +67,12 @@ http {{
         ssl_certificate_key {folder}/stranger.key;
         location / {{ }}
     }}
-}}
+    server {{
+        listen {expired} ssl;
+        ssl_certificate {folder}/expired.pem;
+        location / {{ }}
+    }}
+{servers}}}
 """
 
 
@@ -83,8 +89,15 @@ def make_certificates(folder):
     openssl("req", *key, "-keyout", f"{folder}/server.key", "-out", f"{folder}/server.csr", "-subj", "/CN=providers")
     with open(f"{folder}/names", "w") as file:
         file.write(names_of_hosts().replace("=", " = "))
+    sign(folder, "server", 30)
+    sign(folder, "expired", -1)
+
+
+def sign(folder, name, days):
+    """Makes a certificate of the authority for the hosts, which is good for that many days."""
     openssl("x509", "-req", "-in", f"{folder}/server.csr", "-CA", f"{folder}/authority.pem", "-CAkey",
-            f"{folder}/authority.key", "-CAcreateserial", "-out", f"{folder}/server.pem", "-extfile", f"{folder}/names")
+            f"{folder}/authority.key", "-CAcreateserial", "-days", str(days), "-out", f"{folder}/{name}.pem",
+            "-extfile", f"{folder}/names")
 
 
 def names_of_hosts():
@@ -197,24 +210,31 @@ class Providers:
     TOKEN = "s3cr3t+/=&?#token"
     ENCODED = "s3cr3t%2B%2F%3D%26%3F%23token"
 
-    def __init__(self, table):
+    def __init__(self, table, servers_of=lambda providers: ""):
+        """`servers_of` returns what the configuration has after these servers."""
         self.folder = tempfile.mkdtemp(prefix="providers.", dir="/dev/shm" if os.access("/dev/shm", os.W_OK) else None)
         os.chmod(self.folder, 0o755)
         os.mkdir(self.path("files"))
-        self.port, self.plain, self.stranger = (children.free_port() for _ in range(3))
+        self.port, self.plain, self.stranger, self.expired = (children.free_port() for _ in range(4))
         self.raw = RawServer(table)
         make_certificates(self.folder)
         with open(self.path("nginx.conf"), "w") as file:
             file.write(CONFIGURATION.format(
                 folder=self.folder, raw=self.raw.server_address[1], plain=f"{HOSTS[0]}:{self.plain}",
-                stranger=f"{HOSTS[0]}:{self.stranger}", other=f"{HOSTS[1]}:{self.port}",
+                stranger=f"{HOSTS[0]}:{self.stranger}", expired=f"{HOSTS[0]}:{self.expired}",
+                other=f"{HOSTS[1]}:{self.port}",
                 user="user root;\n" if os.getuid() == 0 else "", key=self.KEY.replace("\\", "\\\\").replace('"', '\\"'),
-                encoded=self.ENCODED, listens="".join(f"        listen {it}:{self.port} ssl;\n" for it in HOSTS)))
+                encoded=self.ENCODED, servers=servers_of(self),
+                listens="".join(f"        listen {it}:{self.port} ssl;\n" for it in (*HOSTS, ANOTHER))))
+        self.prepare()
         self.nginx = children.start(["nginx", "-e", self.path("start.log"), "-p", self.folder, "-c",
                                      self.path("nginx.conf")], self.folder, stdout=subprocess.DEVNULL)
         atexit.register(self.stop)
         if not wait_until(lambda: self.listens() or self.nginx.poll() is not None) or self.nginx.poll() is not None:
             raise SystemExit(f"checks/holdings: nginx does not start: {self.read('start.log')}")
+
+    def prepare(self):
+        """What other servers need before nginx starts."""
 
     def listens(self):
         try:

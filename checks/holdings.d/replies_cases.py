@@ -3,7 +3,7 @@ import gzip, io, os, resource, stat, subprocess, time, zipfile
 from counting import expect, expect_lines
 from input import OLD, TABLE, Input
 from patience import patience
-from providers import DATE, HOSTS, SENT, TAG, WHOLE, Providers
+from providers import ANOTHER, DATE, HOSTS, SENT, TAG, WHOLE, Providers
 
 PROVIDERS = Providers(TABLE)
 AUTHORITY = PROVIDERS.path("authority.pem")
@@ -39,8 +39,9 @@ def write_files():
 def test_bad_replies():
     """Each of these replies leaves the old file as it is, and a line says why."""
     cases = {
-        "401": ("/401", "401"), "404": ("/404", "404"), "500": ("/500", "500"), "204": ("/204", "204"),
-        "nowhere": ("/302", "302"),
+        "401": ("/401", "401 Unauthorized"), "404": ("/404", "404 Not Found"),
+        "500": ("/500", "500 Internal Server Error"), "204": ("/204", "204 No Content"),
+        "nowhere": ("/302", "302 Found"),
         "login": ("/login", "a web page, not a table: the address may want a login"),
         "page": ("/page.gz", "a web page, not a table: the address may want a login"),
         "to-http": ("/to-http", "a redirect that leads to no https: address"),
@@ -63,9 +64,13 @@ def test_bad_replies():
     with Input(AUTHORITY) as folder:
         lines = [f"{name}.txt\t{address(path, number % 4)}" for number, (name, (path, _)) in enumerate(cases.items())]
         lines.append(f"stranger.txt\thttps://{HOSTS[0]}:{PROVIDERS.stranger}/table.txt")
+        lines.append(f"expired.txt\thttps://{HOSTS[0]}:{PROVIDERS.expired}/table.txt")
+        lines.append(f"another.txt\thttps://{ANOTHER}:{PROVIDERS.port}/table.txt")
         lines.append(f"closed.txt\thttps://{HOSTS[7]}:{PROVIDERS.plain}/table.txt")
         reasons = {name: reason for name, (_, reason) in cases.items()}
-        reasons.update(stranger="the certificate is not trusted", closed="no connection")
+        reasons.update(stranger="the certificate is not trusted", expired="the certificate has expired",
+                       another="the certificate is that of another host",
+                       closed="no connection")
         folder.write_sources(*lines)
         for name in reasons:
             folder.write(f"{name}.txt", OLD)

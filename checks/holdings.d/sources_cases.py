@@ -1,6 +1,6 @@
 """deploy/fetch: its lists, its secrets, its dates, and how a run ends."""
 import datetime, json, os, signal, threading, time
-import sources
+import downloads, sources
 from counting import expect, expect_lines
 from input import OLD, TABLE, Input, ended
 from patience import wait_until
@@ -56,7 +56,7 @@ def test_secrets():
             f"refused.txt\t{address('/kbart?token={OTHER}', 4)}", f"slow.txt\t{address('/raw/slow?{TOKEN}', 5)}")
         status, printed = folder.fetch()
         expect("a token and a key", (status, folder.read("kbart.txt"), folder.read("key.txt")), (1, TABLE, TABLE))
-        expect_lines("what fails", printed, "refused.txt: not fetched, and there is no old file: 401",
+        expect_lines("what fails", printed, "refused.txt: not fetched, and there is no old file: 401 Unauthorized",
                      f"bad.txt: not fetched, and there is no old file: ended after {SENT:,} of {WHOLE:,} bytes")
         last = PROVIDERS.requests("/table.txt")[-1]
         expect("another host gets no header with a secret", (folder.read("elsewhere.txt"), last[0], last[3]),
@@ -74,7 +74,7 @@ def test_secrets():
                                                if name != "secrets.tsv" for text in [folder.read(name).decode()])]
         expect("no output and no file has a secret", [it for it in secrets for text in texts if it in text], [])
     expect("no process has one", spy.found, set())
-    expect("curl was seen", {data.split(b"\0")[1] for data in spy.curls}, {b"-q"})
+    expect("curl was seen", b"-q" in {data.split(b"\0")[1] for data in spy.curls})
 
 
 def test_who_may_read_secrets():
@@ -192,6 +192,25 @@ def test_days():
                                                                "3 files asked for, 0 new or changed, 0 not fetched\n"))
 
 
+class Ended(Exception):
+    pass
+
+
+class NoTransfer(downloads.Download):
+    """A download that a signal ends while it starts."""
+
+    def start(self):
+        raise Ended
+
+
+def test_signal_at_a_start():
+    """A signal while a transfer starts ends the run as at any other moment."""
+    try:
+        list(downloads.run([NoTransfer(address("/table.txt"), [], [], "/nonexistent", 1, 0)]))
+    except Ended as ending:
+        expect("its end", ending.__context__, None)
+
+
 def curls_of(parent):
     """The numbers of the curl processes that a process has started and that run."""
     return {number for number in filter(str.isdigit, os.listdir("/proc")) if is_curl_of(parent, number)}
@@ -237,4 +256,5 @@ def test_ends():
 
 
 PROVIDERS.write("table.txt", TABLE)
-TESTS = [test_secrets, test_who_may_read_secrets, test_lists, test_examples, test_days, test_ends]
+TESTS = [test_secrets, test_who_may_read_secrets, test_lists, test_examples, test_days, test_signal_at_a_start,
+         test_ends]

@@ -44,12 +44,12 @@ class Weeks:
         self.write(f"{name}.txt", data)
         self.write("targets.tsv", f"{name}\t{name}.rules\t{name}.txt\t{allowed}\n".encode())
 
-    def make(self, today=DAY, walls=False):
+    def make(self, today=DAY, walls=False, program_of=lambda program: program):
         """Makes the next version. Returns the lines that it says."""
         self.count += 1
         folder, self.said = self.path(str(self.count)), []
         os.mkdir(folder)
-        self.maker = Maker(folder, self.version, Program(PROGRAM, folder), today, self.said.append)
+        self.maker = Maker(folder, self.version, program_of(Program(PROGRAM, folder)), today, self.said.append)
         try:
             if walls:
                 self.maker.move_walls(True)

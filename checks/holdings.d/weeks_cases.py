@@ -11,6 +11,7 @@ ALLOWED = {
     "a first date is not today": "date_first_issue_online not a date",
     "rows without an identifier": "dropped up to 2; not an ISSN or ISBN",
     "cells after the last column": "rows longer than the header",
+    "a first date after the last": "first dates after the last ones up to 2",
 }
 LEFT_OUT = ("a table without identifiers' columns", "two names below a line")
 WHOLE, LOST = 7271, 6544  # rows, and those whose numbers are gone a week later
@@ -95,11 +96,12 @@ BAD = {
     "as-it-should-be": ("as-it-should-be.txt", "a web page, not a table"),
     "commas": ("commas.txt", "a gzip file that is cut short or damaged"),
     "semicolons": ("semicolons.txt", "a zip file with 2 members: name one by `member PATTERN` in sources.tsv"),
-    "collapse": ("collapse.txt", f"{LOST} of {WHOLE} rows dropped, and 146 may be: no identifier: {LOST}; the first: "
+    "collapse": ("collapse.txt", f"{LOST} of {WHOLE} rows dropped, and 146 may be: no identifier: {LOST}; to "
+                                 f"allow it: dropped up to {LOST}; the first: "
                                  "Title 0 1995-03-01 https://press.example.com/ats"),
-    "fewer": ("fewer.txt", "less than half of the rows: 1, and 4 before"),
+    "fewer": ("fewer.txt", "less than half of the rows: 1, and 4 before; to allow it: less than half of the rows"),
     "dashes": ("dashes.txt", "rows 0"),
-    "gone": ("went_*.txt", "No such file or directory"),
+    "gone": ("went_*.txt", "no file has such a name"),
 }
 
 

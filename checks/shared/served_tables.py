@@ -2,13 +2,10 @@
 import os, sys
 
 sys.path.insert(0, os.path.join(os.path.dirname(os.path.abspath(__file__)), "../../deploy/update.d"))
-import coverage
-from table_cells import bytes_of, cells_of
+from served import prepared_table
 
 
 def write_table(path, served, day):
-    """Writes a table with the columns of coverage, as of a day."""
-    with open(path, "rb") as file:
-        header, rows, _ = coverage.step(*cells_of(file.read()), day)
+    """Writes a table, prepared and with the columns of coverage as of a day."""
     with open(served, "wb") as file:
-        file.write(bytes_of(header, rows))
+        file.write(prepared_table(path, day))

@@ -34,7 +34,8 @@ def test_bad_files():
             ("an empty table", "book-house.txt", b"", "it is empty"),
             ("a table of a header alone", "book-house.txt", table.splitlines(keepends=True)[0], "rows 0"),
             ("less than half of the table", "book-house.txt", b"".join(table.splitlines(keepends=True)[:2]),
-             f"less than half of the rows: 1, and {len(table.splitlines()) - 1} before"),
+             f"less than half of the rows: 1, and {len(table.splitlines()) - 1} before; to allow it: less than half of "
+             "the rows"),
             ("a rule file with a slip", "book-house.rules",
              rules.replace(b"when given rft.spage", b"when given rft.spage "),
              "rules: line 4: BadLine"),

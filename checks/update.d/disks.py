@@ -77,6 +77,7 @@ def fill(library, rooms, fill_up):
         statuses.append(status)
         shutil.rmtree(filler) if os.path.isdir(filler) else os.unlink(filler)
         is_new = status == 0
+        expect(f"room {room}, the reason: {printed}", is_new or "No space left on device" in printed)
         expect(f"room {room}: {printed}", (library.current() != first, library.weeks_served(), library.left_behind()),
                (is_new, {"B" if is_new else "A"}, []))
         if is_new:

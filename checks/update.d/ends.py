@@ -1,7 +1,7 @@
 """Runs that are ended at any moment, and two at once."""
 import os, signal, subprocess, time
 from counting import expect
-from fixture import Library, Reader, ended, patience, wait_until
+from fixture import HERE, Library, Reader, ended, patience, wait_until
 
 OTHER = {"A": "B", "B": "A"}
 # The stages of a run, each of which begins as soon as there is something new in the library. In the last one a kill
@@ -175,6 +175,21 @@ def test_signals_at_restarts():
             expect("its name is said", f"ended by {number.name}" in printed)
 
 
+def test_process_that_ends_meanwhile():
+    """A process that ends before its turn is started again with the new version. A run that goes back later restarts
+    it too; one whose restarts fail leaves it as it is."""
+    cases = (("goes back", "[ -e {1} ] || ", {"A"}), ("fails again", "[ PORT != {0} ] || ", {"A", "B"}))
+    for name, fails, weeks in cases:
+        with Library() as library:
+            first, mark, (port, other) = library.current(), library.aside("mark"), library.site.ports
+            library.input.deliver("B")
+            restart = (f"[ -e {mark} ] || {HERE}/restart {library.room} {other}; {fails.format(port, mark)}"
+                       f"{{ touch {mark}; exit 9; }}; exec {library.restart}")
+            status, printed = library.run(restart=f"sh -c '{restart}'")
+            expect(f"a run that {name}: {printed}", (status, library.current(), library.weeks_served()),
+                   (3, first, weeks))
+
+
 def test_two_runs():
     """While a run is kept in its restarts, no other one begins, nor waits for it."""
     with Library() as library:
@@ -202,4 +217,5 @@ def test_closed_output():
         expect("a closed output", (status, library.weeks_served(), library.left_behind()), (0, {"B"}, []))
 
 
-TESTS = [test_killed, test_signals, test_signals_at_restarts, test_two_runs, test_closed_output]
+TESTS = [test_killed, test_signals, test_signals_at_restarts, test_process_that_ends_meanwhile, test_two_runs,
+         test_closed_output]

@@ -105,4 +105,16 @@ def with_dates(header, rows):
                               ("last dates that mean today removed", opened, "cell"))
 
 
-STEPS = (without_quotes, without_spaces, with_hyphens, without_words, with_long_isbns, with_dates)
+def without_repetitions(header, rows):
+    """Without rows of which an earlier one has the same cells."""
+    seen, kept = set(), []
+    for row in rows:
+        key = tuple(row)
+        if key not in seen:
+            seen.add(key)
+            kept.append(row)
+    return header, kept, told(("the same as an earlier row, left out", len(rows) - len(kept), "row"))
+
+
+STEPS = (without_quotes, without_spaces, with_hyphens, without_words, with_long_isbns, with_dates,
+         without_repetitions)

@@ -1,11 +1,9 @@
 """Coverage to the day: the columns `coverage_from` and `coverage_to` of a table as it is served. They have the first
 and the last day that is open today as numbers of eight digits, 0 and 99999999 where there is no bound, and the other
-way round where no day is open. So the cells are never empty, and no request can fill them.
-
-Run as a program it prints a table with these columns, as of a day: coverage.py TABLE YYYY-MM-DD"""
-import calendar, datetime, functools, re, sys
+way round where no day is open. So the cells are never empty, and no request can fill them."""
+import calendar, datetime, functools, re
 from outcome import Refused
-from table_cells import bytes_of, cell, cells_of, columns_of
+from table_cells import cell, cells_of, columns_of
 from title_rows import NONE, date_in, embargo_in
 
 COLUMNS = ("coverage_from", "coverage_to")
@@ -98,9 +96,3 @@ def has_walls(table):
     header, rows = cells_of(table)
     place, = columns_of(header, ("embargo_info",))
     return any(unit != "Y" for row in rows for _, _, unit in PART.findall(embargo_in(cell(row, place))))
-
-
-if __name__ == "__main__":
-    with open(sys.argv[1], "rb") as file:
-        columns, lines, _ = step(*cells_of(file.read()), datetime.date.fromisoformat(sys.argv[2]))
-    sys.stdout.buffer.write(bytes_of(columns, lines))

@@ -1,6 +1,6 @@
 """The download of a file: several transfers, since redirects are followed here and a failed try is repeated. Several
 downloads are made side by side, with one connection to a host at a time."""
-import os, re, time
+import http.client, os, re, time
 from urllib.parse import urlsplit
 from transfers import PASSING, WRITE_FAILED, Transfer
 
@@ -65,7 +65,8 @@ class Download:
         elif transfer.status in REDIRECTS and transfer.redirect:
             self.follow(transfer.redirect)
         else:
-            self.try_again(str(transfer.status), transfer.status in PASSING_STATUSES)
+            words = http.client.responses.get(transfer.status, "")
+            self.try_again(f"{transfer.status} {words}".strip(), transfer.status in PASSING_STATUSES)
 
     def follow(self, address):
         """Goes to the address of a redirect, which curl has completed. Nothing of it is printed: it may repeat a
@@ -115,7 +116,8 @@ def run(downloads):
             time.sleep(0.02)
     finally:
         for download in running.values():
-            download.transfer.stop()
+            if download.transfer:  # a signal may come before it is there; curl then ends with this process
+                download.transfer.stop()
 
 
 def is_next(download, running):

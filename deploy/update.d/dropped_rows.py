@@ -45,7 +45,8 @@ def reasons_against(dropped, rows, allowed):
         return []
     counts = ", ".join(f"{reason}: {count}" for reason in (NONE, NO_NUMBER)
                        for count in [sum(row[0] == reason for row in dropped)] if count)
-    return [f"{len(dropped)} of {rows} rows dropped, and {most} may be: {counts}; the first: {shown(dropped[0][1:])}"]
+    return [f"{len(dropped)} of {rows} rows dropped, and {most} may be: {counts}; to allow it: dropped up to "
+            f"{len(dropped)}; the first: {shown(dropped[0][1:])}"]
 
 
 def shown(cells):

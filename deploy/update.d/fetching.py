@@ -170,6 +170,15 @@ class Fetch:
                     f"{sum(file is not None for file, _ in self.faults)} not fetched")
 
 
+def unused(folder, patterns):
+    """A line for files that a folder's list fetches and none of these paths means, as after a slip in a name."""
+    path = os.path.join(folder, "sources.tsv")
+    listed = sources.read(path)[0] if os.path.exists(path) else []
+    found = [source.file for source in listed
+             if not any(archives.fits(os.path.join(folder, source.file), pattern) for pattern in patterns)]
+    return [f"{path}: fetched, and no target has it: {', '.join(found)}"] if found else []
+
+
 def fetch(folder, report, seconds, pause, files=()):
     """Fetches the files of a folder's list. Returns the exit status; a Failure or OSError ends it early."""
     if shutil.which("curl") is None:

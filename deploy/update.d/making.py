@@ -8,11 +8,13 @@
                            .. are further parts
     dropped/NAME.txt       rows that are not in it, with the reason, if there are any
     changes/NAME.txt       the titles that came and went, if there are some
+    earlier.tsv            see earlier_files.py
     allowed.tsv            a target, words of its line that allow warnings, and the number up to which they do
     index/                 the index of titles, for the front door
 """
 import dataclasses, filecmp, functools, os, re, shutil
-import dropped_rows, file_patterns, holdings, index, preparation
+import date_order, dropped_rows, earlier_files, file_patterns, holdings, index, preparation
+from earlier_files import EarlierFiles
 from judging import Judge
 from outcome import Failure, Refused
 from served import Tables, targets_in
@@ -28,6 +30,12 @@ class Files:
     tables: tuple  # of bytes
     has_code: bool
     paths: tuple = dataclasses.field(compare=False)  # of the tables
+    marks: dict = dataclasses.field(compare=False, default_factory=dict)  # of each path, as the file was read
+
+    def changed(self):
+        """Why files that have been written since they were read cannot be used. One that was replaced is another."""
+        return [f"{path}: it changed while it was read: update again when it is written" for path, mark in
+                self.marks.items() if is_changed(path, mark)]
 
     @functools.cached_property
     def prepared(self):
@@ -51,18 +59,35 @@ def content(path):
         return file.read()
 
 
+def marked_content(path):
+    """The bytes of a file, and what the system says of it before they are read."""
+    with open(path, "rb") as file:
+        return os.fstat(file.fileno()), file.read()
+
+
+def is_changed(path, before):
+    """Whether a file was written to, and not replaced by another."""
+    try:
+        now = os.stat(path)
+    except OSError:
+        return False
+    return os.path.samestat(before, now) and (before.st_size, before.st_mtime_ns) != (now.st_size, now.st_mtime_ns)
+
+
 def received(target):
     """The files that the list names for a target. Refused if one of them cannot be read."""
-    reasons, parts = [], []
+    reasons, parts, marks = [], [], {}
     tables = [file_patterns.path_of(path) for path in target.tables]
     for path in (target.rules, *tables):
         try:
-            parts.append(content(path))
+            marks[path], data = marked_content(path)
+            parts.append(data)
         except OSError as fault:
-            reasons.append(f"{path}: {fault.strerror}")
+            is_pattern = "*" in path and isinstance(fault, FileNotFoundError)
+            reasons.append(f"{path}: {'no file has such a name' if is_pattern else fault.strerror}")
     if reasons:
         raise Refused(reasons)
-    return Files(parts[0], tuple(parts[1:]), target.has_code(), tuple(tables))
+    return Files(parts[0], tuple(parts[1:]), target.has_code(), tuple(tables), marks)
 
 
 def received_names(folder, name):
@@ -89,6 +114,7 @@ class Maker:
         self.folder, self.older, self.program, self.today, self.report = folder, older, program, today, report
         self.names, self.kept, self.left_out = [], [], []
         self.tables, self.judge = Tables(folder, today), Judge(folder, older, program)
+        self.earlier = EarlierFiles(older)
         for part in ("received", "code", "tables", "dropped"):
             os.mkdir(os.path.join(folder, part))
 
@@ -117,6 +143,7 @@ class Maker:
     def finish(self, has_list):
         self.write("registry.tsv", self.tables.registry(self.names))
         self.write("allowed.tsv", self.judge.text(self.names).encode())
+        self.write(earlier_files.NAME, self.earlier.text(self.names, self.today).encode())
         index.begin(os.path.join(self.folder, "index"), has_list)
 
     def make_index(self, has_list):
@@ -134,7 +161,7 @@ class Maker:
         old = kept(self.older, target.name) if self.older else None
         try:
             new = received(target)
-            reasons = [] if new == old else self.reasons_against(target, old, new)
+            reasons = [] if new == old else self.reasons_against(target, old, new) + new.changed()
         except Refused as refusal:
             new, reasons = None, refusal.reasons
         if reasons:
@@ -173,6 +200,7 @@ class Maker:
             reasons = self.tables.put(target, files.table)
         except Refused as refusal:
             return refusal.reasons
+        self.earlier.put(name, files.table)
         if files.prepared.dropped:
             self.write(f"dropped/{name}.txt", files.prepared.dropped_table())
         if files.has_code:
@@ -197,18 +225,21 @@ class Maker:
         return []
 
     def reasons_against(self, target, old, new):
-        """Writes the new files of a target, and returns why they cannot be used. Refused if its table cannot be
-        prepared."""
-        prepared = new.prepared
+        """Writes the new files of a target, and returns why they cannot be used."""
+        try:
+            prepared = new.prepared
+        except Refused as refusal:
+            return refusal.reasons
         reasons = self.put(target, new)
         parts = self.tables.parts_of(target.name)
         if parts:
             reasons += self.judge.reasons(target, parts, not new.has_code and not reasons, old is not None)
-        dropped = dropped_rows.reasons_against(prepared.dropped, prepared.count, target.allowed)
-        reasons += [f"{target.table}: {line}" for line in dropped]
+        reasons += [f"{target.table}: {line}" for line in (
+            *dropped_rows.reasons_against(prepared.dropped, prepared.count, target.allowed),
+            *date_order.reasons_against(prepared.reversed, prepared.count, target.allowed))]
         before, after = len(holdings.rows(old.table_or_none())) if old else 0, len(holdings.rows(new.table))
         if after * 2 < before and FEWER not in target.allowed:
-            reasons.append(f"{target.table}: {FEWER}: {after}, and {before} before")
+            reasons.append(f"{target.table}: {FEWER}: {after}, and {before} before; to allow it: {FEWER}")
         return reasons
 
     def say_changes(self, name, old, new):
@@ -222,6 +253,9 @@ class Maker:
             self.report(f"{name}: {', '.join(changes)}")
         lines = self.judge.write_changes(name, self.tables.parts_of(name)) if old else []
         prepared = new.prepared.told if old is None or new.tables != old.tables else []
+        day = self.earlier.day_of(name, new.table)
+        if old and day and new.table != old.table_or_none():
+            self.report(f"  the table of {day} again")
         for line in [*prepared, *self.tables.told[name], *lines]:
             self.report(f"  {line}")
 

@@ -1,7 +1,7 @@
 """Prepares the files of a target, as they came, to be served: read as text, found below their header, joined, step by
 step in the form that the program reads, and without rows that no request can find."""
 import dataclasses
-import archives, cells, dropped_rows, headers, received_text
+import archives, cells, date_order, dropped_rows, headers, received_text
 from outcome import Refused, Unreadable
 
 STEPS = cells.STEPS  # each takes a header and rows, and returns both with lines that say what it did
@@ -14,6 +14,7 @@ class Prepared:
     told: list     # lines that say what was done
     dropped: list  # rows that are not served, each after the reason
     count: int     # of rows before any was dropped
+    reversed: list  # the two dates of each row whose first one is after the last
 
     def dropped_table(self):
         return table_of(["reason", *self.header], self.dropped)
@@ -67,4 +68,6 @@ def prepare(files):
         header, rows, lines = step(header, rows)
         told += lines
     kept, dropped = dropped_rows.separate(header, rows)
-    return Prepared(header, table_of(header, kept), told + dropped_rows.told(dropped), dropped, len(rows))
+    reversed_dates = date_order.found_in(header, kept)
+    told += dropped_rows.told(dropped) + date_order.told(reversed_dates)
+    return Prepared(header, table_of(header, kept), told, dropped, len(rows), reversed_dates)

@@ -1,5 +1,5 @@
 """Runs the program's commands on files, and reads the warnings of `inspect` and `lint`."""
-import re, subprocess
+import os, re, subprocess
 import children
 from outcome import DEVICE, Failure, Refused
 
@@ -31,6 +31,12 @@ def warnings_in(text):
     return [line for line in lines if not is_plain(line) and (line not in missing or len(missing) > 1)]
 
 
+def is_full(folder):
+    """Whether the disk of a folder has no room for another small file."""
+    disk = os.statvfs(folder)
+    return disk.f_bavail * disk.f_frsize < 2**16 or disk.f_files > 0 and disk.f_favail == 0
+
+
 class Program:
     def __init__(self, path, folder):
         """The program, run in a folder, which the paths of its arguments are relative to."""
@@ -47,6 +53,8 @@ class Program:
         except subprocess.TimeoutExpired as fault:
             raise Failure(f"openlink {words[0]}: no end after {SECONDS} seconds", DEVICE) from fault
         printed = done.stderr.decode("utf-8", "replace").strip().removeprefix("openlink: ")
+        if done.returncode == DEVICE and is_full(self.folder):
+            printed += ": No space left on device"
         if done.returncode == 3:
             raise Refused([printed])
         if not 0 <= done.returncode <= most:

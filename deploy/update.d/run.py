@@ -1,6 +1,6 @@
 """One run: makes the next version, tries it, puts it in use, and goes back to the version before if something fails."""
 import contextlib, datetime, os, sys
-import children, coverage, export_files, interrupts, making, target_list
+import children, coverage, export_files, fetching, interrupts, making, target_list
 from front_door import FrontDoor
 from making import Maker
 from names_file import NAME, NamesFile
@@ -28,7 +28,8 @@ class Run:
     def update(self, folder, most, is_trial):
         """Makes a version from a folder and, unless it is only a trial, puts it in use. Returns the exit status."""
         targets = target_list.read(os.path.join(folder, "targets.tsv"))
-        for line in self.site.differences([target.name for target in targets], self.names_file.path_of_next(folder)):
+        for line in (*self.site.differences([target.name for target in targets], self.names_file.path_of_next(folder)),
+                     *fetching.unused(folder, [path for it in targets for path in (*it.tables, it.rules)])):
             report(line)
         return self.next_version(folder, is_trial, lambda maker: maker.make(targets, self.site.has_list),
                                  lambda _: self.library.remove_old(most), tries_all=True)
@@ -180,13 +181,16 @@ class Run:
         return KEPT if maker.kept or maker.left_out else ALL_NEW
 
     def go_back(self, ports):
-        """Serves the version that `before` names, at these ports. What fails is said, and does not stop it, nor do
-        signals."""
+        """Serves the version that `before` names, at these ports, and then at the others: a process that has ended in
+        the meantime may have started with the new version. What fails is said, and does not stop it, nor do signals."""
         interrupts.are_ignored()
         stamp = self.library.version_of("before")
         self.library.move_back(stamp)
         is_well = True
-        for port in ports if stamp else []:
+        others = [port for port in self.processes.ports if port not in ports] if ports else []
+        for port in [*ports, *others] if stamp else []:
+            if port in others and not is_well:
+                break  # if restarts fail, the other processes are left as they are
             try:
                 self.processes.restart_one(port, names_in(self.library.version(stamp)))
             except Failure as failure:

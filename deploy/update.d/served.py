@@ -1,6 +1,8 @@
-"""The tables of a version as they are served: with moving walls, with coverage to the day, and large ones in parts."""
-import os
-import coverage, holdings, parts
+"""The tables of a version as they are served: with moving walls, with coverage to the day, and large ones in parts.
+
+Run as a program it prints a file as it came, prepared and with coverage as of a day: served.py FILE YYYY-MM-DD"""
+import datetime, os, sys
+import coverage, holdings, parts, preparation
 from outcome import Failure, Refused
 from table_cells import bytes_of, cells_of
 
@@ -84,6 +86,13 @@ class Tables:
             yield part, bytes_of(header, [rows[place] for place in places])
 
 
+def prepared_table(path, day):
+    """The table of a file as it came, with its own last dates."""
+    with open(path, "rb") as file:
+        header, rows, _ = coverage.step(*cells_of(preparation.prepare([(path, file.read())]).table), day)
+    return bytes_of(header, rows)
+
+
 def contents(path):
     """The bytes of a file, or None if there is none."""
     try:
@@ -91,3 +100,10 @@ def contents(path):
             return file.read()
     except FileNotFoundError:
         return None
+
+
+if __name__ == "__main__":
+    try:
+        sys.stdout.buffer.write(prepared_table(sys.argv[1], datetime.date.fromisoformat(sys.argv[2])))
+    except Refused as refusal:
+        sys.exit("\n".join(refusal.reasons))

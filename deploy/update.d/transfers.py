@@ -5,17 +5,19 @@ import children
 
 SECONDS_TO_CONNECT = 10
 SECONDS_TO_END = 10  # for curl, after its own limit
-WRITE_FAILED, TIMED_OUT, TOO_LARGE = 23, 28, 63
+WRITE_FAILED, TIMED_OUT, NOT_TRUSTED, TOO_LARGE = 23, 28, 60, 63
+# By what curl writes out of its verification: OpenSSL's number, or 1, as before it, if only the host is another.
+CERTIFICATES = {1: "the certificate is that of another host", 10: "the certificate has expired"}
 CUT_SHORT = (18, 55, 56, 92, 95, 96)
 REASONS = {5: "the name of the proxy is unknown", 6: "the name of the host is unknown", 7: "no connection",
-           35: "TLS failed", 52: "no reply", 60: "the certificate is not trusted",
+           35: "TLS failed", 52: "no reply",
            77: "no certificates of authorities on this machine", 97: "the proxy refused the connection"}
 PASSING = {5, 6, 7, 16, 35, 52, 97, TIMED_OUT, *CUT_SHORT}  # another try may end well
 OPTIONS = ("silent", "globoff", "compressed", "disallow-username-in-url", "suppress-connect-headers", "fail",
            "user-agent = openlink-fetch", "dump-header = -", f"connect-timeout = {SECONDS_TO_CONNECT}",
-           'write-out = "\\nend %{http_code} %{size_download} %{time_connect}\\n%{redirect_url}"')
+           'write-out = "\\nend %{http_code} %{size_download} %{time_connect} %{ssl_verify_result}\\n%{redirect_url}"')
 # What curl prints: the headers of the replies, then what write-out says, which is missing if curl was killed.
-PRINTED = re.compile(r"(.*)\nend (\d+) (\d+) ([\d.]+)\n([^\n]*)", re.S)
+PRINTED = re.compile(r"(.*)\nend (\d+) (\d+) ([\d.]+) (\d+)\n([^\n]*)", re.S)
 MOST_PRINTED = 2**20  # bytes that are read of it
 
 
@@ -71,9 +73,9 @@ class Transfer:
         found = PRINTED.fullmatch(self.printed.read().decode("latin-1"))
         self.printed.close()
         self.exit = self.child.returncode if found else self.child.returncode or TIMED_OUT
-        head, status, size, connected, self.redirect = found.groups() if found else ("", 0, 0, 0, "")
+        head, status, size, connected, verified, self.redirect = found.groups() if found else ("", 0, 0, 0, 0, "")
         self.headers, self.status, self.size = headers_in(head), int(status), int(size)
-        self.is_connected = float(connected) > 0
+        self.is_connected, self.verified = float(connected) > 0, int(verified)
 
     def written(self):
         return os.path.getsize(self.body) if os.path.exists(self.body) else 0
@@ -90,6 +92,8 @@ class Transfer:
             return f"no end, after {self.size:,} bytes" if self.is_connected else "no connection"
         if self.exit in CUT_SHORT and self.status:
             return self.fault_of_length()
+        if self.exit == NOT_TRUSTED:
+            return CERTIFICATES.get(self.verified, "the certificate is not trusted")
         broke = "the connection broke" if self.exit in CUT_SHORT else f"curl: status {self.exit}"
         return REASONS.get(self.exit, broke)
 

@@ -1,0 +1,149 @@
+"""Readers who ask the front door all the time, and compare each page with the right one of a state that was allowed
+while they waited."""
+import html, http.client, json, random, re, threading, time
+from links import FULL, Request
+
+SECONDS = 30  # for a reply
+HEADING = re.compile(r'<h2>(.*?)</h2>|<ul class="actions">|<li><a href="(http[^"]*)">(.*?)</a>')
+DATES = ("1976", "1979-12", "1984-05", "1991-02-03", "2003", "2011-07", "2012-12-31", "2021", "2022-03-01", "2025",
+         "2026-07", "2026-12-15", "2027-05", "")
+BY_TITLE, BY_STRANGER = 0.1, 0.05  # shares of requests by a title, and for what nobody has
+
+
+class Allowed:
+    """The states whose pages are right, each from a time on and up to another."""
+
+    def __init__(self, state):
+        self.spans, self.lock = [[state, time.monotonic(), None]], threading.Lock()
+
+    def add(self, state):
+        with self.lock:
+            self.spans.append([state, time.monotonic(), None])
+
+    def settle(self, state):
+        """From now on this one alone."""
+        with self.lock:
+            now = time.monotonic()
+            for span in self.spans:
+                span[2] = span[2] or now
+            self.spans = [span for span in self.spans if span[2] > now - 2 * SECONDS] + [[state, now, None]]
+
+    def between(self, start, end):
+        with self.lock:
+            return [state for state, since, until in self.spans if since <= end and (until is None or until >= start)]
+
+
+def request_of(source, titles):
+    """A request for a title that was ever sold, one in ten by its name alone."""
+    title, printed, online = source.choice(titles)
+    date = source.choice(DATES)
+    chance = source.random()
+    if chance < BY_STRANGER:
+        return Request("1000-000X", date)
+    number = source.choice((printed, online))
+    volume = str(source.randrange(1, 40)) if source.random() < 0.5 else ""
+    is_named = chance < BY_STRANGER + BY_TITLE and len(number) == 9
+    return Request(number, date, volume, title if is_named else "")
+
+
+def json_links(text):
+    """The group, target, label, address and coverage of each link."""
+    data = json.loads(text)
+    if "groups" not in data:
+        raise ValueError(text)
+    return [(group["name"], link["target"], link["label"], link["url"], link.get("coverage"))
+            for group in data["groups"] for link in group["links"]]
+
+
+def page_links(text):
+    """The group, label and address of each link of a page."""
+    if "</html>" not in text:
+        raise ValueError("half a page")
+    found, group = [], None
+    for heading, address, label in HEADING.findall(text):
+        if address and group:
+            found.append((group, html.unescape(label), html.unescape(address)))
+        else:
+            group = html.unescape(heading) or None
+    return found
+
+
+def coverage_of(row):
+    """What JSON says beside the link of a row."""
+    if row is None:
+        return None
+    found = {"from": row.first, "to": row.last, "embargo": row.embargo.replace(";", ",")}
+    return {name: text for name, text in found.items() if text} or None
+
+
+def is_right(kind, reply, expected, is_settled):
+    """Whether a reply is the one for these links. Beside a link may be the coverage of another version meanwhile."""
+    status, text, location = reply
+    if kind == "/go":
+        full = [link for link in expected if link[0] == FULL]
+        if len(full) == 1:
+            return status == 302 and location == full[0][3]
+    if status != 200:
+        return False
+    if kind == "/find.json":
+        links = json_links(text)
+        return ([link[:4] for link in links] == [link[:4] for link in expected]
+                and (not is_settled or [it[4] for it in links] == [coverage_of(it[4]) for it in expected]))
+    return page_links(text) == [(group, label, address) for group, _, label, address, _ in expected]
+
+
+class Reader(threading.Thread):
+    def __init__(self, port, allowed, titles, seed, pause):
+        super().__init__(daemon=True)
+        self.port, self.allowed, self.titles, self.pause = port, allowed, titles, pause
+        self.source, self.is_told = random.Random(seed), False
+        self.replies, self.longest, self.unanswered, self.slowest = 0, 0.0, 0, 0.0
+        self.wrong, self.told = [], 0  # wrong pages, and how many of them have been reported
+        self.since = None  # the time of the first of the last requests that had no answer
+
+    def run(self):
+        while not self.is_told:
+            self.ask(request_of(self.source, self.titles))
+            time.sleep(self.pause)
+
+    def ask(self, request, kind=None):
+        kind = kind or self.source.choice(("/find.json", "/find.json", "/find", "/go"))
+        start = time.monotonic()
+        try:
+            reply = self.reply(f"{kind}?{request.query()}")
+        except (OSError, http.client.HTTPException):
+            reply = None
+        end = time.monotonic()
+        if reply is None or reply[0] == 503:
+            self.unanswered += 1
+            self.since = self.since or start
+            return
+        self.replies += 1
+        self.slowest = max(self.slowest, end - start)
+        if self.since:
+            self.longest, self.since = max(self.longest, end - self.since), None
+        self.compare(kind, request, reply, self.allowed.between(start, end))
+
+    def compare(self, kind, request, reply, states):
+        try:
+            if any(is_right(kind, reply, state.links(request), len(states) == 1) for state in states):
+                return
+        except (ValueError, LookupError) as fault:
+            reply = (*reply, repr(fault))
+        expected = [[link[:4] for link in state.links(request)] for state in states]
+        self.wrong.append(f"{kind}?{request.query()}: {str(reply)[:1500]}\n  right are: {expected}")
+
+    def reply(self, target):
+        # From an address of its own: nginx goes on counting the connections of a worker that was killed as open.
+        address = ".".join(["127", *(str(self.source.randrange(1, 255)) for _ in range(3))])
+        peer = http.client.HTTPConnection("127.0.0.1", self.port, timeout=SECONDS, source_address=(address, 0))
+        try:
+            peer.request("GET", target)
+            reply = peer.getresponse()
+            return reply.status, reply.read().decode("utf-8", "replace"), reply.headers.get("Location")
+        finally:
+            peer.close()
+
+    def end(self):
+        self.is_told = True
+        self.join()
