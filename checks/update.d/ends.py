@@ -57,7 +57,10 @@ class Run:
             self.child.wait(seconds)
         except subprocess.TimeoutExpired:
             self.child.send_signal(number)
-        return ended(self.child)
+        end = ended(self.child)
+        # What a killed run had begun to start keeps its lock for a moment.
+        wait_until(self.library.is_unlocked)
+        return end
 
 
 def lengths_of_stages(library):

@@ -1,5 +1,5 @@
 """A library in a folder of its own: its input, its processes under a small supervisor, its front door, and readers."""
-import http.client, json, os, shutil, subprocess, sys, tempfile, threading, time
+import fcntl, http.client, json, os, shutil, subprocess, sys, tempfile, threading, time
 from weeks import MENUS, QUERY, SMALL, Input
 
 HERE = os.path.dirname(os.path.abspath(__file__))
@@ -158,6 +158,15 @@ class Library:
             return None if menu is None else (week_of(menu),)
 
         return {(wait_until(lambda: reply_of(port), 5) or (None,))[0] for port in self.site.ports}
+
+    def is_unlocked(self):
+        """Whether no process has the lock."""
+        with open(self.path("lock"), "a") as file:
+            try:
+                fcntl.flock(file, fcntl.LOCK_EX | fcntl.LOCK_NB)
+                return True
+            except BlockingIOError:
+                return False
 
     def left_behind(self):
         """Names in the library that only a run has, and processes of a run that has ended. These get a signal as it
