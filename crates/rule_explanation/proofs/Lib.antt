@@ -8,3 +8,4 @@ pub mod LastTried
 pub mod LinkLemmas
 pub mod WholeText
 pub mod RowLemmas
+mod CellLemmas

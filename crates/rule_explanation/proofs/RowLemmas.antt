@@ -7,8 +7,13 @@ use Rattle.environment_model.specs.Environment.{Environment, is_among}
 use Rattle.environment_model.specs.Lists.{is_list, list_names}
 use Rattle.kev_read.specs.Pairs.{KeyValue}
 use Rattle.kev_read.specs.Filling.{added, filled}
+use Rattle.kbart_rows.specs.Cells.{Holdings}
 use Rattle.rule_parser.specs.Names.{each_once}
+use Rattle.rule_parser.specs.Rules.{RuleSet}
 use Rattle.rule_parser.proofs.NameLemmas.{among_each_once}
+use Rattle.rule_explanation.specs.Explanation.{is_detailed, row_text, tried_row_text}
+use Rattle.rule_explanation.specs.Rows.{environment_of_row, gives_web_link}
+use Rattle.rule_explanation.specs.Private.Seen.{RulesRequestValue}
 
 pub row_lines : (row : ℕ) (start out lines : Text) → start ≡ codes "row " ++ (decimal row ++ codes "\n") → out ≡ start ++ lines
     → out ≡ codes "row " ++ (decimal row ++ (codes "\n" ++ lines))
@@ -36,3 +41,17 @@ pub same_environment : (names lists : List Text) (env : Environment) (pairs : Li
     → filled names env pairs ≡ filled lists env pairs
 same_environment names lists env pairs is =
     ap (λ ns. filled ns env pairs) is ∙ same_filled (each_once (list_names lists)) lists (same_list lists) env pairs
+
+-- ---- a row of a request at a target
+
+pub text_of_row : (r : RulesRequestValue) (rules : RuleSet) (table : Holdings) (pairs : List KeyValue) (place row : ℕ) (text : Text)
+    → r ≡ record { rules = rules; table = table; pairs = pairs }
+    → text ≡ row_text r.rules (environment_of_row r.rules r.table r.pairs row) (is_detailed place) row
+    → text ≡ tried_row_text rules table pairs (place, row)
+text_of_row r rules table pairs place row text same is =
+    is ∙ ap (λ (v : RulesRequestValue). row_text v.rules (environment_of_row v.rules v.table v.pairs row) (is_detailed place) row) same
+
+pub web_of_row : (r : RulesRequestValue) (rules : RuleSet) (table : Holdings) (pairs : List KeyValue) (row : ℕ) (found : Bool)
+    → r ≡ record { rules = rules; table = table; pairs = pairs } → found ≡ gives_web_link r.rules r.table r.pairs row
+    → found ≡ gives_web_link rules table pairs row
+web_of_row r rules table pairs row found same is = is ∙ ap (λ (v : RulesRequestValue). gives_web_link v.rules v.table v.pairs row) same

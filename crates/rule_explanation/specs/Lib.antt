@@ -1,3 +1,4 @@
 pub mod Rows
 pub mod Failing
 pub mod Explanation
+pub mod Private

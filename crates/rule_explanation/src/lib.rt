@@ -12,7 +12,9 @@ mod failing;
 mod holding;
 pub mod laws;
 mod names;
+mod row_view;
 mod rows;
+mod rules_request;
 
 pub use error::ExplainError;
 pub use explaining::{MAX_DETAILED, explain};

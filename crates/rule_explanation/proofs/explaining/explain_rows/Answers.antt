@@ -4,6 +4,7 @@ use Rattle.kbart_rows.specs.Identifiers.{first_from, ids_of, matching_rows}
 use Rattle.rule_explanation.specs.Explanation.{tried_row_text}
 use Rattle.rule_explanation.specs.Rows.{gives_web_link}
 use Rattle.kbart_rows.proofs.RowOrder.{first_is_from, matching_rows_rise}
+use Rattle.rule_explanation.proofs.RowLemmas.{text_of_row, web_of_row}
 use Rattle.rule_explanation.proofs.LeftRows.{last_row, next_row, no_row, row_in_part, rows_in_part, started}
 use Rattle.rule_explanation.proofs.WholeText.{none_there, on_error}
 use Rattle.rule_explanation.proofs.explaining.explain_rows.Goals as goal
@@ -32,10 +33,11 @@ returns-in_err-write-clause-in_part g c =
     let text = tried_row_text c.args.rules.now c.args.table.now pairs in
     let test = gives_web_link c.args.rules.now c.args.table.now pairs in
     let first = ap (λ ids. first_from c.loop-row.from (matching_rows c.args.table.now ids)) (sym c.requires) ∙ sym c.in-Some.ensures.first in
+    let line = text_of_row _ _ _ _ c.loop-row.place _ _ c.in_ok-request.ensures c.in_ok-explained.ensures.text in
     on_error c.from_residual-in_err-write.result _
     (row_in_part g.W.Write.contents text test rows c.loop-row.place c.loop-row.from c.in-Some.row c.args.output.now c.loop-row.output c.write.new.output
     c.as_str.result.now c.loop-row.invariant.written (matching_rows_rise c.args.table.now (ids_of pairs)) first
-    (c.as_str.ensures.value ∙ c.in_ok-explained.ensures.text) c.in_err-write.ensures.in_part)
+    (c.as_str.ensures.value ∙ line) c.in_err-write.ensures.in_part)
 
 pub returns-then-explained-clause-found : goal.returns-then-explained-clause-found
 returns-then-explained-clause-found g c =
@@ -44,10 +46,12 @@ returns-then-explained-clause-found g c =
     let text = tried_row_text c.args.rules.now c.args.table.now pairs in
     let test = gives_web_link c.args.rules.now c.args.table.now pairs in
     let first = ap (λ ids. first_from c.loop-row.from (matching_rows c.args.table.now ids)) (sym c.requires) ∙ sym c.in-Some.ensures.first in
+    let line = text_of_row _ _ _ _ c.loop-row.place _ _ c.in_ok-request.ensures c.in_ok-explained.ensures.text in
+    let web = web_of_row _ _ _ _ _ _ c.in_ok-request.ensures c.in_ok-explained.ensures.web in
     sym
     (last_row g.W.Write.contents text test rows c.loop-row.place c.loop-row.from c.in-Some.row c.args.output.now c.loop-row.output c.write.new.output
     c.as_str.result.now c.in_ok-explained.explained.has_web_link c.loop-row.invariant.written (matching_rows_rise c.args.table.now (ids_of pairs)) first
-    (c.as_str.ensures.value ∙ c.in_ok-explained.ensures.text) c.in_ok-explained.ensures.web c.if-explained.true c.in_ok-write.ensures.ok).1
+    (c.as_str.ensures.value ∙ line) web c.if-explained.true c.in_ok-write.ensures.ok).1
 
 pub returns-then-explained-clause-printed : goal.returns-then-explained-clause-printed
 returns-then-explained-clause-printed g c =
@@ -56,9 +60,11 @@ returns-then-explained-clause-printed g c =
     let text = tried_row_text c.args.rules.now c.args.table.now pairs in
     let test = gives_web_link c.args.rules.now c.args.table.now pairs in
     let first = ap (λ ids. first_from c.loop-row.from (matching_rows c.args.table.now ids)) (sym c.requires) ∙ sym c.in-Some.ensures.first in
+    let line = text_of_row _ _ _ _ c.loop-row.place _ _ c.in_ok-request.ensures c.in_ok-explained.ensures.text in
+    let web = web_of_row _ _ _ _ _ _ c.in_ok-request.ensures c.in_ok-explained.ensures.web in
     (last_row g.W.Write.contents text test rows c.loop-row.place c.loop-row.from c.in-Some.row c.args.output.now c.loop-row.output c.write.new.output
     c.as_str.result.now c.in_ok-explained.explained.has_web_link c.loop-row.invariant.written (matching_rows_rise c.args.table.now (ids_of pairs)) first
-    (c.as_str.ensures.value ∙ c.in_ok-explained.ensures.text) c.in_ok-explained.ensures.web c.if-explained.true c.in_ok-write.ensures.ok).0
+    (c.as_str.ensures.value ∙ line) web c.if-explained.true c.in_ok-write.ensures.ok).0
 
 pub overflow_add-place : goal.overflow_add-place
 overflow_add-place g c =
@@ -82,12 +88,14 @@ loop-row-preserved g c =
     let test = gives_web_link c.args.rules.now c.args.table.now pairs in
     let first = ap (λ ids. first_from c.loop-row.from (matching_rows c.args.table.now ids)) (sym c.requires) ∙ sym c.in-Some.ensures.first in
     let above = first_is_from c.loop-row.from c.in-Some.row rows first in
+    let line = text_of_row _ _ _ _ c.loop-row.place _ _ c.in_ok-request.ensures c.in_ok-explained.ensures.text in
+    let web = web_of_row _ _ _ _ _ _ c.in_ok-request.ensures c.in_ok-explained.ensures.web in
     record {
       below = omega (arith, above, c.loop-row.invariant.below);
       written =
           next_row g.W.Write.contents text test rows c.loop-row.place c.loop-row.from c.in-Some.row c.args.output.now c.loop-row.output c.write.new.output
           c.as_str.result.now c.in_ok-explained.explained.has_web_link c.loop-row.invariant.written (matching_rows_rise c.args.table.now (ids_of pairs))
-          first (c.as_str.ensures.value ∙ c.in_ok-explained.ensures.text) c.in_ok-explained.ensures.web c.if-explained.false c.in_ok-write.ensures.ok;
+          first (c.as_str.ensures.value ∙ line) web c.if-explained.false c.in_ok-write.ensures.ok;
     }
 
 pub returns-clause-found : goal.returns-clause-found

@@ -4,15 +4,14 @@ use Rattle.std.specs.Option.{option_map}
 use Rattle.uri_template.specs.Expansion.{expansion}
 use Rattle.rule_parser.specs.declared.rule.Rule.{Rule}
 use Rattle.rule_parser.specs.Meaning.{guards_hold}
-use Rattle.rule_parser.specs.View.{seen_by}
 use Rattle.rule_explanation.specs.Explanation.{holding_lines}
 use Rattle.rule_explanation.specs.Rows.{is_web}
 use Rattle.rule_explanation.proofs.PlaceLemmas.{found_first, found_plain, none_numbered, none_plain}
 use Rattle.rule_explanation.proofs.holding.push_holding_rule.Goals as goal
 
 pub returns-in-Some-clause-bytes : goal.returns-in-Some-clause-bytes
-returns-in-Some-clause-bytes c =
-    let look = seen_by c.args.view.now in
+returns-in-Some-clause-bytes g c =
+    let look = g.V.Variables.look c.args.variables.now in
     let rules = c.args.rules.now in
     let found = found_first (guards_hold look) rules c.in-Some.i c.index-rules-i.result (sym c.in-Some.ensures) c.index-rules-i.is in
     let P : Option (ℕ × Rule) → Type 0 =
@@ -20,8 +19,8 @@ returns-in-Some-clause-bytes c =
     subst P (sym found) c.push_link.ensures.bytes
 
 pub returns-in-Some-clause-web : goal.returns-in-Some-clause-web
-returns-in-Some-clause-web c =
-    let look = seen_by c.args.view.now in
+returns-in-Some-clause-web g c =
+    let look = g.V.Variables.look c.args.variables.now in
     let rules = c.args.rules.now in
     let found = found_plain (guards_hold look) rules c.in-Some.i c.index-rules-i.result (sym c.in-Some.ensures) c.index-rules-i.is in
     let P : Option Rule → Type 0 =
@@ -29,12 +28,12 @@ returns-in-Some-clause-web c =
     subst P (sym found) c.push_link.ensures.web
 
 pub returns-in_ok-push_str-in-None-clause-bytes : goal.returns-in_ok-push_str-in-None-clause-bytes
-returns-in_ok-push_str-in-None-clause-bytes c =
-    let look = seen_by c.args.view.now in
+returns-in_ok-push_str-in-None-clause-bytes g c =
+    let look = g.V.Variables.look c.args.variables.now in
     let P : Option (ℕ × Rule) → Type 0 = λ o. string_bytes c.push_str.new.self ≡ string_bytes c.args.out.now ++ holding_lines look o in
     subst P (sym (none_numbered (guards_hold look) 1 c.args.rules.now (sym c.in-None.ensures))) c.in_ok-push_str-in-None.ensures.bytes
 
 pub returns-in_ok-push_str-in-None-clause-web : goal.returns-in_ok-push_str-in-None-clause-web
-returns-in_ok-push_str-in-None-clause-web c =
-    let look = seen_by c.args.view.now in
+returns-in_ok-push_str-in-None-clause-web g c =
+    let look = g.V.Variables.look c.args.variables.now in
     rw (none_plain (guards_hold look) c.args.rules.now (sym c.in-None.ensures)) refl

@@ -1,0 +1,74 @@
+//! A request at a target.
+
+ghost use Rattle.std.specs.Prelude.{◌≡◌, ◌<◌, IfOk, length};
+
+use crate::row_view::RowView;
+use kbart_rows::Table;
+use kev_read::Request;
+use rule_parser::Rules;
+use std::alloc::{AllocError, Global};
+use std::marker::Model;
+use target_vars::Env;
+
+/// A request, and the rules and the table of a target. Contracts see the three.
+#[derive(Drop)]
+pub(crate) struct RulesRequest<'a> {
+    pub(crate) rules: &'a Rules,
+    pub(crate) table: &'a Table,
+    request: &'a Request,
+    // The values of the request without a row, with the lists of the rules.
+    pub(crate) values: Env,
+}
+
+impl<'a> Model for RulesRequest<'a> {
+    ghost use Rattle.std.specs.Prelude.{◌≡◌};
+    ghost use Rattle.row_laws.specs.Shadowing.{requested};
+    ghost use Rattle.rule_explanation.specs.Private.Seen.{RulesRequestValue};
+
+    ghost Value = { RulesRequestValue };
+
+    ghost view = { λ r. record { rules = r.rules.now; table = r.table.now; pairs = r.request.now.pairs } };
+
+    ghost invariant = { λ r. r.values.entries ≡ requested r.rules.now.lists r.request.now.pairs };
+}
+
+impl<'a> RulesRequest<'a> {
+    /// The request at the target with these rules and this table.
+    ///
+    /// `AllocError` if an allocation failed.
+    pub(crate) fn new(
+        alloc: Global,
+        rules: &'a Rules,
+        table: &'a Table,
+        request: &'a Request,
+    ) -> Result<RulesRequest<'a>, AllocError>
+        ensures { IfOk result
+            (λ r. r ≡ record { rules = rules.now; table = table.now; pairs = request.now.pairs }) }
+    {
+        let lists = rules.lists(alloc)?;
+        let mut values = Env::new(alloc);
+        match request.fill(&lists, &mut values) {
+            Ok(()) => Ok(RulesRequest {
+                rules,
+                table,
+                request,
+                values,
+            }),
+            Err(_) => Err(AllocError),
+        }
+    }
+
+    /// A row of the table, counted from 0, over the request.
+    ///
+    /// `AllocError` if an allocation failed.
+    pub(crate) fn row<'r>(
+        &'r self,
+        alloc: Global,
+        row: usize,
+    ) -> Result<RowView<'r, 'a>, AllocError>
+        requires { row < length self.now.table.rows }
+        ensures { IfOk result (λ view. view ≡ record { request = self.now; row = row }) }
+    {
+        RowView::new(alloc, self, row)
+    }
+}
