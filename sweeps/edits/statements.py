@@ -1,5 +1,6 @@
 """What a crate states to the crates above it: its definitions, its public items, and their contracts."""
 import glob
+import os
 import re
 
 from stored import text_of
@@ -7,17 +8,33 @@ from stored import text_of
 FUNCTION = re.compile(r"( *)(pub |pub\(crate\) )?(?:ghost )?(?:const )?(?:unsafe )?fn \w+")
 PRIVATE_FIELD = re.compile(r"(?:pub\(crate\) )?\w+: ")
 BLOCK = re.compile(r"(?:pub )?(?:unsafe )?(impl|trait|struct)\b")
+PRIVATE_TYPE = re.compile(r"^(?:pub\(crate\) )?(?:struct|enum|trait) (\w+)", re.M)
+# The rest of an item, up to the line that closes it.
+ITEM = r"(?:[^\n;{]*;\n|[^{;]*\{\n(?:[^}\n].*\n|\n)*\}\n|[^{;]*\{\}\n)"
 PRIVATE_VALUE = re.compile(r" *(?:pub\(crate\) )?(?:static|const) \w+:")
 
 
 def statements(crate):
-    """Returns the statements of a crate as one text, without bodies, comments, imports, and private functions, fields
-    and constants."""
-    texts = [text_of(path) for path in sorted(glob.glob(f"crates/{crate}/specs/**/*.antt", recursive=True))]
-    for path in sorted(glob.glob(f"crates/{crate}/src/**/*.rt", recursive=True)):
-        lines = [*stated(text_of(path).split("\n"))]
+    """Returns the statements of a crate as one text, without bodies, comments, imports, and what is private."""
+    definitions = [path for path in paths_in(crate, "specs", ".antt") if "/specs/Private" not in path]
+    texts = [text_of(path).replace("pub mod Private\n", "") for path in definitions]
+    for path in paths_in(crate, "src", ".rt"):
+        lines = [*stated(public_items(text_of(path)).split("\n"))]
         texts += [f"{path}\n", *lines] * bool(lines)
     return "\n".join(texts)
+
+
+def paths_in(crate, part, ending):
+    return sorted(glob.glob(os.path.join("crates", crate, part, "**", f"*{ending}"), recursive=True))
+
+
+def public_items(text):
+    """Returns a source without its private types and their `impl` blocks."""
+    names = PRIVATE_TYPE.findall(text)
+    for name in names:
+        text = re.sub(rf"^(?:#\[.*\n)*(?:pub\(crate\) )?(?:struct|enum|trait) {name}\b{ITEM}", "", text, flags=re.M)
+        text = re.sub(rf"^impl(?:<[^{{]*?>)? (?:[^{{]*? for )?{name}\b{ITEM}", "", text, flags=re.M)
+    return text
 
 
 def stated(lines):
