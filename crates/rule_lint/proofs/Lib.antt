@@ -5,3 +5,4 @@ pub mod AddsLemmas
 pub mod NameSteps
 pub mod HostSteps
 pub mod ColumnSteps
+pub mod StartLemmas

@@ -12,6 +12,7 @@ mod place;
 mod reach;
 mod resemblance;
 mod review;
+mod starts;
 mod target;
 mod template_names;
 mod varchars;

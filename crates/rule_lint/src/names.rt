@@ -13,6 +13,7 @@ ghost use Rattle.rule_lint.specs.Names.{is_name as is_template_name, resembles, 
 ghost use Rattle.rule_lint.specs.Host.{is_rows_own as is_of_rows};
 
 use crate::resemblance::first_like;
+use crate::starts::start_of;
 use crate::target::Target;
 use crate::varchars::is_template_name;
 use kbart_rows::{RowCursor, Table};
@@ -79,7 +80,9 @@ impl<'a> Target<'a> {
         ensures { option_copied result
             ≡ find (resembles name.now) (filter is_template_name self.now.table.now.header) }
     {
-        first_like(&self.template_columns, name)
+        let columns = self.template_columns.as_slice();
+        let start = start_of(&self.starts, name.as_bytes()).min(columns.len());
+        first_like(&columns[start..], name)
     }
 
     fn list_like(&self, name: &str) -> Option<&'a str>

@@ -7,6 +7,7 @@ use crate::check::check_rules;
 use crate::columns::columns_of;
 use crate::lines::push_rule_count;
 use crate::names::template_columns;
+use crate::starts::starts_of;
 use crate::target::Target;
 use kbart_rows::Table;
 use printed_text::Findings;
@@ -22,12 +23,14 @@ pub fn lint(alloc: Global, rules: &Rules, table: &Table) -> Result<Findings, All
     ensures text { IfOk result (λ findings. string_bytes findings.text ≡ lint_text rules.now table.now) }
     ensures warned { IfOk result (λ findings. findings.warned ≡ has_warning rules.now table.now) }
 {
+    let template_columns = template_columns(alloc, table)?;
     let target = Target {
         rules,
         table,
         lists: rules.lists(alloc)?,
         columns: columns_of(alloc, table)?,
-        template_columns: template_columns(alloc, table)?,
+        starts: starts_of(alloc, &template_columns)?,
+        template_columns,
     };
     let mut findings = Findings {
         text: String::new(alloc),

@@ -1,0 +1,6 @@
+use Rattle.std.proofs.Common.{◌≡◌, take}
+use Rattle.rule_lint.specs.Private.Starts.{hash_of, lower_case}
+use Rattle.rule_lint.proofs.starts.hash_in_lower_case.Given as goal
+
+abbrev pub invariant-loop-byte : goal.invariant-loop-byte
+invariant-loop-byte l = l.hash ≡ hash_of (lower_case (take l.byte-index l.name))
