@@ -2,7 +2,8 @@
 # What `openlink lint` costs. Compares its processor time, for a rule file of almost 65,536 bytes and a table of almost
 # 16 MiB, with that of `openlink inspect` on the table. Fails if it takes more than four times as long. The first rules
 # have hosts made of cells, in a table of 200,000 rows; the second are links of many slashes that are optional; the
-# third are links of many expressions, in a table of 9,000 columns. It needs the built program, and is not part of the
+# third are links of many expressions, in a table of 9,000 columns; and the last two have links of names that nothing
+# defines, which are longer than the names of columns, or as long. It needs the built program, and is not part of the
 # gate.
 set -euo pipefail
 cd "$(dirname "$0")/.."
@@ -61,9 +62,11 @@ link https://{+host}{title_url}/{+title_url}
 ' 65536 >"$scratch/hosts.rules"
 links '{c#}' '' >"$scratch/names.rules"
 links '{/x}' 'foo' >"$scratch/slashes.rules"
+links '{absent#}' '' >"$scratch/absent.rules"
+links '{yz#}' '' >"$scratch/alike.rules"
 failed=0
 echo "seconds of processor time: inspecting, lint"
-for pair in hosts:rows slashes:rows names:columns; do
+for pair in hosts:rows slashes:rows names:columns absent:columns alike:columns; do
   rules=$scratch/${pair%:*}.rules
   table=$scratch/${pair#*:}.tsv
   inspected=$(seconds "$program" inspect "$table")
