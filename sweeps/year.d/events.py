@@ -3,7 +3,7 @@ import contextlib, datetime, os, random, signal, subprocess, threading, time
 from children import is_open
 from links import State
 from patience import wait_until
-from slips import KEPT, Slip
+from slips import KEPT, USED, Slip
 
 
 def waits(year, name):
@@ -126,16 +126,19 @@ class Writer(threading.Thread):
 
 
 def update_beside_a_writer(year):
-    """A file that is being written is not used."""
+    """A file that is being written is not used. Once it is written, a later run of the week uses it."""
     names = set(year.mail.slips) | year.busy
     provider = year.source.choice([it for it in year.collection.providers if it.name not in names])
     year.busy.add(provider.name)
     path = year.path(provider.file)
-    year.mail.slips[provider.name] = Slip(KEPT, (f"  {path}: it changed while it was read",))
+    says = (f"  {path}: it changed while it was read",)
+    year.mail.slips[provider.name] = Slip(KEPT, says)
     data = year.machine.input.read(provider.file)
     with Writer(path, data):
         year.update()
     year.machine.input.write(provider.file, data)
+    year.mail.slips[provider.name] = Slip(USED, says)
+    year.mail.kept_once.add(provider.name)
 
 
 def unusable(year, slip):
