@@ -170,7 +170,8 @@ def back_and_forward(year):
 def move_walls(year):
     """Three days later."""
     year.machine.day += datetime.timedelta(3)
-    state = State(year.machine.day, year.state.providers, year.state.unnamed)
+    name = f"{year.state.name} with the walls of {year.machine.day}"
+    state = State(name, year.machine.day, year.state.providers, year.state.unnamed)
     year.allowed.add(state)
     year.run("walls", year.machine.begin("--walls"), (0,))
     year.settle(state)

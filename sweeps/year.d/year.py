@@ -15,7 +15,7 @@ KEY = "s3cr3t/+&token"
 READERS, PAUSE, PROCESSES = 3, 0.04, 3
 ASKED_AFTER = 50  # requests after a run, when only one page is right
 SECONDS = 8  # for a file
-MOST_SHOWN = 5  # wrong pages
+MOST_SHOWN = 20  # wrong pages
 
 
 class Year:
@@ -109,7 +109,7 @@ class Year:
             if not slip or slip.outcome != slips.NOT_FETCHED:
                 self.meant[name] = slip.rows if slip and slip.rows is not None else provider.rows
             held[name] = Held(self.meant[name], provider.rules, provider.edition, provider.label)
-        return State(self.machine.day, held, self.unnamed)
+        return State(f"the files of week {self.number}", self.machine.day, held, self.unnamed)
 
     def settle(self, state):
         """From now on only this state's pages are right."""
