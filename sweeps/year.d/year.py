@@ -112,7 +112,11 @@ class Year:
         return State(f"the files of week {self.number}", self.machine.day, held, self.unnamed)
 
     def settle(self, state):
-        """From now on only this state's pages are right."""
+        """From now on only this state's pages are right: nginx has its targets.json too."""
+        start = time.monotonic()
+        if not self.machine.wait_for_nginx():
+            self.fault("nginx has not ended its workers after a reload")
+        self.peaks["reload"] = max(self.peaks["reload"], time.monotonic() - start)
         self.state = state
         self.states[self.machine.current()] = state
         self.allowed.settle(state)
