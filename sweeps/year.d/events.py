@@ -125,13 +125,17 @@ class Writer(threading.Thread):
         self.join()
 
 
+NO_TABLE_IN_PART = ("gzip", "zip", "UTF-16")  # forms
+
+
 def update_beside_a_writer(year):
-    """A file that is being written is not used. Once it is written, a later run of the week uses it."""
+    """A file that is being written is not used. Once it is written, a later run of the week uses it. A part of some
+    forms is no table, which the mail says instead if no line is written between the reading and that."""
     names = set(year.mail.slips) | year.busy
     provider = year.source.choice([it for it in year.collection.providers if it.name not in names])
     year.busy.add(provider.name)
     path = year.path(provider.file)
-    says = (f"  {path}: it changed while it was read",)
+    says = () if provider.form in NO_TABLE_IN_PART else (f"  {path}: it changed while it was read",)
     year.mail.slips[provider.name] = Slip(KEPT, says)
     data = year.machine.input.read(provider.file)
     with Writer(path, data):
