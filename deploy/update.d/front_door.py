@@ -38,6 +38,8 @@ DOOR = """    upstream door{port} {{
         location /index/ {{ internal; root "{version}"; try_files $uri =204; }}
         location = /_menu {{ internal; proxy_pass http://door{port}/openurl.txt; }}
         location = /_report {{ internal; proxy_pass http://door{port}/report; }}
+        location = /_menu_there {{ internal; proxy_pass http://$openlink_process/openurl.txt$is_args$args; }}
+        location = /_report_there {{ internal; proxy_pass http://$openlink_process/report$is_args$args; }}
     }}
 """
 
