@@ -82,7 +82,7 @@ class Balancer:
         """The state of each machine for readers."""
         return states_of(f"{self.folder}/admin.sock", "machines")
 
-    def comes_to(self, **wanted):
+    def wait_for(self, **wanted):
         """The states of the machines, once they are these or that takes too long."""
         wait_until(lambda: self.states() == wanted, 10)
         return self.states()
@@ -108,27 +108,27 @@ def test_states(one, two):
     """A machine that missed a delivery, one that is drained, and one without processes get no readers."""
     balancer = Balancer([one, two])
     try:
-        expect("both", balancer.comes_to(one="UP", two="UP"), {"one": "UP", "two": "UP"})
+        expect("both", balancer.wait_for(one="UP", two="UP"), {"one": "UP", "two": "UP"})
         named = "20261121T000000Z"
         for machine in (one, two):
             machine.write("delivery", f"{named}\n")
-        expect("both have it", balancer.comes_to(one="UP", two="UP"), {"one": "UP", "two": "UP"})
+        expect("both have it", balancer.wait_for(one="UP", two="UP"), {"one": "UP", "two": "UP"})
         one.write("delivery", "20990101T000000Z\n")
-        expect("one missed it", balancer.comes_to(one="UP", two="DOWN"), {"one": "UP", "two": "DOWN"})
+        expect("one missed it", balancer.wait_for(one="UP", two="DOWN"), {"one": "UP", "two": "DOWN"})
         before = len(addresses_in(two))
         expect("readers", {balancer.get() for _ in range(8)}, {200})
         expect("none is sent to it", len(addresses_in(two)), before)
         one.site.nginx.terminate()
         one.site.nginx.wait()
-        expect("the maker is down: the name counts on", balancer.comes_to(one="DOWN", two="DOWN"),
+        expect("the maker is down: the name counts on", balancer.wait_for(one="DOWN", two="DOWN"),
                {"one": "DOWN", "two": "DOWN"})
         one.site.start_nginx()
         two.write("delivery", "20990101T000000Z\n")
-        expect("it has it", balancer.comes_to(one="UP", two="UP"), {"one": "UP", "two": "UP"})
+        expect("it has it", balancer.wait_for(one="UP", two="UP"), {"one": "UP", "two": "UP"})
         two.write("drain", "")
-        expect("drained", balancer.comes_to(one="UP", two="NOLB"), {"one": "UP", "two": "NOLB"})
+        expect("drained", balancer.wait_for(one="UP", two="NOLB"), {"one": "UP", "two": "NOLB"})
         one.write("drain", "")
-        expect("both are drained", balancer.comes_to(one="NOLB", two="NOLB"), {"one": "NOLB", "two": "NOLB"})
+        expect("both are drained", balancer.wait_for(one="NOLB", two="NOLB"), {"one": "NOLB", "two": "NOLB"})
         expect("a drained machine is better than none", bool(wait_until(lambda: balancer.get() == 200, 5)))
         for machine in (one, two):
             machine.remove("drain")
@@ -141,7 +141,7 @@ def test_states(one, two):
 
 def test_addresses(balancer, one, two):
     """The reader's address, whatever the reader sends."""
-    expect("both again", balancer.comes_to(one="UP", two="UP"), {"one": "UP", "two": "UP"})
+    expect("both again", balancer.wait_for(one="UP", two="UP"), {"one": "UP", "two": "UP"})
     before = [len(addresses_in(machine)) for machine in (one, two)]
     expect("a reader", balancer.get("127.0.0.77", {"X-Forwarded-For": "192.0.2.99"}), 200)
     places = list(zip((one, two), before))

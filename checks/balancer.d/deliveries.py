@@ -20,12 +20,12 @@ def test_deliveries(one, two):
     expect(f"the first delivery: {printed}", (status, two.current(), two.health()[2]), (0, first, one.delivery()))
     expect_lines("the first delivery", printed, f"other: {first} is in use",
                  f"delivery {one.delivery()}: this machine, other")
-    asked = two.aside("asked")
-    os.unlink(asked)
+    statuses = two.aside("statuses")
+    os.unlink(statuses)
     one.input.deliver("B")
     status, printed = one.run_to(two)
     expect(f"a week: {printed}", (status, weeks(one), weeks(two)), (0, {"B"}, {"B"}))
-    with open(asked) as file:
+    with open(statuses) as file:
         expect("the other has no readers while its processes restart", file.read().split(), ["404"] * 2)
     expect("and then it has", (two.health(one.delivery())[0], two.current()), (200, one.current()))
     expect("its probes", read(two, "probes.tsv"), read(one, "probes.tsv"))
@@ -48,8 +48,14 @@ def test_back(one, two):
     status, printed = one.run_to(two, "--back")
     expect(f"back: {printed}", (status, one.current(), two.current()), (0, older, older))
     expect("both serve it", (weeks(one), weeks(two)), ({"A"}, {"A"}))
-    status, printed = one.run_to(two)
-    expect(f"forward: {printed}", (status, two.current(), weeks(two)), (0, one.current(), {"B"}))
+    # A probe for files that are not yet in use is not sent.
+    expect("forward", one.run()[0], 0)
+    before = one.input.read("probes.tsv")
+    one.input.write("probes.tsv", before + b"issn=2901-0012&volume=12\tnobody\n")
+    status, printed = one.run_to(two, "--send")
+    expect(f"and sent: {printed}", (status, two.current(), weeks(two)), (0, one.current(), {"B"}))
+    expect("the probe", "nobody" in read(two, "probes.tsv"), False)
+    one.input.write("probes.tsv", before)
 
 
 def test_cut(one, two):
@@ -78,10 +84,12 @@ def test_probes(one, two):
     """A version with which the probes do not hold there is not used there."""
     old = two.current()
     two.edit_names(*HIDDEN)
+    os.unlink(two.aside("statuses"))
     one.input.deliver("B")
     status, printed = one.run_to(two)
     expect(f"probes: {printed}", (status, weeks(one), weeks(two), two.current()), (1, {"B"}, {"A"}, old))
     expect("why", "probes differ with the new version" in printed, True)
+    expect("none of its processes was restarted", os.path.exists(two.aside("statuses")), False)
     expect("it says so", (two.health(one.delivery())[0], two.left_over()), (503, []))
     two.edit_names(*reversed(HIDDEN))
     status, printed = one.run_to(two, "--send")
@@ -91,10 +99,10 @@ def test_probes(one, two):
 def test_killed(one, two):
     """A run that is killed on the other machine while it has no readers: the next one goes back first."""
     open(two.aside("stuck"), "w").close()
-    os.unlink(two.aside("asked"))
+    os.unlink(two.aside("statuses"))
     one.input.deliver("A")
     child = one.begin(*one.words_to(two))
-    wait_until(lambda: os.path.exists(two.aside("asked")), 60)
+    wait_until(lambda: os.path.exists(two.aside("statuses")), 60)
     expect("it is drained", two.health()[0], 404)
     for pid in runs_of(two):
         os.kill(pid, signal.SIGKILL)

@@ -11,18 +11,18 @@ class Visitor(threading.Thread):
     def __init__(self, number, member, address, balancer, pause):
         super().__init__(daemon=True)
         self.member, self.address, self.balancer, self.pause = member, address, balancer, pause
-        self.source, self.is_told = random.Random(number), False
+        self.source, self.is_over = random.Random(number), False
         self.replies, self.wrong, self.strange = 0, [], []
         self.faults, self.since = [], None  # when each began and ended, and why it began
         self.seconds = []
 
     def run(self):
-        while not self.is_told:
+        while not self.is_over:
             self.ask()
             time.sleep(self.pause)
 
     def end(self):
-        self.is_told = True
+        self.is_over = True
         if self.is_alive():
             self.join()
 
@@ -76,7 +76,7 @@ class Visitors:
     def __init__(self, members, addresses, balancer, pause):
         self.all = [Visitor(number, members[number % len(members)], address, balancer, pause)
                     for number, address in enumerate(addresses)]
-        self.begun, self.told = 0, {}
+        self.begun, self.before = 0, {}
         for it in self.all:
             it.start()
 
@@ -86,14 +86,14 @@ class Visitors:
 
     def begin(self):
         """Begins a trial."""
-        self.begun, self.told = time.monotonic(), self.counts()
+        self.begun, self.before = time.monotonic(), self.counts()
         for it in self.all:
             it.seconds.clear()
 
     def met(self):
         """What they met since then: the numbers, the faults with their length, and the slowest reply."""
         now = time.monotonic()
-        found = {name: count - self.told[name] for name, count in self.counts().items()}
+        found = {name: count - self.before[name] for name, count in self.counts().items()}
         faults = [(end - start, why) for it in self.all for start, end, why in list(it.faults) if end >= self.begun]
         faults += [(now - it.since[0], it.since[1]) for it in self.all if it.since]
         seconds = sorted(time_ for it in self.all for time_ in list(it.seconds))
@@ -105,6 +105,6 @@ class Visitors:
 
     def end(self):
         for it in self.all:
-            it.is_told = True
+            it.is_over = True
         for it in self.all:
             it.end()
