@@ -19,7 +19,7 @@ sees (deploy/nginx/health.js), and get what they miss with the next delivery or 
 import datetime, fcntl, os, shlex, shutil, signal, subprocess, time
 import children, interrupts, same_files
 from front_door import FrontDoor, Site
-from libraries import SITE, Libraries
+from libraries import SHARED, SITE, Libraries
 from library import STAMP, VERSION, Library, sync
 from outcome import ALL_NEW, KEPT, Failure
 from probing import Probes, load_probe
@@ -147,7 +147,8 @@ class Machine:
             self.copy(f"{held.input}/", f"{self.place(held.name)}/input/", "--exclude=.fetch")
 
     def bring(self, lacking):
-        """Brings the versions that it lacks, while it has no readers. A Failure says what it says."""
+        """Brings the versions that it lacks, while it has no readers, and the files that libraries share. A Failure says
+        what it says."""
         for held in lacking:
             self.send(held)
         self.in_folder(DRAIN)
@@ -159,6 +160,8 @@ class Machine:
             except Failure as failure:
                 faults.append(str(failure))
         self.in_folder(END_DRAIN)
+        if os.path.isdir(self.place(SHARED)):
+            self.copy(f"{self.place(SHARED)}/", f"{self.place(SHARED)}/", "--exclude=.fetch")
         if faults:
             raise Failure("\n".join(faults))
 
