@@ -1,13 +1,13 @@
 """What a library of several has beside its input and versions: its site, its logs, and the units of its processes."""
 import glob, os, re, shutil
 import children
-from libraries import LOCAL, SITE
+from libraries import LOCAL, SITE, is_name
 from outcome import Failure
 
 TEMPLATES = os.path.join(os.path.dirname(os.path.dirname(os.path.realpath(__file__))), "nginx")
 HOST = re.compile(r"(?=.{1,253}$)[a-z0-9](?:[a-z0-9-]{0,61}[a-z0-9])?(?:\.[a-z0-9](?:[a-z0-9-]{0,61}[a-z0-9])?)*")
 ADDRESS = re.compile(r"\b127\.0\.0\.1:(\d+)")
-SERVER_NAME = re.compile(r"^\s*server_name\s+([^;]+);", re.M)
+SERVER_NAME = re.compile(r"^[^#\n]*\bserver_name\s+([^;]+);", re.M)
 FIRST_PORT, LAST_PORT, STEP = 8100, 32000, 10  # ten for each library: its local server's, and those of its processes
 MOST_PROCESSES = STEP - 1
 UNIT = """# Made by openlink-library: the process at this port serves the library {name}.
@@ -62,7 +62,9 @@ def filled(template, **values):
 
 def all_sites(places):
     """The texts of all files of nginx that name ports or hosts of libraries."""
-    return [read(path) for path in (*glob.glob(f"{places.nginx}/*.conf"), *glob.glob(f"{places.libraries}/*/*.conf"))]
+    of_libraries = [path for path in glob.glob(f"{places.libraries}/*/*.conf")
+                    if is_name(os.path.basename(os.path.dirname(path)))]
+    return [read(path) for path in (*glob.glob(f"{places.nginx}/*.conf"), *of_libraries)]
 
 
 def check_host(places, host):

@@ -1,6 +1,6 @@
 """The updates of several libraries, one after the other, each by a process of its own. So a bad file, a full disk or a
 mistake in these scripts, which one of them meets, is felt by no other. Each leaves a report in its folder."""
-import os, signal, subprocess, sys, tempfile
+import contextlib, os, signal, subprocess, sys, tempfile
 import children, interrupts, shared_tables
 from libraries import REPORT, SHARED, SITE
 from outcome import ALL_NEW, DEVICE, WENT_BACK, Interrupted
@@ -14,6 +14,7 @@ class Updates:
     def __init__(self, libraries, scripts, options):
         """`scripts` is the folder that has `update` and `fetch`; the options are those of each update."""
         self.libraries, self.scripts, self.options = libraries, scripts, options
+        self.ending = None  # what interrupted a script of this run
 
     def run(self, names, are_fetched):
         """Updates these libraries. Returns the greatest of their exit statuses."""
@@ -23,13 +24,26 @@ class Updates:
                 if os.path.lexists(path):
                     os.unlink(path)
             statuses = [self.fetch()] if are_fetched else []
-            with tempfile.TemporaryDirectory(prefix="openlink.") as folder:
-                shared_tables.mark(folder, self.libraries.path(SHARED), self.libraries.versions())
-                statuses += [self.update(name, folder) for name in names]
-            return max(statuses)
+            with contextlib.ExitStack() as stack:
+                options = self.options_of_sharing(stack)
+                for name in names:
+                    statuses += [] if self.ending else [self.update(name, options)]
         except Interrupted as ending:
-            report(f"deploy/update: ended by {ending}", "stderr")
+            self.ending = ending
+        if self.ending:
+            report(f"deploy/update: ended by {self.ending}", "stderr")
             return WENT_BACK
+        return max(statuses)
+
+    def options_of_sharing(self, stack):
+        """Those by which the updates share what they prepare; none if there is no room for it."""
+        try:
+            folder = stack.enter_context(tempfile.TemporaryDirectory(prefix="openlink."))
+            shared_tables.mark(folder, self.libraries.path(SHARED), self.libraries.versions())
+            return ["--prepared", folder]
+        except OSError as fault:
+            report(f"shared tables are prepared for each library: {fault.strerror}")
+            return []
 
     def fetch(self):
         """Fetches the files that several libraries use."""
@@ -39,7 +53,7 @@ class Updates:
         report(f"{folder}:")
         return self.child(["fetch", "--input", folder])[0]
 
-    def update(self, name, prepared):
+    def update(self, name, options):
         if name == ALONE:
             report("the library of openlink.conf:")
             return self.child(["update", *self.options, "--library", self.libraries.folder, "--site",
@@ -47,19 +61,15 @@ class Updates:
         report(f"{name}:")
         self.write_report(name, KILLED, [])
         folder, lines = self.libraries.path(name), []
-        try:
-            status, text = self.child(["update", *self.options, "--library", folder, "--site",
-                                       os.path.join(folder, SITE), "--machine", self.libraries.machine, "--among",
-                                       self.libraries.folder, "--prepared", prepared], lines)
-        except Interrupted:
-            self.write_report(name, str(WENT_BACK), lines)
-            raise
+        status, text = self.child(["update", *self.options, "--library", folder, "--site", os.path.join(folder, SITE),
+                                   "--machine", self.libraries.machine, "--among", self.libraries.folder, *options],
+                                  lines)
         self.write_report(name, text, lines)
         return status
 
     def child(self, words, lines=None):
         """Runs a script, and prints what it says. Returns its exit status, 4 if a signal ended it, and that as a text.
-        If this run is interrupted, so is the script, which puts all in order first."""
+        If this run is interrupted, so is the script, which goes back first."""
         try:
             child = children.start([sys.executable, os.path.join(self.scripts, words[0]), *words[1:]], "/",
                                    stdout=subprocess.PIPE, stderr=subprocess.STDOUT, text=True, errors="replace")
@@ -69,11 +79,10 @@ class Updates:
         lines = [] if lines is None else lines
         try:
             self.tell(child, lines)
-        except Interrupted:
+        except Interrupted as ending:
+            self.ending = ending
             child.terminate()
             self.tell(child, lines)
-            child.wait()
-            raise
         status = child.wait()
         if status >= 0:
             return status, str(status)

@@ -45,9 +45,12 @@ def prepare(files):
     except FileNotFoundError:
         pass
     made = preparation.prepare(files)
-    with open(f"{path}.new", "w", encoding="utf-8") as file:
-        json.dump({**vars(made), "table": made.table.decode()}, file)
-    os.replace(f"{path}.new", path)
+    try:
+        with open(f"{path}.new", "w", encoding="utf-8") as file:
+            json.dump({**vars(made), "table": made.table.decode()}, file)
+        os.replace(f"{path}.new", path)
+    except OSError:
+        pass  # no room: the next update prepares it again
     return made
 
 
