@@ -53,6 +53,8 @@ def test_readers(machine, east, wing):
     expect("another host", machine.get("other.example.org", "/find")[0], 404)
     expect("books", ["Handbook" in machine.get(it.host, "/books?q=handbook")[1] for it in (east, wing)], [True, False])
     expect("the list", [machine.get(it.host, "/journals")[0] for it in (east, wing)], [200, 404])
+    formats = [read(it.path("current/index/format")).split(" ", 1)[1] for it in (east, wing)]
+    expect("and its index", formats, ["list\n", "no list\n"])
     exported = [machine.get(it.host, "/export/kbart.txt") for it in (east, wing)]
     expect("exports", ([it[0] for it in exported], "book-house of east" in exported[0][1]), ([200, 404], True))
     expect("own words", ["Les revues" in machine.get(it.host, "/find?lang=fr")[1] for it in (east, wing)],

@@ -147,7 +147,7 @@ class Machine:
             self.copy(f"{held.input}/", f"{self.place(held.name)}/input/", "--exclude=.fetch")
 
     def bring(self, lacking):
-        """Brings the versions that it lacks, while it has no readers, and the files that libraries share. A Failure says
+        """Brings the versions that it lacks, while it has no readers, and the files that libraries share. A Failure has
         what it says."""
         for held in lacking:
             self.send(held)
