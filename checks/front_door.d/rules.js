@@ -267,13 +267,13 @@ function testReasons() {
     expect('no report', program.reasonsOf(['', '']).length, 0);
 }
 
-// A reply to a subrequest of nginx. The status 'cut' is that of a reply that a process has not written to its end: 200,
-// with less text than its head says.
+// A reply to a subrequest of nginx, which has tried two processes. The status 'cut' is that of a reply that a process
+// has not written to its end: 200, with less text than its head says.
 function replyWith(status) {
     const text = 'a\thttp://a/\n';
     const bytes = Buffer.from(status === 'cut' ? text.slice(0, -1) : text);
     return { status: status === 'cut' ? 200 : status, headersOut: { 'Content-Length': String(text.length) },
-        responseBuffer: bytes };
+        responseBuffer: bytes, variables: { upstream_addr: '127.0.0.1:1, 127.0.0.1:2' } };
 }
 
 // A request of nginx whose subrequests get these statuses; -1 throws.
@@ -320,19 +320,24 @@ async function testRetries() {
         '200 "citation", requested 3');
     await expectReply('requested again after half a reply', door.json, requestWith('/find.json?', ['cut', 200, 200]),
         '200 "citation", requested 3');
-    await expectReply('half of a reply twice', door.go, requestWith('/go?', [200, 'cut', 'cut']),
-        '503 <h1>, requested 3');
-    await expectReply('requested again in vain', door.find, requestWith('/find?', [502, 502, 502, 502]),
-        '503 <h1>, requested 4');
+    await expectReply('requested again in vain', door.find, requestWith('/find?', [502, 502, 200]),
+        '503 <h1>, requested 2');
 }
 
 async function testReplies() {
-    await expectReply('both menus', door.find, requestWith('/find?', [200, 200]), '200 <h1>, requested 2');
+    const both = requestWith('/find?', [200, 200]);
+    await expectReply('both menus', door.find, both, '200 <h1>, requested 2');
+    expect('the locations of both', both.places.map((it) => it.split(' ')[0]).join(' '), '/_menu /_menu_there');
+    expect('the process of both', both.variables.openlink_process, '127.0.0.1:2');
+    await Promise.all([502, 504, 'cut'].map((status) => expectReply('both again, after ' + status, door.json,
+        requestWith('/find.json?', [200, status, 200, 200]), '200 "citation", requested 4')));
+    await expectReply('half of a reply twice', door.go, requestWith('/go?', [200, 'cut', 200, 'cut', 200]),
+        '503 <h1>, requested 4');
     if (typeof njs === 'undefined') await testRetries();  // the njs command line has no timers
     await expectReply('not requested again', door.json, requestWith('/find.json', [504, 200]),
-        '503 "error":503, requested 2');
+        '503 "error":503, requested 1');
     await expectReply('no status', door.find, requestWith('/find?', [200, 0]), '503 <h1>, requested 2');
-    await expectReply('refused', door.go, requestWith('/go?', [400, 200]), '400 <h1>, requested 2');
+    await expectReply('refused', door.go, requestWith('/go?', [400, 200]), '400 <h1>, requested 1');
     const request = requestWith('/why?', [200, 200]);
     request.rawVariables.args = Buffer.from("au=O'Neill&issn=2901-0012");
     let page = '';
@@ -340,8 +345,8 @@ async function testReplies() {
     await staff.why(request);
     expect('the page for staff', request.replied, 200);
     const listed = page.split('<pre dir="ltr">').slice(1).map(function (it) { return it.split('</pre>')[0]; });
-    const sent = listed.map(function (it) {
-        return '/_report ' + it.split('&#39;').join("'").split('&amp;').join('&');
+    const sent = listed.map(function (it, i) {
+        return (i === 0 ? '/_report ' : '/_report_there ') + it.split('&#39;').join("'").split('&amp;').join('&');
     });
     expect('the queries that were sent', sent.join(' '), request.places.join(' '));
     expect('the second one', listed[1].slice(0, 12), 'rft.issn=ANY');

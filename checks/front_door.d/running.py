@@ -21,7 +21,7 @@ LIBRARY = {
 }
 # Where the front door's own files are installed, and those that the site includes.
 INSTALLED = "/usr/local/share/openlink/nginx/"
-INCLUDED = ("http.conf", "readers.conf", "why.conf")
+INCLUDED = ("http.conf", "readers.conf", "pages.conf", "why.conf")
 # Targets that answer every request that has what their links need.
 FOR_EVERY_REQUEST = {
     "interlibrary-loan":
@@ -116,6 +116,7 @@ class Site:
         for old, new in ((INSTALLED, self.path("openlink/")), ("/etc/nginx/openlink/", self.path("openlink/")),
                          ("/etc/nginx/conf.d/openlink.conf", self.path("openlink.conf")),
                          ("/var/log/nginx/", self.path("log/")), ("/etc/openlink/current", self.version()),
+                         ("/etc/openlink/*/", self.path("libraries/*/")),
                          ("/var/www/html", self.path("www")), ("listen 80;", f"listen 127.0.0.1:{self.port};"),
                          ("127.0.0.1:8079", f"127.0.0.1:{self.report_port}")):
             assert any(old in text for text in texts.values()), f"the site has no {old}"

@@ -8,14 +8,23 @@ const is = texts.is;
 const own = texts.own;
 const ASCII = /^[\x21-\x7e]*$/;
 
-function targetsOf() { return typeof targets === 'undefined' ? {} : targets; }
+// The library of a request, by the name in the sites of openlink-library; '' for that of openlink.conf. An object that
+// nginx has loaded for a library has its name at the end: `targets__NAME`, with `_` for each hyphen.
+function libraryOf(r) { return String(r.variables.openlink_library || '').split('-').join('_'); }
+function targetsOf(r) {
+    const library = libraryOf(r);
+    if (library !== '') return globalThis['targets__' + library] || {};
+    return typeof targets === 'undefined' ? {} : targets;
+}
 const LANGUAGE = /(?:^|&)lang=([a-z]{2,8}(?:-[a-z0-9]{1,8})*)(?=&|$)/i;
 // The site in the reader's language. `path` and `args` are the page's own address without the language.
 function siteOf(r) {
     const isFault = r.uri === '/fault';
     const sent = isFault ? '' : sentBy(r);
     const asked = hasLanguage(sent) ? LANGUAGE.exec(sent)[1] : undefined;
-    const site = languages.siteIn(targetsOf(), String(r.headersIn['Accept-Language'] || ''), asked);
+    const library = libraryOf(r);
+    const site = languages.siteIn(targetsOf(r), String(r.headersIn['Accept-Language'] || ''), asked, library);
+    if (library !== '' && site.folder === undefined) site.folder = r.variables.openlink_folder;
     site.path = isFault ? '' : r.uri;
     site.args = asked === undefined ? sent : withoutLanguage(sent);
     site.hasList = r.variables.openlink_list !== 'off';
@@ -69,7 +78,8 @@ function guarded(handler) {
         } catch (e) {
             const message = texts.clean(String(e.message));
             r.variables.openlink_found = 'exception:' + texts.replaced(message, /[^\w.]/g, '_').slice(0, 60);
-            sendFault(r, 503, languages.siteIn({ languages: own(targetsOf(), 'languages') }, ''));
+            const plain = { languages: own(targetsOf(r), 'languages') };
+            sendFault(r, 503, languages.siteIn(plain, '', undefined, libraryOf(r)));
         }
     };
 }

@@ -1,20 +1,48 @@
 // Whether each process of the program answers, and how old the version in use is: for monitoring, a balancer or a pod.
-// The ports are those of the site's own file. Only the server for the machine itself loads this file. text.js says in
-// which njs it runs.
+// The ports are those of the sites' own files. Only servers for the machine itself and its balancer load this file.
+// text.js says in which njs it runs.
 import fs from 'fs';
 import exchange from './exchange.js';
 import staff from './why.js';
 
+const UPSTREAM = /^\s*upstream\s+([\w.-]+)\s*\{/;
 const PORT = /^\s*server\s+127\.0\.0\.1:(\d+)/;
-const STAMP = /\/(\d{4})(\d\d)(\d\d)T(\d\d)(\d\d)(\d\d)Z$/;
+const STAMP = /(?:^|\/)(\d{4})(\d\d)(\d\d)T(\d\d)(\d\d)(\d\d)Z$/;
 const DAY = 86400000;
 
 function portsOf(text) {
     return text.split('\n').map((line) => PORT.exec(line)).filter(Boolean).map((found) => found[1]);
 }
-function portsIn(path) {
+// The upstreams of a site, each with its ports.
+function upstreamsOf(text) {
+    const found = [];
+    text.split('\n').forEach((line) => {
+        const name = UPSTREAM.exec(line);
+        const port = PORT.exec(line);
+        if (name !== null) found.push({ name: name[1], ports: [] });
+        else if (port !== null && found.length > 0) found[found.length - 1].ports.push(port[1]);
+    });
+    return found.filter((it) => it.ports.length > 0);
+}
+// The text of a file, or null.
+function textIn(path) {
     try {
-        return portsOf(fs.readFileSync(path, 'utf8'));
+        return fs.readFileSync(path, 'utf8');
+    } catch (e) {
+        return null;
+    }
+}
+function isThere(path) {
+    try {
+        fs.accessSync(path);
+        return true;
+    } catch (e) {
+        return false;
+    }
+}
+function namesIn(folder) {
+    try {
+        return fs.readdirSync(folder).sort();
     } catch (e) {
         return [];
     }
@@ -28,13 +56,18 @@ async function answers(port) {
         return false;
     }
 }
+async function ask(upstream) { upstream.are = await Promise.all(upstream.ports.map(answers)); }
+// The time that a stamp names, in milliseconds, or NaN.
+function timeOf(text) {
+    const found = STAMP.exec(text);
+    if (found === null) return NaN;
+    return Date.UTC(Number(found[1]), Number(found[2]) - 1, Number(found[3]), Number(found[4]), Number(found[5]),
+        Number(found[6]));
+}
 // The whole days since a version was made, by its name.
 function ageOf(path, now) {
-    const found = STAMP.exec(path);
-    if (found === null) return -1;
-    const made = Date.UTC(Number(found[1]), Number(found[2]) - 1, Number(found[3]), Number(found[4]),
-        Number(found[5]), Number(found[6]));
-    return Math.max(Math.floor((now - made) / DAY), 0);
+    const made = timeOf(path);
+    return isNaN(made) ? -1 : Math.max(Math.floor((now - made) / DAY), 0);
 }
 function versionLine(folder) {
     try {
@@ -56,10 +89,62 @@ function replyOf(ports, are, version) {
 }
 
 async function health(r) {
-    const ports = portsIn(r.variables.openlink_site);
+    const ports = portsOf(textIn(r.variables.openlink_site) || '');
     const are = await Promise.all(ports.map(answers));
     const reply = replyOf(ports, are, versionLine(staff.folderOf(exchange.siteOf(r))));
     exchange.send(r, reply.status, 'text/plain; charset=utf-8', reply.text);
 }
 
-export default { portsOf: portsOf, ageOf: ageOf, replyOf: replyOf, health: exchange.guarded(health) };
+// ---------------------------------------------------------------- A machine of several
+
+// Whether a machine is being drained: `text` is that of the file `drain`, null if there is none. It names the time at
+// which draining ends, so that a run that was killed does not leave the machine without readers; if it is empty, there
+// is no end.
+function isDrained(text, now) {
+    if (text === null) return false;
+    const end = timeOf(text.trim());
+    return isNaN(end) || now < end;
+}
+// What the balancer is told of a machine: the name of its last delivery, of the one that it should have, whether it is
+// drained, and its upstreams, each with `are`, whether its processes answer. Names of deliveries are times.
+function machineReplyOf(own, expected, drained, upstreams) {
+    const dead = upstreams.filter((it) => it.are.indexOf(true) < 0).map((it) => it.name);
+    const some = upstreams.some((it) => it.are.indexOf(false) >= 0);
+    const isOld = expected !== '' && own < expected;
+    const heads = [
+        upstreams.length === 0 ? 'no site has processes' : '',
+        dead.length > 0 ? 'no process of ' + dead.join(', ') + ' answers' : '',
+        isOld ? 'the delivery ' + expected + ' is missing: openlink-update --send brings it' : '',
+    ].filter(Boolean);
+    const status = heads.length > 0 ? 503 : drained ? 404 : 200;
+    const first = heads.length > 0 ? heads : [drained ? 'drained' : some ? 'some processes do not answer' : 'ok'];
+    return { status: status, lines: first.concat([own === '' ? 'no delivery' : 'delivery ' + own]) };
+}
+// The libraries of the machine that have a version in use: the folder and the site of each. The one without a name is
+// the machine's folder itself.
+function librariesIn(folder, site) {
+    return [''].concat(namesIn(folder)).filter((name) => isThere(folder + '/' + name + '/current/registry.tsv'))
+        .map((name) => name === '' ? { name: '', folder: folder, site: site }
+            : { name: name, folder: folder + '/' + name, site: folder + '/' + name + '/site.conf' });
+}
+function upstreamLines(it) {
+    return it.ports.filter((port, i) => !it.are[i]).map((port) => it.name + ': port ' + port + ' does not answer');
+}
+async function machine(r) {
+    const folder = r.variables.openlink_machine;
+    const libraries = librariesIn(folder, r.variables.openlink_main);
+    const upstreams = [].concat.apply([], libraries.map((it) => upstreamsOf(textIn(it.site) || '')));
+    await Promise.all(upstreams.map(ask));
+    const own = (textIn(folder + '/delivery') || '').split('\n')[0].trim();
+    const reply = machineReplyOf(own, String(r.headersIn['Openlink-Delivery'] || '').trim(),
+        isDrained(textIn(folder + '/drain'), Date.now()), upstreams);
+    if (own !== '') r.headersOut['Openlink-Delivery'] = own;
+    const lines = reply.lines.concat([].concat.apply([], upstreams.map(upstreamLines)),
+        libraries.map((it) => (it.name === '' ? '' : it.name + ': ') + versionLine(it.folder + '/current')), ['']);
+    exchange.send(r, reply.status, 'text/plain; charset=utf-8', lines.join('\n'));
+}
+
+export default {
+    portsOf: portsOf, upstreamsOf: upstreamsOf, ageOf: ageOf, replyOf: replyOf, isDrained: isDrained,
+    machineReplyOf: machineReplyOf, health: exchange.guarded(health), machine: exchange.guarded(machine)
+};

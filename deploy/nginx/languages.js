@@ -73,18 +73,20 @@ function chosenOf(ranges, languages) {
 }
 
 // ---------------------------------------------------------------- Words
-function wordsIn(language) {
-    return globalThis['words_' + (language.indexOf('-') < 0 ? language : language.split('-').join('_'))];
+// Those of a library, if it has its own, come before those of all.
+function wordsIn(language, library) {
+    const name = 'words_' + (language.indexOf('-') < 0 ? language : language.split('-').join('_'));
+    return (library && globalThis[name + '__' + library]) || globalThis[name];
 }
 
 // The languages that targets.json offers and openlink.conf has loaded; English if it names none. The first is the
 // default.
-function offered(targets) {
+function offered(targets, library) {
     const list = own(targets, 'languages');
     const languages = [];
     for (let i = 0; isObject(list) && i < list.length && i < MOST_LANGUAGES; i++) {  // a preloaded array has no methods
         const language = typeof list[i] === 'string' ? list[i] : '';
-        if (is(TAG, language) && isObject(wordsIn(language))) languages.push(language);
+        if (is(TAG, language) && isObject(wordsIn(language, library))) languages.push(language);
     }
     return languages.length > 0 ? languages : ['en'];
 }
@@ -97,19 +99,20 @@ function isRightToLeft(language) {
 }
 
 // What a language calls itself.
-function nameOf(language) {
-    const name = own(wordsIn(language), 'language');
+function nameOf(language, site) {
+    const name = own(wordsIn(language, site.library), 'language');
     return typeof name === 'string' && name !== '' ? name : language;
 }
 
-// What is in targets.json, for a reader whose browser sends this header, or who has chosen one of the languages.
-function siteIn(targets, header, asked) {
-    const languages = offered(targets);
+// What is in the targets.json of a library, for a reader whose browser sends this header, or who has chosen one of the
+// languages.
+function siteIn(targets, header, asked, library) {
+    const languages = offered(targets, library);
     const isChosen = asked !== undefined && languages.indexOf(asked) >= 0;
     const language = isChosen ? asked : chosen(header, languages);
     return { language: language, main: languages[0], dir: isRightToLeft(language) ? 'rtl' : 'ltr',
         known: Object.create(null), labels: Object.create(null), languages: languages, chosen: isChosen ? asked : '',
-        file: wordsIn(language), mainFile: wordsIn(languages[0]),
+        file: wordsIn(language, library), mainFile: wordsIn(languages[0], library), library: library,
         words: own(targets, 'words'), groups: own(targets, 'groups'), targets: own(targets, 'targets'),
         folder: own(targets, 'folder') };
 }

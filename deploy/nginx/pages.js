@@ -52,7 +52,7 @@ function addLanguages(items, site) {
     site.languages.forEach((language) => {
         if (language === site.language) return;
         items.push('<li><a href="' + address + language + '" hreflang="' + language + '" lang="' + language + '">'
-            + escape(languages.nameOf(language)) + '</a></li>');
+            + escape(languages.nameOf(language, site)) + '</a></li>');
     });
 }
 function footerHtml(site) {

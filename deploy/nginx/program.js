@@ -6,15 +6,20 @@ import texts from './text.js';
 
 const is = texts.is;
 
-// The status and text of a reply of the program. A process that ends while it writes leaves a reply that is shorter
-// than its head says, which nginx gives as status 200: it counts as no reply, since a page without links would be
-// wrong.
+// The status and text of a reply of the program, and the address of the process that gave it. A process that ends while
+// it writes leaves a reply that is shorter than its head says, which nginx gives as status 200: it counts as no reply,
+// since a page without links would be wrong.
 async function replyOf(r, place, args) {
     const reply = await r.subrequest(place, { args: args });
     const bytes = reply.responseBuffer || Buffer.from('');
     const isWhole = reply.status !== 200 || reply.headersOut['Content-Length'] === String(bytes.length);
-    return { status: isWhole ? reply.status : 502, text: isWhole ? bytes.toString() : '' };
+    return {
+        status: isWhole ? reply.status : 502, text: isWhole ? bytes.toString() : '',
+        process: lastOf(String(reply.variables.upstream_addr))
+    };
 }
+// The last of the addresses that nginx has tried.
+function lastOf(addresses) { return addresses.slice(addresses.lastIndexOf(' ') + 1); }
 // Asks the program, and once more if no process replies: all of them are back within 400 ms of a restart.
 async function ask(r, place, args) {
     const reply = await replyOf(r, place, args);
@@ -22,16 +27,33 @@ async function ask(r, place, args) {
     await new Promise(function (done) { setTimeout(done, 400); });
     return replyOf(r, place, args);
 }
+// Asks the process at `openlink_process`.
+function askThere(r, place, args) { return replyOf(r, place + '_there', args); }
+function isLost(reply) { return reply.status === 502 || reply.status === 504; }
+async function reportOf(r, query) {
+    const reply = await askThere(r, '/_report', query);
+    return isLost(reply) ? ask(r, '/_report', query) : reply;
+}
 // The queries of a request: its own, those with further numbers of its title, and the one for targets that answer every
 // request.
 function queriesOf(q) {
     const further = q.further.map((it) => q.text(it.first, openurl.ROW_KEYS));
     return [openurl.requestText(q)].concat(further, [openurl.anyText(q)]);
 }
-// Asks with all queries at once; gives the texts, and the status: 200 only if all replies have it, else the greatest
-// other.
+// The replies of one process to all queries. While a new version is put in use, some processes have it and others the
+// one before, and a page of both would be wrong. The first reply alone if it is none.
+async function repliesOfOne(r, place, queries) {
+    const first = await ask(r, place, queries[0]);
+    if (first.status !== 200) return [first];
+    r.variables.openlink_process = first.process;
+    const others = await Promise.all(queries.slice(1).map((query) => askThere(r, place, query)));
+    return [first].concat(others);
+}
+// Asks with all queries, and once more if the process does not reply to all; gives the texts, and the status: 200 only
+// if all replies have it, else the greatest other.
 async function askAll(r, place, queries) {
-    const replies = await Promise.all(queries.map((query) => ask(r, place, query)));
+    let replies = await repliesOfOne(r, place, queries);
+    if (replies.slice(1).some(isLost)) replies = await repliesOfOne(r, place, queries);
     const others = replies.map((reply) => reply.status).filter((status) => status !== 200);
     const status = others.length === 0 ? 200 : others.reduce((a, b) => Math.max(a, b));
     return { queries: queries, status: status, texts: replies.map((reply) => reply.text) };
@@ -97,7 +119,7 @@ async function rowsOf(r, q, queries, sources) {
     });
     if (open.length === 0) return rows;
     const places = open.map((name) => sources[name]).filter((it, i, all) => all.indexOf(it) === i);
-    const reports = await Promise.all(places.map((i) => ask(r, '/_report', queries[i])));
+    const reports = await Promise.all(places.map((i) => reportOf(r, queries[i])));
     reports.forEach((reply, i) => { linesOf(reply.text).forEach((line) => {
         const found = /^([^\t]+)\tlink (\d+)$/.exec(line);
         const name = found === null ? '' : texts.targetOf(found[1]);

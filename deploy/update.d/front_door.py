@@ -5,7 +5,7 @@ import children
 from outcome import DEVICE, Failure
 
 SECONDS = 30  # until nginx listens
-TARGETS = r"js_preload_object\s+targets\s"  # each door has its own
+TARGETS = r"js_preload_object\s+targets(?:__\w+)?\s"  # each door has its own
 CONFIGURATION = """load_module {module};
 pid {folder}/nginx.pid;
 daemon off;
@@ -38,14 +38,19 @@ DOOR = """    upstream door{port} {{
         location /index/ {{ internal; root "{version}"; try_files $uri =204; }}
         location = /_menu {{ internal; proxy_pass http://door{port}/openurl.txt; }}
         location = /_report {{ internal; proxy_pass http://door{port}/report; }}
+        location = /_menu_there {{ internal; proxy_pass http://$openlink_process/openurl.txt$is_args$args; }}
+        location = /_report_there {{ internal; proxy_pass http://$openlink_process/report$is_args$args; }}
     }}
 """
 
 
 def text_with_includes(path):
-    """The text of a site, and after it that of the files that it includes."""
-    with open(path, encoding="utf-8") as file:
-        text = file.read()
+    """The text of a site, and after it that of the files that it includes; nothing if there is no such file."""
+    try:
+        with open(path, encoding="utf-8") as file:
+            text = file.read()
+    except FileNotFoundError:
+        return ""
     for included in re.findall(r"^\s*include\s+([^\s;*?]+)\s*;", text, re.M):
         if os.path.isfile(included):
             text += "\n" + text_with_includes(included)
@@ -54,20 +59,18 @@ def text_with_includes(path):
 
 class Site:
     """What the site of the front door (openlink.conf) and the files that it includes say: the module, its texts and its
-    languages, targets.json, the ports of the processes, the base URL, and whether there is a list of titles."""
+    languages, targets.json, the ports of the processes, the base URL, and whether there is a list of titles. For a
+    library of several, `machine` is the openlink.conf that has the module and the languages of all."""
 
-    def __init__(self, path):
-        self.path = path
-        try:
-            text = text_with_includes(path)
-        except FileNotFoundError:
-            text = ""
+    def __init__(self, path, machine=None):
+        self.path, text = path, text_with_includes(path)
         self.ports = [int(port) for port in re.findall(r"^\s*server\s+127\.0\.0\.1:(\d+)", text, re.M)]
-        self.module_lines = re.findall(r"^\s*(js_(?:path|import|preload_object|var)\s[^;]*;)", text, re.M)
-        self.targets = re.findall(r"^\s*js_preload_object\s+targets\s+from\s+([^;\s]+)\s*;", text, re.M)
-        words = re.findall(r"^\s*js_preload_object\s+words_(\w+)\s", text, re.M)
-        self.languages = [it.replace("_", "-") for it in words]
-        self.has_list = not re.search(r"^\s*js_var\s+\$openlink_list\s+off\s*;", text, re.M)
+        every = text if machine is None else text_with_includes(machine) + "\n" + text
+        self.module_lines = re.findall(r"^\s*(js_(?:path|import|preload_object|var)\s[^;]*;)", every, re.M)
+        self.targets = re.findall(rf"^\s*{TARGETS}\s*from\s+([^;\s]+)\s*;", text, re.M)
+        words = re.findall(r"^\s*js_preload_object\s+words_(\w+)\s", every, re.M)
+        self.languages = [it.partition("__")[0].replace("_", "-") for it in words]
+        self.has_list = not re.search(r"^\s*(?:js_var|set)\s+\$openlink_list\s+off\s*;", text, re.M)
         name = re.search(r"^\s*server_name\s+([^\s;]+)", text, re.M)
         has_tls = re.search(r"^\s*listen\s[^;#]*\bssl\b", text, re.M)
         self.base = f"{'https' if has_tls else 'http'}://{name[1] if name else 'localhost'}"

@@ -13,7 +13,7 @@
     index/                 the index of titles, for the front door
 """
 import dataclasses, filecmp, functools, os, re, shutil
-import date_order, dropped_rows, earlier_files, file_patterns, holdings, index, preparation
+import date_order, dropped_rows, earlier_files, file_patterns, holdings, index, shared_tables
 from earlier_files import EarlierFiles
 from judging import Judge
 from outcome import Failure, Refused
@@ -40,7 +40,7 @@ class Files:
     @functools.cached_property
     def prepared(self):
         """Refused if one of the files cannot be read as a table."""
-        return preparation.prepare(list(zip(self.paths, self.tables)))
+        return shared_tables.prepare(list(zip(self.paths, self.tables)))
 
     @property
     def table(self):

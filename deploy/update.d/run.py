@@ -1,6 +1,6 @@
 """One run: makes the next version, tries it, puts it in use, and goes back to the version before if something fails."""
 import contextlib, datetime, os, sys
-import children, coverage, export_files, fetching, interrupts, making, target_list
+import children, coverage, export_files, fetching, interrupts, making, same_files, target_list
 from front_door import FrontDoor
 from making import Maker
 from names_file import NAME, NamesFile
@@ -19,10 +19,11 @@ def report(line, stream="stdout"):
 
 
 class Run:
-    def __init__(self, library, processes, program, site, probes_of):
-        """`probes_of` reads the library's probes; see Probes."""
+    def __init__(self, library, processes, program, site, probes_of, others=None):
+        """`probes_of` reads the library's probes; see Probes. `others` has the versions in use of the machine's other
+        libraries, if it has several."""
         self.library, self.processes, self.program, self.site = library, processes, program, site
-        self.probes_of = probes_of
+        self.probes_of, self.others = probes_of, others
         self.names_file = NamesFile(site, library.path("current"))
 
     def update(self, folder, most, is_trial):
@@ -69,6 +70,8 @@ class Run:
             return self.say_end(maker, f"nothing new: {old} stays in use")
         maker.make_index(self.site.has_list)
         self.export(unfinished)
+        if self.others is not None:
+            same_files.link(unfinished, older, self.others)
         with self.front_door(probes) as door:
             links = self.try_version(probes, door, unfinished, old, tries_all)
             if is_trial:

@@ -29,8 +29,9 @@ class Allowed:
             self.spans = [span for span in self.spans if span[2] > now - 2 * SECONDS] + [[state, now, None]]
 
     def between(self, start, end):
+        """The states, each with the times since when and until when it was allowed."""
         with self.lock:
-            return [state for state, since, until in self.spans if since <= end and (until is None or until >= start)]
+            return [tuple(it) for it in self.spans if it[1] <= end and (it[2] is None or it[2] >= start)]
 
 
 def request_of(source, titles):
@@ -74,6 +75,16 @@ def coverage_of(row):
         return None
     found = {"from": row.first, "to": row.last, "embargo": row.embargo.replace(";", ",")}
     return {name: text for name, text in found.items() if text} or None
+
+
+def state_text(request, span, start, end):
+    """A state that was allowed while a reader waited: when, its links, and the rows of the number."""
+    state, since, until = span
+    until = "on" if until is None else f"to {until - end:+.3f} s from the reply"
+    rows = {name: [(row.first, row.last, row.volume, row.embargo, row.id) for row in rows]
+            for name, rows in state.rows_of(request).items()}
+    return "\n    ".join([f"  right is {state.name}, from {since - start:+.3f} s from the request {until}:",
+                          str([link[:4] for link in state.links(request)]), str(rows)])
 
 
 def is_right(kind, reply, expected, is_settled):
@@ -122,16 +133,18 @@ class Reader(threading.Thread):
         self.slowest = max(self.slowest, end - start)
         if self.since:
             self.longest, self.since = max(self.longest, end - self.since), None
-        self.compare(kind, request, reply, self.allowed.between(start, end))
+        self.compare(kind, request, reply, start, end)
 
-    def compare(self, kind, request, reply, states):
+    def compare(self, kind, request, reply, start, end):
+        spans = self.allowed.between(start, end)
         try:
-            if any(is_right(kind, reply, state.links(request), len(states) == 1) for state in states):
+            if any(is_right(kind, reply, state.links(request), len(spans) == 1) for state, _, _ in spans):
                 return
         except (ValueError, LookupError) as fault:
             reply = (*reply, repr(fault))
-        expected = [[link[:4] for link in state.links(request)] for state in states]
-        self.wrong.append(f"{kind}?{request.query()}: {str(reply)[:1500]}\n  right are: {expected}")
+        texts = [state_text(request, span, start, end) for span in spans]
+        self.wrong.append("\n".join([f"{kind}?{request.query()}: {str(reply)[:1500]}",
+                                     f"  the reply took {end - start:.3f} s", *texts]))
 
     def reply(self, target):
         # From an address of its own: nginx goes on counting the connections of a worker that was killed as open.

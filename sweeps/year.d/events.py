@@ -3,7 +3,7 @@ import contextlib, datetime, os, random, signal, subprocess, threading, time
 from children import is_open
 from links import State
 from patience import wait_until
-from slips import KEPT, Slip
+from slips import KEPT, USED, Slip
 
 
 def waits(year, name):
@@ -125,17 +125,24 @@ class Writer(threading.Thread):
         self.join()
 
 
+NO_TABLE_IN_PART = ("gzip", "zip", "UTF-16")  # forms
+
+
 def update_beside_a_writer(year):
-    """A file that is being written is not used."""
+    """A file that is being written is not used. Once it is written, a later run of the week uses it. A part of some
+    forms is no table, which the mail says instead if no line is written between the reading and that."""
     names = set(year.mail.slips) | year.busy
     provider = year.source.choice([it for it in year.collection.providers if it.name not in names])
     year.busy.add(provider.name)
     path = year.path(provider.file)
-    year.mail.slips[provider.name] = Slip(KEPT, (f"  {path}: it changed while it was read",))
+    says = () if provider.form in NO_TABLE_IN_PART else (f"  {path}: it changed while it was read",)
+    year.mail.slips[provider.name] = Slip(KEPT, says)
     data = year.machine.input.read(provider.file)
     with Writer(path, data):
         year.update()
     year.machine.input.write(provider.file, data)
+    year.mail.slips[provider.name] = Slip(USED, says)
+    year.mail.kept_once.add(provider.name)
 
 
 def unusable(year, slip):
@@ -167,7 +174,8 @@ def back_and_forward(year):
 def move_walls(year):
     """Three days later."""
     year.machine.day += datetime.timedelta(3)
-    state = State(year.machine.day, year.state.providers, year.state.unnamed)
+    name = f"{year.state.name} with the walls of {year.machine.day}"
+    state = State(name, year.machine.day, year.state.providers, year.state.unnamed)
     year.allowed.add(state)
     year.run("walls", year.machine.begin("--walls"), (0,))
     year.settle(state)

@@ -129,10 +129,10 @@ def path_of(row, held, request, today):
 
 
 class State:
-    """What the library serves: of each provider, since a day, and which of them targets.json names."""
+    """What the library serves: of each provider, since a day, and which of them targets.json does not name."""
 
-    def __init__(self, day, providers, unnamed=frozenset()):
-        self.day, self.providers, self.unnamed = day, providers, unnamed
+    def __init__(self, name, day, providers, unnamed=frozenset()):
+        self.name, self.day, self.providers, self.unnamed = name, day, providers, unnamed
         self.rows, self.titles = {}, {}
         for name, held in providers.items():
             for row in held.rows:
@@ -140,15 +140,23 @@ class State:
                     self.rows.setdefault(number, {}).setdefault(name, []).append(row)
                 self.titles[row.title] = row
 
+    def number_of(self, request):
+        """The number of a request, or that of its title; None if there is no such title."""
+        if not request.title:
+            return request.number
+        row = self.titles.get(request.title)
+        return row.printed if row else None
+
+    def rows_of(self, request):
+        """The rows of the request's number, by provider."""
+        return self.rows.get(self.number_of(request), {})
+
     def links(self, request):
         """The group, target, label, address and row of each link, in the order of the page."""
-        number, found, more = request.number, [], []
-        if request.title:
-            row = self.titles.get(request.title)
-            if row is None:
-                return []
-            number = row.printed
-        of_number = self.rows.get(number, {})
+        number, found, more = self.number_of(request), [], []
+        if number is None:
+            return []
+        of_number = self.rows_of(request)
         for name, held in self.providers.items():
             for row in of_number.get(name, ()):
                 path = path_of(row, held, request, self.day)

@@ -166,6 +166,25 @@ class Machine(fixture.Library):
     def begin(self, *options):
         return self.dated(*self.words(*options))
 
+    def words(self, *options):
+        words = super().words(*options)
+        if self.site.nginx:
+            place = words.index("--reload") + 1
+            words[place] = f"{HERE}/reload {self.site.nginx.pid} {self.aside('workers')}"
+        return words
+
+    def wait_for_nginx(self):
+        """Waits until nginx has read its files again, if a run has told it to, and returns whether it has. It does so
+        while the run goes on, and the run may end first: nginx starts new workers, and 100 ms later tells the old ones
+        to end. Until then they serve readers with the targets.json that they have read."""
+        path = self.aside("workers")
+        if not os.path.exists(path):
+            return True
+        with open(path) as file:
+            before = file.read().split()
+        os.unlink(path)
+        return wait_until(lambda: not any(map(accepts, before)))
+
     def begin_fetch(self, seconds):
         return self.dated("deploy/fetch", "--input", self.input.folder, "--pause", "0.2", "--seconds", str(seconds))
 
@@ -212,6 +231,16 @@ class Machine(fixture.Library):
                  if pid not in (*servers, *own) and parent not in servers]
         ports = {self.site.port, self.site.report_port, *self.site.ports, *vendors.ports()}
         return found + [f"port {port}" for port in listening() - ports]
+
+
+def accepts(worker):
+    """Whether a worker of nginx accepts connections. One that has been told to end has another title."""
+    try:
+        with open(f"/proc/{worker}/cmdline") as file:
+            title = file.read()
+    except OSError:
+        return False
+    return title != "" and "is shutting down" not in title
 
 
 def processes():

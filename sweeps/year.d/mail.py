@@ -40,6 +40,7 @@ class Week:
         self.forms, self.path_of = {it.name: tables.said_of(it) for it in providers}, path_of
         self.slips, self.explained, self.required = {}, [], []
         self.mended = frozenset()  # targets with a slip in the week before, which may have their older table again
+        self.kept_once = set()  # targets of which a run keeps the old table, and a later one of the week does not
 
     def faults(self, text):
         """What the mail does not say, and what it says without a reason."""
@@ -78,7 +79,8 @@ class Week:
         said.setdefault(name, []).extend(lines)
         slip = self.slips.get(name)
         if text == KEPT:
-            return [] if slip and slip.outcome == slips.KEPT else [f"kept without a reason: {name}: {lines}"]
+            is_kept = slip and slip.outcome == slips.KEPT or name in self.kept_once
+            return [] if is_kept else [f"kept without a reason: {name}: {lines}"]
         known = (*self.forms[name], *(slip.says if slip else ()), *([AGAIN] if name in self.mended else []))
         others = [line for line in lines if not TITLES.fullmatch(line)
                   and not any(part in line for part in map(self.full(name), known))]

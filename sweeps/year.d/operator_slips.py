@@ -42,8 +42,11 @@ def name_that_is_missing(year, provider):
                 rf"{provider.name}")
     names = json.loads(year.machine.input.read("targets.json"))
     del names["targets"][provider.name]
-    mend = written(year, "targets.json", json.dumps(names))
+    return renamed(year, written(year, "targets.json", json.dumps(names)))
 
+
+def renamed(year, mend):
+    """What mends targets.json, after which it names all targets."""
     def mended():
         year.unnamed = frozenset()
         mend()
@@ -51,10 +54,12 @@ def name_that_is_missing(year, provider):
 
 
 def names_without_end(year, provider):
+    """The update keeps the file of the version in use, which may lack a name since the week before."""
+    year.unnamed = year.state.unnamed
     path = re.escape(year.path("targets.json"))
     kept = r"targets\.json: the old one is kept"
     year.expect(kept, rf"{kept}\n  {path}: .*")
-    return written(year, "targets.json", year.machine.input.read("targets.json")[:-3])
+    return renamed(year, written(year, "targets.json", year.machine.input.read("targets.json")[:-3]))
 
 
 def address_of_no_host(year, provider):

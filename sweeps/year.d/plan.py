@@ -19,6 +19,7 @@ BEFORE_UPDATE = {
     "the library's disk is full": lambda year: events.full_disk(year, "library"),
     **{name: (lambda year, slip=slip: events.unusable(year, slip)) for name, slip in operator_slips.UNUSABLE.items()},
 }
+FULL_DISKS = ("the input's disk is full", "the library's disk is full")
 IN_PLACE = {
     "the update fetches": lambda year: year.update("--fetch"),
     "kills beside the update": events.sabotaged_update,
@@ -113,13 +114,15 @@ def numbers_of(rows):
 
 
 def run(year, plan):
-    """The runs of a week. What is mended meanwhile is used by the next run."""
-    for name in plan.events:
+    """The runs of a week. What is mended meanwhile is used by the next run. A disk is full before a run is killed: what
+    a killed run leaves is removed by the next one, which then has more room."""
+    in_order = sorted(plan.events, key=lambda name: name not in FULL_DISKS)
+    for name in in_order:
         if name in BEFORE_FETCH:
             BEFORE_FETCH[name](year)
     if "the update fetches" not in plan.events:
         year.fetch()
-    for name in plan.events:
+    for name in in_order:
         if name in BEFORE_UPDATE:
             BEFORE_UPDATE[name](year)
     in_place = [IN_PLACE[name] for name in plan.events if name in IN_PLACE]

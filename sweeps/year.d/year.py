@@ -15,7 +15,7 @@ KEY = "s3cr3t/+&token"
 READERS, PAUSE, PROCESSES = 3, 0.04, 3
 ASKED_AFTER = 50  # requests after a run, when only one page is right
 SECONDS = 8  # for a file
-MOST_SHOWN = 5  # wrong pages
+MOST_SHOWN = 20  # wrong pages
 
 
 class Year:
@@ -109,10 +109,14 @@ class Year:
             if not slip or slip.outcome != slips.NOT_FETCHED:
                 self.meant[name] = slip.rows if slip and slip.rows is not None else provider.rows
             held[name] = Held(self.meant[name], provider.rules, provider.edition, provider.label)
-        return State(self.machine.day, held, self.unnamed)
+        return State(f"the files of week {self.number}", self.machine.day, held, self.unnamed)
 
     def settle(self, state):
-        """From now on only this state's pages are right."""
+        """From now on only this state's pages are right: nginx has its targets.json too."""
+        start = time.monotonic()
+        if not self.machine.wait_for_nginx():
+            self.fault("nginx has not ended its workers after a reload")
+        self.peaks["reload"] = max(self.peaks["reload"], time.monotonic() - start)
         self.state = state
         self.states[self.machine.current()] = state
         self.allowed.settle(state)

@@ -1,0 +1,79 @@
+"""A bad file, list or probe of one library, and updates that cannot begin: they are felt by no other library. And a
+library that was alone on its machine."""
+import fcntl, os, re, shutil
+from counting import expect, expect_lines
+from machine import FEW, NAMES, Input, Machine, deliver, free_ports, read, started, wait_until, weeks, write
+from weeks import HTML, SMALL
+
+SITE = "etc/nginx/conf.d/openlink.conf"
+
+
+def test_bad_files():
+    """Each run has other faults in the input of some of three libraries; the rest are new."""
+    with Machine() as machine:
+        libraries = east, north, west = started(machine)
+        table, targets = north.input.read("tidal-press.txt"), east.input.read("targets.tsv")
+        deliver(libraries, "B")
+        north.input.write("tidal-press.txt", HTML)
+        status, printed = machine.update("--all")
+        expect(f"a web page for a table: {printed}", (status, weeks(libraries)), (1, ("BBB", True, ["0", "1", "0"])))
+        path = north.input.path("tidal-press.txt")
+        expect_lines("of its library", printed, "north:", f"  {path}: a web page, not a table")
+        expect("in its report alone", ["a web page" in it.report()[1] for it in libraries], [False, True, False])
+        expect("the old table", read(north.path("current/received/tidal-press.txt")), table.decode())
+        deliver(libraries, "A")
+        east.input.write("targets.tsv", targets.replace(b"\t", b" "))
+        os.rename(north.path("input"), north.path("other"))
+        status, printed = machine.update("--all")
+        expect(f"a slip in a list, and no input: {printed}", (status, weeks(libraries)),
+               (4, ("BBA", True, ["3", "4", "0"])))
+        east.input.write("targets.tsv", targets)
+        os.rename(north.path("other"), north.path("input"))
+        deliver(libraries, "B")
+        north.input.write("probes.tsv", b"issn=0000-0000\tcoastal-law\n")
+        west.input.write("targets.json", b"{")
+        with open(east.path("lock"), "a") as lock:
+            fcntl.flock(lock, fcntl.LOCK_EX)
+            status, printed = machine.update("--all")
+        expect(f"another run, a probe and no JSON: {printed}", (status, weeks(libraries)),
+               (4, ("BBB", True, ["4", "3", "1"])))
+        expect("the old names", "The library west" in machine.get(west.host, "/find")[1])
+
+
+def test_beside_one_alone():
+    """The library of a machine alone stays as it is when another is added."""
+    with Machine() as machine:
+        first = free_ports(2)
+        site = read(f"{machine.share}/nginx/openlink.conf").replace("127.0.0.1:8081", f"127.0.0.1:{first}")
+        site = site.replace("127.0.0.1:8082", f"127.0.0.1:{first + 1}")
+        site = re.sub(r"    server 127\.0\.0\.1:808[34] max_fails=0;\n", "", site)
+        write(machine.path(SITE), site)
+        shutil.copytree(f"{machine.share}/nginx", machine.path("etc/nginx/openlink"))
+        alone = Input(machine.path("etc/openlink/input"), SMALL, 3)
+        status, printed = machine.update("--all")
+        expect(f"no other: {printed}", (status, "the library of openlink.conf:" in printed), (0, False))
+        machine.start_nginx()
+        before = machine.get("links.library.example.org", "/find")
+        expect("its page", (before[0], "Example University Library" in before[1]), (200, True))
+        east = machine.add("east", FEW)
+        expect("its site stays", read(machine.path(SITE)), site)
+        alone.deliver("B")
+        status, printed = machine.update("--all")
+        expect(f"both: {printed}", status, 0)
+        expect_lines("both", printed, "the library of openlink.conf:", "east:")
+        expect("the other site", wait_until(lambda: "The library east" in machine.get(east.host, "/find")[1]))
+        expect("the first one", machine.get("links.library.example.org", "/find"), before)
+        expect("for any other name, too", machine.get("127.0.0.1", "/find"), before)
+        expect("its week", "/titles/pp" in machine.get("a", "/find?issn=3030-0009&date=1994&volume=5")[1])
+        alone.deliver("A")
+        east.input.deliver("B")
+        expect("the first one alone", (machine.update()[0], east.week()), (0, "A"))
+        expect("its links", "/journals/pp" in machine.get("a", "/find?issn=3030-0009&date=1994&volume=5")[1])
+        report = machine.get("127.0.0.1", "/report.txt?issn=3030-0009", machine.local)
+        expect("its local server", (report[0], "book-house" in report[1]), (200, True))
+        expect("no report of it", os.path.exists(machine.path("etc/openlink/report")), False)
+        expect("remove", (machine.library("remove", "east")[0], machine.get("links.library.example.org", "/find")),
+               (0, before))
+
+
+TESTS = [test_bad_files, test_beside_one_alone]

@@ -1,0 +1,341 @@
+"""Several machines with the same libraries. One of them, the maker, makes the versions and sends them to the others,
+one machine after the other; each tries a version with the probes before its readers get it.
+
+In the folder of a machine (/etc/openlink) are
+
+    delivery     the name of the last delivery of which it has everything: the time at which it was made, in UTC; on the
+                 maker, then the libraries with their versions
+    drain        while the balancer sends it no readers: the time at which that ends, or nothing if it has no end
+
+and in that of a library
+
+    probes.tsv             the probes that hold in the version that its first line names
+    sending/               files of the front door that tries them; the next delivery removes it
+    versions/STAMP.sent/   a version that is being sent, and
+    versions/STAMP.probes  its probes
+
+A delivery is named once every machine was tried. Those that missed a part of it keep the older name, which the balancer
+sees (deploy/nginx/health.js), and get what they miss with the next delivery or with --send."""
+import datetime, fcntl, os, shlex, shutil, signal, subprocess, time
+import children, interrupts, same_files
+from front_door import FrontDoor, Site
+from libraries import SHARED, SITE, Libraries
+from library import STAMP, VERSION, Library, sync
+from outcome import ALL_NEW, KEPT, Failure
+from probing import Probes, load_probe
+from processes import Processes
+from run import Run, report
+from served import names_in
+
+# The key is named, since the units may not read the home of root.
+SHELL = ("ssh -i /etc/openlink/ssh/key -o UserKnownHostsFile=/etc/openlink/ssh/known_hosts -o BatchMode=yes"
+         " -o ConnectTimeout=10 -o ServerAliveInterval=10")
+ALONE = "."  # the library of a machine with one alone, by its place in the folder
+SECONDS_TO_ASK, SECONDS_TO_SEND, SECONDS_TO_RECEIVE = 60, 3600, 3600
+PROBES, OF = "probes.tsv", "# hold in "
+# Commands for another machine, in its folder. A file gets its name by a rename, so that the health page sees it whole.
+# A library whose last run was killed has no version. Draining ends by itself, if the run is killed; an empty file is
+# the operator's.
+STATE = """[ ! -e delivery ] || echo "delivery $(head -n 1 delivery)"
+for it in . *; do [ ! -L "$it/current" ] || [ -L "$it/before" ] || echo "$it $(readlink "$it/current")"; done"""
+NAME_DELIVERY = "echo {stamp} >delivery.new && mv delivery.new delivery"
+DRAIN = """[ -e drain ] && [ ! -s drain ] || {
+date -u -d '+20 minutes' +%Y%m%dT%H%M%SZ >drain.new && mv drain.new drain; }"""
+END_DRAIN = "[ ! -s drain ] || rm drain"
+
+
+def add_arguments(parser, mode):
+    mode.add_argument("--send", action="store_true", help="make nothing, but send the versions in use to the others")
+    mode.add_argument("--receive", metavar="STAMP", help="put in use the version that another machine has sent")
+    parser.add_argument("--to", nargs="+", default=[], metavar="HOST", help="then send the versions to these machines")
+    parser.add_argument("--shell", default=SHELL, metavar="COMMAND", help=f"reaches another machine ({SHELL})")
+    parser.add_argument("--there", default="openlink-update", metavar="COMMAND",
+                        help="this script on the other machines (openlink-update)")
+    parser.add_argument("--drained", type=float, default=3, metavar="N",
+                        help="seconds in which the balancer takes the readers from a machine that receives (3)")
+
+
+def fault_of(given):
+    """What is wrong with the arguments, or None."""
+    if given.send and (not given.to or given.names or given.all or given.fetch):
+        return "--send needs --to, and sends what all libraries have"
+    if given.to and (given.dry_run or given.receive):
+        return "--to is not for --dry-run or --receive"
+    if given.receive and not VERSION.fullmatch(f"versions/{given.receive}"):
+        return "--receive needs the name of a version"
+    return None
+
+
+def run(words, seconds):
+    """What a command prints. A Failure says why it did not succeed."""
+    name = os.path.basename(words[0])
+    try:
+        done = subprocess.run(words, stdin=subprocess.DEVNULL, capture_output=True, text=True, errors="replace",
+                              timeout=seconds, start_new_session=True, preexec_fn=children.tied())
+    except OSError as fault:
+        raise Failure(f"{name}: {fault.strerror}") from fault
+    except subprocess.TimeoutExpired as fault:
+        raise Failure(f"{name}: no end after {seconds} seconds") from fault
+    if done.returncode != 0:
+        lines = (done.stdout + done.stderr).strip().splitlines()
+        raise Failure("\n  ".join(lines[-12:]) or f"{name}: status {done.returncode}")
+    return done.stdout
+
+
+def text_in(path):
+    try:
+        with open(path, encoding="utf-8", errors="replace") as file:
+            return file.read()
+    except FileNotFoundError:
+        return ""
+
+
+def write(path, text):
+    """Writes a file as a whole."""
+    with open(f"{path}.new", "w", encoding="utf-8") as file:
+        file.write(text)
+    os.rename(f"{path}.new", path)
+    sync(os.path.dirname(path))
+
+
+class Machine:
+    """Another machine."""
+
+    def __init__(self, host, given):
+        self.host, self.shell, self.there = host, given.shell, given.there
+        self.folder, self.drained = os.path.abspath(given.library), given.drained
+        self.delivery, self.stamps = "", {}
+
+    def command(self, text, seconds=SECONDS_TO_ASK):
+        return run([*shlex.split(self.shell), self.host, text], seconds)
+
+    def in_folder(self, text):
+        return self.command(f"cd {shlex.quote(self.folder)} || exit\n{text}")
+
+    def ask(self):
+        """Asks for its delivery and the versions in use."""
+        self.delivery, self.stamps = "", {}
+        for line in self.in_folder(STATE).splitlines():
+            name, _, text = line.partition(" ")
+            if name == "delivery":
+                self.delivery = text
+            elif VERSION.fullmatch(text):
+                self.stamps[name] = VERSION.fullmatch(text)[1]
+
+    def copy(self, source, target, *options):
+        words = ["rsync", "-a", "--delete", "--mkpath", "--timeout=60", "-e", self.shell, *options]
+        run([*words, source, f"{self.host}:{target}"], SECONDS_TO_SEND)
+
+    def place(self, name, *names):
+        return os.path.normpath(os.path.join(self.folder, name, *names))
+
+    def send(self, held):
+        """Sends a version and its probes, which changes nothing for readers."""
+        bases = [held.stamp] + ([self.stamps[held.name]] if held.name in self.stamps else [])
+        options = [f"--link-dest={self.place(held.name, 'versions', it)}" for it in bases]
+        to = self.place(held.name, "versions", held.stamp)
+        self.copy(f"{held.library.version(held.stamp)}/", f"{to}.sent/", *options)
+        self.copy(held.library.path(PROBES), f"{to}.probes")
+
+    def receive(self, held):
+        """Has it put a version in use, and then sends the input, from which it could make versions itself."""
+        self.in_folder(DRAIN)
+        words = [*shlex.split(self.there), *([] if held.name == ALONE else [held.name]), "--receive", held.stamp]
+        self.command(shlex.join(words), SECONDS_TO_RECEIVE)
+        report(f"{self.host}: {'' if held.name == ALONE else f'{held.name}: '}{held.stamp} is in use")
+        if os.path.isdir(held.input):
+            self.copy(f"{held.input}/", f"{self.place(held.name)}/input/", "--exclude=.fetch")
+
+    def bring(self, lacking):
+        """Brings the versions that it lacks, while it has no readers, and the files that libraries share. A Failure has
+        what it says."""
+        for held in lacking:
+            self.send(held)
+        self.in_folder(DRAIN)
+        time.sleep(self.drained)
+        faults = []
+        for held in lacking:
+            try:
+                self.receive(held)
+            except Failure as failure:
+                faults.append(str(failure))
+        self.in_folder(END_DRAIN)
+        if os.path.isdir(self.place(SHARED)):
+            self.copy(f"{self.place(SHARED)}/", f"{self.place(SHARED)}/", "--exclude=.fetch")
+        if faults:
+            raise Failure("\n".join(faults))
+
+    def name_delivery(self, stamp):
+        self.in_folder(NAME_DELIVERY.format(stamp=stamp))
+
+
+class Held:
+    """A library of this machine, with a version in use that no run is about to leave."""
+
+    def __init__(self, name, library, site, given, here):
+        self.name, self.library, self.stamp, self.site = name, library, library.current(), site
+        self.given, self.here = given, here
+        self.input = (given.input if name == ALONE else None) or library.path("input")
+
+    def keep_probes(self):
+        """Writes the probes that hold in the version in use: the input may have some for files that are not yet in
+        use."""
+        path, head = self.library.path(PROBES), f"{OF}{self.stamp}\n"
+        if text_in(path).startswith(head):
+            return
+        given, current = self.given, self.library.path("current")
+        processes = Processes(self.site.ports, given.restart, given.reload, given.seconds)
+        own = Run(self.library, processes, given.program, self.site, lambda file: Probes(load_probe(self.here), file))
+        probes = own.probes_of(os.path.join(self.input, "probes.tsv"))
+        if probes.list:
+            folder = self.library.path("sending")
+            shutil.rmtree(folder, ignore_errors=True)
+            with FrontDoor(self.site, folder) as door:
+                running = door.add_door(self.site.ports, current, own.names_file.path_in(current))
+                door.start()
+                probes.keep_those_that_hold(probes.links(running))
+        write(path, head + "".join(f"{query}\t{' '.join(names) or 'none'}\n" for _, query, names in probes.list))
+
+
+def held_libraries(given, here):
+    """The libraries that this machine can send."""
+    libraries = Libraries(given.library, given.site)
+    found = [(ALONE, Library(given.library), Site(given.site))] if libraries.has_one_alone() or given.input else []
+    found += [(name, Library(libraries.path(name)), Site(libraries.path(name, SITE), given.site))
+              for name in libraries.names()]
+    return [Held(name, library, site, given, here) for name, library, site in found
+            if library.current() and not library.is_unsettled()]
+
+
+class Delivery:
+    """What this machine sends to others."""
+
+    def __init__(self, given, here):
+        self.path, self.given, self.here = os.path.join(given.library, "delivery"), given, here
+
+    def run(self):
+        """Brings each machine what it lacks, and names the delivery. Returns the exit status."""
+        with open(f"{self.path}.lock", "a") as lock:
+            fcntl.flock(lock, fcntl.LOCK_EX)
+            libraries = held_libraries(self.given, self.here)
+            for held in libraries:
+                held.keep_probes()
+            machines = [Machine(host, self.given) for host in self.given.to]
+            complete = [machine for machine in machines if self.has_all(machine, libraries)]
+            told = self.name(complete, "".join(f"{held.name} {held.stamp}\n" for held in libraries))
+        missed = [it.host for it in machines if it not in told]
+        if missed:
+            report(f"missed by {', '.join(missed)}, which get no readers until they have it")
+        return KEPT if missed else ALL_NEW
+
+    def has_all(self, machine, libraries):
+        """Whether a machine has every version, once it was sent those that it lacks."""
+        try:
+            machine.ask()
+            lacking = [held for held in libraries if machine.stamps.get(held.name) != held.stamp]
+            if lacking:
+                machine.bring(lacking)
+            return True
+        except Failure as failure:
+            report(f"{machine.host}: {failure}")
+            return False
+
+    def name(self, machines, versions):
+        """Tells the machines that have all versions the name of the delivery, a new one if the versions are new. Then
+        this machine has it, whose health page tells the balancer. Returns the machines that have it."""
+        named, _, before = text_in(self.path).partition("\n")
+        stamp = named if before == versions else next_name([named, *(it.delivery for it in machines)])
+        told = [it for it in machines if it.delivery == stamp or self.has_told(it, stamp)]
+        if stamp != named:
+            write(self.path, f"{stamp}\n{versions}")
+            report(f"delivery {stamp}: {', '.join(['this machine', *(it.host for it in told)])}")
+        return told
+
+    @staticmethod
+    def has_told(machine, stamp):
+        try:
+            machine.name_delivery(stamp)
+            return True
+        except Failure as failure:
+            report(f"{machine.host}: {failure}")
+            return False
+
+
+def next_name(names):
+    """The time, or one after all names."""
+    names = [name for name in names if VERSION.fullmatch(f"versions/{name}")]
+    moment = datetime.datetime.now(datetime.timezone.utc)
+    while any(moment.strftime(STAMP) <= name for name in names):
+        latest = datetime.datetime.strptime(max(names), STAMP).replace(tzinfo=datetime.timezone.utc)
+        moment = latest + datetime.timedelta(seconds=1)
+    return moment.strftime(STAMP)
+
+
+def deliver(given, here, status):
+    """Sends what is in use to the machines of --to, however the updates have ended. `here` is the folder of the
+    scripts. Returns the exit status of the whole run. A signal may end it at any time: what is half sent is not
+    used."""
+    if not given.to:
+        return status
+    for it in interrupts.SIGNALS:
+        signal.signal(it, signal.SIG_DFL)
+    try:
+        sent = Delivery(given, here).run()
+    except Failure as failure:
+        report(f"nothing was sent: {failure}", "stderr")
+        sent = failure.status
+    return max(status, sent)
+
+
+class Receiver(Run):
+    """A run that puts in use what another machine has sent."""
+
+    def receive(self, stamp, most):
+        """Returns the exit status."""
+        library = self.library
+        old, sent = library.current(), library.version(f"{stamp}.probes")
+        if stamp == old:
+            self.remove_sent()
+            report(f"{stamp} is in use already")
+            return ALL_NEW
+        path = self.place_of(stamp)
+        probes = self.probes_of(sent if "\t" in text_in(sent) else library.path("no probes"))
+        with self.front_door(probes) as door:
+            links = self.try_version(probes, door, path, old, tries_all=True)
+            if path != library.version(stamp):
+                library.complete(stamp)
+            library.remember(old)
+            library.move(stamp)
+            self.processes.restart_all(names_in(library.version(stamp)))
+            self.reload_site()
+            self.try_again(probes, door, links)
+        interrupts.are_ignored()
+        library.settle()
+        if os.path.exists(sent):
+            os.rename(sent, library.path(PROBES))
+        library.remove_old(most)
+        self.remove_sent()
+        report(f"{stamp} is in use")
+        return ALL_NEW
+
+    def place_of(self, stamp):
+        """The folder of the version: the one that was sent, or one that this machine had before."""
+        library = self.library
+        if stamp in library.versions():
+            return library.version(stamp)
+        sent, old = library.version(f"{stamp}.sent"), library.current()
+        if not os.path.isdir(sent):
+            raise Failure(f"{sent}: nothing was sent")
+        library.remove_newer()
+        os.rename(sent, library.version(f"{stamp}.new"))
+        if self.others is not None:
+            same_files.link(library.version(f"{stamp}.new"), old and library.version(old), self.others)
+        return library.version(f"{stamp}.new")
+
+    def remove_sent(self):
+        """Removes what was sent and is not used."""
+        for name in os.listdir(self.library.path("versions")):
+            if name.endswith(".sent"):
+                shutil.rmtree(self.library.version(name))
+            elif name.endswith(".probes"):
+                os.unlink(self.library.version(name))
