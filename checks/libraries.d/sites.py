@@ -1,8 +1,8 @@
 """Two libraries behind one nginx: each gets its own host, targets.json, words, processes, index, logs, limits and local
 server. Then one is removed."""
-import glob, json, os, re, signal, socket
+import glob, json, os, re, shutil, signal, socket
 from counting import expect
-from machine import Machine, patience, read, wait_until, write
+from machine import Machine, ended, patience, read, wait_until, write
 from weeks import QUERY
 
 OLD, NEW = "https://coastal.example.com/journals/pp", "https://coastal.example.com/titles/pp"
@@ -57,6 +57,14 @@ def test_readers(machine, east, wing):
     expect("and its index", formats, ["list\n", "no list\n"])
     exported = [machine.get(it.host, "/export/kbart.txt") for it in (east, wing)]
     expect("exports", ([it[0] for it in exported], "book-house of east" in exported[0][1]), ([200, 404], True))
+    for library in (east, wing):
+        folder = library.path("exported")
+        done = ended(machine.begin("holdings", "kbart", folder, "--library", library.path(), "--site",
+                                   library.path("site.conf")))
+        labels = {it.split("\t")[-1] for it in read(f"{folder}/kbart.txt").splitlines()[1:]}
+        expect(f"{library.name}: holdings {done[1]}", (done[0], {it.partition(" of ")[2] for it in labels}),
+               (0, {library.name}))
+        shutil.rmtree(folder)
     expect("own words", ["Les revues" in machine.get(it.host, "/find?lang=fr")[1] for it in (east, wing)],
            [True, False])
     expect("the other languages", ['hreflang="fr"' in machine.get(it.host, "/find")[1] for it in (east, wing)],
