@@ -62,7 +62,7 @@ class Member:
                 it.edition, it.rows = before
             self.held[it.name] = Held(it.rows, it.rules, it.edition, self.label(it))
         self.write("probes.tsv", "".join(map(self.probe_of, self.shared.stable[:PROBES])))
-        return State(datetime.date.today(), dict(self.held))
+        return State(f"edition {self.edition} of {self.name}", datetime.date.today(), dict(self.held))
 
     def probe_of(self, title):
         names = [it.name for it in self.providers if any(row.title == title[0] for row in it.rows)]

@@ -38,7 +38,8 @@ class Visitor(threading.Thread):
         if reply and reply[0] in (200, 302) and end - start <= MOST_SECONDS:
             self.replies += 1
             self.seconds.append(end - start)
-            self.compare(kind, request, reply, self.member.allowed.between(start, end))
+            states = [state for state, _, _ in self.member.allowed.between(start, end)]
+            self.compare(kind, request, reply, states)
             self.end_fault(end)
         else:
             why = why or f"status {reply[0]} after {end - start:.2f} s"
