@@ -7,7 +7,7 @@ from local_ports import free_ports
 from patience import patience, wait_until
 
 FILE = "deploy/haproxy/haproxy.cfg"
-MOST_SECONDS = 3  # until a machine that is down or behind gets no more readers
+MOST_SECONDS = 3  # until a machine that is down, or has an older version, gets no more readers
 UNITS = {"ms": 0.001, "s": 1}
 
 

@@ -3,9 +3,9 @@ it runs these alone."""
 import importlib, os, shutil, sys, time
 
 sys.dont_write_bytecode = True
-HERE = os.path.dirname(os.path.abspath(__file__))
-for folder in ("../shared", "../../deploy/update.d", "../front_door.d", "../update.d", "."):
-    sys.path.insert(0, os.path.normpath(os.path.join(HERE, folder)))
+TOP = os.path.dirname(os.path.dirname(os.path.dirname(os.path.abspath(__file__))))
+for folder in ("checks/shared", "deploy/update.d", "checks/front_door.d", "checks/update.d", "checks/balancer.d"):
+    sys.path.insert(0, os.path.join(TOP, folder))
 from counting import counts
 
 MODULES = ("kubernetes", "balancing", "pages", "deliveries")  # the tests of the last two are of machines

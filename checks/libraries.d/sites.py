@@ -1,4 +1,4 @@
-"""Two libraries behind one nginx: each gets its own host, targets.json, words, processes, index, logs, limits and local
+"""Two libraries of one nginx: each gets its own host, targets.json, words, processes, index, logs, limits and local
 server. Then one is removed."""
 import glob, json, os, re, shutil, signal, socket
 from counting import expect
