@@ -9,7 +9,7 @@ ghost use Rattle.rule_lint.specs.Private.Starts as spec;
 
 use std::alloc::{AllocError, Global};
 
-/// How many hashes are told apart for each name, for at most this number of names.
+/// The number of different hashes for each name, and the number of names for which it grows.
 const HASHES_PER_NAME: usize = 128;
 
 const MOST_NAMES: usize = 8192;
