@@ -47,8 +47,7 @@ impl<'t, 'a> Batch<'t, 'a> {
             ≡ map (λ row. row.names) self.old.rows.items ++ map names_of (filter_map code_next (search.now ∷ []))) }
     {
         if let Some(row) = search.next {
-            let request = search.request.as_ref().unwrap();
-            let row = request.row(alloc, row)?;
+            let row = search.request.row(alloc, row)?;
             self.codes.push(search.target.code())?;
             self.rows.push(row)?;
         }

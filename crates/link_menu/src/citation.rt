@@ -1,11 +1,12 @@
 //! What is searched for in all targets.
 
-ghost use Rattle.std.specs.Prelude.{◌≡◌, ◌<◌, IfOk, IfSome, length};
+ghost use Rattle.std.specs.Prelude.{◌≡◌, IfOk};
 ghost use Rattle.kbart_rows.specs.ColumnNames.{has};
-ghost use Rattle.kbart_rows.specs.Identifiers.{first_from};
 ghost use Rattle.row_scope.specs.RequestValues.{IsApart};
 ghost use Rattle.registry.specs.Entries.{matching_rows_of};
+ghost use Rattle.link_menu.specs.Private.Held.{has_row};
 
+use crate::matches::{Matches, rows_that_match};
 use kbart_rows::{ColumnNames, Ids};
 use kev_read::Request;
 use registry::Target;
@@ -49,11 +50,17 @@ impl<'a> Citation<'a> {
         Ok(Citation { values, ids })
     }
 
-    /// The first row of a target at or after `from` that has the title.
-    pub(crate) fn next_row(&self, target: &Target, from: usize) -> Option<usize>
-        ensures first { result ≡ first_from from (matching_rows_of target.now self.now.pairs) }
-        ensures within { IfSome result (λ row. row < length target.now.table.rows) }
+    /// The rows of a target that have the title.
+    pub(crate) fn rows(&'a self, target: &'a Target) -> Matches<'a>
+        ensures { result ≡ matching_rows_of target.now self.now.pairs }
     {
-        target.table().next_match(&self.ids, from)
+        rows_that_match(target.table(), &self.ids)
+    }
+
+    /// Whether a row of a target has the title.
+    pub(crate) fn has_row(&'a self, target: &'a Target) -> bool
+        ensures { result ≡ has_row self.now.pairs target.now }
+    {
+        self.rows(target).next().is_some()
     }
 }

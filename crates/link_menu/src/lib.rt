@@ -25,9 +25,11 @@
 
 mod batch;
 mod citation;
+mod matches;
 mod registry_menus;
 mod resolution;
 mod resolver;
+mod searches;
 mod target_search;
 
 pub use interleaved_runs::{Blind, Fate, Shown, Watch, play, round, round_over, turn_all};

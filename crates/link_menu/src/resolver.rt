@@ -1,8 +1,7 @@
 //! The menu of a registry and a request.
 
-ghost use Rattle.std.specs.Prelude.{◌≡◌, All, IfOk, OnErr, OnOk, map};
+ghost use Rattle.std.specs.Prelude.{◌≡◌, IfOk, OnErr, OnOk, map};
 ghost use Rattle.std.specs.List.{list_any};
-ghost use Rattle.row_scope.specs.RequestValues.{IsApartFrom};
 ghost use Rattle.registry.specs.Entries.{menu_of};
 ghost use Rattle.interleaved_runs.specs.Fates.{fate_value};
 ghost use Rattle.interleaved_runs.specs.StepLists.{HasSeenAll, HasSeenSome, step_lists_to_end};
@@ -11,13 +10,13 @@ ghost use Rattle.link_menu.specs.Private.Searches as spec;
 
 use crate::batch::Batch;
 use crate::citation::Citation;
+use crate::searches::{Searches, menu_with};
 use crate::target_search::TargetSearch;
 use interleaved_runs::{Blind, Fate, Watch, round_over};
 use kev_read::Request;
 use menu::Menu;
 use registry::laws::{matching_rows_rise, rows_are_tried_in_order};
-use registry::{Registry, Target};
-use row_scope::{KnownValues, NameNumbers};
+use registry::Registry;
 use std::alloc::{AllocError, Global};
 
 /// The menu of a request: what each target of the registry gives for it, in the order of the targets. The matching rows
@@ -51,32 +50,14 @@ pub fn resolve_watched<W: Watch>(
 {
     rows_are_tried_in_order();
     matching_rows_rise();
+    let targets = registry.targets();
     let citation = Citation::new(alloc, request, registry.columns())?;
-    let mut searches = begin_all(alloc, registry.targets(), registry.numbers(), &citation)?;
+    let begun = Searches::begin(alloc, targets, registry.numbers(), &citation)?;
+    let Searches { held, mut searches } = begun;
     while is_any_open(&searches) {
         try_next_rows(alloc, searches.as_mut_slice(), watch)?;
     }
-    menu_so_far(alloc, searches)
-}
-
-/// A search for each target, which has tried no row.
-///
-/// `AllocError` if an allocation failed.
-fn begin_all<'a>(
-    alloc: Global,
-    targets: &'a [Target],
-    numbers: &NameNumbers,
-    citation: &'a Citation<'a>,
-) -> Result<Vec<TargetSearch<'a>>, AllocError>
-    requires { All (λ target. IsApartFrom citation.now target.table.header) targets.now }
-    ensures { IfOk result (λ searches. searches.items ≡ map (spec.started citation.now) targets.now) }
-{
-    let mut known = KnownValues::new(alloc, &citation.values, numbers)?;
-    let mut searches = Vec::with_capacity(alloc, targets.len())?;
-    for target in targets {
-        searches.push(TargetSearch::begin(alloc, target, citation, &mut known)?)?;
-    }
-    Ok(searches)
+    menu_with(alloc, targets, &held, searches)
 }
 
 fn is_any_open(searches: &[TargetSearch]) -> bool
@@ -133,15 +114,4 @@ fn take_over_all(searches: &mut [TargetSearch], fates: Vec<Fate>)
             search.take_over(fates.next().unwrap());
         }
     }
-}
-
-/// The menu of the resolutions so far.
-fn menu_so_far(alloc: Global, searches: Vec<TargetSearch>) -> Result<Menu, AllocError>
-    ensures { IfOk result (λ menu. menu ≡ map spec.entry_so_far searches.entry.items) }
-{
-    let mut entries = Vec::with_capacity(alloc, searches.len())?;
-    for search in searches {
-        entries.push(search.into_entry(alloc)?)?;
-    }
-    Ok(Menu::new(entries))
 }

@@ -1,27 +1,30 @@
 //! The search for a target's link, row after row.
 
-ghost use Rattle.std.specs.Prelude.{◌≡◌, IfOk};
+ghost use Rattle.std.specs.Prelude.{◌≡◌, IfOk, None, if◌then◌else◌};
+ghost use Rattle.menu.specs.Links as links;
 ghost use Rattle.row_scope.specs.RequestValues.{IsApartFrom};
 ghost use Rattle.interleaved_runs.specs.Fates.{fate_value};
 ghost use Rattle.link_menu.specs.Private.Searches as spec;
 
 use crate::citation::Citation;
+use crate::matches::Matches;
 use crate::resolution::{is_link, resolution_of};
 use interleaved_runs::Fate;
-use menu::{MenuEntry, Resolution, Text};
+use menu::Resolution;
 use registry::Target;
+use registry::laws::matching_rows_rise;
 use row_scope::{KnownValues, TargetRequest};
 use std::alloc::{AllocError, Global};
 use std::marker::Model;
 
-/// The search for a target's link. Contracts see the citation, the target, the row to be tried next, and the resolution
+/// The search for a target's link. Contracts see the request, the target, the row to be tried next, and the resolution
 /// so far.
 #[derive(Drop)]
 pub(crate) struct TargetSearch<'a> {
-    citation: &'a Citation<'a>,
     pub(crate) target: &'a Target,
-    /// The request as the target sees it; `None` if no row matches.
-    pub(crate) request: Option<TargetRequest<'a>>,
+    pub(crate) request: TargetRequest<'a>,
+    /// The matching rows after the next one.
+    rows: Matches<'a>,
     /// `None` if a row gave a link, or no more row matches.
     pub(crate) next: Option<usize>,
     pub(crate) resolution: Resolution,
@@ -33,13 +36,13 @@ impl<'a> Model for TargetSearch<'a> {
     ghost Value = { SearchValue };
 
     ghost view = { λ s. record {
-      requested = s.citation.now;
+      requested = s.request.request;
       target = s.target.now;
       next = s.next;
       resolution = s.resolution;
     } };
 
-    ghost invariant = { λ s. IsReady s.citation.now s.target.now s.request s.next };
+    ghost invariant = { λ s. IsReady s.target.now s.request s.next s.rows };
 }
 
 impl<'a> TargetSearch<'a> {
@@ -57,15 +60,13 @@ impl<'a> TargetSearch<'a> {
         ensures ok { IfOk result (λ search. search ≡ spec.started citation.now target.now) }
         ensures same { known.new ≡ known.old }
     {
-        let next = citation.next_row(target, 0);
-        let request = match next {
-            Some(_) => Some(target.request(alloc, known)?),
-            None => None,
-        };
+        matching_rows_rise();
+        let mut rows = citation.rows(target);
+        let next = rows.next();
         Ok(TargetSearch {
-            citation,
             target,
-            request,
+            request: target.request(alloc, known)?,
+            rows,
             next,
             resolution: Resolution::NoRow,
         })
@@ -81,29 +82,20 @@ impl<'a> TargetSearch<'a> {
     pub(crate) fn take_over(&mut self, fate: Fate)
         ensures { self.new ≡ spec.after_fate self.old (fate_value fate) }
     {
+        matching_rows_rise();
         let Some(row) = self.next else {
             return;
         };
-        let _rows = self.target.table().rows();
         let resolution = resolution_of(fate, row);
-        self.next = if is_link(&resolution) {
-            None
-        } else {
-            self.citation.next_row(self.target, row + 1)
-        };
+        let following = self.rows.next();
+        self.next = row_after(&resolution, following);
         self.resolution = resolution;
     }
+}
 
-    /// The target's name, with the resolution so far.
-    ///
-    /// `AllocError` if an allocation failed.
-    pub(crate) fn into_entry(self, alloc: Global) -> Result<MenuEntry, AllocError>
-        ensures { IfOk result (λ entry. entry ≡ spec.entry_so_far self.entry) }
-    {
-        let name = Text::new(String::from_str(alloc, self.target.name())?);
-        Ok(MenuEntry {
-            name,
-            resolution: self.resolution,
-        })
-    }
+/// The row that is tried after one with this resolution, if this one follows: none after a link.
+fn row_after(resolution: &Resolution, following: Option<usize>) -> Option<usize>
+    ensures { result ≡ (if links.is_link resolution.now then None else following) }
+{
+    if is_link(resolution) { None } else { following }
 }

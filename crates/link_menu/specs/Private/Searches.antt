@@ -1,6 +1,6 @@
 -- Searches of targets for their links, row after row.
 use Rattle.std.specs.Prelude.{◌≡◌, ℕ, ◌+◌, ◌<◌, All, Bool, List, Option, Some, None, IfSome, option_and_then, option_map, is_some}
-use Rattle.std.specs.Prelude.{if◌then◌else◌, length, map, slice_get}
+use Rattle.std.specs.Prelude.{filter, if◌then◌else◌, length, map, nat_le, slice_get}
 use Rattle.std.specs.List.{filter_map, zip}
 use Rattle.environment_model.specs.Environment.{Environment}
 use Rattle.code_model.specs.Code.{Code}
@@ -28,10 +28,12 @@ pub record SearchValue : Type 0 where
   pub next : Option ℕ
   pub resolution : Resolution
 
--- if there is a next row, the table has it, and the request has been prepared for the target
-abbrev pub IsReady : RequestValue → TargetValue → Option TargetRequestValue → Option ℕ → Type 0
-IsReady requested target request next =
-    IfSome next (λ row. (row < length target.table.rows) × (request ≡ Some (record { code = target.code; table = target.table; request = requested })))
+-- the request has been prepared for the target, and if there is a next row, the table has it, and these are the matching rows after it
+pub record IsReady (target : TargetValue) (request : TargetRequestValue) (next : Option ℕ) (rows : List ℕ) : Type 0 where
+  pub code : request.code ≡ target.code
+  pub table : request.table ≡ target.table
+  pub within : IfSome next (λ row. row < length target.table.rows)
+  pub after : IfSome next (λ row. rows ≡ filter (nat_le (row + 1)) (matching_rows_of target request.request.pairs))
 
 -- no row has been tried
 abbrev pub started : RequestValue → TargetValue → SearchValue

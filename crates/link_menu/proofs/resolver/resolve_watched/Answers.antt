@@ -5,7 +5,9 @@ use Rattle.interleaved_runs.specs.StepLists.{HasSeenAll, HasSeenSome}
 use Rattle.link_menu.specs.RowsByRound.{step_lists_in_all_rounds}
 use Rattle.registry.specs.Entries.{menu_of}
 use Rattle.registry.specs.Targets.{AreAllAmong}
-use Rattle.link_menu.specs.Private.Searches.{ends_next, is_open, started}
+use Rattle.link_menu.specs.Private.Held.{has_row, held}
+use Rattle.link_menu.specs.Private.Searches.{ends_next, entry_so_far, is_open, started}
+use Rattle.link_menu.proofs.HeldLemmas.{same_step_lists, with_outcomes}
 use Rattle.link_menu.proofs.RoundLemmas.{rounds_left}
 use Rattle.link_menu.proofs.RoundProgress.{AfterRounds, all_rounds, at_first, fewer_rounds, one_round, part_of_round, some_rounds}
 use Rattle.link_menu.proofs.SearchLemmas.{all_written_back, entry_in_the_end, menu_after_round, menu_at_end, menu_at_start}
@@ -20,30 +22,32 @@ returns-in_err-citation-clause-err g c =
     let told = g.W.Watch.lists c.args.watch.now in
     on_err c.from_residual.result (HasSeenSome lists told told) (nothing_seen lists told)
 
-pub returns-in_err-searches-clause-err : goal.returns-in_err-searches-clause-err
-returns-in_err-searches-clause-err g c =
+pub returns-in_err-begun-clause-err : goal.returns-in_err-begun-clause-err
+returns-in_err-begun-clause-err g c =
     let lists = step_lists_in_all_rounds c.args.registry.now c.args.request.now.pairs in
     let told = g.W.Watch.lists c.args.watch.now in
-    on_err c.from_residual-in_err-searches.result (HasSeenSome lists told told) (nothing_seen lists told)
+    on_err c.from_residual-in_err-begun.result (HasSeenSome lists told told) (nothing_seen lists told)
 
 -- the columns of each target's table are among the registry's, and the citation is for those
-pub begin_all-requires : goal.begin_all-requires
-begin_all-requires g c =
-    let targets = c.targets.result.now in
+pub begin-requires : goal.begin-requires
+begin-requires g c =
+    let targets = c.targets-targets.result.now in
     let requested = c.in_ok-citation.citation in
-    let among = subst (λ ts. AreAllAmong c.columns.result.now ts) (sym c.targets.ensures.value) c.columns.ensures in
+    let among = subst (λ ts. AreAllAmong c.columns.result.now ts) (sym c.targets-targets.ensures.value) c.columns.ensures in
     λ k d inside apart name has. c.in_ok-citation.ensures.apart apart name (among k d inside name has)
 
 pub loop-searches-init : goal.loop-searches-init
 loop-searches-init g c =
     let pairs = c.args.request.now.pairs in
-    let targets = c.args.registry.now in
+    let targets = held pairs c.args.registry.now in
     let laws = c.rows_are_tried_in_order.ensures in
     let rise = c.matching_rows_rise.ensures in
     let told = g.W.Watch.lists c.args.watch.now in
     let requested = c.in_ok-citation.citation in
     let same : requested.pairs ≡ pairs = c.in_ok-citation.ensures.pairs in
-    let initial : c.in_ok-searches.searches.items ≡ map (started requested) targets = cc (c.in_ok-searches.ensures, c.targets.ensures.value) in
+    let initial : c.in_ok-begun.begun.searches.items ≡ map (started requested) targets =
+    c.in_ok-begun.ensures.searches ∙ ap (λ ts. map (started requested) (held requested.pairs ts)) c.targets-targets.ensures.value
+    ∙ ap (λ ps. map (started requested) (held ps c.args.registry.now)) same in
     record {
       menu = ap (map entry_in_the_end) initial ∙ menu_at_start laws.start laws.no_more laws.link laws.no_link requested targets ∙ ap (menu_of targets) same;
       rounds =
@@ -56,20 +60,21 @@ loop-searches-init g c =
 pub returns-in_err-try_next_rows-clause-err : goal.returns-in_err-try_next_rows-clause-err
 returns-in_err-try_next_rows-clause-err g c =
     let pairs = c.args.request.now.pairs in
-    let targets = c.args.registry.now in
+    let targets = held pairs c.args.registry.now in
     let searches = c.loop-searches.searches.items in
     let told = g.W.Watch.lists c.args.watch.now in
     let before = g.W.Watch.lists c.loop-searches.watch in
     let observed = g.W.Watch.lists c.try_next_rows.new.watch in
     let opened : list_any is_open searches ≡ true = cc (c.is_any_open.ensures, c.deref.ensures.value, c.loop-searches-test.true) in
-    on_err c.from_residual-in_err-try_next_rows.result (HasSeenSome (step_lists_in_all_rounds targets pairs) told observed)
+    on_err c.from_residual-in_err-try_next_rows.result (HasSeenSome (step_lists_in_all_rounds c.args.registry.now pairs) told observed)
+    (subst (λ lists. HasSeenSome lists told observed) (same_step_lists pairs c.args.registry.now)
     (part_of_round pairs targets searches told before c.loop-searches.invariant.rounds _ observed opened
-    (ap ends_next c.as_mut_slice.ensures.value) c.in_err-try_next_rows.ensures.err)
+    (ap ends_next c.as_mut_slice.ensures.value) c.in_err-try_next_rows.ensures.err))
 
 pub loop-searches-smaller : goal.loop-searches-smaller
 loop-searches-smaller g c =
     let pairs = c.args.request.now.pairs in
-    let targets = c.args.registry.now in
+    let targets = held pairs c.args.registry.now in
     let rise = c.matching_rows_rise.ensures in
     let searches = c.loop-searches.searches in
     let told = g.W.Watch.lists c.args.watch.now in
@@ -83,7 +88,7 @@ loop-searches-smaller g c =
 pub loop-searches-preserved : goal.loop-searches-preserved
 loop-searches-preserved g c =
     let pairs = c.args.request.now.pairs in
-    let targets = c.args.registry.now in
+    let targets = held pairs c.args.registry.now in
     let laws = c.rows_are_tried_in_order.ensures in
     let rise = c.matching_rows_rise.ensures in
     let inv = c.loop-searches.invariant in
@@ -110,24 +115,32 @@ returns-clause-menu g c =
     let pairs = c.args.request.now.pairs in
     let searches = c.loop-searches.searches in
     let none : list_any is_open searches.items ≡ false = cc (c.is_any_open.ensures, c.deref.ensures.value, c.loop-searches-test.false) in
-    subst (λ all. IfOk c.menu_so_far.result (λ menu. menu ≡ all)) (sym (menu_at_end searches.items none) ∙ c.loop-searches.invariant.menu) c.menu_so_far.ensures
+    let marked : c.deref-2.result.now ≡ map (has_row pairs) c.targets-targets.result.now =
+    c.deref-2.ensures.value ∙ c.in_ok-begun.ensures.held ∙ ap (λ ps. map (has_row ps) c.targets-targets.result.now) c.in_ok-citation.ensures.pairs in
+    let outcomes : map entry_so_far searches.items ≡ menu_of (held pairs c.targets-targets.result.now) pairs =
+    sym (menu_at_end searches.items none) ∙ c.loop-searches.invariant.menu ∙ ap (λ ts. menu_of (held pairs ts) pairs) (sym c.targets-targets.ensures.value) in
+    subst (λ all. IfOk c.menu_with.result (λ menu. menu ≡ all))
+    (with_outcomes pairs c.targets-targets.result.now c.deref-2.result.now searches.items marked outcomes ∙ ap (λ ts. menu_of ts pairs) c.targets-targets.ensures.value)
+    c.menu_with.ensures
 
 pub returns-clause-observed : goal.returns-clause-observed
 returns-clause-observed g c =
     let pairs = c.args.request.now.pairs in
-    let targets = c.args.registry.now in
+    let targets = held pairs c.args.registry.now in
     let searches = c.loop-searches.searches.items in
     let told = g.W.Watch.lists c.args.watch.now in
     let observed = g.W.Watch.lists c.loop-searches.watch in
     let none : list_any is_open searches ≡ false = cc (c.is_any_open.ensures, c.deref.ensures.value, c.loop-searches-test.false) in
-    on_ok c.menu_so_far.result (HasSeenAll (step_lists_in_all_rounds targets pairs) told observed)
-    (all_rounds pairs targets searches told observed c.loop-searches.invariant.rounds none)
+    on_ok c.menu_with.result (HasSeenAll (step_lists_in_all_rounds c.args.registry.now pairs) told observed)
+    (subst (λ lists. HasSeenAll lists told observed) (same_step_lists pairs c.args.registry.now)
+    (all_rounds pairs targets searches told observed c.loop-searches.invariant.rounds none))
 
 pub returns-clause-err : goal.returns-clause-err
 returns-clause-err g c =
     let pairs = c.args.request.now.pairs in
-    let targets = c.args.registry.now in
+    let targets = held pairs c.args.registry.now in
     let told = g.W.Watch.lists c.args.watch.now in
     let observed = g.W.Watch.lists c.loop-searches.watch in
-    on_err c.menu_so_far.result (HasSeenSome (step_lists_in_all_rounds targets pairs) told observed)
-    (some_rounds pairs targets c.loop-searches.searches.items told observed c.loop-searches.invariant.rounds)
+    on_err c.menu_with.result (HasSeenSome (step_lists_in_all_rounds c.args.registry.now pairs) told observed)
+    (subst (λ lists. HasSeenSome lists told observed) (same_step_lists pairs c.args.registry.now)
+    (some_rounds pairs targets c.loop-searches.searches.items told observed c.loop-searches.invariant.rounds))
