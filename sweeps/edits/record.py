@@ -4,7 +4,7 @@ import hashlib
 import os
 import sys
 
-from statements import statements
+import reached
 from stored import PARTS, text_of
 
 sys.path.insert(0, "tools/prove")
@@ -21,36 +21,19 @@ class Sums:
     """The sums of the crates as they are now."""
 
     def __init__(self):
-        _, named = read(".")
-        self.deps = {name: [dep for dep in deps if dep in named] for name, deps in named.items()}
-        self.stated = {}
+        self.crates = frozenset(read(".")[1])
 
     def of(self, crate):
         """Returns a sum of the crate's sources without their lines of comments, its edits of this folder, and the
-        statements of the crates below it."""
+        statements of lower crates that these depend on."""
         found = hashlib.sha256()
+        edits = {path: text_of(path) for path in sorted(glob.glob(f"sweeps/edits/{crate}/*.edit"))}
         for path in sources(crate):
             found.update(repr((path, without_comments(text_of(path)))).encode())
-        for path in sorted(glob.glob(f"sweeps/edits/{crate}/*.edit")):
-            found.update(repr((path, text_of(path))).encode())
-        for name in sorted(self.below(crate)):
-            found.update(f"{name} {self.statements(name)}\n".encode())
+        found.update(repr([*edits.items()]).encode())
+        stated = reached.statements(crate, self.crates, [*edits.values()])
+        found.update(repr(sorted({*stated.values()})).encode())
         return found.hexdigest()[:16]
-
-    def below(self, crate):
-        """Returns the crates that a crate depends on, directly or through others."""
-        found, left = set(), [*self.deps[crate]]
-        while left:
-            name = left.pop()
-            if name not in found:
-                found.add(name)
-                left += self.deps[name]
-        return found
-
-    def statements(self, crate):
-        if crate not in self.stated:
-            self.stated[crate] = hashlib.sha256(statements(crate).encode()).hexdigest()
-        return self.stated[crate]
 
 
 def sources(crate):

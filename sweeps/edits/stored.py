@@ -1,5 +1,6 @@
 """The must-fail edits: those of the gate, crates/CRATE/must-fail/NAME.edit, and others,
 sweeps/edits/CRATE/NAME.edit."""
+import functools
 import glob
 import os
 
@@ -74,6 +75,7 @@ def fault(crate, path):
     return None if edit.texts != edit.before else "it changes nothing"
 
 
+@functools.lru_cache(maxsize=None)
 def text_of(path):
     with open(path, encoding="utf-8") as file:
         return file.read()

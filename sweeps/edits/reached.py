@@ -1,0 +1,192 @@
+"""Which statements of the crates below it a crate depends on: those that its sources and its edits name, and those
+that these name, and so on. A statement is a definition of a file of `specs`, or what a file of `src` states."""
+import functools
+import glob
+import os
+import re
+
+from statements import lines_stated_in, stated_in
+from stored import PARTS, text_of
+
+DEFINITIONS = re.compile(r"Rattle\.(\w+)\.specs\.([\w.]*\w)(?:\.\{([^}]*)\})?(?: as (\w+))?")
+IMPORT = re.compile(r"^ *(?:pub )?use ([\w:{},\s]*);", re.M)
+PATH = re.compile(r"\b([a-z_]\w*)::((?:\w+::)*\w+)")
+WORD = re.compile(r"[^\s(){}\[\],;:.<>&']+")
+CALL = re.compile(r"\.(\w+)\(|::(\w+)")
+DEFINED = re.compile(r"^(?:(?:unfoldable|abbrev|pub|record|data|mutual) )*([^\s:(){}=]+)", re.M)
+IMPLEMENTED = re.compile(r"^impl(?:<[^{]*?>)? (?:([\w:]+)[^{\n]*? for )?(\w+)", re.M)
+
+
+def statements(crate, crates, edits):
+    """Returns the statements of lower crates that a crate depends on: a dictionary from a path and a name to the text.
+    `crates` are all crates of the repository, and `edits` the texts of its edits."""
+    parts = [glob.glob(f"crates/{crate}/{part}/**", recursive=True) for part in PARTS]
+    paths = [path for part in parts for path in part if os.path.isfile(path)]
+    texts = [text_of(path) for path in paths] + edits
+    sources = [text_of(path) for path in paths if path.endswith(".rt")] + edits
+    calls = {method or function for text in sources for method, function in CALL.findall(text)}
+    found, left = {}, {it for text in texts for it in named_in(text, crate, crates, None)}
+    while left:
+        path, name = left.pop()
+        if (path, name) in found or path.split("/")[1] == crate or is_inner(path, name):
+            continue
+        is_source = path.endswith(".rt")
+        found[path, name] = stated_in(path, name, calls) if is_source else definitions(path).get(name, "")
+        for method in methods_of(path, name) & {"", *calls} if is_source else [""]:
+            left.update(named_by(path, name, method, crates))
+        if is_source:
+            left.update((other, name) for other in beside(path) if adds_to(other, name, calls))
+    return {at: text for at, text in found.items() if text.strip()}
+
+
+@functools.lru_cache(maxsize=None)
+def methods_of(path, item):
+    return {method for of, method, _ in lines_stated_in(path) if of == item}
+
+
+@functools.lru_cache(maxsize=None)
+def named_by(path, name, method, crates):
+    """Returns what a definition names, or an item of a source by what it states of a method, or apart from methods."""
+    crate, text = path.split("/")[1], text_of(path)
+    if path.endswith(".rt"):
+        lines = [line for of, it, line in lines_stated_in(path) if (of, it) == (name, method)]
+        return {*named_in(text, crate, crates, frozenset(WORD.findall(" ".join(lines))))}
+    here = definitions(path)
+    words = {*WORD.findall(here.get(name, name))}
+    return {*named_in(text, crate, crates, frozenset(words | {name}))} | {(path, it) for it in words & {*here} - {name}}
+
+
+@functools.lru_cache(maxsize=None)
+def definitions(path):
+    """Returns the definitions of a file by their names; those that stand together have the same text."""
+    found = {}
+    lines = [line for line in text_of(path).split("\n") if not re.match(r"--|(?:pub )?(?:use|mod) ", line)]
+    for block in re.split(r"\n\n+", "\n".join(lines)):
+        for name in DEFINED.findall(block):
+            found[name] = found.get(name, "") + block.strip() + "\n"
+    return found
+
+
+def named_in(text, crate, crates, words):
+    """Yields what a text of a crate names; if there are words, only by names that are among them."""
+    for other, module, names, alias in DEFINITIONS.findall(text):
+        if other not in crates:
+            continue
+        prefix = alias or module.rpartition(".")[2]
+        used = WORD.findall(names) if names else re.findall(rf"\b{prefix}\.(\w+)", text)
+        used = [it for it in used if words is None or it in words or prefix in words]
+        if used or words is None:
+            yield from of_module(other, module, used)
+    paths = [path for it in IMPORT.findall(text) for path in spelled_out(it)]
+    paths += ["::".join(it) for it in PATH.findall(text) if words is None]
+    for path in paths:
+        first, *rest = re.split("::| as ", path)
+        first = crate if first == "crate" else first
+        if first in crates and rest and (words is None or not words.isdisjoint(rest)):
+            yield from sources_of(first, tuple(rest), crates)
+
+
+def spelled_out(imported):
+    """Yields the paths of an import, one for each name in its braces."""
+    head, opened, rest = imported.partition("{")
+    if not opened:
+        yield imported.strip()
+        return
+    depth, start = 0, 0
+    inner = rest.rpartition("}")[0] + ","
+    for at, letter in enumerate(inner):
+        depth += (letter == "{") - (letter == "}")
+        if letter == "," and depth == 0:
+            if inner[start:at].strip():
+                yield from spelled_out(head.strip() + inner[start:at].strip())
+            start = at + 1
+
+
+def of_module(crate, module, names):
+    """Yields the named definitions of a module, or the source that declares them; all of the crate if there is no such
+    file."""
+    first, *rest = module.split(".")
+    if first in ("Private", "contracts"):
+        return
+    is_source = first == "declared"
+    folder, parts, ending = ("src", rest, ".rt") if is_source else ("specs", [first, *rest], ".antt")
+    path = longest(f"crates/{crate}/{folder}", parts, ending)
+    if path is None:
+        yield from ((it, name) for it in all_of(crate) for name in ([""] if it.endswith(".rt") else definitions(it)))
+    elif is_source:
+        yield path, next((it for it in rest[::-1] if re.search(rf"\b(?:struct|enum|trait) {it}\b", text_of(path))), "")
+    else:
+        yield from ((path, name) for name in names or definitions(path))
+
+
+@functools.lru_cache(maxsize=None)
+def longest_of(folder, parts, ending):
+    for end in range(len(parts), 0, -1):
+        path = f"{folder}/{'/'.join(parts[:end])}{ending}"
+        if os.path.isfile(path):
+            return path
+    return None
+
+
+def longest(folder, parts, ending):
+    """Returns the file that the longest beginning of the parts names, or None."""
+    return longest_of(folder, tuple(parts), ending)
+
+
+@functools.lru_cache(maxsize=None)
+def sources_of(crate, names, crates):
+    """Returns the source in which a crate declares what it exports by a path, and the name there; all its sources if
+    none is found."""
+    exported = exports(crate)
+    if names[0] in exported:
+        first, *rest = exported[names[0]].split("::")
+        if first in crates and not os.path.exists(f"crates/{crate}/src/{first}.rt"):
+            return sources_of(first, tuple(rest), crates)
+        names = (first, *rest)
+    path = longest(f"crates/{crate}/src", names, ".rt")
+    root = f"crates/{crate}/src/lib.rt"
+    if path is None and re.search(rf"\b(fn|struct|enum|trait|const|type) {names[0]}\b", text_of(root)):
+        path = root
+    return [(path, names[-1])] if path else [(it, "") for it in all_of(crate) if it.endswith(".rt")]
+
+
+@functools.lru_cache(maxsize=None)
+def exports(crate):
+    """Returns the path of each name that a crate exports from a file or from another crate."""
+    imports = re.findall(r"^pub use ([\w:{},\s]*);", text_of(f"crates/{crate}/src/lib.rt"), re.M)
+    paths = [path for it in imports for path in spelled_out(it)]
+    return {re.split("::| as ", path)[-1]: path.split(" as ")[0] for path in paths}
+
+
+@functools.lru_cache(maxsize=None)
+def is_inner(path, name):
+    """Whether a source has a function of the name that its crate does not export."""
+    if not path.endswith(".rt") or not re.search(rf"^(?:pub(?:\(crate\))? )?fn {name}\b", text_of(path), re.M):
+        return False
+    _, crate, _, *module = path[: -len(".rt")].split("/")
+    is_open = re.search(rf"^pub mod {module[0]};", text_of(f"crates/{crate}/src/lib.rt"), re.M)
+    return not is_open and module != ["lib"] and "::".join([*module, name]) not in exports(crate).values()
+
+
+@functools.lru_cache(maxsize=None)
+def all_of(crate):
+    return [path for part in ("src/**/*.rt", "specs/**/*.antt")
+            for path in glob.glob(f"crates/{crate}/{part}", recursive=True) if "/specs/Private" not in path]
+
+
+@functools.lru_cache(maxsize=None)
+def beside(path):
+    """Returns the other sources of the file's crate that implement something."""
+    others = [it for it in all_of(path.split("/")[1]) if it != path] if path.endswith(".rt") else []
+    return [it for it in others if it.endswith(".rt") and IMPLEMENTED.search(text_of(it))]
+
+
+def adds_to(path, name, calls):
+    """Whether a source implements a trait for a type, or has methods of it that are called."""
+    heads, methods = implemented_in(path)
+    return any(of == name and (trait or not calls.isdisjoint(methods)) for trait, of in heads)
+
+
+@functools.lru_cache(maxsize=None)
+def implemented_in(path):
+    return IMPLEMENTED.findall(text_of(path)), re.findall(r"pub fn (\w+)", text_of(path))
