@@ -24,7 +24,7 @@ impl<'t, 'a> Batch<'t, 'a> {
     /// `AllocError` if an allocation failed.
     pub(crate) fn of(
         alloc: Global,
-        searches: &'t [TargetSearch<'a>],
+        searches: &'t [TargetSearch<'a, '_>],
     ) -> Result<Batch<'t, 'a>, AllocError>
         ensures { IfOk result (IsBatchOf searches.now) }
     {
@@ -38,7 +38,7 @@ impl<'t, 'a> Batch<'t, 'a> {
         Ok(batch)
     }
 
-    fn add(&mut self, alloc: Global, search: &'t TargetSearch<'a>) -> Result<(), AllocError>
+    fn add(&mut self, alloc: Global, search: &'t TargetSearch<'a, '_>) -> Result<(), AllocError>
         ensures codes { OnOk result (map (λ code. code.now) self.new.codes.items
             ≡ map (λ code. code.now) self.old.codes.items ++ filter_map code_next (search.now ∷ [])) }
         ensures envs { OnOk result (map (λ row. row.env.entries) self.new.rows.items

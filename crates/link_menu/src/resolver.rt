@@ -24,7 +24,11 @@ use std::alloc::{AllocError, Global};
 /// of a target are tried in order, and the first that gives a web link gives the target's link.
 ///
 /// `AllocError` if an allocation failed.
-pub fn resolve(alloc: Global, registry: &Registry, request: &Request) -> Result<Menu, AllocError>
+pub fn resolve<'r>(
+    alloc: Global,
+    registry: &'r Registry,
+    request: &Request,
+) -> Result<Menu<'r>, AllocError>
     ensures { IfOk result (λ menu. menu ≡ menu_of registry.now request.now.pairs) }
 {
     resolve_watched(alloc, registry, request, &mut Blind)
@@ -35,12 +39,12 @@ pub fn resolve(alloc: Global, registry: &Registry, request: &Request) -> Result<
 /// observes the rounds one after another.
 ///
 /// `AllocError` if an allocation failed; the watch has then observed everything up to that point.
-pub fn resolve_watched<W: Watch>(
+pub fn resolve_watched<'r, W: Watch>(
     alloc: Global,
-    registry: &Registry,
+    registry: &'r Registry,
     request: &Request,
     watch: &mut W,
-) -> Result<Menu, AllocError>
+) -> Result<Menu<'r>, AllocError>
     ensures menu { IfOk result (λ menu. menu ≡ menu_of registry.now request.now.pairs) }
     ensures observed { OnOk result
         (HasSeenAll (step_lists_in_all_rounds registry.now request.now.pairs) (W.lists watch.old)
@@ -62,12 +66,12 @@ pub fn resolve_watched<W: Watch>(
 /// A search for each target, which has tried no row.
 ///
 /// `AllocError` if an allocation failed.
-fn begin_all<'a>(
+fn begin_all<'a, 'r: 'a>(
     alloc: Global,
-    targets: &'a [Target],
+    targets: &'r [Target],
     numbers: &NameNumbers,
     citation: &'a Citation<'a>,
-) -> Result<Vec<TargetSearch<'a>>, AllocError>
+) -> Result<Vec<TargetSearch<'a, 'r>>, AllocError>
     requires { All (λ target. IsApartFrom citation.now target.table.header) targets.now }
     ensures { IfOk result (λ searches. searches.items ≡ map (spec.started citation.now) targets.now) }
 {
@@ -136,12 +140,15 @@ fn take_over_all(searches: &mut [TargetSearch], fates: Vec<Fate>)
 }
 
 /// The menu of the resolutions so far.
-fn menu_so_far(alloc: Global, searches: Vec<TargetSearch>) -> Result<Menu, AllocError>
+fn menu_so_far<'r>(
+    alloc: Global,
+    searches: Vec<TargetSearch<'_, 'r>>,
+) -> Result<Menu<'r>, AllocError>
     ensures { IfOk result (λ menu. menu ≡ map spec.entry_so_far searches.entry.items) }
 {
     let mut entries = Vec::with_capacity(alloc, searches.len())?;
     for search in searches {
-        entries.push(search.into_entry(alloc)?)?;
+        entries.push(search.into_entry())?;
     }
     Ok(Menu::new(entries))
 }

@@ -8,7 +8,7 @@ ghost use Rattle.link_menu.specs.Private.Searches as spec;
 use crate::citation::Citation;
 use crate::resolution::{is_link, resolution_of};
 use interleaved_runs::Fate;
-use menu::{MenuEntry, Resolution, Text};
+use menu::{MenuEntry, Resolution};
 use registry::Target;
 use row_scope::{KnownValues, TargetRequest};
 use std::alloc::{AllocError, Global};
@@ -17,9 +17,9 @@ use std::marker::Model;
 /// The search for a target's link. Contracts see the citation, the target, the row to be tried next, and the resolution
 /// so far.
 #[derive(Drop)]
-pub(crate) struct TargetSearch<'a> {
+pub(crate) struct TargetSearch<'a, 'r> {
     citation: &'a Citation<'a>,
-    pub(crate) target: &'a Target,
+    pub(crate) target: &'r Target,
     /// The request as the target sees it; `None` if no row matches.
     pub(crate) request: Option<TargetRequest<'a>>,
     /// `None` if a row gave a link, or no more row matches.
@@ -27,7 +27,7 @@ pub(crate) struct TargetSearch<'a> {
     pub(crate) resolution: Resolution,
 }
 
-impl<'a> Model for TargetSearch<'a> {
+impl<'a, 'r> Model for TargetSearch<'a, 'r> {
     ghost use Rattle.link_menu.specs.Private.Searches.{SearchValue, IsReady};
 
     ghost Value = { SearchValue };
@@ -42,16 +42,18 @@ impl<'a> Model for TargetSearch<'a> {
     ghost invariant = { λ s. IsReady s.citation.now s.target.now s.request s.next };
 }
 
-impl<'a> TargetSearch<'a> {
+impl<'a, 'r> TargetSearch<'a, 'r> {
     /// A search that has tried no row.
     ///
     /// `AllocError` if an allocation failed.
     pub(crate) fn begin(
         alloc: Global,
-        target: &'a Target,
+        target: &'r Target,
         citation: &'a Citation<'a>,
         known: &mut KnownValues<'a>,
-    ) -> Result<TargetSearch<'a>, AllocError>
+    ) -> Result<TargetSearch<'a, 'r>, AllocError>
+    where
+        'r: 'a,
         requires apart { IsApartFrom citation.now target.now.table.header }
         requires known { known.old ≡ citation.now }
         ensures ok { IfOk result (λ search. search ≡ spec.started citation.now target.now) }
@@ -95,15 +97,12 @@ impl<'a> TargetSearch<'a> {
     }
 
     /// The target's name, with the resolution so far.
-    ///
-    /// `AllocError` if an allocation failed.
-    pub(crate) fn into_entry(self, alloc: Global) -> Result<MenuEntry, AllocError>
-        ensures { IfOk result (λ entry. entry ≡ spec.entry_so_far self.entry) }
+    pub(crate) fn into_entry(self) -> MenuEntry<'r>
+        ensures { result ≡ spec.entry_so_far self.entry }
     {
-        let name = Text::new(String::from_str(alloc, self.target.name())?);
-        Ok(MenuEntry {
-            name,
+        MenuEntry {
+            name: self.target.name(),
             resolution: self.resolution,
-        })
+        }
     }
 }
