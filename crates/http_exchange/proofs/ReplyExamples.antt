@@ -2,7 +2,7 @@
 use Rattle.std.proofs.Common.{◌≡◌, ◌++◌, List, true, false, [], ◌∷◌, refl, codes, map}
 use Rattle.std.specs.Fmt.{digits}
 use Rattle.http_exchange.specs.Replies.{ReplyValue, plain, printed, unavailable}
-use Rattle.menu.specs.declared.entry.MenuEntry.{MenuEntry}
+use Rattle.menu.specs.Entries.{MenuEntry}
 use Rattle.menu.specs.declared.entry.Resolution.TheVariants.{Link}
 use Rattle.http_exchange.specs.RouteReplies.{is_html, page_text}
 use Rattle.http_request.specs.declared.route.Page.TheVariants.{Html, Text, Report}

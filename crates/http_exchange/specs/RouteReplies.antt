@@ -6,7 +6,7 @@ use Rattle.kev_read.specs.Refusal.{refusal}
 use Rattle.kev_read.specs.declared.error.KevError.{KevError}
 use Rattle.kev_read.specs.declared.error.KevError.TheVariants.{TooLong, TooManyPairs, WrongVersion, NoMemory}
 use Rattle.menu.specs.Printed as menu
-use Rattle.menu.specs.declared.entry.MenuEntry.{MenuEntry}
+use Rattle.menu.specs.Entries.{MenuEntry}
 use Rattle.menu_source.specs.Menus.{Menus}
 use Rattle.http_request.specs.declared.route.Page.{Page}
 use Rattle.http_request.specs.declared.route.Page.TheVariants as page

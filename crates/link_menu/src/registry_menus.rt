@@ -39,7 +39,7 @@ impl<'a> MenuSource for RegistryMenus<'a> {
 
     ghost menus = { menu_of };
 
-    fn menu_for(&self, alloc: Global, request: &Request) -> Result<Menu, AllocError> {
+    fn menu_for<'m>(&'m self, alloc: Global, request: &Request) -> Result<Menu<'m>, AllocError> {
         resolve(alloc, self.registry, request)
     }
 }

@@ -23,7 +23,11 @@ use std::alloc::{AllocError, Global};
 /// of a target are tried in order, and the first that gives a web link gives the target's link.
 ///
 /// `AllocError` if an allocation failed.
-pub fn resolve(alloc: Global, registry: &Registry, request: &Request) -> Result<Menu, AllocError>
+pub fn resolve<'r>(
+    alloc: Global,
+    registry: &'r Registry,
+    request: &Request,
+) -> Result<Menu<'r>, AllocError>
     ensures { IfOk result (λ menu. menu ≡ menu_of registry.now request.now.pairs) }
 {
     resolve_watched(alloc, registry, request, &mut Blind)
@@ -34,12 +38,12 @@ pub fn resolve(alloc: Global, registry: &Registry, request: &Request) -> Result<
 /// observes the rounds one after another.
 ///
 /// `AllocError` if an allocation failed; the watch has then observed everything up to that point.
-pub fn resolve_watched<W: Watch>(
+pub fn resolve_watched<'r, W: Watch>(
     alloc: Global,
-    registry: &Registry,
+    registry: &'r Registry,
     request: &Request,
     watch: &mut W,
-) -> Result<Menu, AllocError>
+) -> Result<Menu<'r>, AllocError>
     ensures menu { IfOk result (λ menu. menu ≡ menu_of registry.now request.now.pairs) }
     ensures observed { OnOk result
         (HasSeenAll (step_lists_in_all_rounds registry.now request.now.pairs) (W.lists watch.old)

@@ -9,7 +9,7 @@ ghost use Rattle.link_menu.specs.Private.Searches as spec;
 
 use crate::citation::Citation;
 use crate::target_search::TargetSearch;
-use menu::{Menu, MenuEntry, Resolution, Text};
+use menu::{Menu, MenuEntry, Resolution};
 use registry::Target;
 use row_scope::{KnownValues, NameNumbers};
 use std::alloc::{AllocError, Global};
@@ -78,12 +78,12 @@ impl<'a> Searches<'a> {
 /// The menu of targets, with the resolutions of the searches for those that have a row with the title.
 ///
 /// `AllocError` if an allocation failed.
-pub(crate) fn menu_with(
+pub(crate) fn menu_with<'r>(
     alloc: Global,
-    targets: &[Target],
+    targets: &'r [Target],
     held: &[bool],
     searches: Vec<TargetSearch>,
-) -> Result<Menu, AllocError>
+) -> Result<Menu<'r>, AllocError>
     requires { length held.now ≡ length targets.now }
     ensures { IfOk result (λ menu. menu
         ≡ entries_with targets.now held.now (map (λ search. search.resolution) searches.entry.items)) }
@@ -94,7 +94,7 @@ pub(crate) fn menu_with(
         let is_held = held[entries.len()];
         let search = if is_held { searches.next() } else { None };
         entries.push(MenuEntry {
-            name: Text::new(String::from_str(alloc, target.name())?),
+            name: target.name(),
             resolution: resolution_so_far(search),
         })?;
     }

@@ -5,7 +5,7 @@ use Rattle.std.specs.Prelude.{◌≡◌, ◌≢◌, ℕ, ◌==◌, Bool, true, n
 use Rattle.std.specs.List.{flat_map}
 use Rattle.text_model.specs.Texts.{Text}
 use Rattle.text_model.specs.UriText.{IsUriText}
-use Rattle.menu.specs.declared.entry.MenuEntry.{MenuEntry}
+use Rattle.menu.specs.Entries.{MenuEntry}
 use Rattle.menu.specs.Links.{NamedLink, links, is_empty}
 use Rattle.menu.specs.Escaping.{IsReadAs}
 use Rattle.menu.specs.Contained.{IsTargetName}

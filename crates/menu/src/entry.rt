@@ -3,6 +3,7 @@
 ghost use Rattle.std.specs.Prelude.{◌≡◌};
 ghost use Rattle.menu.specs.Links.{has_link};
 
+use std::marker::Model;
 use uri_text::Text;
 
 /// The outcome of a target: its link, or the reason why it has none.
@@ -22,14 +23,22 @@ pub enum Resolution {
 
 /// The entry of one target.
 #[derive(Drop)]
-pub struct MenuEntry {
+pub struct MenuEntry<'a> {
     /// The target's name.
-    pub name: Text,
+    pub name: &'a str,
     /// Its link, or the reason why it has none.
     pub resolution: Resolution,
 }
 
-impl MenuEntry {
+impl<'a> Model for MenuEntry<'a> {
+    ghost use Rattle.menu.specs.Entries.{MenuEntry};
+
+    ghost Value = { MenuEntry };
+
+    ghost view = { λ entry. record { name = entry.name.now; resolution = entry.resolution } };
+}
+
+impl MenuEntry<'_> {
     /// Whether the target has a link.
     pub fn has_link(&self) -> bool
         ensures { result ≡ has_link self.now }

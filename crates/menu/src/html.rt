@@ -44,7 +44,7 @@ fn push_item(out: &mut String, entry: &MenuEntry) -> Result<(), AllocError>
     ensures { OnOk result (string_bytes out.new ≡ string_bytes out.old ++ html_items (entry.now ∷ [])) }
 {
     match &entry.resolution {
-        Resolution::Link { link, .. } => push_link_item(out, entry.name.as_str(), link.as_str()),
+        Resolution::Link { link, .. } => push_link_item(out, entry.name, link.as_str()),
         _ => Ok(()),
     }
 }

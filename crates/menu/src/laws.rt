@@ -9,7 +9,7 @@ ghost use Rattle.menu.specs.Escaping.{IsReadAs, escaped};
 ghost use Rattle.menu.specs.Links.{links};
 ghost use Rattle.menu.specs.PageReading.{Token, IsReadAsTokens, HasSoundLinks, links_in, page_tokens};
 ghost use Rattle.menu.specs.Printed.{html};
-ghost use Rattle.menu.specs.declared.entry.MenuEntry.{MenuEntry};
+ghost use Rattle.menu.specs.Entries.{MenuEntry};
 
 /// A link that is URI text, once it is escaped for the value of an attribute, cannot end the value and cannot begin a
 /// tag: it has no quotation mark, no apostrophe, no `<` and no `>`, and each `&` in it is that of `&amp;` or of

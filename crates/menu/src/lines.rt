@@ -12,7 +12,7 @@ pub(crate) fn push_text_line(out: &mut String, entry: &MenuEntry) -> Result<(), 
 {
     match &entry.resolution {
         Resolution::Link { link, .. } => {
-            let name = entry.name.as_str();
+            let name = entry.name;
             let link = link.as_str();
             write!(out, "{name}\t{link}\n")
         }
@@ -36,7 +36,7 @@ fn push_resolution(out: &mut String, resolution: &Resolution) -> Result<(), Allo
 pub(crate) fn push_report_line(out: &mut String, entry: &MenuEntry) -> Result<(), AllocError>
     ensures { OnOk result (string_bytes out.new ≡ string_bytes out.old ++ report_line entry.now) }
 {
-    let name = entry.name.as_str();
+    let name = entry.name;
     write!(out, "{name}\t")?;
     push_resolution(out, &entry.resolution)?;
     out.push('\n')

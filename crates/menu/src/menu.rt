@@ -13,13 +13,13 @@ use std::marker::Model;
 
 /// A menu, which contracts see as the list of its entries, one for each target.
 #[derive(Drop)]
-pub struct Menu {
-    list: Vec<MenuEntry>,
+pub struct Menu<'a> {
+    list: Vec<MenuEntry<'a>>,
 }
 
-impl Model for Menu {
+impl<'a> Model for Menu<'a> {
     ghost use Rattle.std.specs.Prelude.{List};
-    ghost use Rattle.menu.specs.declared.entry.MenuEntry.{MenuEntry};
+    ghost use Rattle.menu.specs.Entries.{MenuEntry};
 
     ghost Value = { List MenuEntry };
 
@@ -32,10 +32,10 @@ fn has_links(entries: &[MenuEntry]) -> bool
     entries.iter().any(|entry| entry.has_link())
 }
 
-impl Menu {
+impl<'a> Menu<'a> {
     /// The menu of these entries, in their order.
-    pub fn new(entries: Vec<MenuEntry>) -> Menu
-        ensures { result ≡ entries.items }
+    pub fn new(entries: Vec<MenuEntry<'a>>) -> Menu<'a>
+        ensures { result ≡ entries.entry.items }
     {
         Menu { list: entries }
     }

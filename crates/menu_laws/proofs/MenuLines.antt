@@ -13,7 +13,7 @@ use Rattle.menu.specs.Contained.{IsTargetName, is_name_character}
 use Rattle.menu.specs.Links.{NamedLink, links}
 use Rattle.menu.specs.PageReading.{IsSoundLink, HasSoundLinks}
 use Rattle.menu.specs.Printed.{report, resolution_text, text}
-use Rattle.menu.specs.declared.entry.MenuEntry.{MenuEntry}
+use Rattle.menu.specs.Entries.{MenuEntry}
 use Rattle.menu.specs.declared.entry.Resolution.{Resolution}
 use Rattle.menu.specs.declared.entry.Resolution.TheVariants as resolution
 use Rattle.menu_laws.specs.Lines.{links_in_text, named_line}

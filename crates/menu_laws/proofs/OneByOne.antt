@@ -6,7 +6,7 @@ use Rattle.text_model.specs.Texts.{Text}
 use Rattle.kev_read.specs.Pairs.{KeyValue}
 use Rattle.menu.specs.Links.{NamedLink, link_under, links}
 use Rattle.menu.specs.Printed.{report, report_line, text, text_line}
-use Rattle.menu.specs.declared.entry.MenuEntry.{MenuEntry}
+use Rattle.menu.specs.Entries.{MenuEntry}
 use Rattle.registry.specs.Entries.{entry_of, menu_of}
 use Rattle.registry.specs.Targets.{TargetValue}
 

@@ -15,7 +15,7 @@ use Rattle.menu.specs.Contained.{IsTargetName}
 use Rattle.menu.specs.Links.{NamedLink, link_under, links}
 use Rattle.menu.specs.PageReading.{IsSoundLink, HasSoundLinks}
 use Rattle.menu.specs.Printed.{report, text}
-use Rattle.menu.specs.declared.entry.MenuEntry.{MenuEntry}
+use Rattle.menu.specs.Entries.{MenuEntry}
 use Rattle.menu.specs.declared.entry.Resolution.{Resolution}
 use Rattle.menu.specs.declared.entry.Resolution.TheVariants as resolution
 use Rattle.registry.specs.Entries.{entry_of, menu_of, resolution_of}

@@ -11,7 +11,7 @@ use Rattle.kbart_rows.specs.Cells.{Row}
 use Rattle.verified_runs.specs.Fates.{Fate, OverBudget, Link, NoLink}
 use Rattle.menu.specs.Links.{NamedLink, is_link, link_under, links}
 use Rattle.menu.specs.WebLink.{is_web_link}
-use Rattle.menu.specs.declared.entry.MenuEntry.{MenuEntry}
+use Rattle.menu.specs.Entries.{MenuEntry}
 use Rattle.menu.specs.declared.entry.Resolution.{Resolution}
 use Rattle.menu.specs.declared.entry.Resolution.TheVariants as resolution
 use Rattle.registry.specs.Targets.{TargetValue}

@@ -3,7 +3,7 @@ use Rattle.std.specs.Prelude.{◌≡◌, ℕ, List, false, Contains}
 use Rattle.text_model.specs.Texts.{Text}
 use Rattle.kev_read.specs.Pairs.{KeyValue}
 use Rattle.menu.specs.Links.{NamedLink}
-use Rattle.menu.specs.declared.entry.MenuEntry.{MenuEntry}
+use Rattle.menu.specs.Entries.{MenuEntry}
 use Rattle.menu.specs.declared.entry.Resolution.TheVariants.{Link}
 use Rattle.lint_laws.specs.RowLinks.{HasHostOfRow, has_open_hosts}
 use Rattle.rule_menus.specs.RuleMenus.{RuleTarget}

@@ -4,7 +4,7 @@ use Rattle.kev_read.specs.Pairs.{KeyValue}
 use Rattle.kbart_rows.specs.Cells.{Holdings, Row}
 use Rattle.kbart_rows.specs.Identifiers.{identifier_columns, ids_of, is_match}
 use Rattle.menu.specs.Links.{has_link}
-use Rattle.menu.specs.declared.entry.MenuEntry.{MenuEntry}
+use Rattle.menu.specs.Entries.{MenuEntry}
 use Rattle.menu.specs.declared.entry.Resolution.{Resolution}
 use Rattle.menu.specs.declared.entry.Resolution.TheVariants as resolution
 use Rattle.registry.specs.Targets.{TargetValue}

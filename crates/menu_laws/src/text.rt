@@ -5,7 +5,7 @@ ghost use Rattle.kev_read.specs.Pairs.{KeyValue};
 ghost use Rattle.menu.specs.Links.{links};
 ghost use Rattle.menu.specs.PageReading.{HasSoundLinks};
 ghost use Rattle.menu.specs.Printed.{text};
-ghost use Rattle.menu.specs.declared.entry.MenuEntry.{MenuEntry};
+ghost use Rattle.menu.specs.Entries.{MenuEntry};
 ghost use Rattle.registry.specs.Entries.{menu_of};
 ghost use Rattle.registry.specs.Targets.{TargetValue, IsRegistry};
 ghost use Rattle.menu_laws.specs.Lines.{links_in_text};

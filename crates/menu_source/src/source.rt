@@ -15,6 +15,6 @@ pub trait MenuSource {
     /// The menu for a request.
     ///
     /// `AllocError` if an allocation failed.
-    fn menu_for(&self, alloc: Global, request: &Request) -> Result<Menu, AllocError>
+    fn menu_for<'a>(&'a self, alloc: Global, request: &Request) -> Result<Menu<'a>, AllocError>
         ensures { IfOk result (λ menu. menu ≡ menus self.now request.now.pairs) };
 }

@@ -16,12 +16,8 @@ fn entries_have_links(rt: HostRuntime) -> Result<(), AllocError> {
             },
             None => Resolution::NotAWebLink,
         };
-        let name_text = Text::new(String::from_str(rt.alloc(), name)?);
-        let entry = MenuEntry {
-            name: name_text,
-            resolution,
-        };
-        assert_eq!(rt; entry.name.as_str(), name);
+        let entry = MenuEntry { name, resolution };
+        assert_eq!(rt; entry.name, name);
         assert_eq!(rt; entry.has_link(), link.is_some());
     }
     let link = Text::new(String::from_str(rt.alloc(), "http://é/")?);

@@ -12,7 +12,7 @@ use Rattle.machine_model.specs.Next.{course_from}
 use Rattle.kev_read.specs.Pairs.{pairs_of}
 use Rattle.kbart_rows.specs.Cells.{Row}
 use Rattle.kbart_rows.proofs.OnLiterals.{kbart_rows_on_literals}
-use Rattle.menu.specs.declared.entry.MenuEntry.{MenuEntry}
+use Rattle.menu.specs.Entries.{MenuEntry}
 use Rattle.menu.specs.declared.entry.Resolution.{Resolution}
 use Rattle.menu.specs.declared.entry.Resolution.TheVariants as resolution
 use Rattle.registry.specs.Targets.{TargetValue}

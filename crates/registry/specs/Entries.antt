@@ -5,7 +5,7 @@ use Rattle.kev_read.specs.Pairs.{KeyValue}
 use Rattle.kbart_rows.specs.Identifiers.{ids_of, matching_rows}
 use Rattle.menu.specs.WebLink.{is_web_link}
 use Rattle.menu.specs.Links.{is_link}
-use Rattle.menu.specs.declared.entry.MenuEntry.{MenuEntry}
+use Rattle.menu.specs.Entries.{MenuEntry}
 use Rattle.menu.specs.declared.entry.Resolution.{Resolution}
 use Rattle.menu.specs.declared.entry.Resolution.TheVariants as resolution
 use Rattle.verified_runs.specs.Fates.{Fate, OverBudget, Link, NoLink, fate_in}

@@ -4,7 +4,7 @@ use Rattle.text_model.specs.UriText.{IsUriText}
 use Rattle.menu.specs.Contained.{IsTargetName}
 use Rattle.menu.specs.Links.{NamedLink, links}
 use Rattle.menu.specs.WebLink.{is_web_link}
-use Rattle.menu.specs.declared.entry.MenuEntry.{MenuEntry}
+use Rattle.menu.specs.Entries.{MenuEntry}
 
 -- the name of a target, and a web link that is URI text
 pub record IsMenuLink (l : NamedLink) : Type 0 where

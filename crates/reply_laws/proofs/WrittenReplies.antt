@@ -9,7 +9,7 @@ use Rattle.kev_read.specs.Pairs.{KeyValue, pairs_of}
 use Rattle.kev_read.specs.Refusal.{refusal}
 use Rattle.kev_read.specs.declared.error.KevError.{KevError}
 use Rattle.kev_read.specs.declared.error.KevError.TheVariants as kev
-use Rattle.menu.specs.declared.entry.MenuEntry.{MenuEntry}
+use Rattle.menu.specs.Entries.{MenuEntry}
 use Rattle.menu_source.specs.Menus.{Menus}
 use Rattle.http_streams.specs.Closing.{is_closed}
 use Rattle.http_streams.specs.Streams.{AreFresh, InputState, IsBlank, OutputState}

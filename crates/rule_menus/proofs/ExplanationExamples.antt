@@ -21,7 +21,7 @@ use Rattle.uri_grammar.specs.declared.parts.Part.TheVariants.{Literal, Expressio
 use Rattle.rule_parser.specs.declared.rule.Bound.TheVariants as bound
 use Rattle.rule_parser.specs.declared.rule.Guard.TheVariants as guard
 use Rattle.rule_parser.specs.Rules.{RuleSet}
-use Rattle.menu.specs.declared.entry.MenuEntry.{MenuEntry}
+use Rattle.menu.specs.Entries.{MenuEntry}
 use Rattle.menu.specs.declared.entry.Resolution.{Resolution}
 use Rattle.menu.specs.declared.entry.Resolution.TheVariants as resolution
 use Rattle.verified_runs.specs.Fates.{fate_in}

@@ -14,7 +14,7 @@ use Rattle.kbart_rows.specs.declared.keys.Keys.{Keys}
 use Rattle.kbart_rows.specs.Reading.{tab_separated, IsTable}
 use Rattle.rule_parser.specs.Grammar.{IsRuleText}
 use Rattle.rule_parser.specs.Rules.{RuleSet}
-use Rattle.menu.specs.declared.entry.MenuEntry.{MenuEntry}
+use Rattle.menu.specs.Entries.{MenuEntry}
 use Rattle.rule_menus.specs.RuleMenus.{RuleTarget, HasSoundRules, entry_by_rules, menu_by_rules}
 use Rattle.rule_menus.specs.RuleFiles.{TargetFiles, IsOfFiles, AreOfFiles}
 

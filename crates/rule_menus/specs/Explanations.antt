@@ -7,7 +7,7 @@ use Rattle.kev_read.specs.Pairs.{KeyValue}
 use Rattle.rule_explanation.specs.Rows.{tried_rows}
 use Rattle.rule_explanation.specs.Explanation.{explanation}
 use Rattle.verified_runs.specs.declared.run.TheConstants.{MAX_LINK_BYTES}
-use Rattle.menu.specs.declared.entry.MenuEntry.{MenuEntry}
+use Rattle.menu.specs.Entries.{MenuEntry}
 use Rattle.menu.specs.declared.entry.Resolution.{Resolution}
 use Rattle.menu.specs.declared.entry.Resolution.TheVariants as resolution
 use Rattle.rule_menus.specs.RuleMenus.{RuleTarget, most_bytes_of_row}

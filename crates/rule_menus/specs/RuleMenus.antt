@@ -10,7 +10,7 @@ use Rattle.rule_parser.specs.Meaning.{meaning}
 use Rattle.rule_explanation.specs.Rows.{environment_of_row}
 use Rattle.compiler_model.specs.Compiled.{code_of}
 use Rattle.verified_runs.specs.declared.run.TheConstants.{MAX_LINK_BYTES}
-use Rattle.menu.specs.declared.entry.MenuEntry.{MenuEntry}
+use Rattle.menu.specs.Entries.{MenuEntry}
 use Rattle.menu.specs.declared.entry.Resolution.{Resolution}
 use Rattle.menu.specs.declared.entry.Resolution.TheVariants.{NoRow}
 use Rattle.registry.specs.Targets.{TargetValue}

@@ -1,7 +1,7 @@
 -- Which targets hold the cited title.
 use Rattle.std.specs.Prelude.{Bool, true, false, List, [], ◌∷◌, filter, get_or, is_some, slice_get, drop}
 use Rattle.kev_read.specs.Pairs.{KeyValue}
-use Rattle.menu.specs.declared.entry.MenuEntry.{MenuEntry}
+use Rattle.menu.specs.Entries.{MenuEntry}
 use Rattle.menu.specs.declared.entry.Resolution.{Resolution}
 use Rattle.menu.specs.declared.entry.Resolution.TheVariants.{NoRow}
 use Rattle.registry.specs.Targets.{TargetValue}
