@@ -1,5 +1,6 @@
-"""The download of a file: several transfers, since redirects are followed here and a failed try is repeated. Several
-downloads are made side by side, with one connection to a host at a time."""
+"""The download of a file: several transfers, since redirects are followed here and a failed try is repeated: curl would
+send a header such as X-Key to every host that it is led to. Several downloads are made side by side, with one
+connection to a host at a time."""
 import http.client, os, re, time
 from urllib.parse import urlsplit
 from transfers import PASSING, WRITE_FAILED, Transfer

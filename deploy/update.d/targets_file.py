@@ -1,5 +1,21 @@
 """Checks a targets.json, and files of words, and says where they are wrong: nginx gives no reason. Run as a program it
-checks those that it is given: targets_file.py /etc/nginx/openlink/targets.json"""
+checks those that it is given: targets_file.py /etc/nginx/openlink/targets.json
+
+    languages   those that the page offers, the default first; each needs a file of words that openlink.conf loads
+    words       the library's name (`library`); the help link (`help`, `helpLink`); `problemLink`, the address (https:
+                or mailto:) to which readers report problems, with {} for the request; `links`, a list for the end of
+                every page, each with `label` and `url`; `logo`, the name of an image next to the file; and
+                replacements for texts of the files of words
+    groups      in the order of the page: `name`, `label`, and in `onlyWithout` a group that hides this one
+    targets     by name: `label`, `group`, `note`, and the path of the rules in `rules`, if they are neither
+                rules/NAME.rules nor received/NAME.rules in the folder (NAME is that of the code file)
+    folder      that of the registry, if it is not /etc/openlink/current
+    scholar     for Google Scholar: `label` and `otherLabel` of the links, `keywords`, `contact`, `addresses` of the
+                campus, and `base` if it is not the site's first server_name
+
+Each label, note and text of `words` is one string, or one for each language: {"en": "Catalogue", "de": "Katalog"}. A
+missing language has the default language's text. A replacement that is one string replaces only the default language's.
+"""
 import glob, json, os, re, sys
 
 WORDS = os.path.join(os.path.dirname(os.path.dirname(os.path.realpath(__file__))), "nginx", "words")
