@@ -26,7 +26,7 @@ def host_of(address):
 
 class Download:
     """Ends with `is_whole` (the file `body` has all of a reply of status 200), `is_unchanged`, or a `fault`;
-    `has_failed` says that the fault is this machine's."""
+    `has_failed` says that the error is this machine's."""
 
     def __init__(self, address, headers, conditions, body, seconds, pause):
         """`headers` go to the host of the address alone, `conditions` (ETag and date of what is there) to any."""

@@ -36,7 +36,7 @@ def words():
 
 
 def texts(place, value, names, languages, faults):
-    """Faults of an object whose members are texts under known names, some of them by language if there are
+    """Errors of an object whose members are texts under known names, some of them by language if there are
     languages."""
     if not isinstance(value, dict):
         faults.append(f"{place} is not an object")
@@ -59,7 +59,7 @@ def by_language(place, value, languages, faults):
 
 
 def parsed(data, faults):
-    """The JSON of a file that nginx preloads; None, and a fault, if it refuses it."""
+    """The JSON of a file that nginx preloads; None, and an error, if it refuses it."""
     if data.startswith(b"\xef\xbb\xbf"):
         faults.append("line 1: begins with a byte order mark")
         return None
@@ -78,7 +78,7 @@ def parsed(data, faults):
 
 
 def faults_of_words(data):
-    """Faults of a file of words: it has the names of the English one, and the same places for values."""
+    """Errors of a file of words: it has the names of the English one, and the same places for values."""
     faults = []
     found = parsed(data, faults)
     if found is None:
@@ -106,7 +106,7 @@ def languages_of(site, loaded, faults):
 
 
 def problem_link(site, faults):
-    """Adds a fault if the page would leave out the link "Report a problem"."""
+    """Adds an error if the page would leave out the link "Report a problem"."""
     words_of_site = site.get("words")
     link = words_of_site.get("problemLink") if isinstance(words_of_site, dict) else None
     for text in link.values() if isinstance(link, dict) else [link]:
@@ -115,7 +115,7 @@ def problem_link(site, faults):
 
 
 def logo_and_links(site, languages, faults):
-    """Removes `links` from the texts, and adds a fault for each link or logo that the page would leave out."""
+    """Removes `links` from the texts, and adds an error for each link or logo that the page would leave out."""
     found = site.get("words") if isinstance(site.get("words"), dict) else {}
     logo = found.get("logo")
     for text in logo.values() if isinstance(logo, dict) else [logo]:
@@ -137,7 +137,7 @@ def logo_and_links(site, languages, faults):
 
 
 def faults_of(data, loaded=None):
-    """Faults of a targets.json; `loaded` has the languages that have a file of words."""
+    """Errors of a targets.json; `loaded` has the languages that have a file of words."""
     faults = []
     site = parsed(data, faults)
     if site is None:
