@@ -132,7 +132,7 @@ ENTRIES = [
     (b"OLK1\0\0\0\x01\0\x01\x01\0\x02a\xc3", "BadLiteral at 13"),  # half a character
 ]
 
-# A byte's place in the list's file, what it is changed to, and the fault then.
+# A byte's place in the list's file, what it is changed to, and the error then.
 CHANGES = [
     (10, 0x02, "BadKind at 10"),
     (11, 0x3A, "Truncated at 68"),

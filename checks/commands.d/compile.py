@@ -1,6 +1,6 @@
 """Rule files given to `compile`: their code, and why they have none."""
 
-# Rules, the code's path, the status and the fault.
+# Rules, the code's path, the status and the error.
 REFUSED = [
     ("long.rules", "code", 3, "compile: TooManyInstructions"),
     ("bad.rules", "code", 3, "rules: line 2: Template Unclosed"),

@@ -53,7 +53,7 @@ def pages(*lengths):
     return "".join(f"rule\nlink {letter * length}\n" for letter, length in zip("bcdefghij", lengths))
 
 
-# Rules, and the fault or the bytes of the code.
+# Rules, and the error or the bytes of the code.
 RULES = [
     # 1,023 texts, an empty literal less than there may be, and the link: 4,095 instructions.
     ("rule\n" + guards(1000, 2022) + "link b\n", 10 + 3 + 1023 * 7 + 4 + 8 * 4095),

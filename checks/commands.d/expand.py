@@ -44,7 +44,7 @@ DECLARED = [
     ("{list:3}", COLOURS, ""),
 ]
 
-# A template, a query, and the fault.
+# A template, a query, and the error.
 REFUSED = [
     ("{a b}", "", "template: BadName at 1"),
     ("x{+}", "", "template: BadName at 3"),
@@ -53,7 +53,7 @@ REFUSED = [
     ("{=a}", "", "template: ReservedOperator at 1"),
     ("{a:0}", "", "template: BadModifier at 2"),
     ("a}", "", "template: BadLiteral at 1"),
-    # The template's fault comes before the query's.
+    # The template's error comes before the query's.
     ("{a", "ctx_ver=1", "template: Unclosed at 0"),
     ("{x}", "ctx_ver=Z39.88-2005&x=1", "query: WrongVersion"),
     ("a" * 8193, "", "template: TooLong at 8192"),

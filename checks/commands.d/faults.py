@@ -1,4 +1,4 @@
-"""Each error that the program prints, once, and all words that docs/FAULTS.md lists."""
+"""Each error that the program prints, once, and all words that docs/ERRORS.md lists."""
 import re
 from assembler import LIST_FILE, TWENTY_TEXTS, code, instruction
 from compilers_limits import guards, pages
@@ -139,8 +139,8 @@ def words_in(texts, pattern):
 
 
 def test_the_words_of_the_document(program):
-    """The lists of docs/FAULTS.md have each kind of error that is printed, and no other."""
-    with open("docs/FAULTS.md") as document:
+    """The lists of docs/ERRORS.md have each kind of error that is printed, and no other."""
+    with open("docs/ERRORS.md") as document:
         rows = [line for line in document if line.startswith("- `")]
     listed = words_in(rows, r"`([A-Z]\w+)`") | words_in(rows, r"^- `target NAME: ([A-Z]\w+)`")
     printed = words_in((error for *_, error in cases()), r"\b[A-Z]\w+\b") - {"Template"}

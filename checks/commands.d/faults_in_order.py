@@ -1,5 +1,5 @@
-"""Which of several faults of a template or a rule file is named: the first from the left, that of the first line."""
-# Templates, and their first fault from the left.
+"""Which of several errors of a template or a rule file is named: the first from the left, that of the first line."""
+# Templates, and their first error from the left.
 TEMPLATES = [
     ("{a{b}", "BadName at 1"), ("{a b,c:0}", "BadName at 1"), ("{a:0,b c}", "BadModifier at 2"),
     ("}" + "a" * 8192, "TooLong at 8192"), ("}" + "a" * 8191, "BadLiteral at 0"), ("{" + "a" * 8192, "TooLong at 8192"),
@@ -14,7 +14,7 @@ TEMPLATES = [
     ("{" + "a" * 255 + ":0}", "BadModifier at 256"),
 ]
 
-# Lines of rule files, and their first fault.
+# Lines of rule files, and their first error.
 RULES = [
     (["rule", "list x"], "line 2: BadLine"),
     (["rule", "link a", "list x"], "line 3: BadLine"),

@@ -1,8 +1,8 @@
-"""What docs/FAULTS.md says to do about an error, done: its commands run in the folder of the test, and the error is
+"""What docs/ERRORS.md says to do about an error, done: its commands run in the folder of the test, and the error is
 gone or its place is found."""
 import os, re, subprocess
 
-PAGE = os.path.abspath("docs/FAULTS.md")
+PAGE = os.path.abspath("docs/ERRORS.md")
 # Bytes that are not UTF-8, after two characters of one and of three bytes: a lone byte, a character over U+10FFFF, a
 # length that UTF-8 does not have, half of a pair of UTF-16, and a character that is cut short.
 WRONG = [b"\x80", b"\xf4\x90\x80\x80", b"\xf8\x88\x80\x80\x80", b"\xed\xa0\x80", b"\xe2\x82"]

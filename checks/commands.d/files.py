@@ -47,7 +47,7 @@ def test_the_largest_code(program):
     program.fails(["show", "longer.olk"], 3, "code: TooLong at 65536")
 
 
-# A command, the arguments after the path that it reads, and the fault where a file has more than 65,536 bytes.
+# A command, the arguments after the path that it reads, and the error where a file has more than 65,536 bytes.
 COMMANDS = [
     ("show", [], "code: TooLong at 65536"),
     ("verify", [], "load: TooLong at 65536"),

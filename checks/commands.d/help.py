@@ -20,7 +20,7 @@ NO_COMMANDS = [
 
 
 def printed(program, argument):
-    """What the one argument prints, with status 0 and no fault."""
+    """What the one argument prints, with status 0 and no error."""
     status, output, errors = program.run([argument])
     program.expect(f"status and fault of openlink {argument}", (status, errors), (0, b""))
     return output.decode()

@@ -24,7 +24,7 @@ LINK = "rule\nlink http://e.org/{a}!{b}\n"
 MOST = 16777216
 MARK = b"\xef\xbb\xbf"
 
-# Tables by their bytes, and their first fault.
+# Tables by their bytes, and their first error.
 LIMITS = [
     ("a" * (MOST + 1), "TooLong"),
     (MARK + b"a" * (MOST - 2), "TooLong"),

@@ -27,7 +27,7 @@ GUARDS = [
     ("x from * to 9", "x=b7", False),
 ]
 
-# Rules, and their fault.
+# Rules, and their error.
 REFUSED = [
     ("rule\nwhen x from 1 to 1234567890\nlink a\n", "line 2: BadLine"),
     ('rule\nwhen rft.au is "x"\nlink http://e.org/\n', "line 2: KindMismatch"),

@@ -28,7 +28,7 @@ def test_all_other_bytes(program):
 
 
 def test_other_commands(program):
-    """The same fault from each command that reads a code file."""
+    """The same error from each command that reads a code file."""
     program.write("code", named("a", "b\x7f"))
     program.fails(["verify", "code"], 3, "load: BadName at 16")
     program.fails(["run", "code", ""], 3, "load: BadName at 16")

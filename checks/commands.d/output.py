@@ -5,7 +5,7 @@ HELLO = ["expand", "{hello}", "hello=Hello+World%21"]
 LINE = b"Hello%20World%21\n"
 DEVICE = b"openlink: device: -\n"
 
-# How many bytes the output takes before it fails, the status and the fault. The line has 17 bytes.
+# How many bytes the output takes before it fails, the status and the error. The line has 17 bytes.
 ROOMS = [
     (0, 4, DEVICE),
     (3, 4, DEVICE),

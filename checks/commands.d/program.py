@@ -67,5 +67,5 @@ class Program:
         self.gives(arguments, 1, "", "")
 
     def fails(self, arguments, status, fault):
-        """The status, nothing on standard output, and the line of the fault, without `openlink: ` before it."""
+        """The status, nothing on standard output, and the line of the error, without `openlink: ` before it."""
         self.gives(arguments, status, "", as_bytes("openlink: ") + as_bytes(fault) + b"\n")

@@ -1,4 +1,4 @@
-"""Registry files: which are taken, which fault is the first, and what a row and a request have together."""
+"""Registry files: which are taken, which error is the first, and what a row and a request have together."""
 from assembler import FAIL
 from service import expect_replies, reply_of, request_of
 from targets import JOURNAL, write_registry
@@ -16,7 +16,7 @@ def write_files(program):
 
 
 def takes(program, registry):
-    """The registry file has no fault; nor has a request a link of its targets."""
+    """The registry file has no error; nor has a request a link of its targets."""
     program.write("registry.txt", registry)
     program.finds_no_link(["resolve", "registry.txt", QUERY])
 
@@ -26,7 +26,7 @@ def refuses(program, registry, status, fault):
     program.fails(["resolve", "registry.txt", QUERY], status, fault)
 
 
-# Registry files without a fault.
+# Registry files without an error.
 TAKEN = [
     b"",
     b"\n\r\n",
@@ -35,13 +35,13 @@ TAKEN = [
     b"a\tcode.olk\ttable.txt\r\n\r\nb\tcode.olk\ttable.txt\r\n",
 ]
 
-# A registry file, the status, and its first fault.
+# A registry file, the status, and its first error.
 REFUSED = [
     (b"alpha\tcode.olk\n", 3, "registry: line 1"),
     (b"alpha\tcode.olk\ttable.txt\t\n", 3, "registry: line 1"),
     (b"alpha\tcode.olk\ttable.txt\n\nbeta\n", 3, "registry: line 2"),
     (b"alph\xff\tcode.olk\ttable.txt\n", 3, "registry: line 1"),
-    # The fault of a target on an earlier line comes first.
+    # The error of a target on an earlier line comes first.
     (b"a b\tcode.olk\ttable.txt\nbeta\n", 3, "target a b: BadTargetName"),
     (b"alpha\tcode.olk\ttable.txt\nalpha\tcode.olk\ttable.txt\n", 3, "target alpha: BadTargetName"),
     (b"alpha\ttable.txt\tcode.olk\n", 3, "target alpha: load: BadMagic at 0"),
@@ -51,7 +51,7 @@ REFUSED = [
     # A folder is opened, and can't be read.
     (b"alpha\t/\ttable.txt\n", 4, "target alpha: device: /"),
     (b"alpha\tcode.olk\t/\n", 4, "target alpha: device: /"),
-    # Of the faults of one target, that of its code comes first, and that of its name last.
+    # Of the errors of one target, that of its code comes first, and that of its name last.
     (b"a b\ttable.txt\tnone.txt\n", 3, "target a b: load: BadMagic at 0"),
     (b"a b\tnone.olk\tempty.txt\n", 4, "target a b: device: none.olk"),
     (b"a b\tcode.olk\tempty.txt\n", 3, "target a b: table: NoHeader"),

@@ -1,4 +1,4 @@
-"""Registry files and the files of their targets: the first fault, sizes up to their limits, and keys for the tables."""
+"""Registry files and the files of their targets: the first error, sizes up to their limits, and keys for the tables."""
 from assembler import FAIL
 from service import expect_replies, reply_of, request_of
 from system_calls import RANDOM, without
@@ -23,7 +23,7 @@ def resolves(program, status, fault):
         program.fails(["resolve", PATH, ""], status, fault)
 
 
-# A registry file, the status, and its first fault; status 1 where it has none.
+# A registry file, the status, and its first error; status 1 where it has none.
 FIRST_FAULTS = [
     (LINE, 1, ""),
     (LINE + b"\nbeta\n", 3, "registry: line 2"),
@@ -61,7 +61,7 @@ def test_a_last_line_needs_no_end(program):
         expect_replies(program, [(request_of("/report"), reply_of(200, "alpha\tno row\nbeta\tno row\n"))])
 
 
-# A file, how many bytes of which kind it has, the status, and the fault.
+# A file, how many bytes of which kind it has, the status, and the error.
 SIZES = [
     (PATH, 65_536, b"\n", 1, ""),
     (PATH, 65_537, b"\n", 3, "registry: line 0"),
@@ -78,7 +78,7 @@ def test_sizes(program):
         resolves(program, status, fault)
 
 
-# The code and the table of a 257th target, and its fault: the number of targets is checked last.
+# The code and the table of a 257th target, and its error: the number of targets is checked last.
 LAST_TARGETS = [
     ("table.txt", "bad.txt", "load: BadMagic at 0"),
     ("a code.olk", "bad.txt", "table: NotUtf8"),
@@ -93,7 +93,7 @@ def test_a_257th_target_is_read_before_it_is_refused(program):
         resolves(program, 3, f"target t256: {fault}")
 
 
-# A registry file, the status, and the fault where the system gives no random numbers.
+# A registry file, the status, and the error where the system gives no random numbers.
 WITHOUT_KEYS = [
     (LINE, 4, f"device: {PATH}"),
     (b"", 4, f"device: {PATH}"),

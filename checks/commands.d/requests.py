@@ -43,7 +43,7 @@ def test_absent_key(program):
     program.finds_no_link(["link", "absent.rules", "x=1&y=2&x=3"])
 
 
-# A query that is read, and the kind of the fault of one that is not.
+# A query that is read, and the kind of the error of one that is not.
 VERSIONS = [
     ("", None),
     ("ctx_ver=Z39.88-2004&url_ver=Z39.88-2004&x=1", None),

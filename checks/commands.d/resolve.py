@@ -9,7 +9,7 @@ TABLE = (
 )
 MENU = "alpha\talpha.olk\ttable.txt\nbeta\tbeta.olk\ttable.txt\n"
 
-# A registry, the status and the fault.
+# A registry, the status and the error.
 REFUSED = [
     ("alpha\talpha.olk\ttable.txt\nalpha\tbeta.olk\ttable.txt\n", 3, "target alpha: BadTargetName"),
     ("alpha\talpha.olk\ttable.txt\n\nbeta\tbeta.olk\n", 3, "registry: line 2"),
@@ -44,7 +44,7 @@ def test_refusals(program):
     make_targets(program)
     for registry, status, fault in REFUSED:
         program.write("faulty.txt", registry)
-        # The registry's fault comes before the query's.
+        # The registry's error comes before the query's.
         program.fails(["resolve", "faulty.txt", "ctx_ver=Z39.88-2005"], status, fault)
 
 

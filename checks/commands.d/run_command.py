@@ -16,7 +16,7 @@ def test_links(program):
 def test_refusals(program):
     program.write("wild.olk", UNGUARDED)
     program.write("good.olk", LIST_FILE)
-    # The code's fault comes before the query's.
+    # The code's error comes before the query's.
     program.fails(["run", "wild.olk", "ctx_ver=Z39.88-2005"], 3, "load: KindMismatch at 1, r2")
     program.fails(["run", "good.olk", "ctx_ver=Z39.88-2005"], 3, "query: WrongVersion")
     program.fails(["run", "no/code.olk", ""], 4, "device: no/code.olk")

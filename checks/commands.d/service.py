@@ -14,7 +14,7 @@ NO_LINKS = "<!DOCTYPE html>\n<title>Links</title>\n<p>No links</p>\n"
 
 
 class Service:
-    """`serve registry 0 COUNT`, which is to end, without a fault, once it has served that number of connections."""
+    """`serve registry 0 COUNT`, which is to end, without an error, once it has served that number of connections."""
 
     def __init__(self, program, count, **how):
         self.program, self.count, self.how = program, count, how

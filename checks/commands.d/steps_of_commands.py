@@ -1,9 +1,9 @@
-"""Which of several faults of a command is named: that of its first step."""
+"""Which of several errors of a command is named: that of its first step."""
 import itertools, socket
 from assembler import code
 from targets import ANY_LINK
 
-# Steps of commands in their order: for each step an argument without a fault, and arguments with one, and the fault.
+# Steps of commands in their order: for each step an argument without an error, and arguments with one, and the error.
 QUERIES = ["x=1", ("url_ver=1", 3, "query: WrongVersion"), ("a" * 65537, 3, "query: TooLong")]
 PLACES = ["new.olk", ("no/new.olk", 4, "device: no/new.olk")]
 COMMANDS = [
@@ -103,6 +103,6 @@ def test_options(program):
     cases = [["{x}", "--list", "a", "x=1"], ["{x}", "x=1", "--list", "a"], ["--list", "a", "{x}", "x=1", "x"]]
     for arguments in cases + [["--list", "a", "{x}"], ["--list", "a"], ["--list"], ["{x}"], []]:
         program.fails(["expand", *arguments], 2, "usage")
-    # The faults of a template and a query do not show where the arguments are wrong.
+    # The errors of a template and a query do not show where the arguments are wrong.
     program.fails(["expand", "{", "--list", "a", "url_ver=1"], 2, "usage")
     program.prints(["expand", "--list", "--list", "{x}", "x=1"], "1")

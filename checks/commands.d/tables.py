@@ -1,4 +1,4 @@
-"""Holdings tables of a target, as the menu and the report of one target show them: rows, cells, limits, faults."""
+"""Holdings tables of a target, as the menu and the report of one target show them: rows, cells, limits, errors."""
 from service import Service, request_of
 
 
@@ -211,7 +211,7 @@ def test_lines_and_cells(program):
 LONGEST = b"a" * 65536
 LONGER = b"a" * 65537
 
-# The bytes of a table, and the kind of its first fault, or None where it is read.
+# The bytes of a table, and the kind of its first error, or None where it is read.
 TABLES = [
     (b"", "NoHeader"),
     (b"\n\r\n\r", "NoHeader"),

@@ -36,7 +36,7 @@ def test_names(program):
 
 
 def test_all_other_bytes(program):
-    """As a name's first byte, within it and as its last. What is no cell of text is a fault of the registry."""
+    """As a name's first byte, within it and as its last. What is no cell of text is an error of the registry."""
     write_files(program)
     for byte in range(256):
         if chr(byte) in ALLOWED:

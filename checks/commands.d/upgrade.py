@@ -2,7 +2,7 @@
 import os
 from assembler import LIST_FILE
 
-# The old path, the new one, the status and the fault.
+# The old path, the new one, the status and the error.
 REFUSED = [
     ("no.olk", "kept.olk", 3, "code: BadMagic at 0"),
     ("none.olk", "kept.olk", 4, "device: none.olk"),

@@ -32,7 +32,7 @@ QUERIES = [
     ("ctx_ver=Z39.88-2004=", False),
 ]
 
-# Queries, and their first fault: the length, the number of pairs, the versions.
+# Queries, and their first error: the length, the number of pairs, the versions.
 FAULTS = [
     ("ctx_ver=1" + "&a" * 4096, "TooManyPairs"),
     ("a&" * 4096 + "ctx_ver=1", "TooManyPairs"),

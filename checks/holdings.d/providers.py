@@ -153,7 +153,7 @@ class Raw(socketserver.StreamRequestHandler):
         self.rfile.read(1)  # until nginx closes the connection
 
     def third_time(self):
-        """A fault twice, then the table."""
+        """An error twice, then the table."""
         self.server.asked += 1
         self.whole(self.server.table, "200 OK" if self.server.asked % 3 == 0 else "503 Service Unavailable")
 

@@ -1,4 +1,5 @@
-"""Makes an index in a temporary folder and reads it as docs/INDEX.md describes it, without the code that wrote it."""
+"""Makes an index in a temporary folder and reads it as docs/INDEX.md and the heads that it names describe it, without
+the code that wrote it."""
 import hashlib, os, re, shutil, struct, tempfile
 import index
 

@@ -9,7 +9,7 @@ SITE = "etc/nginx/conf.d/openlink.conf"
 
 
 def test_bad_files():
-    """Each run has other faults in the input of some of three libraries; the rest are new."""
+    """Each run has other errors in the input of some of three libraries; the rest are new."""
     with Machine() as machine:
         libraries = east, north, west = started(machine)
         table, targets = north.input.read("tidal-press.txt"), east.input.read("targets.tsv")

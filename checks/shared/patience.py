@@ -46,7 +46,7 @@ def wait_until(holds, seconds=30):
 
 
 def best_of_three(fault_of):
-    """Measures a time-out up to three times, until a try has no fault. Returns the fault of the last try, or None."""
+    """Measures a time-out up to three times, until a try has no error. Returns the error of the last try, or None."""
     for _ in range(3):
         fault = fault_of()
         if fault is None:

@@ -20,7 +20,7 @@ def kept(name, library, reason, week, path=None):
 
 
 def test_bad_files():
-    """Each fault is in the files of book-house alone: the others are new, in turn of week B and A."""
+    """Each error is in the files of book-house alone: the others are new, in turn of week B and A."""
     with Library() as library:
         for number in "123":
             library.input.add_row("book-house", f"Tides {number}\t\t978123456241{number}\t".encode())

@@ -1,5 +1,6 @@
 // Whether each process of the program answers, and how old the version in use is: for monitoring, a balancer or a pod.
-// The ports are those of the sites' own files. Only servers for the machine itself and its balancer load this file.
+// The ports are read from the text of the sites, since nginx tells no script the processes of an upstream. Only servers
+// for the machine itself and its balancer load this file.
 // text.js says in which njs it runs.
 import fs from 'fs';
 import exchange from './exchange.js';

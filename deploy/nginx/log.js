@@ -1,4 +1,5 @@
-// What the log has of a request: the source up to its host, and, if the site says so, what was asked for in vain.
+// What the log has of a request: the source up to its host, and, if the site says so, what was asked for in vain. That
+// has a file of its own, with a month and no time, so no line has a number together with a time or a source.
 // text.js says in which njs it runs.
 import texts from './text.js';
 

@@ -1,5 +1,5 @@
 // The frame of every page: its head, the library's name and logo, help, links and languages at its end; and the pages
-// of faults. All text of a request or a file is escaped where it is put into HTML. An operator edits nothing here.
+// of errors. All text of a request or a file is escaped where it is put into HTML. An operator edits nothing here.
 // text.js says in which njs it runs.
 import languages from './languages.js';
 import texts from './text.js';
@@ -45,7 +45,7 @@ function addLinks(items, site) {
         if (label !== '' && isWeb(url)) items.push('<li>' + anchor(url, label) + '</li>');
     }
 }
-// The same page in the other languages. A page of a fault has no address of its own.
+// The same page in the other languages. A page of an error has no address of its own.
 function addLanguages(items, site) {
     if (!site.path || site.languages.length < 2 || site.args.length > MOST_ARGS) return;
     const address = escape(site.path + '?' + (site.args === '' ? '' : site.args + '&') + 'lang=');

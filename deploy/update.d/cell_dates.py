@@ -1,5 +1,6 @@
 """Dates in the cells of a table as the standard writes them: YYYY, YYYY-MM or YYYY-MM-DD. A date that can be read in
-two ways becomes its year."""
+two ways becomes its year, and a day that does not exist its month. A date without a year, or with two, stays as it is,
+for `inspect` to warn of."""
 import datetime, re
 
 STANDARD = re.compile(r"\d{4}(?:-\d\d(?:-\d\d)?)?", re.A)

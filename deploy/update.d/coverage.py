@@ -1,6 +1,10 @@
 """Coverage to the day: the columns `coverage_from` and `coverage_to` of a table as it is served. They have the first
 and the last day that is open today as numbers of eight digits, 0 and 99999999 where there is no bound, and the other
-way round where no day is open. So the cells are never empty, and no request can fill them."""
+way round where no day is open. So the cells are never empty, and no request can fill them.
+
+An embargo counts from the day of the update, also in years, and not by calendar years. P and R of one length share all
+days between them, so each day is open under exactly one of them. An embargo in words keeps no table out, but is
+reported: otherwise the target would have an old table, or no links."""
 import calendar, datetime, functools, re
 from outcome import Refused
 from table_cells import cell, cells_of, columns_of

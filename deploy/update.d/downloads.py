@@ -1,5 +1,6 @@
-"""The download of a file: several transfers, since redirects are followed here and a failed try is repeated. Several
-downloads are made side by side, with one connection to a host at a time."""
+"""The download of a file: several transfers, since redirects are followed here and a failed try is repeated: curl would
+send a header such as X-Key to every host that it is led to. Several downloads are made side by side, with one
+connection to a host at a time."""
 import http.client, os, re, time
 from urllib.parse import urlsplit
 from transfers import PASSING, WRITE_FAILED, Transfer
@@ -25,7 +26,7 @@ def host_of(address):
 
 class Download:
     """Ends with `is_whole` (the file `body` has all of a reply of status 200), `is_unchanged`, or a `fault`;
-    `has_failed` says that the fault is this machine's."""
+    `has_failed` says that the error is this machine's."""
 
     def __init__(self, address, headers, conditions, body, seconds, pause):
         """`headers` go to the host of the address alone, `conditions` (ETag and date of what is there) to any."""

@@ -27,7 +27,8 @@ def days_of(number, unit):
 
 
 def repeats_wall(last, parts, day):
-    """Whether a last date only says what the embargo says of this day, as the one that the update writes."""
+    """Whether a last date only says what the embargo says of this day, as the one that the update writes. Exports leave
+    such a date out: the embargo says the same, and tomorrow too."""
     if "P" not in parts or len(last) < len("2026-11"):
         return False
     near = (day + datetime.timedelta(shift) for shift in (-1, 0, 1))  # the stamp of a version is in UTC

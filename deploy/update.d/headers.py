@@ -1,4 +1,6 @@
-"""The header of a table, which may come after other lines, with commas or semicolons, and in another spelling."""
+"""The header of a table, which may come after other lines, with commas or semicolons, and in another spelling. A table
+with fewer than LEAST names of KBART is used as it is, with its first line as the header, such as ANY.tsv. Quotes that
+do not match reject a file: one that is not closed would take the rows after it into its cell."""
 import csv, re
 from outcome import Unreadable
 

@@ -1,5 +1,16 @@
-"""The index of a version: its titles by number, by title and by word, for the front door. docs/INDEX.md describes the
-files. Run as a program it makes the index of the tables that a registry names: index.py REGISTRY FOLDER"""
+"""The index of a version: its titles by number, by title and by word, for the front door. docs/INDEX.md has an overview
+of the files. Run as a program it makes the index of the tables that a registry names: index.py REGISTRY FOLDER
+
+A line of keys/ has these cells, the last ones only if KEY is a number:
+
+    KEY  KIND  TITLE  NUMBERS  COVERAGE  RELATED  RELATED..
+
+KEY is a number: an ISSN with hyphen and capital X, or an ISBN of thirteen digits; the first three digits of its MD5 sum
+name the file. Or it denotes the key of a title (`=`), or one that is like it (`~`): the key of the title without its
+subtitle, and of this with its umlauts as two letters. Then the MD5 sum is that of the sign and the key: its first three
+digits name the file, and KEY is the sign and the next thirteen. RELATED is `<` or `>`, a number, a space and a title:
+an earlier (`<`) or later title by preceding_publication_title_id, at most five of each. A key has at most MOST_LINES.
+"""
 import collections, os, sys
 import title_list, word_sets
 from index_files import digest, write, write_lines

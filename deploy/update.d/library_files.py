@@ -28,6 +28,7 @@ TARGETS = """{{
 }}
 """
 LIST = "# a name, a rule file, a table and allowed warnings, with tabs between them; of a shared table: {shared}/FILE\n"
+# nginx finds a site only below `current`: a library without a version may lack targets.json, which nginx would refuse.
 SITES = """# The sites of the libraries of this machine, each once it has a version in use. Made by openlink-library.
 include {folder}/*/current/../../site.conf;
 """

@@ -11,7 +11,9 @@
     earlier.tsv            see earlier_files.py
     allowed.tsv            a target, words of its line that allow warnings, and the number up to which they do
     index/                 the index of titles, for the front door
-"""
+
+An old table is prepared again before a new one is compared with it, so a newer form of preparation does not look like a
+change by the provider."""
 import dataclasses, filecmp, functools, os, re, shutil
 import date_order, dropped_rows, earlier_files, file_patterns, holdings, index, shared_tables
 from earlier_files import EarlierFiles

@@ -1,5 +1,6 @@
 """targets.json, if the operator keeps it in the input: then it goes forward and back with the version, and
-openlink.conf names the one of the version in use."""
+openlink.conf names the one of the version in use. Otherwise it stays where it is: nginx reads it when it starts, so
+each change costs a reload."""
 import filecmp, os, shutil
 import targets_file
 

@@ -1,4 +1,5 @@
-"""The text of a file as it came: UTF-8, UTF-16 with its byte order mark, or windows-1252."""
+"""The text of a file as it came: UTF-8, UTF-16 with its byte order mark, or windows-1252. A line that is not UTF-8 is
+read as windows-1252, and not the file, since files that a provider joined have lines of both."""
 import re
 from outcome import Unreadable
 

@@ -36,8 +36,9 @@ class Run:
                                  lambda _: self.library.remove_old(most), tries_all=True)
 
     def move_walls(self, folder):
-        """Makes a version from the files of the one in use, whose walls have moved, and puts it in its place. Probes
-        that may be for new files, since they do not hold now, are not tried. Returns the exit status."""
+        """Makes a version from the files of the one in use, whose walls have moved, and puts it in its place, or four
+        days would push out the versions of the weeks before. Probes that may be for new files, since they do not hold
+        now, are not tried. Returns the exit status."""
         old = self.library.current()
         if old is None:
             raise Failure("there is no version in use")

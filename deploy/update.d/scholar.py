@@ -1,5 +1,6 @@
 """The library's journals as Google Scholar reads them: institutional_holdings, in parts, and institutional_links, which
-names the parts and the base URL."""
+names the parts and the base URL. Each ISSN of each row has an item: the format may allow several in one, but is not
+described in full."""
 import re
 from xml.sax.saxutils import escape
 from embargoes import before, days_of, parts_of

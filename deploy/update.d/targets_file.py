@@ -1,5 +1,21 @@
 """Checks a targets.json, and files of words, and says where they are wrong: nginx gives no reason. Run as a program it
-checks those that it is given: targets_file.py /etc/nginx/openlink/targets.json"""
+checks those that it is given: targets_file.py /etc/nginx/openlink/targets.json
+
+    languages   those that the page offers, the default first; each needs a file of words that openlink.conf loads
+    words       the library's name (`library`); the help link (`help`, `helpLink`); `problemLink`, the address (https:
+                or mailto:) to which readers report problems, with {} for the request; `links`, a list for the end of
+                every page, each with `label` and `url`; `logo`, the name of an image next to the file; and
+                replacements for texts of the files of words
+    groups      in the order of the page: `name`, `label`, and in `onlyWithout` a group that hides this one
+    targets     by name: `label`, `group`, `note`, and the path of the rules in `rules`, if they are neither
+                rules/NAME.rules nor received/NAME.rules in the folder (NAME is that of the code file)
+    folder      that of the registry, if it is not /etc/openlink/current
+    scholar     for Google Scholar: `label` and `otherLabel` of the links, `keywords`, `contact`, `addresses` of the
+                campus, and `base` if it is not the site's first server_name
+
+Each label, note and text of `words` is one string, or one for each language: {"en": "Catalogue", "de": "Katalog"}. A
+missing language has the default language's text. A replacement that is one string replaces only the default language's.
+"""
 import glob, json, os, re, sys
 
 WORDS = os.path.join(os.path.dirname(os.path.dirname(os.path.realpath(__file__))), "nginx", "words")
@@ -20,7 +36,7 @@ def words():
 
 
 def texts(place, value, names, languages, faults):
-    """Faults of an object whose members are texts under known names, some of them by language if there are
+    """Errors of an object whose members are texts under known names, some of them by language if there are
     languages."""
     if not isinstance(value, dict):
         faults.append(f"{place} is not an object")
@@ -43,7 +59,7 @@ def by_language(place, value, languages, faults):
 
 
 def parsed(data, faults):
-    """The JSON of a file that nginx preloads; None, and a fault, if it refuses it."""
+    """The JSON of a file that nginx preloads; None, and an error, if it refuses it."""
     if data.startswith(b"\xef\xbb\xbf"):
         faults.append("line 1: begins with a byte order mark")
         return None
@@ -62,7 +78,7 @@ def parsed(data, faults):
 
 
 def faults_of_words(data):
-    """Faults of a file of words: it has the names of the English one, and the same places for values."""
+    """Errors of a file of words: it has the names of the English one, and the same places for values."""
     faults = []
     found = parsed(data, faults)
     if found is None:
@@ -90,7 +106,7 @@ def languages_of(site, loaded, faults):
 
 
 def problem_link(site, faults):
-    """Adds a fault if the page would leave out the link "Report a problem"."""
+    """Adds an error if the page would leave out the link "Report a problem"."""
     words_of_site = site.get("words")
     link = words_of_site.get("problemLink") if isinstance(words_of_site, dict) else None
     for text in link.values() if isinstance(link, dict) else [link]:
@@ -99,7 +115,7 @@ def problem_link(site, faults):
 
 
 def logo_and_links(site, languages, faults):
-    """Removes `links` from the texts, and adds a fault for each link or logo that the page would leave out."""
+    """Removes `links` from the texts, and adds an error for each link or logo that the page would leave out."""
     found = site.get("words") if isinstance(site.get("words"), dict) else {}
     logo = found.get("logo")
     for text in logo.values() if isinstance(logo, dict) else [logo]:
@@ -121,7 +137,7 @@ def logo_and_links(site, languages, faults):
 
 
 def faults_of(data, loaded=None):
-    """Faults of a targets.json; `loaded` has the languages that have a file of words."""
+    """Errors of a targets.json; `loaded` has the languages that have a file of words."""
     faults = []
     site = parsed(data, faults)
     if site is None:

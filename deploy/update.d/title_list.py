@@ -1,4 +1,11 @@
-"""The list of titles, by letter, in pages."""
+"""The list of titles, by letter, in pages. The letters are `a` to `z`, `0-9`, each letter of another alphabet up to
+Arabic (such as Greek and Cyrillic), and `other`, in this order; a title is under the first character of its key. Within
+a letter titles are in the order of their keys, so words come before longer words.
+
+The first line of `letters`, after the empty one, has two cells: the number of titles, and the number of digits of the
+names in words/KIND/. Each other line has four: the letter, its first page, its numbers of pages and of titles. A page
+has at most PAGE titles, and each letter begins a new one. A line of a page has the cells TITLE, NUMBERS and COVERAGE.
+"""
 import os
 from index_files import write_lines
 

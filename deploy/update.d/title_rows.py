@@ -1,4 +1,7 @@
-"""The rows of a holdings table that have a title and a number, as the index has them."""
+"""The rows of a holdings table that have a title and a number, as the index has them. An entry of the coverage is, with
+spaces between: target or part, the row as the report counts it (`link R`), first date, last date, embargo. A date is
+YYYY, YYYY-MM or YYYY-MM-DD, an embargo one or two parts such as P1Y, with a comma between them. `-` is a missing part;
+at the end of an entry, missing parts are left out."""
 import dataclasses, re
 from identifiers import form_of, is_issn
 from titles import MOST_CHARACTERS, plain

@@ -1,5 +1,15 @@
 """The key of a title, by which two ways to write it are compared. deploy/nginx/titles.js makes the same keys. Run as a
-program it prints fold.json, the table that both need: letters with marks, and the entities of HTML."""
+program it prints fold.json, the table that both need: letters with marks, and the entities of HTML.
+
+1. Tags are removed, and entities are read. `&` is `and`.
+2. All letters are small, without marks.
+3. A leading l', un' or gl' is removed; other apostrophes are too, and the letters around them are one word.
+4. Other punctuation, symbols and spaces are one space.
+5. One leading article is removed, if another word follows: in English, German, French, Spanish or Italian. So is a
+   definite article after the last comma (`Tides, The`).
+
+Only the first MOST_CHARACTERS of a title count. Without its subtitle, a title ends before the first `:` or `=`, before
+a dash or slash between spaces, or before brackets at its end."""
 import html.entities, json, re, unicodedata
 
 MOST_CHARACTERS = 500

@@ -1,5 +1,20 @@
 """The titles that have a word, for the search: for each word, and for each beginning of many words, the places of its
-titles in the list."""
+titles in the list. A title's place is PAGE times the number of its page, plus the number of lines before it there. Its
+words are those of its key, its article, and its words with umlauts as two letters; words of one character are left out,
+and of a longer word only the first MOST_LETTERS count.
+
+A file is named after the MD5 sum of the first three characters of the word. It begins with a line that has the length
+of its text in bytes, this line included. The lines of the text have the cells WORD, COUNT and PLACES. PLACES is
+
+    @N or #N   if COUNT titles have a word that *begins* with WORD. Their places are N bytes after the text: after @,
+               COUNT ascending numbers of four bytes, the first byte the highest; after #, a bit for each place, the
+               first one the highest bit of the first byte, and as many bytes as the last of these places needs
+    NUMBER ..  otherwise: the places of the COUNT titles that have exactly the word WORD, ascending, with spaces between
+
+To find the titles with words that begin with three characters or more, take the first line that begins with them. If
+its PLACES begin with @ or #, it has them all. Otherwise each line that begins with them has some, and all of them
+together have at most FEW. Beginnings of two characters have lines of their own, always with @ or #, in the file named
+after the MD5 sum of these two."""
 import array, collections, os, sys
 from index_files import MOST_BYTES, digest, text_of, write
 from title_list import PAGE
