@@ -8,7 +8,7 @@ use Rattle.kbart_rows.specs.Private.Kept.{is_id}
 -- ---- ranges
 
 -- a number and those around it
-range_parts : (first n m : ℕ) → range_with_len first (n + suc m) ≡ range_with_len first n ++ (first + n) ∷ range_with_len (first + n + 1) m
+pub range_parts : (first n m : ℕ) → range_with_len first (n + suc m) ≡ range_with_len first n ++ (first + n) ∷ range_with_len (first + n + 1) m
 range_parts first zero m =
     let size : zero + suc m ≡ suc m = omega arith in
     let start : first ≡ first + zero = omega arith in
