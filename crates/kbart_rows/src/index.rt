@@ -83,7 +83,9 @@ impl Index {
         ensures { IfOk result (HasEntries keys.now (print ∷ online ∷ []) (drop 1 lines.now)) }
     {
         let mut entries = entries_of(alloc, lines, print, online, keys)?;
-        entries.as_mut_slice().sort_unstable_by_key(|entry| entry.key());
+        entries
+            .as_mut_slice()
+            .sort_unstable_by_key(|entry| entry.key());
         // At least one bucket for each entry, and at most two.
         let shift = (entries.len() as u32).leading_zeros().min(31);
         let starts = starts_of(alloc, entries.as_slice(), shift)?;

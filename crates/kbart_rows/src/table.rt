@@ -1,6 +1,6 @@
 //! A holdings table.
 
-ghost use Rattle.std.specs.Prelude.{◌≡◌, ◌≤◌, ◌<◌, ◌+◌, ◌*◌, ◌↔◌, [], ◌∷◌, IfErr, IfOk, IfSome, OnOk, IsUtf8, Err};
+ghost use Rattle.std.specs.Prelude.{◌≡◌, ◌≤◌, ◌<◌, ◌+◌, ◌*◌, ◌↔◌, [], ◌∷◌, All, IfErr, IfOk, IfSome, OnOk, IsUtf8, Err};
 ghost use Rattle.std.specs.Prelude.{get_or, length};
 ghost use Rattle.std.specs.List.{list_any};
 ghost use Rattle.std.specs.Option.{option_copied};
@@ -205,7 +205,8 @@ impl Table {
 
     /// The rows that match the identifiers, in rising order: those that [`next_match`](Table::next_match) finds.
     pub fn matches<'a>(&'a self, ids: &'a Ids) -> Matches<'a>
-        ensures { result ≡ spec.matching_rows self.now ids.now }
+        ensures rows { result ≡ spec.matching_rows self.now ids.now }
+        ensures within { All (λ row. row < length self.now.rows) result }
     {
         Matches::new(self, ids)
     }

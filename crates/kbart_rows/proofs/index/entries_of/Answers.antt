@@ -1,4 +1,4 @@
-use Rattle.std.proofs.Common.{◌≡◌, ℕ, ◌∙◌, ◌+◌, ◌++◌, ◌∷◌, ◌*◌, ◌≤◌, [], List, ap, arith, drop, get_or, length, subst, sym}
+use Rattle.std.proofs.Common.{◌≡◌, ◌∙◌, ◌+◌, ◌++◌, ◌*◌, ◌≤◌, [], List, ap, arith, drop, get_or, length, subst, sym}
 use Rattle.std.proofs.lemmas.List.{get_or-drop, length-drop}
 use Rattle.kbart_rows.specs.Identifiers.{identifier_in}
 use Rattle.kbart_rows.specs.Lines.{cells_in}

@@ -1,4 +1,4 @@
-use Rattle.std.proofs.Common.{◌≡◌, ◌<◌, ◌∙◌, ◌∷◌, [], List, ap, arith, drop, length, rules, subst, sym, take, ◌++◌}
+use Rattle.std.proofs.Common.{◌<◌, ◌∙◌, ◌∷◌, [], List, arith, drop, rules, subst, sym}
 use Rattle.std.proofs.lemmas.List.Sorted.{All-permutation, Contains-permutation, IsNonDecreasingBy-from_sort_by_key}
 use Rattle.std.specs.List.Sorted.{IsPermutation}
 use Rattle.kbart_rows.specs.Private.Index.{AreSmall, HasEntries, IsOrdered, entry_for, entry_key}

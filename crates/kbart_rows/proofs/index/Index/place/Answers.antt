@@ -1,6 +1,6 @@
 use Rattle.std.proofs.Common.{◌≡◌, ℕ, ◌+◌, ◌<◌, ◌≤◌, List, ◌∙◌, ap, arith, get_or, length, subst}
 use Rattle.std.proofs.lemmas.List.{get_or_default}
-use Rattle.kbart_rows.specs.Private.Index.{AreSmall, AreStarts, bucket_of, entry_key, key_of}
+use Rattle.kbart_rows.specs.Private.Index.{AreStarts, bucket_of, entry_key, key_of}
 use Rattle.kbart_rows.specs.declared.index.Entry.{Entry}
 use Rattle.kbart_rows.proofs.IndexLemmas.{buckets_rise, place_after, place_before, starts_rise}
 use Rattle.kbart_rows.proofs.index.Index.place.Goals as goal

@@ -1,4 +1,4 @@
-use Rattle.std.proofs.Common.{◌≡◌, ℕ, ◌∙◌, ◌+◌, ◌∷◌, [], List, ap, arith, drop, filter, nat_le, sym}
+use Rattle.std.proofs.Common.{ℕ, ◌∙◌, List, ap, drop, sym}
 use Rattle.std.specs.List.{slice_get}
 use Rattle.kbart_rows.specs.Identifiers.{matching_rows}
 use Rattle.kbart_rows.proofs.RowOrder.{first_and_rest, matching_rows_rise, none_from}

@@ -1,9 +1,8 @@
-use Rattle.std.proofs.Common.{◌≡◌, ℕ, ◌*◌, ◌+◌, ◌<◌, ◌≤◌, Bool, true, false, List, [], ap, arith, get_or, length, nat_le, refl, sym, ◌∙◌}
+use Rattle.std.proofs.Common.{◌≡◌, ℕ, ◌<◌, ◌≤◌, Bool, true, false, List, [], ap, arith, get_or, length, nat_le, refl, ◌∙◌}
 use Rattle.std.proofs.lemmas.Bool.Decides.{nat_tests}
 use Rattle.kbart_rows.specs.Hashing.{hash_of}
 use Rattle.kbart_rows.specs.Private.Index.{AreSmall, IsAhead, entry_key, half_of, key_of}
 use Rattle.kbart_rows.specs.declared.index.Entry.{Entry}
-use Rattle.kbart_rows.specs.declared.runs.Run.{Run}
 use Rattle.kbart_rows.proofs.runs.Run.of.Goals as goal
 
 -- the run that begins at a place among the entries is ahead

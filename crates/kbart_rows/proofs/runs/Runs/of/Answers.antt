@@ -1,4 +1,4 @@
-use Rattle.std.proofs.Common.{◌≡◌, ℕ, ◌+◌, ◌<◌, ◌≤◌, zero, suc, List, [], arith, get_or, length, subst, sym}
+use Rattle.std.proofs.Common.{ℕ, ◌<◌, ◌≤◌, zero, suc, List, [], arith, get_or, length, subst, sym}
 use Rattle.text_model.specs.Texts.{Text}
 use Rattle.kbart_rows.specs.Hashing.{hash_of}
 use Rattle.kbart_rows.specs.Private.Index.{IsAhead, half_of}
