@@ -2,7 +2,7 @@
 use Rattle.std.proofs.Common.{◌≡◌, ℕ, List, [], ◌∷◌, ◌++◌, length, Some, None, refl, codes, bytes_eq}
 use Rattle.std.specs.Prelude.{map, filter, not, ◌==◌}
 use Rattle.std.specs.List.{range_with_len}
-use Rattle.std.specs.Hash.DefaultHasher.{initial}
+use Rattle.kbart_rows.specs.Hashing.{keys_of}
 use Rattle.text_model.specs.Texts.{Text}
 use Rattle.kev_read.specs.Pairs.{pairs_of}
 use Rattle.kbart_rows.specs.Cells.{Row, Holdings}
@@ -85,7 +85,7 @@ other_keys_ask_for_nothing = refl
 -- ---- the rows that match
 
 abbrev table : Row → List Row → Holdings
-table header rows = record { header = header; rows = rows; keys = record { hasher = initial } }
+table header rows = record { header = header; rows = rows; keys = keys_of 0 0 }
 
 -- the rows of a table with one row, under one column, that a query finds
 abbrev found_in : Text → Text → Text → List ℕ

@@ -11,5 +11,8 @@ pub mod ReadingLines
 pub mod FillingLemmas
 pub mod Rows
 pub mod RowSums
-pub mod Matches
 pub mod RowOrder
+pub mod NormalBytes
+pub mod IndexLemmas
+pub mod EntryLemmas
+pub mod RunLemmas

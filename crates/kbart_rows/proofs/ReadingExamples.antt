@@ -1,6 +1,6 @@
 -- How small tables are read, and why bytes are not a table: the lines are written out here, and the checker compares.
 use Rattle.std.proofs.Common.{◌≡◌, ◌≤◌, List, [], ◌∷◌, ◌++◌, length, None, refl, sym, ap, subst, ◌∙◌, codes, arith, true≢false}
-use Rattle.std.specs.Hash.DefaultHasher.{initial}
+use Rattle.kbart_rows.specs.Hashing.{keys_of}
 use Rattle.std.proofs.lemmas.Str.{IsUtf8-from_is_utf8, is_utf8-from_IsUtf8}
 use Rattle.csv.specs.Machine.{next_record}
 use Rattle.std.proofs.lemmas.List.Elements.{All-cons, All-nil}
@@ -99,7 +99,7 @@ names = codes "a" ∷ codes "b" ∷ []
 abbrev rows : List Row
 rows = (codes "1" ∷ codes "2" ∷ []) ∷ (codes "3" ∷ []) ∷ []
 
-first_line_is_the_header : IsTable (codes "a\tb\n1\t2\n3\n") (record { header = names; rows = rows; keys = record { hasher = initial } })
+first_line_is_the_header : IsTable (codes "a\tb\n1\t2\n3\n") (record { header = names; rows = rows; keys = keys_of 0 0 })
 unfolding kbart_rows_on_literals Reached
 first_line_is_the_header = record {
   text = (omega arith, IsUtf8-from_is_utf8 _ refl);

@@ -1,10 +1,10 @@
 -- Matching rows one after another.
-use Rattle.std.proofs.Common.{◌≡◌, ℕ, ◌+◌, ◌≤◌, ◌<◌, Bool, true, false, cond, suc, List, [], ◌∷◌, All, Some, None, filter, refl, sym, ap, ◌∙◌, arith, nat_le}
+use Rattle.std.proofs.Common.{◌≡◌, ℕ, ◌+◌, ◌≤◌, ◌<◌, Bool, true, false, cond, zero, suc, List, [], ◌∷◌, All, Some, None, filter, refl, sym, ap, ◌∙◌, arith, nat_le}
 use Rattle.std.proofs.Common.{get_or, length}
 use Rattle.std.proofs.lemmas.Bool.Decides.{nat_tests}
 use Rattle.std.proofs.lemmas.List.FromFn.{length-range_with_len, get_or-range_with_len}
 use Rattle.std.proofs.lemmas.List.Kept.{AllPairs-filter}
-use Rattle.std.proofs.lemmas.List.Elements.{All-head, All-tail}
+use Rattle.std.proofs.lemmas.List.Elements.{All-cons, All-head, All-nil, All-tail, All-weaker}
 use Rattle.std.proofs.lemmas.Option.{none-some, same_Some}
 use Rattle.std.specs.List.{AllPairs, range_with_len}
 use Rattle.text_model.specs.Texts.{Text}
@@ -27,6 +27,22 @@ filtered_rise test first n = AllPairs-filter (λ x y. x < y) test (range_with_le
 
 pub matching_rows_rise : (table : Holdings) (ids : List Text) → Rise (matching_rows table ids)
 matching_rows_rise table ids = filtered_rise (λ row. is_match (identifier_columns table.header) ids (get_or table.rows row [])) 0 (length table.rows)
+
+-- each is one of the rows
+below_end : (test : ℕ → Bool) (first n : ℕ) → All (λ row. row < first + n) (filter test (range_with_len first n))
+below_end test first zero = All-nil (λ row. row < first + 0)
+below_end test first (suc n) =
+    let rest = filter test (range_with_len (first + 1) n) in
+    let later = All-weaker (λ row. row < first + 1 + n) (λ row. row < first + suc n) (λ row high. omega (arith, high)) rest (below_end test (first + 1) n) in
+    elim (test first) as (λ b. All (λ row. row < first + suc n) (cond b (first ∷ rest) rest)) [
+      | true ↦ All-cons (λ row. row < first + suc n) first rest (omega arith) later
+      | false ↦ later
+    ]
+
+pub matching_rows_within : (table : Holdings) (ids : List Text) → All (λ row. row < length table.rows) (matching_rows table ids)
+matching_rows_within table ids =
+    All-weaker (λ row. row < 0 + length table.rows) (λ row. row < length table.rows) (λ row small. omega (arith, small)) (matching_rows table ids)
+    (below_end (λ row. is_match (identifier_columns table.header) ids (get_or table.rows row [])) 0 (length table.rows))
 
 rest_rises : (row : ℕ) (rows : List ℕ) → Rise (row ∷ rows) → Rise rows
 rest_rises row rows rise i j d before within = rise (suc i) (suc j) d (omega (arith, before)) (omega (arith, within))

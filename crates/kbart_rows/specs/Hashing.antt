@@ -1,14 +1,19 @@
--- How the keys of a table initialise each hasher.
-use Rattle.std.specs.Prelude.{ℕ, fold}
-use Rattle.std.specs.Hash.{u64}
-use Rattle.std.specs.Hash.DefaultHasher.{initial, write}
+-- How the keys of a table initialise each hasher, and the hash of an identifier.
+use Rattle.std.specs.Prelude.{ℕ, refl}
+use Rattle.std.specs.Hash.DefaultHasher.{finish, write}
 use Rattle.std.specs.declared.hash.DefaultHasher.{DefaultHasher}
+use Rattle.text_model.specs.Texts.{Text}
 use Rattle.kbart_rows.specs.declared.keys.Keys.{Keys}
+pub use Rattle.kbart_rows.specs.KeyedHasher.{keyed}
 
--- the hasher after it has hashed the two numbers, one after the other
-abbrev pub keyed : ℕ → ℕ → DefaultHasher
-keyed first second = fold write (fold write initial (u64 first)) (u64 second)
+-- the keys that are made of two numbers
+abbrev pub keys_of : ℕ → ℕ → Keys
+keys_of first second = record { first = first; second = second; hasher = keyed first second; begins = refl }
 
 -- the state in which each hasher begins
 abbrev pub hasher_at_start : Keys → DefaultHasher
 hasher_at_start keys = keys.hasher
+
+-- the hash of a text's bytes
+abbrev pub hash_of : Keys → Text → ℕ
+hash_of keys text = finish (write (hasher_at_start keys) text)

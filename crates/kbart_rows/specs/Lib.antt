@@ -4,6 +4,7 @@ pub mod Identifiers
 pub mod Reading
 pub mod Filling
 pub mod ColumnNames
+pub mod KeyedHasher
 pub mod Hashing
 pub mod Drawing
 pub mod Private

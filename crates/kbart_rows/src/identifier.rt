@@ -1,7 +1,11 @@
 //! The normal form of an identifier.
 
-ghost use Rattle.std.specs.Prelude.{◌≡◌, IfOk, string_bytes};
+ghost use Rattle.std.specs.Prelude.{◌≡◌, ◌∷◌, false, IfOk, string_bytes};
+ghost use Rattle.std.specs.Option.{option_map_or};
+ghost use Rattle.std.specs.Str.{bytes_eq};
+ghost use Rattle.text_model.specs.Texts.{Text};
 ghost use Rattle.kbart_rows.specs.Identifiers as spec;
+ghost use Rattle.kbart_rows.specs.Private.Normal.{normal};
 
 use std::alloc::{AllocError, Global};
 
@@ -13,4 +17,41 @@ pub(crate) fn normalised(alloc: Global, text: &str) -> Result<String, AllocError
         .filter(|character| *character != '-' && *character != ' ')
         .map(|character| character.to_ascii_uppercase())
         .collect(alloc)
+}
+
+/// Whether a cell, normalised, is the identifier, which is in normal form.
+pub(crate) fn is_identifier(cell: &str, id: &str) -> bool
+    ensures { result ≡ bytes_eq id.now (spec.normalised cell.now) }
+{
+    is_normal_form(cell.as_bytes(), id.as_bytes())
+}
+
+/// Whether the bytes of a cell, normalised, are these.
+fn is_normal_form(cell: &[u8], id: &[u8]) -> bool
+    ensures { result ≡ bytes_eq id.now (normal cell.now) }
+{
+    let mut left = cell;
+    let mut rest = id;
+    while let Some((byte, others)) = left.split_first() {
+        left = others;
+        match after_byte(rest, *byte) {
+            Some(after) => rest = after,
+            None => return false,
+        }
+    }
+    rest.is_empty()
+}
+
+/// What is left of an identifier after a byte of a cell, if the identifier can go on with this byte.
+fn after_byte(id: &[u8], byte: u8) -> Option<&[u8]>
+    ensures { (text : Text) → bytes_eq id.now (normal (byte ∷ text))
+        ≡ option_map_or (λ rest. bytes_eq rest.now (normal text)) result false }
+{
+    if byte == b'-' || byte == b' ' {
+        return Some(id);
+    }
+    match id.split_first() {
+        Some((first, rest)) if *first == byte.to_ascii_uppercase() => Some(rest),
+        _ => None,
+    }
 }

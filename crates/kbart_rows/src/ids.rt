@@ -1,49 +1,101 @@
 //! The identifiers of a request.
 
-ghost use Rattle.std.specs.Prelude.{◌≡◌, ◌++◌, IfOk, OnOk, map, string_bytes};
+ghost use Rattle.std.specs.Prelude.{◌≡◌, ◌≤◌, ◌+◌, ◌++◌, [], All, IfNone, IfOk, IfSome, OnOk, get_or, length, map};
+ghost use Rattle.std.specs.List.{list_any};
 ghost use Rattle.std.specs.Option.{option_to_list};
+ghost use Rattle.std.specs.Str.{bytes_eq};
+ghost use Rattle.kbart_rows.specs.Hashing.{hash_of};
 ghost use Rattle.kbart_rows.specs.Identifiers as spec;
+ghost use Rattle.kbart_rows.specs.Private.Hashed.{IsHashed, text_of};
 
-use crate::identifier::normalised;
+use crate::identifier::{is_identifier, normalised};
+use crate::keys::Keys;
 use kev_read::Request;
 use std::alloc::{AllocError, Global};
 use std::marker::Model;
 
-/// The identifiers of the title that a request cites, at most three; contracts see their texts.
+/// The identifiers of the title that a request cites, at most three; contracts see their texts. Each is hashed once,
+/// under keys that the contracts do not see: look-ups in tables with these keys need no other hash.
 #[derive(Drop)]
 pub struct Ids {
-    ids: Vec<String>,
+    ids: Vec<Id>,
+    keys: Keys,
+}
+
+/// A normalised identifier, and its hash.
+#[derive(Drop)]
+pub(crate) struct Id {
+    text: String,
+    hash: u64,
 }
 
 impl Model for Ids {
-    ghost use Rattle.std.specs.Prelude.{List, map, string_bytes};
+    ghost use Rattle.std.specs.Prelude.{◌≤◌, All, List, length, map};
     ghost use Rattle.text_model.specs.Texts.{Text};
+    ghost use Rattle.kbart_rows.specs.Private.Hashed.{IsHashed, text_of};
 
     ghost Value = { List Text };
 
-    ghost view = { λ ids. map string_bytes ids.ids.items };
+    ghost view = { λ ids. map text_of ids.ids.items };
+
+    ghost invariant = { λ ids. (length ids.ids.items ≤ 3) × All (IsHashed ids.keys) ids.ids.items };
 }
 
 impl Ids {
     /// The first values of `rft.issn`, `rft.eissn` and `rft.isbn`, in this order, without hyphens and spaces and with
-    /// ASCII letters in upper case. Those that are then empty are left out.
+    /// ASCII letters in upper case. Those that are then empty are left out. They are hashed under the keys of
+    /// [`Table::read`](crate::Table::read).
     ///
     /// Fails if an allocation failed.
     pub fn of(alloc: Global, request: &Request) -> Result<Ids, AllocError>
         ensures { IfOk result (λ ids. ids ≡ spec.ids_of request.now.pairs) }
     {
-        let mut ids = Vec::new(alloc);
-        add_first(alloc, request, "rft.issn", &mut ids)?;
-        add_first(alloc, request, "rft.eissn", &mut ids)?;
-        add_first(alloc, request, "rft.isbn", &mut ids)?;
-        Ok(Ids { ids })
+        Ids::keyed(alloc, request, Keys::new(0, 0))
     }
 
-    /// The identifiers, in the order of their keys.
-    pub(crate) fn as_slice(&self) -> &[String]
-        ensures { map string_bytes result.now ≡ self.now }
+    /// The same identifiers as of [`of`](Ids::of), hashed under the keys of the tables in which they are looked up. In
+    /// tables with other keys the look-ups find the same rows, but take longer.
+    ///
+    /// Fails if an allocation failed.
+    pub fn keyed(alloc: Global, request: &Request, keys: Keys) -> Result<Ids, AllocError>
+        ensures { IfOk result (λ ids. ids ≡ spec.ids_of request.now.pairs) }
     {
-        self.ids.as_slice()
+        let mut ids = Vec::new(alloc);
+        add_first(alloc, request, "rft.issn", &keys, &mut ids)?;
+        add_first(alloc, request, "rft.eissn", &keys, &mut ids)?;
+        add_first(alloc, request, "rft.isbn", &keys, &mut ids)?;
+        Ok(Ids { ids, keys })
+    }
+
+    /// Whether the look-ups in tables with these keys need no other hash.
+    pub fn is_keyed(&self, keys: &Keys) -> bool {
+        self.keys.is_same(keys)
+    }
+
+    /// The hash of an identifier, counted from 0, under these keys.
+    pub(crate) fn hash(&self, at: usize, keys: &Keys) -> Option<u64>
+        ensures some { IfSome result (λ hash. hash ≡ hash_of keys.now (get_or self.now at [])) }
+        ensures none { IfNone result (length self.now ≤ at) }
+        ensures few { length self.now ≤ 3 }
+    {
+        let id = self.ids.get(at)?;
+        if self.keys.is_same(keys) {
+            Some(id.hash)
+        } else {
+            Some(keys.hash(id.text.as_str()))
+        }
+    }
+
+    /// Whether a cell has one of the identifiers.
+    pub(crate) fn has(&self, cell: &str) -> bool
+        ensures { result ≡ list_any (λ id. bytes_eq id (spec.normalised cell.now)) self.now }
+    {
+        for id in self.ids.iter() {
+            if is_identifier(cell, id.text.as_str()) {
+                return true;
+            }
+        }
+        false
     }
 }
 
@@ -52,17 +104,21 @@ fn add_first(
     alloc: Global,
     request: &Request,
     key: &str,
-    ids: &mut Vec<String>,
+    keys: &Keys,
+    ids: &mut Vec<Id>,
 ) -> Result<(), AllocError>
-    ensures { OnOk result (map string_bytes ids.new.items
-        ≡ map string_bytes ids.old.items ++ option_to_list (spec.id_of request.now.pairs key.now)) }
+    ensures added { OnOk result (map text_of ids.new.items
+        ≡ map text_of ids.old.items ++ option_to_list (spec.id_of request.now.pairs key.now)) }
+    ensures few { OnOk result (length ids.new.items ≤ length ids.old.items + 1) }
+    ensures hashed { All (IsHashed keys.now) ids.old.items → OnOk result (All (IsHashed keys.now) ids.new.items) }
 {
     let Some(value) = request.first(key) else {
         return Ok(());
     };
-    let id = normalised(alloc, value)?;
-    if !id.as_str().is_empty() {
-        ids.push(id)?;
+    let text = normalised(alloc, value)?;
+    if !text.as_str().is_empty() {
+        let hash = keys.hash(text.as_str());
+        ids.push(Id { text, hash })?;
     }
     Ok(())
 }

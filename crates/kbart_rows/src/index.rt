@@ -1,15 +1,12 @@
-//! From each normalised identifier to the rows that have it, in rising order.
+//! The rows of each identifier, by its hash.
 
-ghost use Rattle.std.specs.Prelude.{◌≡◌, ◌+◌, ◌≤◌, ◌<◌, ◌||◌, ◌++◌, ◌∷◌, [], IfOk, OnOk, drop, length, string_bytes};
-ghost use Rattle.std.specs.Prelude.{if◌then◌else◌};
-ghost use Rattle.std.specs.HashMap.{get_by_text, hasher_of};
-ghost use Rattle.std.specs.List.Sorted.{IsNonDecreasing};
-ghost use Rattle.std.specs.Option.{option_map, option_map_or};
-ghost use Rattle.std.specs.Str.{bytes_eq};
-ghost use Rattle.text_model.specs.Texts.{Text};
-ghost use Rattle.kbart_rows.specs.Identifiers as spec;
-ghost use Rattle.kbart_rows.specs.Private.Kept.{is_id, rows_with};
+ghost use Rattle.std.specs.Prelude.{◌≡◌, ℕ, ◌+◌, ◌*◌, ◌≤◌, ◌<◌, ◌++◌, ◌∷◌, [], IfOk, OnOk, drop, get_or, length};
+ghost use Rattle.std.specs.Option.{option_map, option_to_list};
+ghost use Rattle.kbart_rows.specs.Identifiers.{identifier_in};
 ghost use Rattle.kbart_rows.specs.Lines.{cells_in};
+ghost use Rattle.kbart_rows.specs.Private.Index.{AreSmall, AreStarts, HasEntries, IsOrdered, bucket_of, entry_for, entry_key};
+ghost use Rattle.kbart_rows.specs.Private.Index as spec;
+ghost use Rattle.kbart_rows.specs.declared.index.Entry.{Entry};
 ghost use Rattle.kbart_rows.specs.declared.read.TheConstants.{MAX_ROWS};
 
 use crate::cells::cell_in;
@@ -17,104 +14,198 @@ use crate::identifier::normalised;
 use crate::keys::Keys;
 use crate::records::Records;
 use std::alloc::{AllocError, Global};
-use std::collections::HashMap;
+use std::marker::Model;
 
-/// The rows of each identifier. `print` and `online` are the columns of identifiers, and the first line is the header.
-pub(crate) fn index_of(
+/// An identifier of a row: the upper half of its hash, and the number of the row.
+#[derive(Clone, Copy)]
+pub(crate) struct Entry {
+    pub(crate) hash: u32,
+    pub(crate) row: u32,
+}
+
+impl Entry {
+    /// Entries are in the order of these numbers.
+    fn key(&self) -> u64
+        ensures { result ≡ entry_key self.now }
+    {
+        key_of(self.hash, self.row)
+    }
+}
+
+fn key_of(hash: u32, row: u32) -> u64
+    ensures { result ≡ spec.key_of hash row }
+{
+    hash as u64 * 0x1_0000_0000 + row as u64
+}
+
+/// The upper half of a hash.
+pub(crate) fn half_of(hash: u64) -> u32
+    ensures { result ≡ spec.half_of hash }
+{
+    (hash >> 32) as u32
+}
+
+/// The entries of the identifiers of a table's rows, in order; contracts see these. A table has at most two for each
+/// row, which take eight bytes each, and as much again for the buckets.
+#[derive(Drop)]
+pub(crate) struct Index {
+    entries: Vec<Entry>,
+    // Of each bucket of hashes, where its entries start. There is one more.
+    starts: Vec<u32>,
+    // A hash without this number of its lowest bits is the number of its bucket.
+    shift: u32,
+}
+
+impl Model for Index {
+    ghost use Rattle.std.specs.Prelude.{List};
+    ghost use Rattle.kbart_rows.specs.declared.index.Entry.{Entry};
+    ghost use Rattle.kbart_rows.specs.Private.Index.{IsIndex};
+
+    ghost Value = { List Entry };
+
+    ghost view = { λ index. index.entries.items };
+
+    ghost invariant = { λ index. IsIndex index.shift index.entries.items index.starts.items };
+}
+
+impl Index {
+    /// The index of a table's lines, of which the first is the header. `print` and `online` are the columns of
+    /// identifiers.
+    pub(crate) fn of(
+        alloc: Global,
+        lines: &Records,
+        print: Option<usize>,
+        online: Option<usize>,
+        keys: &Keys,
+    ) -> Result<Index, AllocError>
+        requires some { 0 < length lines.now }
+        requires few { length lines.now ≤ MAX_ROWS + 1 }
+        ensures { IfOk result (HasEntries keys.now (print ∷ online ∷ []) (drop 1 lines.now)) }
+    {
+        let mut entries = entries_of(alloc, lines, print, online, keys)?;
+        entries
+            .as_mut_slice()
+            .sort_unstable_by_key(|entry| entry.key());
+        // At least one bucket for each entry, and at most two.
+        let shift = (entries.len() as u32).leading_zeros().min(31);
+        let starts = starts_of(alloc, entries.as_slice(), shift)?;
+        Ok(Index {
+            entries,
+            starts,
+            shift,
+        })
+    }
+
+    /// The entries.
+    pub(crate) fn as_slice(&self) -> &[Entry]
+        ensures entries { result.now ≡ self.now }
+        ensures order { IsOrdered result.now }
+        ensures small { AreSmall result.now }
+    {
+        self.entries.as_slice()
+    }
+
+    /// How many entries are before those of this hash with this row or a later one.
+    pub(crate) fn place(&self, hash: u32, row: u32) -> usize
+        ensures before { (k : ℕ) (d : Entry) → k < result → k < length self.now
+            → entry_key (get_or self.now k d) < spec.key_of hash row }
+        ensures after { (k : ℕ) (d : Entry) → result ≤ k → k < length self.now
+            → spec.key_of hash row ≤ entry_key (get_or self.now k d) }
+        ensures small { AreSmall self.now }
+    {
+        let bucket = (hash >> self.shift) as usize;
+        let start = self.starts[bucket] as usize;
+        let end = self.starts[bucket + 1] as usize;
+        place_in(self.entries.as_slice(), start, end, key_of(hash, row))
+    }
+}
+
+/// The first place between two whose entry is not before a key, the second place if there is none.
+fn place_in(entries: &[Entry], start: usize, end: usize, key: u64) -> usize
+    requires order { IsOrdered entries.now }
+    requires rising { start ≤ end }
+    requires within { end ≤ length entries.now }
+    ensures before { (k : ℕ) (d : Entry) → start ≤ k → k < result → entry_key (get_or entries.now k d) < key }
+    ensures after { (k : ℕ) (d : Entry) → result ≤ k → k < end → key ≤ entry_key (get_or entries.now k d) }
+    ensures within { (start ≤ result) × (result ≤ end) }
+{
+    start + entries[start..end].partition_point(|entry| entry.key() < key)
+}
+
+/// The entries of all rows.
+fn entries_of(
     alloc: Global,
     lines: &Records,
     print: Option<usize>,
     online: Option<usize>,
-    keys: Keys,
-) -> Result<HashMap<String, Vec<u32>, Keys>, AllocError>
+    keys: &Keys,
+) -> Result<Vec<Entry>, AllocError>
     requires some { 0 < length lines.now }
     requires few { length lines.now ≤ MAX_ROWS + 1 }
-    ensures rows { IfOk result (λ index. (id : Text) → option_map_or (λ g. g.items) (get_by_text index id) []
-        ≡ rows_with (print ∷ online ∷ []) (drop 1 lines.now) id) }
-    ensures keyed { IfOk result (λ index. hasher_of index ≡ keys) }
+    ensures has { IfOk result (λ entries. HasEntries keys.now (print ∷ online ∷ []) (drop 1 lines.now) entries.items) }
+    ensures few { IfOk result (λ entries. length entries.items ≤ 2 * MAX_ROWS) }
+    ensures small { IfOk result (λ entries. AreSmall entries.items) }
 {
-    let mut index = HashMap::with_hasher(alloc, keys);
+    let mut entries = Vec::new(alloc);
     for row in 0..lines.len() - 1 {
-        let cells = lines.line(row + 1);
-        let first = identifier(alloc, cells, print)?;
-        let second = identifier(alloc, cells, online)?;
-        add_row(&mut index, first, second, row as u32)?;
+        let line = lines.line(row + 1);
+        add_entry(alloc, line, print, row as u32, keys, &mut entries)?;
+        add_entry(alloc, line, online, row as u32, keys, &mut entries)?;
     }
-    Ok(index)
+    Ok(entries)
 }
 
-/// The normalised identifier in a column of a line, if there is one.
-fn identifier(
+/// Adds the entry of the identifier in a column of a row's line, if there is one.
+fn add_entry(
     alloc: Global,
     line: &str,
     column: Option<usize>,
-) -> Result<Option<String>, AllocError>
-    ensures { IfOk result (λ id. option_map string_bytes id ≡ spec.identifier_in (cells_in line.now) column) }
-{
-    match cell_in(line, column) {
-        Some(cell) => Ok(Some(normalised(alloc, cell)?)),
-        None => Ok(None),
-    }
-}
-
-/// Adds a row to the rows of its identifiers; if both are the same, only once.
-fn add_row(
-    index: &mut HashMap<String, Vec<u32>, Keys>,
-    first: Option<String>,
-    second: Option<String>,
     row: u32,
+    keys: &Keys,
+    entries: &mut Vec<Entry>,
 ) -> Result<(), AllocError>
-    ensures rows { OnOk result ((id : Text) → option_map_or (λ g. g.items) (get_by_text index.new id) []
-        ≡ option_map_or (λ g. g.items) (get_by_text index.old id) []
-        ++ (if (is_id id (option_map string_bytes first) || is_id id (option_map string_bytes second)) then row ∷ []
-        else [])) }
-    ensures keyed { OnOk result (hasher_of index.new ≡ hasher_of index.old) }
+    ensures { OnOk result (entries.new.items ≡ entries.old.items
+        ++ option_to_list (option_map (entry_for keys.now row) (identifier_in (cells_in line.now) column))) }
 {
-    let is_same = first == second;
-    add_to(index, first, row)?;
-    if !is_same {
-        add_to(index, second, row)?;
+    if let Some(cell) = cell_in(line, column) {
+        let id = normalised(alloc, cell)?;
+        let hash = half_of(keys.hash(id.as_str()));
+        entries.push(Entry { hash, row })?;
     }
     Ok(())
 }
 
-/// Adds a row to the rows of an identifier, if there is one.
-fn add_to(
-    index: &mut HashMap<String, Vec<u32>, Keys>,
-    id: Option<String>,
-    row: u32,
-) -> Result<(), AllocError>
-    ensures rows { OnOk result ((other : Text) → option_map_or (λ g. g.items) (get_by_text index.new other) []
-        ≡ option_map_or (λ g. g.items) (get_by_text index.old other) []
-        ++ (if is_id other (option_map string_bytes id) then row ∷ [] else [])) }
-    ensures keyed { OnOk result (hasher_of index.new ≡ hasher_of index.old) }
+/// Of each bucket of hashes, and of one past the last, where its entries start.
+fn starts_of(alloc: Global, entries: &[Entry], shift: u32) -> Result<Vec<u32>, AllocError>
+    requires shift { shift < 32 }
+    requires order { IsOrdered entries.now }
+    requires small { AreSmall entries.now }
+    requires few { length entries.now ≤ 2 * MAX_ROWS }
+    ensures { IfOk result (λ starts. AreStarts shift entries.now starts.items) }
 {
-    if let Some(id) = id {
-        add(index, id, row)?;
+    let buckets = (u32::MAX >> shift) as usize + 2;
+    let mut starts = Vec::with_capacity(alloc, buckets)?;
+    let mut at = 0;
+    for bucket in 0..buckets {
+        at = start_from(entries, shift, bucket, at);
+        starts.push(at as u32)?;
     }
-    Ok(())
+    Ok(starts)
 }
 
-fn add(index: &mut HashMap<String, Vec<u32>, Keys>, id: String, row: u32) -> Result<(), AllocError>
-    ensures rows { OnOk result ((other : Text) → option_map_or (λ g. g.items) (get_by_text index.new other) []
-        ≡ (if bytes_eq other (string_bytes id) then option_map_or (λ g. g.items) (get_by_text index.old other) []
-        ++ row ∷ []
-        else option_map_or (λ g. g.items) (get_by_text index.old other) [])) }
-    ensures keyed { OnOk result (hasher_of index.new ≡ hasher_of index.old) }
+/// The first place at or after `at` whose entry is not of an earlier bucket.
+fn start_from(entries: &[Entry], shift: u32, bucket: usize, at: usize) -> usize
+    requires shift { shift < 32 }
+    requires within { at ≤ length entries.now }
+    ensures before { (k : ℕ) (d : Entry) → at ≤ k → k < result
+        → bucket_of shift (get_or entries.now k d).hash < bucket }
+    ensures after { (d : Entry) → result < length entries.now
+        → bucket ≤ bucket_of shift (get_or entries.now result d).hash }
+    ensures within { (at ≤ result) × (result ≤ length entries.now) }
 {
-    index.entry(id)?.or_default().push(row)?;
-    Ok(())
-}
-
-/// The first of the rows, which are in rising order, at or after `from`; a binary search.
-pub(crate) fn first_from(rows: &[u32], from: usize) -> Option<usize>
-    requires { IsNonDecreasing rows.now }
-    ensures { result ≡ spec.first_from from rows.now }
-{
-    let at = rows.partition_point(|row| (*row as usize) < from);
-    if at < rows.len() {
-        Some(rows[at] as usize)
-    } else {
-        None
+    let mut start = at;
+    while start < entries.len() && ((entries[start].hash >> shift) as usize) < bucket {
+        start += 1;
     }
+    start
 }

@@ -1,7 +1,8 @@
 //! A holdings table.
 
-ghost use Rattle.std.specs.Prelude.{◌≡◌, ◌≤◌, ◌<◌, ◌+◌, ◌*◌, ◌↔◌, [], ◌∷◌, IfErr, IfOk, IfSome, OnOk, IsUtf8, Err};
+ghost use Rattle.std.specs.Prelude.{◌≡◌, ◌≤◌, ◌<◌, ◌+◌, ◌*◌, ◌↔◌, [], ◌∷◌, All, IfErr, IfOk, IfSome, OnOk, IsUtf8, Err};
 ghost use Rattle.std.specs.Prelude.{get_or, length};
+ghost use Rattle.std.specs.List.{list_any};
 ghost use Rattle.std.specs.Option.{option_copied};
 ghost use Rattle.environment_model.specs.Environment.{byte_count, member_count};
 ghost use Rattle.target_vars.specs.declared.env.TheConstants.{MAX_BYTES, MAX_MEMBERS};
@@ -11,8 +12,10 @@ ghost use Rattle.kbart_rows.specs.Cells.{cell_bytes, cell_of, column_of, named_c
 ghost use Rattle.kbart_rows.specs.Filling.{filled, StopsAtCell};
 ghost use Rattle.kbart_rows.specs.Hashing.{hasher_at_start, keyed};
 ghost use Rattle.kbart_rows.specs.Identifiers as spec;
+ghost use Rattle.kbart_rows.specs.Identifiers.{identifier_in};
 ghost use Rattle.kbart_rows.specs.Lines.{cells_in};
-ghost use Rattle.kbart_rows.specs.Private.Kept.{lesser_of, rows_with};
+ghost use Rattle.kbart_rows.specs.Private.Kept.{is_id};
+ghost use Rattle.kbart_rows.specs.Private.Runs.{AreReady, matches};
 ghost use Rattle.kbart_rows.specs.Reading.{AllFit, IsFault, IsTable};
 ghost use Rattle.kbart_rows.specs.declared.read.TheConstants.{MAX_ROW_BYTES, MAX_ROWS, MAX_TABLE_BYTES};
 
@@ -21,10 +24,12 @@ use crate::columns::{columns_of, firsts_of};
 use crate::error::TableError;
 use crate::filling::fill;
 use crate::ids::Ids;
-use crate::index::{first_from, index_of};
+use crate::index::Index;
 use crate::keys::Keys;
+use crate::matches::{Matches, next_row};
 use crate::read::{check_bytes, read_lines};
 use crate::records::Records;
+use crate::runs::Runs;
 use crate::sums::sums_of;
 use std::alloc::Global;
 use std::collections::HashMap;
@@ -54,8 +59,11 @@ pub struct Table {
     lines: Records,
     // From each name to the first column that has it.
     columns: HashMap<String, usize, Keys>,
-    // From each normalised identifier to the rows that have it, in rising order.
-    index: HashMap<String, Vec<u32>, Keys>,
+    // The columns of identifiers.
+    print: Option<usize>,
+    online: Option<usize>,
+    // The identifiers of the rows.
+    index: Index,
     // Of each row, the bytes of its defined cells.
     bytes: Vec<u32>,
 }
@@ -69,7 +77,8 @@ impl Model for Table {
 
     ghost view = { λ table. holdings_of table.lines (hasher_of table.columns) };
 
-    ghost invariant = { λ table. IsIndexed table.lines table.columns table.index table.bytes };
+    ghost invariant = { λ table. IsIndexed table.lines table.columns table.print table.online table.index
+        table.bytes };
 }
 
 impl Table {
@@ -108,12 +117,14 @@ impl Table {
         let columns = columns_of(alloc, lines.line(0), keys)?;
         let print = columns.get("print_identifier").copied();
         let online = columns.get("online_identifier").copied();
-        let index = index_of(alloc, &lines, print, online, keys)?;
+        let index = Index::of(alloc, &lines, print, online, &keys)?;
         let firsts = firsts_of(alloc, lines.line(0), &columns)?;
         let bytes = sums_of(alloc, &lines, firsts.as_slice())?;
         Ok(Table {
             lines,
             columns,
+            print,
+            online,
             index,
             bytes,
         })
@@ -183,27 +194,37 @@ impl Table {
     }
 
     /// The first row at or after `from` whose `print_identifier` or `online_identifier` is one of the
-    /// identifiers, compared without hyphens and spaces and in capital letters.
+    /// identifiers, compared without hyphens and spaces and in capital letters. A binary search; for one row after
+    /// another use [`matches`](Table::matches).
     pub fn next_match(&self, ids: &Ids, from: usize) -> Option<usize>
         ensures first { result ≡ spec.first_from from (spec.matching_rows self.now ids.now) }
         ensures within { IfSome result (λ row. row < length self.now.rows) }
     {
-        let mut best = None;
-        for id in ids.as_slice() {
-            best = lesser(best, self.next_with(id.as_str(), from));
-        }
-        best
+        next_row(self, ids, &mut self.runs(ids, from), from)
     }
 
-    /// The first row at or after `from` that has the identifier.
-    fn next_with(&self, id: &str, from: usize) -> Option<usize>
-        ensures { result
-            ≡ spec.first_from from (rows_with (spec.identifier_columns self.now.header) self.now.rows id.now) }
+    /// The rows that match the identifiers, in rising order: those that [`next_match`](Table::next_match) finds.
+    pub fn matches<'a>(&'a self, ids: &'a Ids) -> Matches<'a>
+        ensures rows { result ≡ spec.matching_rows self.now ids.now }
+        ensures within { All (λ row. row < length self.now.rows) result }
     {
-        match self.index.get(id) {
-            Some(rows) => first_from(rows.as_slice(), from),
-            None => None,
-        }
+        Matches::new(self, ids)
+    }
+
+    /// Runs through the index, one for each identifier, from this row on.
+    pub(crate) fn runs(&self, ids: &Ids, from: usize) -> Runs<'_>
+        ensures { AreReady self.now ids.now from result }
+    {
+        Runs::of(&self.index, self.columns.hasher(), ids, from)
+    }
+
+    /// Whether a row has one of the identifiers.
+    pub(crate) fn is_match(&self, row: usize, ids: &Ids) -> bool
+        requires { row < usize.MAX }
+        ensures { result ≡ matches self.now ids.now row }
+    {
+        let line = self.lines.line(row + 1);
+        has_one(line, self.print, ids) || has_one(line, self.online, ids)
     }
 
     /// Adds each defined cell of a row, counted from 0, to the environment under the name of its column, in the order
@@ -239,13 +260,12 @@ impl Table {
     }
 }
 
-/// The smaller of two rows, each of which may be missing.
-fn lesser(a: Option<usize>, b: Option<usize>) -> Option<usize>
-    ensures { result ≡ lesser_of a b }
+/// Whether the cell of a column in a line is defined, and has one of the identifiers.
+fn has_one(line: &str, column: Option<usize>, ids: &Ids) -> bool
+    ensures { result ≡ list_any (λ id. is_id id (identifier_in (cells_in line.now) column)) ids.now }
 {
-    match (a, b) {
-        (Some(a), Some(b)) => Some(a.min(b)),
-        (Some(row), None) | (None, Some(row)) => Some(row),
-        (None, None) => None,
+    match cell_in(line, column) {
+        Some(cell) => ids.has(cell),
+        None => false,
     }
 }

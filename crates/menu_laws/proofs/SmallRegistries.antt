@@ -1,7 +1,7 @@
 -- Two small registries whose codes are accepted.
 use Rattle.std.proofs.Common.{◌≡◌, ◌≢◌, ◌≤◌, ℕ, zero, suc, true, false, List, [], ◌∷◌, None, refl, codes, arith, length}
 use Rattle.std.specs.Prelude.{⊤}
-use Rattle.std.specs.Hash.DefaultHasher.{initial}
+use Rattle.kbart_rows.specs.Hashing.{keys_of}
 use Rattle.std.specs.List.{AllPairs, list_all}
 use Rattle.std.proofs.lemmas.Bool.{false≢true}
 use Rattle.std.proofs.lemmas.Bool.Decides.{Decides-by_and}
@@ -67,7 +67,7 @@ spoilt_code_is_safe = accepted spoilt_code 1 (record { some = omega arith; links
 -- ---- registries
 
 abbrev pub table : List Row → Holdings
-table rows = record { header = codes "print_identifier" ∷ codes "title_url" ∷ []; rows = rows; keys = record { hasher = initial } }
+table rows = record { header = codes "print_identifier" ∷ codes "title_url" ∷ []; rows = rows; keys = keys_of 0 0 }
 
 abbrev target : Text → Code → List Row → TargetValue
 target name code rows = record { name = name; code = code; table = table rows }

@@ -1,7 +1,7 @@
 -- The definitions computed: small targets and requests are written out here, and the checker compares.
 use Rattle.std.proofs.Common.{ℕ, ◌≡◌, true, false, List, [], ◌∷◌, Some, refl, codes, length, arith, lit<}
 use Rattle.std.specs.Prelude.{map}
-use Rattle.std.specs.Hash.DefaultHasher.{initial}
+use Rattle.kbart_rows.specs.Hashing.{keys_of}
 use Rattle.text_model.specs.Texts.{Text}
 use Rattle.environment_model.specs.Environment.{byte_count, look_up, members_of, text_of, with_member}
 use Rattle.code_model.specs.Code.{Code, row}
@@ -51,7 +51,7 @@ table =
       header = codes "print_identifier" ∷ codes "title_url" ∷ codes "date_first_issue_online" ∷ codes "date_last_issue_online" ∷ [];
       rows = (codes "1234-567X" ∷ codes "http://e.org/a" ∷ codes "1990" ∷ codes "1995" ∷ []) ∷ (codes "1234-567X" ∷ codes "http://e.org/b" ∷ codes
           "2000" ∷ [] ∷ []) ∷ [];
-      keys = record { hasher = initial };
+      keys = keys_of 0 0;
     }
 
 -- EMIT of a text and HALT; `list` is read as a list

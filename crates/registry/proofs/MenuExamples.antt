@@ -1,7 +1,7 @@
 -- The menus of small registries computed, from the query to the resolution of each target.
 use Rattle.std.proofs.Common.{◌≡◌, false, List, [], ◌∷◌, refl, codes}
 use Rattle.std.specs.Prelude.{⊤, map}
-use Rattle.std.specs.Hash.DefaultHasher.{initial}
+use Rattle.kbart_rows.specs.Hashing.{keys_of}
 use Rattle.text_model.specs.Texts.{Text, is_unreserved, is_reserved}
 use Rattle.text_model.specs.Writing.{written_u, written_ur}
 use Rattle.code_model.specs.Code.{Code, row, reading}
@@ -41,7 +41,7 @@ target name rows =
     record {
       name = name;
       code = url_code;
-      table = record { header = codes "print_identifier" ∷ codes "title_url" ∷ []; rows = rows; keys = record { hasher = initial } };
+      table = record { header = codes "print_identifier" ∷ codes "title_url" ∷ []; rows = rows; keys = keys_of 0 0 };
     }
 
 -- rows without a URL, with one that is not a web link, and with a web link

@@ -2,7 +2,7 @@
 use Rattle.std.proofs.Common.{◌≡◌, ◌≤◌, ℕ, inl, Bool, true, false, ◌&&◌, List, [], ◌∷◌, ◌++◌, length, refl, arith, codes}
 use Rattle.std.specs.Prelude.{All, IsUtf8, nat_le, nat_lt}
 use Rattle.std.specs.Char.{encode_utf8}
-use Rattle.std.specs.Hash.DefaultHasher.{initial}
+use Rattle.kbart_rows.specs.Hashing.{keys_of}
 use Rattle.std.specs.List.{list_all}
 use Rattle.std.proofs.lemmas.Bool.{and_parts, leb-true, ltb-true}
 use Rattle.std.proofs.lemmas.List.Elements.{All-cons, All-nil}
@@ -189,7 +189,7 @@ abbrev rows : List Row
 rows = (codes "2" ∷ codes "a" ∷ []) ∷ second
 
 abbrev pub keys : Keys
-keys = record { hasher = initial }
+keys = keys_of 0 0
 
 abbrev pub table : Holdings
 table = record { header = header; rows = rows; keys = keys }

@@ -1,7 +1,7 @@
 -- One menu computed twice: from the code of rules, and from what the rules mean.
 use Rattle.std.proofs.Common.{◌≡◌, ℕ, List, [], ◌∷◌, false, refl, codes}
 use Rattle.std.specs.Char.{encode_utf8}
-use Rattle.std.specs.Hash.DefaultHasher.{initial}
+use Rattle.kbart_rows.specs.Hashing.{keys_of}
 use Rattle.std.specs.Prelude.{map}
 use Rattle.std.specs.Str.{chars}
 use Rattle.text_model.specs.Texts.{Text, is_unreserved}
@@ -50,7 +50,7 @@ table =
     record {
       header = codes "print_identifier" ∷ codes "site" ∷ codes "code" ∷ [];
       rows = (codes "1111-1111" ∷ codes "x" ∷ codes "a" ∷ []) ∷ (codes "1234-567X" ∷ [] ∷ []) ∷ (codes "1234-567X" ∷ codes "x" ∷ codes "b" ∷ []) ∷ [];
-      keys = record { hasher = initial };
+      keys = keys_of 0 0;
     }
 
 abbrev alpha : RuleTarget

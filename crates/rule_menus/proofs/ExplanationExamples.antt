@@ -2,7 +2,7 @@
 use Rattle.std.proofs.Common.{◌≡◌, List, [], ◌∷◌, false, Some, None, refl, codes}
 use Rattle.std.specs.Char.{encode_utf8}
 use Rattle.std.specs.Fmt.{digits}
-use Rattle.std.specs.Hash.DefaultHasher.{initial}
+use Rattle.kbart_rows.specs.Hashing.{keys_of}
 use Rattle.std.specs.Prelude.{map}
 use Rattle.std.specs.Str.{chars}
 use Rattle.text_model.specs.Texts.{Text, is_unreserved}
@@ -58,7 +58,7 @@ table =
       rows =
           (codes "1234-567X" ∷ codes "http://e.org/a" ∷ codes "1990" ∷ codes "1995" ∷ [])
           ∷ (codes "1234-567X" ∷ codes "http://e.org/b" ∷ codes "2000" ∷ [] ∷ []) ∷ [];
-      keys = record { hasher = initial };
+      keys = keys_of 0 0;
     }
 
 abbrev alpha : RuleTarget

@@ -2,7 +2,7 @@
 use Rattle.std.proofs.Common.{◌≡◌, ◌++◌, true, false, List, [], ◌∷◌, refl, codes}
 use Rattle.std.specs.Prelude.{map}
 use Rattle.std.specs.List.{repeat}
-use Rattle.std.specs.Hash.DefaultHasher.{initial}
+use Rattle.kbart_rows.specs.Hashing.{keys_of}
 use Rattle.text_model.specs.Texts.{Text}
 use Rattle.kbart_rows.specs.Cells.{Row, Holdings}
 use Rattle.table_inspection.specs.Cells.{bad_numbers, bad_dates, bad_links, unidentified, unlinked, long_rows}
@@ -15,7 +15,7 @@ use Rattle.table_inspection.specs.Inspection.{counts, inspection_text, has_warni
 use Rattle.table_inspection.proofs.OnLiterals.{on_literals}
 
 abbrev table : Row → List Row → Holdings
-table header rows = record { header = header; rows = rows; keys = record { hasher = initial } }
+table header rows = record { header = header; rows = rows; keys = keys_of 0 0 }
 
 abbrev line : Text → Text
 line text = text ++ 10 ∷ []

@@ -17,8 +17,10 @@ use Rattle.target_vars.specs.declared.error.VarsError.{VarsError}
 use Rattle.target_vars.specs.declared.error.VarsError.TheVariants as vars_error
 use Rattle.kbart_rows.specs.Cells.{Row, Holdings, NamedCell, cell_bytes, column_of, is_first, name_cell, named_cells, row_bytes}
 use Rattle.kbart_rows.specs.Identifiers.{has_identifier, identifier_columns}
+use Rattle.kbart_rows.specs.Private.Index.{HasEntries}
 use Rattle.kbart_rows.specs.Reading.{AllFit}
 use Rattle.kbart_rows.specs.declared.error.TableError.{TableError}
+use Rattle.kbart_rows.specs.declared.index.Entry.{Entry}
 use Rattle.kbart_rows.specs.declared.keys.Keys.{Keys}
 use Rattle.kbart_rows.specs.declared.error.TableError.TheVariants.{TooLong, NotUtf8, NoHeader, TooManyRows, RowTooLong, NoMemory}
 use Rattle.kbart_rows.specs.declared.read.TheConstants.{MAX_ROWS, MAX_ROW_BYTES}
@@ -95,25 +97,20 @@ counted_bytes (counts ∷ others) cells = (if counts then length (get_or cells 0
 abbrev pub is_id : Text → Option Text → Bool
 is_id text id = option_map_or (bytes_eq text) id false
 
--- the numbers of the rows that have the identifier
-abbrev pub rows_with : List (Option ℕ) → List Row → Text → List ℕ
-rows_with columns rows id = filter (λ row. has_identifier columns id (get_or rows row [])) (range_with_len 0 (length rows))
-
 -- the first line is the header
 abbrev pub holdings_of : List Row → Keys → Holdings
 holdings_of lines keys = record { header = get_or lines 0 []; rows = drop 1 lines; keys = keys }
 
--- the names in the header are mapped to their first columns, and the identifiers to the rows that have them, both with the same keys; and the bytes of each row
+-- the names in the header are mapped to their first columns, the index has each identifier of each row, both with the same keys; and the bytes of each row
 -- are counted
-pub record IsIndexed {A B C D E : Type 0} (lines : List Row) (columns : HashMap (String A) ℕ B) (index : HashMap (String C) (Vec ℕ D) B)
-    (bytes : Vec ℕ E) : Type 0 where
+pub record IsIndexed {A C : Type 0} (lines : List Row) (columns : HashMap (String A) ℕ Keys) (print online : Option ℕ) (index : List Entry)
+    (bytes : Vec ℕ C) : Type 0 where
   pub header : 0 < length lines
   pub few : length lines ≤ MAX_ROWS + 1
   pub fit : AllFit lines
   pub named : (name : Text) → get_by_text columns name ≡ column_of (get_or lines 0 []) name
-  pub found : (id : Text) → option_map_or (λ rows. rows.items) (get_by_text index id) []
-      ≡ rows_with (identifier_columns (get_or lines 0 [])) (drop 1 lines) id
-  pub keyed : hasher_of index ≡ hasher_of columns
+  pub identified : print ∷ online ∷ [] ≡ identifier_columns (get_or lines 0 [])
+  pub has : HasEntries (hasher_of columns) (print ∷ online ∷ []) (drop 1 lines) index
   pub counted : bytes.items ≡ map (bytes_of (get_or lines 0 [])) (drop 1 lines)
 
 -- the smaller of two rows, each of which may be missing

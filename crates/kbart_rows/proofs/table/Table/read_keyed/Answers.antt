@@ -1,7 +1,8 @@
 use Rattle.std.proofs.Common.{◌∙◌, [], ◌∷◌, sym, codes, drop, get_or, ap, subst, arith}
 use Rattle.std.proofs.lemmas.List.{length-drop}
 use Rattle.kbart_rows.specs.Cells.{column_of}
-use Rattle.kbart_rows.specs.Private.Kept.{rows_with}
+use Rattle.kbart_rows.specs.Private.Index.{HasEntries}
+use Rattle.kbart_rows.specs.declared.keys.Keys.{Keys}
 use Rattle.kbart_rows.specs.Reading.{AllFit, AreLines}
 use Rattle.kbart_rows.proofs.ReadingLines.{header_first}
 use Rattle.kbart_rows.proofs.table.Table.read_keyed.Goals as goal
@@ -19,8 +20,9 @@ invariant_of-result c =
       few = c.in_ok-lines.ensures.few;
       fit = c.in_ok-lines.ensures.fit;
       named = named;
-      found = λ id. c.in_ok-index.ensures.rows id ∙ ap (λ (columns : _). rows_with columns (drop 1 lines) id) columns;
-      keyed = c.in_ok-index.ensures.keyed ∙ sym c.in_ok-columns.ensures.keyed;
+      identified = columns;
+      has = subst (λ (keys : Keys). HasEntries keys (c.copied-print.result ∷ c.copied-online.result ∷ []) (drop 1 lines) c.in_ok-index.index)
+          (sym c.in_ok-columns.ensures.keyed) c.in_ok-index.ensures;
       counted = c.in_ok-bytes.ensures;
     }
 

@@ -1,0 +1,82 @@
+-- An identifier is normalised byte by byte.
+use Rattle.std.proofs.Common.{◌≡◌, ℕ, ◌+◌, ◌-◌, ◌≤◌, ◌<◌, Bool, true, false, cond, List, [], ◌∷◌, ◌++◌, All, filter, length, map, refl, sym, ap, ◌∙◌, arith, nat_lt, get_or}
+use Rattle.std.proofs.lemmas.Bool.Decides.{nat_tests}
+use Rattle.std.proofs.lemmas.List.{append-nil, get_or_default, map-append}
+use Rattle.std.proofs.lemmas.List.Elements.{All-head, All-tail, filter-append}
+use Rattle.std.proofs.lemmas.Str.{encode_ascii, encodes-chars, inside_one}
+use Rattle.std.specs.Char.{to_ascii_uppercase}
+use Rattle.std.specs.Str.{IsUtf8, chars, encode_utf8_all}
+use lib.Utf8.{encode}
+use Rattle.text_model.specs.Texts.{Text}
+use Rattle.kbart_rows.specs.Identifiers as spec
+use Rattle.kbart_rows.specs.Private.Normal.{normal}
+
+high_counts : (b : ℕ) → 128 ≤ b → spec.counts b ≡ true
+high_counts b high = grind (arith, high, nat_tests)
+
+high_stays : (b : ℕ) → 128 ≤ b → to_ascii_uppercase b ≡ b
+high_stays b high =
+    let low : nat_lt b 97 ≡ false = grind (arith, high, nat_tests) in
+    let past : nat_lt b 123 ≡ false = grind (arith, high, nat_tests) in
+    rw low rw past refl
+
+low_stays : (b : ℕ) → b < 128 → to_ascii_uppercase b < 128
+low_stays b low = by_test (nat_lt b 97) (nat_lt b 123)
+  where
+    by_test : (x y : Bool) → cond x b (cond y (b - 32) b) < 128
+    by_test true y = low
+    by_test false true = omega (arith, low)
+    by_test false false = low
+
+all_high : (bs : Text) → All (λ b. 128 ≤ b) bs → normal bs ≡ bs
+all_high [] high = refl
+all_high (b ∷ bs) high =
+    let here = All-head (λ b. 128 ≤ b) b bs high in
+    rw (high_counts b here) (ap (λ first. first ∷ normal bs) (high_stays b here) ∙ ap (λ rest. b ∷ rest) (all_high bs (All-tail (λ b. 128 ≤ b) b bs high)))
+
+pub normal_append : (xs ys : Text) → normal (xs ++ ys) ≡ normal xs ++ normal ys
+normal_append xs ys = ap (map to_ascii_uppercase) (filter-append spec.counts xs ys) ∙ map-append to_ascii_uppercase (filter spec.counts xs) (filter spec.counts ys)
+
+-- each byte of a character past ASCII is past ASCII
+high_bytes : (c : ℕ) → 128 ≤ c → All (λ b. 128 ≤ b) (encode c)
+high_bytes c high k d within =
+    let same = get_or_default (encode c) k d 0 within in
+    by_test (nat_lt (get_or (encode c) k d) 128) refl same
+  where
+    by_test : (x : Bool) → nat_lt (get_or (encode c) k d) 128 ≡ x → get_or (encode c) k d ≡ get_or (encode c) k 0 → 128 ≤ get_or (encode c) k d
+    by_test true low same =
+        let small : get_or (encode c) k 0 < 128 = grind (arith, nat_tests) in
+        let is = inside_one c [] (encode c) k (sym (append-nil (encode c))) within small in
+        absurd (omega (arith, is, small, high))
+    by_test false past same = grind (arith, nat_tests)
+
+one_character : (c : ℕ) → normal (encode c) ≡ cond (spec.counts c) (encode (to_ascii_uppercase c)) []
+one_character c = by_test (nat_lt c 128) refl
+  where
+    by_test : (x : Bool) → nat_lt c 128 ≡ x → normal (encode c) ≡ cond (spec.counts c) (encode (to_ascii_uppercase c)) []
+    by_test true low =
+        let small : c < 128 = grind (arith, nat_tests) in
+        rw (encode_ascii c small) rw (encode_ascii (to_ascii_uppercase c) (low_stays c small)) (by_count (spec.counts c))
+      where
+        by_count : (b : Bool) → map to_ascii_uppercase (cond b (c ∷ []) []) ≡ cond b (to_ascii_uppercase c ∷ []) []
+        by_count true = refl
+        by_count false = refl
+    by_test false past =
+        let high : 128 ≤ c = grind (arith, nat_tests) in
+        all_high (encode c) (high_bytes c high)
+        ∙ sym (ap (λ counts. cond counts (encode (to_ascii_uppercase c)) []) (high_counts c high) ∙ ap encode (high_stays c high))
+
+characters : (cs : List ℕ) → normal (encode_utf8_all cs) ≡ encode_utf8_all (map to_ascii_uppercase (filter spec.counts cs))
+characters [] = refl
+characters (c ∷ cs) =
+    let rest = encode_utf8_all (map to_ascii_uppercase (filter spec.counts cs)) in
+    normal_append (encode c) (encode_utf8_all cs) ∙ ap (λ later. normal (encode c) ++ later) (characters cs)
+    ∙ ap (λ first. first ++ rest) (one_character c) ∙ by_count (spec.counts c)
+  where
+    by_count : (b : Bool) → cond b (encode (to_ascii_uppercase c)) [] ++ encode_utf8_all (map to_ascii_uppercase (filter spec.counts cs))
+        ≡ encode_utf8_all (map to_ascii_uppercase (cond b (c ∷ filter spec.counts cs) (filter spec.counts cs)))
+    by_count true = refl
+    by_count false = refl
+
+pub normal_bytes : (text : Text) → IsUtf8 text → normal text ≡ spec.normalised text
+normal_bytes text utf8 = ap normal (sym (encodes-chars text utf8)) ∙ characters (chars text)

@@ -1,0 +1,13 @@
+-- An identifier of a request, and its hash.
+use Rattle.std.specs.Prelude.{◌≡◌, string_bytes}
+use Rattle.text_model.specs.Texts.{Text}
+use Rattle.kbart_rows.specs.Hashing.{hash_of}
+use Rattle.kbart_rows.specs.declared.ids.Id.{Id}
+use Rattle.kbart_rows.specs.declared.keys.Keys.{Keys}
+
+abbrev pub text_of : Id → Text
+text_of id = string_bytes id.text
+
+-- it has the hash under these keys
+abbrev pub IsHashed : Keys → Id → Type 0
+IsHashed keys id = id.hash ≡ hash_of keys (text_of id)
