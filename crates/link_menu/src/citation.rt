@@ -6,8 +6,7 @@ ghost use Rattle.row_scope.specs.RequestValues.{IsApart};
 ghost use Rattle.registry.specs.Entries.{matching_rows_of};
 ghost use Rattle.link_menu.specs.Private.Held.{has_row};
 
-use crate::matches::{Matches, rows_that_match};
-use kbart_rows::{ColumnNames, Ids};
+use kbart_rows::{ColumnNames, Ids, Keys, Matches};
 use kev_read::Request;
 use registry::Target;
 use row_scope::RequestValues;
@@ -34,19 +33,21 @@ impl<'a> Model for Citation<'a> {
 }
 
 impl<'a> Citation<'a> {
-    /// The citation of a request, for targets whose tables have columns with these names.
+    /// The citation of a request, for targets whose tables have columns with these names. In tables with these keys the
+    /// title is found without another hash.
     ///
     /// `AllocError` if an allocation failed.
     pub(crate) fn new(
         alloc: Global,
         request: &'a Request,
         columns: &ColumnNames,
+        keys: Keys,
     ) -> Result<Citation<'a>, AllocError>
         ensures pairs { IfOk result (λ citation. citation.pairs ≡ request.now.pairs) }
         ensures apart { IfOk result (λ citation. IsApart citation (has columns.now)) }
     {
         let values = RequestValues::new(alloc, request, columns)?;
-        let ids = Ids::of(alloc, request)?;
+        let ids = Ids::keyed(alloc, request, keys)?;
         Ok(Citation { values, ids })
     }
 
@@ -54,7 +55,7 @@ impl<'a> Citation<'a> {
     pub(crate) fn rows(&'a self, target: &'a Target) -> Matches<'a>
         ensures { result ≡ matching_rows_of target.now self.now.pairs }
     {
-        rows_that_match(target.table(), &self.ids)
+        target.table().matches(&self.ids)
     }
 
     /// Whether a row of a target has the title.

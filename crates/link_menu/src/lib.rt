@@ -25,7 +25,6 @@
 
 mod batch;
 mod citation;
-mod matches;
 mod registry_menus;
 mod resolution;
 mod resolver;

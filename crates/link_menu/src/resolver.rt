@@ -13,10 +13,11 @@ use crate::citation::Citation;
 use crate::searches::{Searches, menu_with};
 use crate::target_search::TargetSearch;
 use interleaved_runs::{Blind, Fate, Watch, round_over};
+use kbart_rows::Keys;
 use kev_read::Request;
 use menu::Menu;
 use registry::laws::{matching_rows_rise, rows_are_tried_in_order};
-use registry::Registry;
+use registry::{Registry, Target};
 use std::alloc::{AllocError, Global};
 
 /// The menu of a request: what each target of the registry gives for it, in the order of the targets. The matching rows
@@ -55,13 +56,21 @@ pub fn resolve_watched<'r, W: Watch>(
     rows_are_tried_in_order();
     matching_rows_rise();
     let targets = registry.targets();
-    let citation = Citation::new(alloc, request, registry.columns())?;
+    let citation = Citation::new(alloc, request, registry.columns(), keys_of(targets))?;
     let begun = Searches::begin(alloc, targets, registry.numbers(), &citation)?;
     let Searches { held, mut searches } = begun;
     while is_any_open(&searches) {
         try_next_rows(alloc, searches.as_mut_slice(), watch)?;
     }
     menu_with(alloc, targets, &held, searches)
+}
+
+/// The keys of the first target's table, which usually are those of all.
+fn keys_of(targets: &[Target]) -> Keys {
+    match targets.first() {
+        Some(target) => target.table().keys(),
+        None => Keys::new(0, 0),
+    }
 }
 
 fn is_any_open(searches: &[TargetSearch]) -> bool

@@ -7,9 +7,9 @@ ghost use Rattle.interleaved_runs.specs.Fates.{fate_value};
 ghost use Rattle.link_menu.specs.Private.Searches as spec;
 
 use crate::citation::Citation;
-use crate::matches::Matches;
 use crate::resolution::{is_link, resolution_of};
 use interleaved_runs::Fate;
+use kbart_rows::Matches;
 use menu::Resolution;
 use registry::Target;
 use registry::laws::matching_rows_rise;

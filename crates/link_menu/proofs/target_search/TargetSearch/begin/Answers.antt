@@ -12,4 +12,4 @@ invariant_of-result c =
     let same = made.2 ∙ c.requires.known in
     let rows = c.rows-rows.ensures ∙ ap (λ r. matching_rows_of target r.pairs) (sym same) ∙ sym (rise.start target request.request.pairs) in
     ready rise.no_more rise.next 0 target request c.next-next.result c.next-next.new.self made.0 made.1
-    (c.next-next.ensures.first ∙ ap (λ rs. slice_get rs 0) rows) (c.next-next.ensures.rest ∙ ap (drop 1) rows)
+    (c.next-next.ensures.head ∙ ap (λ rs. slice_get rs 0) rows) (c.next-next.ensures.tail ∙ ap (drop 1) rows)

@@ -27,7 +27,7 @@ invariant_of-self c =
     (ready_unless rise.no_more rise.next (c.in-Some.row + 1) target request (links.is_link c.resolution_of-resolution.result) c.next-following.result
     c.next-following.new.self
     (ready rise.no_more rise.next (c.in-Some.row + 1) target request c.next-following.result c.next-following.new.self c.self.invariant.code
-    c.self.invariant.table (next.first ∙ ap (λ rs. slice_get rs 0) rows) (next.rest ∙ ap (drop 1) rows)))
+    c.self.invariant.table (next.head ∙ ap (λ rs. slice_get rs 0) rows) (next.tail ∙ ap (drop 1) rows)))
 
 pub returns : goal.returns
 returns c =
@@ -39,7 +39,7 @@ returns c =
     let before : SearchValue =
     record { requested = requested; target = target; next = c.self.inside.next; resolution = c.self.inside.resolution } in
     let following =
-    c.next-following.ensures.first ∙ ap (λ rs. slice_get rs 0) (rows_left c) ∙ first_is rise.no_more rise.next (row + 1) target requested.pairs in
+    c.next-following.ensures.head ∙ ap (λ rs. slice_get rs 0) (rows_left c) ∙ first_is rise.no_more rise.next (row + 1) target requested.pairs in
     ap (λ next. record before { next = next; resolution = c.resolution_of-resolution.result })
     (c.row_after-self-inside.ensures ∙ ap (λ o. if links.is_link c.resolution_of-resolution.result then None else o) following)
     ∙ ap (λ resolution. record before {
