@@ -2,6 +2,7 @@
 
 ghost use Rattle.std.specs.Prelude.{◌≡◌, ◌+◌, ◌<◌, ◌≤◌, ◌++◌, ◌∷◌, IsUtf8, MatchOption, OnOk, drop};
 ghost use Rattle.std.specs.Prelude.{length, slice_index, true, vec_capacity, vec_len};
+ghost use Rattle.std.specs.Char.{digit_value};
 ghost use Rattle.form_urlencoded.specs.Form as form;
 ghost use Rattle.kev_read.specs.Pairs.{decoded};
 
@@ -9,6 +10,17 @@ use form_urlencoded::decode;
 use std::alloc::AllocError;
 use std::mem;
 use std::str::from_utf8;
+
+// For each hexadecimal digit the character that comes as long after `@` as its value says, and `-` for the others.
+static DIGITS: [u8; 256] = *b"\
+    --------------------------------\
+    ----------------@ABCDEFGHI------\
+    -JKLMNO-------------------------\
+    -JKLMNO-------------------------\
+    --------------------------------\
+    --------------------------------\
+    --------------------------------\
+    --------------------------------";
 
 /// Appends the text that a form's name or value encodes, with U+FFFD for bytes that are not UTF-8.
 pub(crate) fn push_decoded(out: &mut Vec<u8>, input: &[u8]) -> Result<(), AllocError>
@@ -26,10 +38,11 @@ pub(crate) fn push_decoded(out: &mut Vec<u8>, input: &[u8]) -> Result<(), AllocE
     out.extend_from_slice(text.as_str().as_bytes())
 }
 
+/// Whether the bytes are UTF-8. Most are ASCII, which takes less time to see.
 fn are_utf8(bytes: &[u8]) -> bool
     ensures { result ≡ true → IsUtf8 bytes.now }
 {
-    from_utf8(bytes).is_ok()
+    bytes.is_ascii() || from_utf8(bytes).is_ok()
 }
 
 /// Appends the decoded bytes.
@@ -83,9 +96,18 @@ fn escaped_byte(input: &[u8]) -> Option<u8>
     let [b'%', high, low, ..] = input else {
         return None;
     };
-    let high = char::from(*high).to_digit(16)?;
-    let low = char::from(*low).to_digit(16)?;
-    Some(high as u8 * 16 + low as u8)
+    let high = digit(*high)?;
+    let low = digit(*low)?;
+    Some(high * 16 + low)
+}
+
+/// The value of a hexadecimal digit.
+#[inline(always)]
+fn digit(byte: u8) -> Option<u8>
+    ensures { MatchOption result (16 ≤ digit_value byte) (λ value. (value < 16) × (value ≡ digit_value byte)) }
+{
+    let code = DIGITS[byte as usize];
+    if code < b'@' { None } else { Some(code - b'@') }
 }
 
 #[inline(always)]
