@@ -2,6 +2,7 @@
 
 ghost use Rattle.std.specs.Prelude.{◌≡◌, ◌<◌, All, length, map, slice_get, Some};
 ghost use Rattle.std.specs.Option.{option_map};
+ghost use Rattle.kev_read.specs.Private.KeyMarks.{mark_of};
 ghost use Rattle.kev_read.specs.Private.KeyOrder.{key_at};
 ghost use Rattle.kev_read.specs.Private.Layout.{IsPlaced, IsSpan, key_text, key_value, pair_in, part_in};
 
@@ -82,6 +83,16 @@ impl Pairs {
         Pair {
             key: part(&self.text, place.key),
             value: part(&self.text, place.value),
+        }
+    }
+
+    /// The mark of the key of the pair at the index; `None` if there is no such pair.
+    pub(crate) fn mark(&self, index: usize) -> Option<u64>
+        ensures { result ≡ option_map mark_of (key_at self.now index) }
+    {
+        match self.key(index) {
+            Some(key) => Some(key.mark),
+            None => None,
         }
     }
 
