@@ -10,7 +10,8 @@ use Rattle.uri_text.proofs.writing.push_text.Goals as goal
 
 pub put_back-requires : goal.put_back-requires
 put_back-requires c =
-    let none = written-nothing c.args.writing c.loop-rest.rest.now (eqb-true (length c.loop-rest.rest.now) 0 (sym c.is_empty.ensures ∙ c.loop-rest-test.false)) in
+    let none = written-nothing c.args.writing c.loop-rest.rest.now
+    (eqb-true (length c.loop-rest.rest.now) 0 (sym c.is_empty.ensures ∙ c.loop-rest-test.false)) in
     let all = sym (append-nil c.loop-rest.bytes.items) ∙ (rw none at c.loop-rest.invariant.items) in
     subst IsUtf8 (sym all)
     (IsUtf8-append (string_bytes c.args.out.now) (written c.args.writing c.args.text.now) (IsUtf8-string_bytes c.args.out.now)
@@ -18,12 +19,14 @@ put_back-requires c =
 
 pub returns-clause-bytes : goal.returns-clause-bytes
 returns-clause-bytes c =
-    let none = written-nothing c.args.writing c.loop-rest.rest.now (eqb-true (length c.loop-rest.rest.now) 0 (sym c.is_empty.ensures ∙ c.loop-rest-test.false)) in
+    let none = written-nothing c.args.writing c.loop-rest.rest.now
+    (eqb-true (length c.loop-rest.rest.now) 0 (sym c.is_empty.ensures ∙ c.loop-rest-test.false)) in
     c.put_back.ensures.bytes ∙ (sym (append-nil c.loop-rest.bytes.items) ∙ (rw none at c.loop-rest.invariant.items))
 
 pub returns-clause-len : goal.returns-clause-len
 returns-clause-len c =
-    let none = written-nothing c.args.writing c.loop-rest.rest.now (eqb-true (length c.loop-rest.rest.now) 0 (sym c.is_empty.ensures ∙ c.loop-rest-test.false)) in
+    let none = written-nothing c.args.writing c.loop-rest.rest.now
+    (eqb-true (length c.loop-rest.rest.now) 0 (sym c.is_empty.ensures ∙ c.loop-rest-test.false)) in
     c.put_back.ensures.len ∙ (sym (add-zero (vec_len c.loop-rest.bytes)) ∙ (rw none at c.loop-rest.invariant.len))
 
 pub returns-clause-at_most_triples : goal.returns-clause-at_most_triples
