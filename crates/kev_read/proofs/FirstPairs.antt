@@ -1,5 +1,6 @@
 -- The first pair of a query, from where its key and its value end.
-use Rattle.std.proofs.Common.{◌≡◌, ◌≢◌, ◌⊎◌, inl, inr, ℕ, suc, ◌+◌, ◌-◌, ◌<◌, ◌≤◌, List, [], ◌∷◌, ◌++◌, map, length, take, drop, get_or, slice_range, refl, sym, ap, ◌∙◌, subst, arith}
+use Rattle.std.proofs.Common.{◌≡◌, ◌≢◌, ◌⊎◌, inl, inr, ℕ, suc, ◌+◌, ◌-◌, ◌<◌, ◌≤◌, List, []}
+use Rattle.std.proofs.Common.{◌∷◌, ◌++◌, map, length, take, drop, get_or, slice_range, refl, sym, ap, ◌∙◌, subst, arith}
 use Rattle.std.proofs.Common.{length-append, length-drop, take_all, take-append-drop}
 use Rattle.std.proofs.Math.Logic.{⊎_elim}
 use Rattle.std.proofs.Math.Seq.{drop-cons}
@@ -10,7 +11,8 @@ use Rattle.std.proofs.lemmas.List.Elements.{All-weaker, All-append, All-cons}
 use Rattle.std.proofs.lemmas.Str.{utf8_lossy_empty}
 use Rattle.std.specs.Str.Lossy.{utf8_lossy}
 use Rattle.form_urlencoded.specs.Form as form
-use Rattle.form_urlencoded.proofs.FormLemmas.{split_once_before_at, split_once_after_at, split_once_before_none, split_once_after_none, split_once_before_same, split_once_after_same, raw_pairs_first, raw_pairs_skip}
+use Rattle.form_urlencoded.proofs.FormLemmas.{split_once_before_at, split_once_after_at, split_once_before_none, split_once_after_none}
+use Rattle.form_urlencoded.proofs.FormLemmas.{split_once_before_same, split_once_after_same, raw_pairs_first, raw_pairs_skip}
 use Rattle.kev_read.specs.Pairs.{KeyValue, decoded, decoded_pair}
 use Rattle.kev_read.specs.Private.Reading.{IsFirstPair}
 use Rattle.kev_read.proofs.DecodedForms.{decoded_nothing}
@@ -36,7 +38,8 @@ parted_at bytes n within ends =
 first_raw : (bytes piece after : List ℕ) → 0 < length piece → All (λ b. b ≢ 38) piece → IsParted bytes piece after
     → form.raw_pairs bytes ≡ form.split_pair piece ∷ form.raw_pairs after
 first_raw bytes piece after some lacks parted =
-    let is_first : (form.split_once 38 bytes).0 ≡ piece → (form.split_once 38 bytes).1 ≡ after → form.raw_pairs bytes ≡ form.split_pair piece ∷ form.raw_pairs after =
+    let is_first : (form.split_once 38 bytes).0 ≡ piece → (form.split_once 38 bytes).1 ≡ after
+    → form.raw_pairs bytes ≡ form.split_pair piece ∷ form.raw_pairs after =
     λ before rest. raw_pairs_first bytes (subst (λ x. 0 < length x) (sym before) some) ∙ (λ i. form.split_pair (before i) ∷ form.raw_pairs (rest i)) in
     ⊎_elim
     (λ alone. is_first (ap (λ b. (form.split_once 38 b).0) alone.0 ∙ split_once_before_none 38 piece lacks)
@@ -132,8 +135,10 @@ pair_of_both query start n m inside lacks equals within lacks_value ends =
     let last : start + n + 1 + (m + 1) ≡ start + n + 1 + m + 1 = omega arith in
     let after : drop (m + 1) rest ≡ drop (start + n + 1 + m + 1) query = drop-drop (m + 1) (start + n + 1) query ∙ ap (λ k. drop k query) last in
     let of_rest = subst (λ r. IsFirstPair bytes (record { key = decoded (take n bytes); value = decoded (take m r) }) (drop (m + 1) r)) is_rest first in
-    let of_key = subst (λ key. IsFirstPair bytes (record { key = decoded key; value = decoded (take m rest) }) (drop (m + 1) rest)) (range_from query start n) of_rest in
-    let of_value = subst (λ value. IsFirstPair bytes (record { key = decoded (slice_range query start (start + n)); value = decoded value }) (drop (m + 1) rest))
+    let of_key =
+    subst (λ key. IsFirstPair bytes (record { key = decoded key; value = decoded (take m rest) }) (drop (m + 1) rest)) (range_from query start n) of_rest in
+    let of_value =
+    subst (λ value. IsFirstPair bytes (record { key = decoded (slice_range query start (start + n)); value = decoded value }) (drop (m + 1) rest))
     (range_from query (start + n + 1) m) of_key in
     subst (λ r. IsFirstPair bytes
     (record { key = decoded (slice_range query start (start + n)); value = decoded (slice_range query (start + n + 1) (start + n + 1 + m)) }) r) after of_value

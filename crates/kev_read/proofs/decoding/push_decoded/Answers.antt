@@ -14,7 +14,8 @@ appended_utf8 c =
     let start : length before ≡ c.len-start.result = search rules in
     let appended : drop c.len-start.result c.append_decoded.new.out.items ≡ bytes = rw all (drop_at before bytes c.len-start.result start) in
     let utf8 = c.are_utf8.ensures c.if-are_utf8.true in
-    let tested : IsUtf8 (drop c.len-start.result c.append_decoded.new.out.items) = search (rules, utf8, take_rest c.append_decoded.new.out.items c.len-start.result) in
+    let tested : IsUtf8 (drop c.len-start.result c.append_decoded.new.out.items) =
+    search (rules, utf8, take_rest c.append_decoded.new.out.items c.len-start.result) in
     subst IsUtf8 appended tested
 
 pub returns-then-are_utf8-clause-utf8 : goal.returns-then-are_utf8-clause-utf8

@@ -14,13 +14,15 @@ returns-then-mask-eq0-clause-ordinary c k low high =
     (none_from_empty_mask is_special bytes c.args.place 16 0 c.requires (sym c.special_of_16-mask.ensures ∙ c.if-mask-eq0.true) k low high)
 
 -- the lowest bit is that of the first byte that is not ordinary
-lowest : (c : goal.Else-mask-eq0) → count_trailing_zeros 64 c.special_of_16-mask.result ≡ prefix_len (λ x. not (is_special x)) (chunk c.args.place 16 c.args.bytes.now)
+lowest : (c : goal.Else-mask-eq0) → count_trailing_zeros 64 c.special_of_16-mask.result
+    ≡ prefix_len (λ x. not (is_special x)) (chunk c.args.place 16 c.args.bytes.now)
 lowest c =
     let bytes = c.args.bytes.now in
     let lanes = chunk c.args.place 16 bytes in
     let long = length-chunk c.args.place 16 bytes c.requires in
     let some : 0 < c.special_of_16-mask.result = omega (arith, c.if-mask-eq0.false) in
-    ap (count_trailing_zeros 64) c.special_of_16-mask.ensures ∙ trailing_mask_l is_special 64 lanes (omega (arith, long)) (subst (λ m. 0 < m) c.special_of_16-mask.ensures some)
+    ap (count_trailing_zeros 64) c.special_of_16-mask.ensures
+    ∙ trailing_mask_l is_special 64 lanes (omega (arith, long)) (subst (λ m. 0 < m) c.special_of_16-mask.ensures some)
 
 pub returns-else-mask-eq0-clause-few : goal.returns-else-mask-eq0-clause-few
 returns-else-mask-eq0-clause-few c = run_in_chunk_le is_special c.args.bytes.now c.args.place 16 _ 0 c.requires (lowest c)

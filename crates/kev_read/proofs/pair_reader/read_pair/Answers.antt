@@ -7,7 +7,8 @@ use Rattle.kev_read.specs.Private.Reading.{IsFirstPair}
 use Rattle.kev_read.proofs.FirstPairs.{pair_of_both, pair_of_key}
 use Rattle.kev_read.proofs.PairsInText.{part_stays}
 use Rattle.kev_read.proofs.pair_reader.read_pair.Goals as goal
-use Rattle.kev_read.proofs.pair_reader.read_pair.Goals.{then-key_end-query-via-then-key_end-query, then-key_end-query-via-else-key_end-query+then-query-key_end-eq38}
+use Rattle.kev_read.proofs.pair_reader.read_pair.Goals.{then-key_end-query-via-then-key_end-query}
+use Rattle.kev_read.proofs.pair_reader.read_pair.Goals.{then-key_end-query-via-else-key_end-query+then-query-key_end-eq38}
 
 pub returns-then-key_end-query-clause-first : goal.returns-then-key_end-query-clause-first
 returns-then-key_end-query-clause-first c =
@@ -21,10 +22,12 @@ returns-then-key_end-query-clause-first c =
       | then-key_end-query-via-then-key_end-query w ↦ λ inside. absurd (omega (arith, inside, w.if-key_end-query.true))
       | then-key_end-query-via-else-key_end-query+then-query-key_end-eq38 w ↦ λ inside. w.if-query-key_end-eq38.true
     ] in
-    let first = pair_of_key query start n c.requires.within c.requires.some (rw back at c.key_part-key_len.ensures.within) (rw back at c.key_part-key_len.ensures.lacks) ends in
+    let first = pair_of_key query start n c.requires.within c.requires.some (rw back at c.key_part-key_len.ensures.within)
+    (rw back at c.key_part-key_len.ensures.lacks) ends in
     let none : start + n - (start + n) ≡ 0 = omega arith in
     let key = c.in_ok-key.ensures.part.1 in
-    subst (λ pair. IsFirstPair (drop start query) pair (drop (start + n + 1) query)) (λ i. record { key = sym key i; value = take (sym none i) (drop (start + n) text) }) first
+    subst (λ pair. IsFirstPair (drop start query) pair (drop (start + n + 1) query))
+    (λ i. record { key = sym key i; value = take (sym none i) (drop (start + n) text) }) first
 
 pub returns-clause-first : goal.returns-clause-first
 returns-clause-first c =
@@ -42,6 +45,7 @@ returns-clause-first c =
     let first = pair_of_both query start n m inside (rw back at c.key_part-key_len.ensures.lacks) equals
     (rw back_value at c.value_part-value_len.ensures.within) (rw back_value at c.value_part-value_len.ensures.lacks) ends in
     let grows = c.in_ok-value.ensures.grows in
-    let key = ap (λ t. part_in t c.in_ok-key.key) grows.1 ∙ (part_stays c.read_part.new.text.items grows.0 c.in_ok-key.key c.in_ok-key.ensures.part.0 ∙ c.in_ok-key.ensures.part.1) in
+    let key = ap (λ t. part_in t c.in_ok-key.key) grows.1
+    ∙ (part_stays c.read_part.new.text.items grows.0 c.in_ok-key.key c.in_ok-key.ensures.part.0 ∙ c.in_ok-key.ensures.part.1) in
     let value = c.in_ok-value.ensures.part.1 in
     subst (λ pair. IsFirstPair (drop start query) pair (drop (start + n + 1 + m + 1) query)) (λ i. record { key = sym key i; value = sym value i }) first

@@ -34,7 +34,8 @@ loop-done-preserved c =
     let held : HoldsQuery query (text ++ more) = query_stays query text more c.loop-done.invariant.held in
     let left = map decoded_pair (raw_pairs (drop c.in_ok-place.next query)) in
     let pairs : map (pair_in (text ++ more)) (places ++ place ∷ []) ++ left ≡ map (pair_in text) places ++ pair_in (text ++ more) place ∷ left =
-    ap (λ front. front ++ left) (pushed_pairs text more places place c.loop-done.invariant.placed) ∙ append_assoc (map (pair_in text) places) (pair_in (text ++ more) place ∷ []) left in
+    ap (λ front. front ++ left) (pushed_pairs text more places place c.loop-done.invariant.placed)
+    ∙ append_assoc (map (pair_in text) places) (pair_in (text ++ more) place ∷ []) left in
     let first = subst (λ t. map decoded_pair (raw_pairs (drop c.loop-done.done query)) ≡ pair_in t place ∷ left) grown c.in_ok-place.ensures.first in
     rw (c.in_ok-push.ensures.items, grown) record {
       held = held;
