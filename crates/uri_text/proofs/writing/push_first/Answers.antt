@@ -10,7 +10,7 @@ push_byte-requires c =
     let byte : get_or c.split_at.result.0.now 0 0 ≡ get_or c.args.text.now 0 0 =
     rw c.split_at.ensures.front (get_or-take 1 c.args.text.now 0 0 (lit< tt)) in
     let one : written c.args.writing c.args.text.now ≡ written_byte c.is_copied.result (get_or c.split_at.result.0.now 0 0)
-        ++ written c.args.writing c.split_at.result.1.now =
+    ++ written c.args.writing c.split_at.result.1.now =
     rw (c.is_copied.ensures, byte, c.split_at.ensures.back) (written-first c.args.writing c.args.text.now c.requires.some) in
     record { room = room_for _ _ _ _ _ one c.requires.room }
 
@@ -19,7 +19,7 @@ returns-clause-items c =
     let byte : get_or c.split_at.result.0.now 0 0 ≡ get_or c.args.text.now 0 0 =
     rw c.split_at.ensures.front (get_or-take 1 c.args.text.now 0 0 (lit< tt)) in
     let one : written c.args.writing c.args.text.now ≡ written_byte c.is_copied.result (get_or c.split_at.result.0.now 0 0)
-        ++ written c.args.writing c.split_at.result.1.now =
+    ++ written c.args.writing c.split_at.result.1.now =
     rw (c.is_copied.ensures, byte, c.split_at.ensures.back) (written-first c.args.writing c.args.text.now c.requires.some) in
     bytes_left _ _ _ _ _ _ c.push_byte.ensures.items one refl
 
@@ -28,6 +28,6 @@ returns-clause-len c =
     let byte : get_or c.split_at.result.0.now 0 0 ≡ get_or c.args.text.now 0 0 =
     rw c.split_at.ensures.front (get_or-take 1 c.args.text.now 0 0 (lit< tt)) in
     let one : written c.args.writing c.args.text.now ≡ written_byte c.is_copied.result (get_or c.split_at.result.0.now 0 0)
-        ++ written c.args.writing c.split_at.result.1.now =
+    ++ written c.args.writing c.split_at.result.1.now =
     rw (c.is_copied.ensures, byte, c.split_at.ensures.back) (written-first c.args.writing c.args.text.now c.requires.some) in
     len_left _ _ _ _ _ _ c.push_byte.ensures.len one refl
