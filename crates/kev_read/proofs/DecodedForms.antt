@@ -1,17 +1,17 @@
 -- What the bytes of a form's name or value decode to, from the first one on.
 use Rattle.std.proofs.Common.{◌≡◌, ◌≢◌, ℕ, ◌+◌, ◌*◌, ◌<◌, ◌≤◌, List, [], ◌∷◌, length, map, drop, get_or, sym, ap, ◌∙◌, subst, arith}
-use Rattle.std.specs.Prelude.{All, slice_index}
+use Rattle.std.specs.Prelude.{All, IsUtf8}
 use Rattle.std.specs.Char.{digit_value}
-use Rattle.std.specs.Str.{IsAscii}
 use Rattle.std.specs.Str.Lossy.{utf8_lossy}
 use Rattle.std.proofs.lemmas.Bool.Decides.{nat_tests}
-use Rattle.std.proofs.lemmas.List.Elements.{All-head, All-tail, All-weaker, All-from_get_or}
+use Rattle.std.proofs.lemmas.List.Elements.{All-head, All-tail, All-weaker}
 use Rattle.std.proofs.lemmas.Str.{IsUtf8-from_ascii, utf8_lossy-IsUtf8}
 use Rattle.std.proofs.lemmas.Str.Ascii.{IsAscii-from_all}
 use Rattle.percent_encoding.specs.Percent.{percent_decode}
 use Rattle.percent_encoding.proofs.PercentLemmas.{percent_decode-nil, percent_decode_escape, KeepsFirst_from_no_escape, percent_decode_not_percent}
 use Rattle.form_urlencoded.specs.Form as form
 use Rattle.kev_read.specs.Pairs.{decoded}
+use Rattle.kev_read.specs.Private.Ordinary.{IsOrdinary}
 
 pub decoded_nothing : (bytes : List ℕ) → length bytes ≡ 0 → form.decode bytes ≡ []
 decoded_nothing [] e = percent_decode-nil
@@ -57,25 +57,15 @@ decoded_escape (b ∷ c ∷ d ∷ bytes) long percent high low =
     ∙ ap (λ x. (16 * digit_value c + digit_value x) ∷ form.decode bytes) third)
 
 -- bytes that stand for themselves
-abbrev AreThemselves : List ℕ → Type 0
-AreThemselves bytes = All (λ b. (b < 128) × form.IsPlain b) bytes
+decoded_bytes : (bytes : List ℕ) → All IsOrdinary bytes → form.decode bytes ≡ bytes
+decoded_bytes [] are = percent_decode-nil
+decoded_bytes (b ∷ bytes) are =
+    let plain = (All-head IsOrdinary b bytes are).plain in
+    ap (λ x. percent_decode (x ∷ map form.plus_to_space bytes)) (not_plus b plain.0)
+    ∙ (percent_decode_not_percent b (map form.plus_to_space bytes) plain.1 ∙ ap (λ x. b ∷ x) (decoded_bytes bytes (All-tail IsOrdinary b bytes are)))
 
-themselves : (bytes : List ℕ) → ((i : ℕ) → i < length bytes → (slice_index bytes i < 128) × form.IsPlain (slice_index bytes i)) → AreThemselves bytes
-themselves bytes each = All-from_get_or (λ b. (b < 128) × form.IsPlain b) bytes 0 each
+pub ordinary_utf8 : (bytes : List ℕ) → All IsOrdinary bytes → IsUtf8 bytes
+ordinary_utf8 bytes are = IsUtf8-from_ascii bytes (IsAscii-from_all bytes (All-weaker IsOrdinary (λ b. b < 128) (λ b is. is.ascii) bytes are))
 
-unchanged_bytes : (bytes : List ℕ) → AreThemselves bytes → form.decode bytes ≡ bytes
-unchanged_bytes [] are = percent_decode-nil
-unchanged_bytes (b ∷ bytes) are =
-    let first = All-head (λ x. (x < 128) × form.IsPlain x) b bytes are in
-    let rest = unchanged_bytes bytes (All-tail (λ x. (x < 128) × form.IsPlain x) b bytes are) in
-    ap (λ x. percent_decode (x ∷ map form.plus_to_space bytes)) (not_plus b first.1.0)
-    ∙ (percent_decode_not_percent b (map form.plus_to_space bytes) first.1.1 ∙ ap (λ x. b ∷ x) rest)
-
-pub plain_ascii : (bytes : List ℕ) → ((i : ℕ) → i < length bytes → (slice_index bytes i < 128) × form.IsPlain (slice_index bytes i)) → IsAscii bytes
-plain_ascii bytes each =
-    IsAscii-from_all bytes (All-weaker (λ b. (b < 128) × form.IsPlain b) (λ b. b < 128) (λ b is. is.0) bytes (themselves bytes each))
-
-pub decoded_plain : (bytes : List ℕ) → ((i : ℕ) → i < length bytes → (slice_index bytes i < 128) × form.IsPlain (slice_index bytes i)) → decoded bytes ≡ bytes
-decoded_plain bytes each =
-    let same = unchanged_bytes bytes (themselves bytes each) in
-    ap utf8_lossy same ∙ utf8_lossy-IsUtf8 bytes (IsUtf8-from_ascii bytes (plain_ascii bytes each))
+pub decoded_ordinary : (bytes : List ℕ) → All IsOrdinary bytes → decoded bytes ≡ bytes
+decoded_ordinary bytes are = ap utf8_lossy (decoded_bytes bytes are) ∙ utf8_lossy-IsUtf8 bytes (ordinary_utf8 bytes are)

@@ -4,11 +4,13 @@ pub mod FillingExamples
 pub mod DecodedForms
 pub mod DecodedLength
 pub mod PairCount
+pub mod FirstPairs
 pub mod ValueBytes
 pub mod ValuesOfKey
 pub mod FillingLemmas
 pub mod GatheredValues
 pub mod PairsInText
+pub mod OrdinaryLanes
 pub mod KeyMarks
 pub mod StableKeys
 pub mod KeyOrders

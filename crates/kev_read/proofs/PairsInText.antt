@@ -1,46 +1,46 @@
--- Pairs keep their places when text is appended, and the pair whose text was appended last is at its place.
-use Rattle.std.proofs.Common.{◌≡◌, ℕ, ◌-◌, ◌≤◌, List, [], ◌∷◌, ◌++◌, map, length, take, drop, slice_range, All, IsUtf8, IsCharBoundary, refl, sym, ap, ◌∙◌}
-use Rattle.std.proofs.Common.{arith, length-append, length-drop, take_all, drop_at}
+-- Pairs keep their places when bytes are appended to their text.
+use Rattle.std.proofs.Common.{◌≡◌, ℕ, ◌+◌, ◌-◌, ◌≤◌, List, [], ◌∷◌, ◌++◌, map, length, take, drop, slice_range, IsUtf8, refl, sym, ap, ◌∙◌, subst}
+use Rattle.std.proofs.Common.{arith, length-append, length-drop, take-append-drop}
+use Rattle.std.specs.Prelude.{All}
 use Rattle.std.proofs.lemmas.List.{take-append-le, drop-append-le, map-append}
 use Rattle.std.proofs.lemmas.List.Elements.{All-head, All-tail, All-push, All-weaker}
-use Rattle.std.proofs.lemmas.Str.{IsUtf8-append, IsUtf8-take, IsCharBoundary-from_take, IsCharBoundary-at_seam, IsCharBoundary-end}
 use Rattle.text_model.specs.Texts.{Text}
 use Rattle.kev_read.specs.Private.KeyMarks.{mark_of}
-use Rattle.kev_read.specs.Private.Layout.{pair_in, IsPlaced}
+use Rattle.kev_read.specs.Private.Reading.{HoldsQuery}
+use Rattle.kev_read.specs.Private.Layout.{part_in, pair_in, IsSpan, IsPlaced}
 use Rattle.kev_read.specs.declared.pairs.Place.{Place}
+use Rattle.kev_read.specs.declared.pairs.Span.{Span}
 
--- ---- appended text
-
-boundary_stays : (text more : Text) (i : ℕ) → IsUtf8 text → IsUtf8 more → IsCharBoundary text i → IsCharBoundary (text ++ more) i
-boundary_stays text more i utf8 more_utf8 at =
-    let inside = at.0 in
-    IsCharBoundary-from_take (text ++ more) i (IsUtf8-append text more utf8 more_utf8) (omega (arith, length-append text more))
-    (rw (take-append-le i text more inside) (IsUtf8-take text i utf8 at))
-
-part_stays : (text more : Text) (i j : ℕ) → i ≤ j → j ≤ length text → slice_range (text ++ more) i j ≡ slice_range text i j
-part_stays text more i j forwards inside =
+pub range_stays : (text more : Text) (i j : ℕ) → i ≤ j → j ≤ length text → slice_range (text ++ more) i j ≡ slice_range text i j
+range_stays text more i j forwards inside =
     ap (take (j - i)) (drop-append-le i text more (omega arith)) ∙ take-append-le (j - i) (drop i text) more (omega (arith, length-drop i text))
 
-place_stays : (text more : Text) (place : Place) → IsUtf8 text → IsUtf8 more → IsPlaced text place → IsPlaced (text ++ more) place
-place_stays text more place utf8 more_utf8 is = record {
-  key_begins = boundary_stays text more place.start utf8 more_utf8 is.key_begins;
-  key_ends = boundary_stays text more place.middle utf8 more_utf8 is.key_ends;
-  value_ends = boundary_stays text more place.end utf8 more_utf8 is.value_ends;
-  key_forwards = is.key_forwards;
-  value_forwards = is.value_forwards;
-  marked = is.marked ∙ ap mark_of (sym (part_stays text more place.start place.middle is.key_forwards is.key_ends.0));
+pub part_stays : (text more : Text) (span : Span) → IsSpan text span → part_in (text ++ more) span ≡ part_in text span
+part_stays text more span is = range_stays text more span.start span.end is.forwards is.within
+
+pub span_stays : (text more : Text) (span : Span) → IsSpan text span → IsSpan (text ++ more) span
+span_stays text more span is =
+    let within = is.within in
+    record {
+      forwards = is.forwards;
+      within = omega (arith, length-append text more);
+      utf8 = subst IsUtf8 (sym (part_stays text more span is)) is.utf8;
+    }
+
+pub place_stays : (text more : Text) (place : Place) → IsPlaced text place → IsPlaced (text ++ more) place
+place_stays text more place is = record {
+  key = span_stays text more place.key is.key;
+  value = span_stays text more place.value is.value;
+  marked = is.marked ∙ ap mark_of (sym (part_stays text more place.key is.key));
 }
 
-pub places_stay : (text more : Text) (places : List Place) → IsUtf8 text → IsUtf8 more → All (IsPlaced text) places → All (IsPlaced (text ++ more)) places
-places_stay text more places utf8 more_utf8 are =
-    All-weaker (IsPlaced text) (IsPlaced (text ++ more)) (λ place is. place_stays text more place utf8 more_utf8 is) places are
+pub places_stay : (text more : Text) (places : List Place) → All (IsPlaced text) places → All (IsPlaced (text ++ more)) places
+places_stay text more places are = All-weaker (IsPlaced text) (IsPlaced (text ++ more)) (λ place is. place_stays text more place is) places are
 
-pair_stays : (text more : Text) (place : Place) → IsPlaced text place → pair_in (text ++ more) place ≡ pair_in text place
+pub pair_stays : (text more : Text) (place : Place) → IsPlaced text place → pair_in (text ++ more) place ≡ pair_in text place
 pair_stays text more place is =
-    let middle = is.key_ends.0 in
-    let end = is.value_ends.0 in
-    let key = part_stays text more place.start place.middle is.key_forwards middle in
-    let value = part_stays text more place.middle place.end is.value_forwards end in
+    let key = part_stays text more place.key is.key in
+    let value = part_stays text more place.value is.value in
     cc
 
 pub pairs_stay : (text more : Text) (places : List Place) → All (IsPlaced text) places → map (pair_in (text ++ more)) places ≡ map (pair_in text) places
@@ -50,58 +50,30 @@ pairs_stay text more (place ∷ places) are =
     let others = pairs_stay text more places (All-tail (IsPlaced text) place places are) in
     cc
 
--- ---- a pair whose text was appended last
+-- ---- the query, with which the text begins
 
-pub last_part : (text part : Text) (i j : ℕ) → i ≡ length text → j ≡ length (text ++ part) → slice_range (text ++ part) i j ≡ part
-last_part text part i j begins ends =
-    let whole = length-append text part in
-    ap (take (j - i)) (drop_at text part i (sym begins)) ∙ take_all (j - i) part (omega arith)
+pub range_of_query : (query text : List ℕ) (i j : ℕ) → HoldsQuery query text → i ≤ j → j ≤ length query → slice_range text i j ≡ slice_range query i j
+range_of_query query text i j held forwards inside =
+    let more = drop (length query) text in
+    let whole : text ≡ query ++ more = sym (take-append-drop (length query) text) ∙ ap (λ front. front ++ more) held in
+    ap (λ t. slice_range t i j) whole ∙ range_stays query more i j forwards inside
 
--- the text grew by the key and the value, and the place says so, with the key's mark
-pub record IsAppended (text key value : Text) (place : Place) : Type 0 where
-  pub starts : place.start ≡ length text
-  pub middle : place.middle ≡ length (text ++ key)
-  pub ends : place.end ≡ length ((text ++ key) ++ value)
-  pub mark : place.mark ≡ mark_of key
+pub query_within : (query text : List ℕ) → HoldsQuery query text → length query ≤ length text
+query_within query text held =
+    let more = drop (length query) text in
+    let whole : text ≡ query ++ more = sym (take-append-drop (length query) text) ∙ ap (λ front. front ++ more) held in
+    omega (arith, ap length whole, length-append query more)
 
--- where the key was appended
-key_there : (text key value : Text) (place : Place) → IsAppended text key value place
-    → slice_range ((text ++ key) ++ value) place.start place.middle ≡ key
-key_there text key value place appended =
-    let middle = length-append text key in
-    let starts = appended.starts in
-    let parts = appended.middle in
-    part_stays (text ++ key) value place.start place.middle (omega arith) (omega arith) ∙ last_part text key place.start place.middle starts parts
+pub query_stays : (query text more : List ℕ) → HoldsQuery query text → HoldsQuery query (text ++ more)
+query_stays query text more held = take-append-le (length query) text more (query_within query text held) ∙ held
 
-pub pushed : (text key value : Text) (places : List Place) (place : Place) → IsUtf8 text → IsUtf8 key → IsAppended text key value place
-    → All (IsPlaced text) places
-    → map (pair_in ((text ++ key) ++ value)) (places ++ place ∷ []) ≡ map (pair_in text) places ++ record { key = key; value = value } ∷ []
-pushed text key value places place utf8 key_utf8 appended are =
-    let parts = appended.middle in
-    let key_in = key_there text key value place appended in
-    let value_in = last_part (text ++ key) value place.middle place.end parts appended.ends in
-    let last : pair_in ((text ++ key) ++ value) place ≡ record { key = key; value = value } = cc in
-    let before = pairs_stay text key places are in
-    let still = pairs_stay (text ++ key) value places (places_stay text key places utf8 key_utf8 are) in
-    map-append (pair_in ((text ++ key) ++ value)) places (place ∷ []) ∙ cc
+-- ---- one more place
 
-pub pushed_placed : (text key value : Text) (places : List Place) (place : Place) → IsUtf8 text → IsUtf8 key → IsUtf8 value → IsAppended text key value place
-    → All (IsPlaced text) places
-    → All (IsPlaced ((text ++ key) ++ value)) (places ++ place ∷ [])
-pushed_placed text key value places place utf8 key_utf8 value_utf8 appended are =
-    let both = IsUtf8-append text key utf8 key_utf8 in
-    let whole = length-append (text ++ key) value in
-    let front = length-append text key in
-    let starts = appended.starts in
-    let parts = appended.middle in
-    let ends = appended.ends in
-    All-push (IsPlaced ((text ++ key) ++ value)) places place
-    (places_stay (text ++ key) value places both value_utf8 (places_stay text key places utf8 key_utf8 are))
-    record {
-      key_begins = boundary_stays (text ++ key) value place.start both value_utf8 (rw starts (IsCharBoundary-at_seam (text ++ key) text key refl key_utf8));
-      key_ends = rw parts (IsCharBoundary-at_seam ((text ++ key) ++ value) (text ++ key) value refl value_utf8);
-      value_ends = rw ends (IsCharBoundary-end ((text ++ key) ++ value));
-      key_forwards = omega arith;
-      value_forwards = omega arith;
-      marked = appended.mark ∙ ap mark_of (sym (key_there text key value place appended));
-    }
+pub pushed : (text more : Text) (places : List Place) (place : Place) → All (IsPlaced text) places → IsPlaced (text ++ more) place
+    → All (IsPlaced (text ++ more)) (places ++ place ∷ [])
+pushed text more places place are is = All-push (IsPlaced (text ++ more)) places place (places_stay text more places are) is
+
+pub pushed_pairs : (text more : Text) (places : List Place) (place : Place) → All (IsPlaced text) places
+    → map (pair_in (text ++ more)) (places ++ place ∷ []) ≡ map (pair_in text) places ++ pair_in (text ++ more) place ∷ []
+pushed_pairs text more places place are =
+    map-append (pair_in (text ++ more)) places (place ∷ []) ∙ ap (λ front. front ++ pair_in (text ++ more) place ∷ []) (pairs_stay text more places are)

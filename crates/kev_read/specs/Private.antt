@@ -3,3 +3,5 @@ pub mod Gathered
 pub mod KeyMarks
 pub mod KeyOrder
 pub mod Layout
+pub mod Ordinary
+pub mod Reading

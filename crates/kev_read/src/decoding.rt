@@ -1,88 +1,63 @@
 //! Decoding the names and values of a form (URL Standard, section 5.1).
 
-ghost use Rattle.std.specs.Prelude.{◌≡◌, ◌+◌, ◌<◌, ◌≤◌, ◌++◌, ◌∷◌, EachIndex, IsUtf8, MatchOption, OnErr, OnOk, drop};
-ghost use Rattle.std.specs.Prelude.{false, length, slice_index, string_bytes, string_capacity, string_len, take, true};
-ghost use Rattle.std.specs.Prelude.{vec_capacity, vec_len};
+ghost use Rattle.std.specs.Prelude.{◌≡◌, ◌+◌, ◌<◌, ◌≤◌, ◌++◌, ◌∷◌, IsUtf8, MatchOption, OnOk, drop};
+ghost use Rattle.std.specs.Prelude.{length, slice_index, true, vec_capacity, vec_len};
+ghost use Rattle.std.specs.Char.{digit_value};
 ghost use Rattle.form_urlencoded.specs.Form as form;
 ghost use Rattle.kev_read.specs.Pairs.{decoded};
 
 use form_urlencoded::decode;
-use percent_encoding::ascii_str;
 use std::alloc::AllocError;
 use std::mem;
 use std::str::from_utf8;
 
-// A dot for each byte that stands for itself, and the byte or `-` for the others.
-static PLAIN: [u8; 256] = *b"\
-    ................................\
-    .....%.....+....................\
-    ................................\
-    ................................\
+// For each hexadecimal digit the character that comes as long after `@` as its value says, and `-` for the others.
+static DIGITS: [u8; 256] = *b"\
+    --------------------------------\
+    ----------------@ABCDEFGHI------\
+    -JKLMNO-------------------------\
+    -JKLMNO-------------------------\
     --------------------------------\
     --------------------------------\
     --------------------------------\
     --------------------------------";
 
 /// Appends the text that a form's name or value encodes, with U+FFFD for bytes that are not UTF-8.
-pub(crate) fn push_decoded(out: &mut String, input: &[u8]) -> Result<(), AllocError>
-    ensures ok { OnOk result (string_bytes out.new ≡ string_bytes out.old ++ decoded input.now) }
+pub(crate) fn push_decoded(out: &mut Vec<u8>, input: &[u8]) -> Result<(), AllocError>
+    ensures ok { OnOk result (out.new.items ≡ out.old.items ++ decoded input.now) }
     ensures utf8 { OnOk result (IsUtf8 (decoded input.now)) }
-    ensures err { OnErr result (string_bytes out.new ≡ string_bytes out.old) }
 {
-    if are_plain(input) {
-        return out.push_str(ascii_str(input));
-    }
     out.reserve(input.len())?;
-    if push_utf8(out, input) {
+    let start = out.len();
+    append_decoded(out, input);
+    if are_utf8(&out[start..]) {
         return Ok(());
     }
+    out.truncate(start);
     let text = decode(*out.allocator(), input)?;
-    out.push_str(text.as_str())
+    out.extend_from_slice(text.as_str().as_bytes())
 }
 
-/// Appends the decoded bytes if they are UTF-8. Returns whether they are.
-fn push_utf8(out: &mut String, input: &[u8]) -> bool
-    requires room { string_len out.old + length input.now ≤ string_capacity out.old }
-    ensures appended { result ≡ true → string_bytes out.new ≡ string_bytes out.old ++ decoded input.now }
-    ensures utf8 { result ≡ true → IsUtf8 (decoded input.now) }
-    ensures unchanged { result ≡ false → string_bytes out.new ≡ string_bytes out.old }
+/// Whether the bytes are UTF-8. Most are ASCII, which takes less time to see.
+fn are_utf8(bytes: &[u8]) -> bool
+    ensures { result ≡ true → IsUtf8 bytes.now }
 {
-    let start = out.len();
-    let empty = String::new(*out.allocator());
-    let bytes = append_decoded(mem::replace(out, empty).into_bytes(), input);
-    put_back(out, bytes, start)
+    bytes.is_ascii() || from_utf8(bytes).is_ok()
 }
 
-/// Returns the bytes to the string, those from `start` on only if they are UTF-8. Returns whether they are.
-fn put_back(out: &mut String, bytes: Vec<u8>, start: usize) -> bool
-    requires front { IsUtf8 (take start bytes.items) }
-    requires within { start ≤ vec_len bytes }
-    ensures whole { result ≡ true → string_bytes out.new ≡ bytes.items }
-    ensures utf8 { result ≡ true → IsUtf8 (drop start bytes.items) }
-    ensures cut { result ≡ false → string_bytes out.new ≡ take start bytes.items }
-{
-    if from_utf8(&bytes[start..]).is_ok() {
-        *out = unsafe { String::from_utf8_unchecked(bytes) };
-        return true;
-    }
-    let mut bytes = bytes;
-    bytes.truncate(start);
-    *out = unsafe { String::from_utf8_unchecked(bytes) };
-    false
-}
-
-/// The bytes with the decoded ones after them.
-fn append_decoded(bytes: Vec<u8>, input: &[u8]) -> Vec<u8>
-    requires room { vec_len bytes + length input.now ≤ vec_capacity bytes }
-    ensures { result.items ≡ bytes.items ++ form.decode input.now }
+/// Appends the decoded bytes.
+fn append_decoded(out: &mut Vec<u8>, input: &[u8])
+    requires room { vec_len out.old + length input.now ≤ vec_capacity out.old }
+    ensures { out.new.items ≡ out.old.items ++ form.decode input.now }
 {
     // The loop has the vector in a variable of its own, so its length stays in a register.
-    let mut all = bytes;
+    let empty = Vec::new(*out.allocator());
+    let mut bytes = mem::replace(out, empty);
     let mut rest = input;
     while !rest.is_empty() {
-        rest = push_first(&mut all, rest);
+        rest = push_first(&mut bytes, rest);
     }
-    all
+    *out = bytes;
 }
 
 /// Appends the first of the decoded bytes. Returns what is left.
@@ -110,22 +85,6 @@ fn push_first<'t>(bytes: &mut Vec<u8>, input: &'t [u8]) -> &'t [u8]
     }
 }
 
-/// Whether all bytes are ASCII, and stand for themselves.
-fn are_plain(input: &[u8]) -> bool
-    ensures { result ≡ true → EachIndex input.now
-        (λ i. (slice_index input.now i < 128) × form.IsPlain (slice_index input.now i)) }
-{
-    input.iter().all(|byte| is_plain(*byte))
-}
-
-/// Whether a byte is ASCII, and stands for itself.
-#[inline(always)]
-fn is_plain(byte: u8) -> bool
-    ensures { result ≡ true → (byte < 128) × form.IsPlain byte }
-{
-    PLAIN[byte as usize] == b'.'
-}
-
 /// The byte of the escape with which the input begins: `%` and two hexadecimal digits.
 #[inline(always)]
 fn escaped_byte(input: &[u8]) -> Option<u8>
@@ -137,9 +96,18 @@ fn escaped_byte(input: &[u8]) -> Option<u8>
     let [b'%', high, low, ..] = input else {
         return None;
     };
-    let high = char::from(*high).to_digit(16)?;
-    let low = char::from(*low).to_digit(16)?;
-    Some(high as u8 * 16 + low as u8)
+    let high = digit(*high)?;
+    let low = digit(*low)?;
+    Some(high * 16 + low)
+}
+
+/// The value of a hexadecimal digit.
+#[inline(always)]
+fn digit(byte: u8) -> Option<u8>
+    ensures { MatchOption result (16 ≤ digit_value byte) (λ value. (value < 16) × (value ≡ digit_value byte)) }
+{
+    let code = DIGITS[byte as usize];
+    if code < b'@' { None } else { Some(code - b'@') }
 }
 
 #[inline(always)]

@@ -21,7 +21,7 @@ pub(crate) fn key_order(alloc: Global, pairs: &Pairs) -> Result<Vec<u16>, AllocE
     ensures { IfOk result (λ order. IsKeyOrder pairs.now order.items) }
 {
     let mut order = indices(alloc, pairs.len() as u16)?;
-    order.sort_by(|a, b| compare(pairs, *a, pairs.key(*b as usize)))?;
+    order.sort_by(|a, b| compare_at(pairs, *a, *b))?;
     Ok(order)
 }
 
@@ -29,6 +29,25 @@ fn indices(alloc: Global, count: u16) -> Result<Vec<u16>, AllocError>
     ensures { IfOk result (λ indices. indices.items ≡ range_with_len 0 count) }
 {
     (0..count).collect(alloc)
+}
+
+/// How the keys of the pairs at two indices compare, by their marks if those differ.
+#[inline(always)]
+fn compare_at(pairs: &Pairs, index: u16, other: u16) -> Ordering
+    ensures { result ≡ compared (key_at pairs.now index) (key_at pairs.now other) }
+{
+    match (pairs.mark(index as usize), pairs.mark(other as usize)) {
+        (Some(mark), Some(other_mark)) if mark != other_mark => mark.cmp(&other_mark),
+        _ => compare_keys(pairs, index, other),
+    }
+}
+
+/// How the keys of the pairs at two indices compare. It is called seldom, and so kept out of loops.
+#[inline(never)]
+fn compare_keys(pairs: &Pairs, index: u16, other: u16) -> Ordering
+    ensures { result ≡ compared (key_at pairs.now index) (key_at pairs.now other) }
+{
+    compare(pairs, index, pairs.key(other as usize))
 }
 
 /// How the key of the pair at the index compares with another; no key comes before every key.

@@ -1,15 +1,14 @@
 //! Pairs of key and value, kept in one text.
 
-ghost use Rattle.std.specs.Prelude.{◌≡◌, ◌<◌, ◌++◌, ◌∷◌, [], length, slice_get, IfOk, OnOk, Some};
+ghost use Rattle.std.specs.Prelude.{◌≡◌, ◌<◌, All, length, map, slice_get, Some};
 ghost use Rattle.std.specs.Option.{option_map};
-ghost use Rattle.kev_read.specs.Pairs.{decoded_pair};
+ghost use Rattle.kev_read.specs.Private.KeyMarks.{mark_of};
 ghost use Rattle.kev_read.specs.Private.KeyOrder.{key_at};
-ghost use Rattle.kev_read.specs.Private.Layout.{key_text, key_value};
+ghost use Rattle.kev_read.specs.Private.Layout.{IsPlaced, IsSpan, key_text, key_value, pair_in, part_in};
 
-use crate::decoding::push_decoded;
-use crate::marked_key::{MarkedKey, mark};
-use std::alloc::{AllocError, Global};
+use crate::marked_key::MarkedKey;
 use std::marker::Model;
+use std::str::from_utf8_unchecked;
 
 /// A key and its value, both decoded.
 #[derive(Clone, Copy)]
@@ -18,19 +17,26 @@ pub(crate) struct Pair<'a> {
     pub(crate) value: &'a str,
 }
 
-/// Where a pair is in a text, in bytes: its key, and directly after it its value. The mark is that of the key.
+/// Where a key or a value is in a text, in bytes.
 #[derive(Clone, Copy)]
-pub(crate) struct Place {
-    start: usize,
-    middle: usize,
-    end: usize,
-    mark: u64,
+pub(crate) struct Span {
+    pub(crate) start: usize,
+    pub(crate) end: usize,
 }
 
-/// Pairs of key and value, which are one after another in one text; contracts see the pairs.
+/// Where a pair is in a text. The mark is that of the key.
+#[derive(Clone, Copy)]
+pub(crate) struct Place {
+    pub(crate) key: Span,
+    pub(crate) value: Span,
+    pub(crate) mark: u64,
+}
+
+/// Pairs of key and value, all in one text; contracts see the pairs.
 #[derive(Drop)]
 pub(crate) struct Pairs {
-    text: String,
+    // The query as it was received, and after it the parts that had to be decoded.
+    text: Vec<u8>,
     places: Vec<Place>,
 }
 
@@ -40,42 +46,21 @@ impl Model for Pairs {
 
     ghost Value = { List KeyValue };
 
-    ghost use Rattle.std.specs.Prelude.{map, All, string_bytes};
+    ghost use Rattle.std.specs.Prelude.{map, All};
     ghost use Rattle.kev_read.specs.Private.Layout.{pair_in, IsPlaced};
 
-    ghost view = { λ pairs. map (pair_in (string_bytes pairs.text)) pairs.places.items };
+    ghost view = { λ pairs. map (pair_in pairs.text.items) pairs.places.items };
 
-    ghost invariant = { λ pairs. All (IsPlaced (string_bytes pairs.text)) pairs.places.items };
+    ghost invariant = { λ pairs. All (IsPlaced pairs.text.items) pairs.places.items };
 }
 
 impl Pairs {
-    /// No pairs, with room for `bytes` bytes of keys and values.
-    pub(crate) fn with_capacity(alloc: Global, bytes: usize) -> Result<Pairs, AllocError>
-        ensures { IfOk result (λ pairs. pairs ≡ []) }
+    /// The pairs at the places.
+    pub(crate) fn new(text: Vec<u8>, places: Vec<Place>) -> Pairs
+        requires { All (IsPlaced text.items) places.items }
+        ensures { result ≡ map (pair_in text.items) places.items }
     {
-        Ok(Pairs {
-            text: String::with_capacity(alloc, bytes)?,
-            places: Vec::new(alloc),
-        })
-    }
-
-    /// Adds the pair that an encoded key and an encoded value stand for.
-    pub(crate) fn push(&mut self, key: &[u8], value: &[u8]) -> Result<(), AllocError>
-        ensures { OnOk result (self.new ≡ self.old ++ decoded_pair (key.now, value.now) ∷ []) }
-    {
-        let start = self.text.len();
-        push_decoded(&mut self.text, key)?;
-        let middle = self.text.len();
-        let mark = mark(&self.text.as_bytes()[start..]);
-        push_decoded(&mut self.text, value)?;
-        let end = self.text.len();
-        self.places.push(Place {
-            start,
-            middle,
-            end,
-            mark,
-        })?;
-        Ok(())
+        Pairs { text, places }
     }
 
     pub(crate) fn len(&self) -> usize
@@ -84,7 +69,7 @@ impl Pairs {
         self.places.len()
     }
 
-    /// The bytes of all keys and values. No result depends on it.
+    /// At least the bytes of all values. No result depends on it.
     pub(crate) fn text_len(&self) -> usize {
         self.text.len()
     }
@@ -96,8 +81,18 @@ impl Pairs {
     {
         let place = self.places[index];
         Pair {
-            key: &self.text[place.start..place.middle],
-            value: &self.text[place.middle..place.end],
+            key: part(&self.text, place.key),
+            value: part(&self.text, place.value),
+        }
+    }
+
+    /// The mark of the key of the pair at the index; `None` if there is no such pair.
+    pub(crate) fn mark(&self, index: usize) -> Option<u64>
+        ensures { result ≡ option_map mark_of (key_at self.now index) }
+    {
+        match self.key(index) {
+            Some(key) => Some(key.mark),
+            None => None,
         }
     }
 
@@ -114,4 +109,13 @@ impl Pairs {
             None
         }
     }
+}
+
+/// The part of a text at the span.
+#[inline(always)]
+fn part(text: &[u8], span: Span) -> &str
+    requires { IsSpan text.now span }
+    ensures { result.now ≡ part_in text.now span }
+{
+    unsafe { from_utf8_unchecked(&text[span.start..span.end]) }
 }

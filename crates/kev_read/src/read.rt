@@ -7,11 +7,11 @@ ghost use Rattle.kev_read.specs.Refusal.{refusal};
 
 use crate::error::KevError;
 use crate::key_order::key_order;
-use crate::pairs::Pairs;
+use crate::pair_reader::read_pairs;
 use crate::request::Request;
 use crate::version::states_other_version;
 use form_urlencoded::raw_pairs;
-use std::alloc::{AllocError, Global};
+use std::alloc::Global;
 
 /// The maximum size of a query, in bytes.
 pub const MAX_QUERY_BYTES: usize = 65_536;
@@ -81,15 +81,4 @@ fn pair_count(query: &[u8]) -> usize
         count += 1;
     }
     count
-}
-
-/// The pairs of a query. Their text is longer than the query only if U+FFFD replaces bytes that are not UTF-8.
-fn read_pairs(alloc: Global, query: &[u8]) -> Result<Pairs, AllocError>
-    ensures { IfOk result (λ pairs. pairs ≡ pairs_of query.now) }
-{
-    let mut pairs = Pairs::with_capacity(alloc, query.len())?;
-    for (key, value) in raw_pairs(query) {
-        pairs.push(key, value)?;
-    }
-    Ok(pairs)
 }

@@ -4,16 +4,19 @@ use Rattle.std.specs.Prelude.{if◌then◌else◌}
 use Rattle.std.proofs.lemmas.Bool.{and_parts, ne_eqb}
 use Rattle.std.proofs.lemmas.Bool.Decides.{nat_tests}
 use Rattle.text_model.specs.Texts.{Text, begins_with_triplet, is_unreserved, is_hexadecimal, is_triplet}
-use Rattle.text_model.specs.Writing.{written_byte, written_u, written_ur, is_unreserved_or_reserved}
+use Rattle.text_model.specs.Writing.{written, written_byte, written_u, written_ur, is_unreserved_or_reserved}
+use Rattle.text_model.specs.declared.writing.Writing.{Writing}
+use Rattle.text_model.specs.declared.writing.Writing.TheVariants.{U, UR}
 use Rattle.text_model.proofs.Unchanged.{not_percent}
-use Rattle.text_model.proofs.Written.{written_ur-byte}
+use Rattle.text_model.proofs.Written.{written_ur-byte, written_ur-nothing}
+use Rattle.uri_text.specs.Private.Copied.{is_copied}
 
-pub written_u-nothing : (t : Text) → length t ≡ 0 → written_u t ≡ []
+written_u-nothing : (t : Text) → length t ≡ 0 → written_u t ≡ []
 unfolding written_u
 written_u-nothing [] e = refl
 written_u-nothing (b ∷ t) e = absurd (omega arith)
 
-pub written_u-first : (t : Text) → 0 < length t → written_u t ≡ written_byte (is_unreserved (get_or t 0 0)) (get_or t 0 0) ++ written_u (drop 1 t)
+written_u-first : (t : Text) → 0 < length t → written_u t ≡ written_byte (is_unreserved (get_or t 0 0)) (get_or t 0 0) ++ written_u (drop 1 t)
 unfolding written_u
 written_u-first [] some = absurd (omega arith)
 written_u-first (b ∷ t) some = refl
@@ -44,7 +47,7 @@ or_true true = refl
 or_true false = refl
 
 -- the first byte is copied if it may stay, or if a triplet begins with it
-pub written_ur-first : (t : Text) → 0 < length t
+written_ur-first : (t : Text) → 0 < length t
     → written_ur t ≡ written_byte (is_unreserved_or_reserved (get_or t 0 0) || begins_with_triplet t) (get_or t 0 0) ++ written_ur (drop 1 t)
 unfolding written_ur
 written_ur-first [] some = absurd (omega arith)
@@ -61,3 +64,13 @@ written_ur-first (b ∷ high ∷ low ∷ t) some = by_test (is_triplet b high lo
         digit_copied high (low ∷ t) digits.0 ∙ ap (λ x. high ∷ x) (digit_copied low t digits.1) in
         ap (λ x. b ∷ x) (sym rest) ∙ ap (λ x. written_byte x b ++ written_ur (high ∷ low ∷ t)) (sym (or_true (is_unreserved_or_reserved b)))
     by_test false e = ap (λ x. written_byte x b ++ written_ur (high ∷ low ∷ t)) (sym (or_false (is_unreserved_or_reserved b)))
+
+-- ---- both
+
+pub written-nothing : (w : Writing) (t : Text) → length t ≡ 0 → written w t ≡ []
+written-nothing U t e = written_u-nothing t e
+written-nothing UR t e = written_ur-nothing t e
+
+pub written-first : (w : Writing) (t : Text) → 0 < length t → written w t ≡ written_byte (is_copied w t) (get_or t 0 0) ++ written w (drop 1 t)
+written-first U t some = written_u-first t some
+written-first UR t some = written_ur-first t some

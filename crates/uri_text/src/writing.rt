@@ -1,11 +1,11 @@
 //! The two percent-encodings of a text, U and UR.
 
-ghost use Rattle.std.specs.Prelude.{◌≡◌, ◌+◌, ◌*◌, ◌<◌, ◌≤◌, ◌++◌, ◌||◌, length, slice_index};
+ghost use Rattle.std.specs.Prelude.{◌≡◌, ◌+◌, ◌*◌, ◌<◌, ◌≤◌, ◌++◌, length};
 ghost use Rattle.std.specs.Prelude.{string_bytes, string_len, string_capacity, vec_len, vec_capacity};
 ghost use Rattle.std.specs.Str.{IsUtf8};
-ghost use Rattle.text_model.specs.Texts.{begins_with_triplet};
-ghost use Rattle.text_model.specs.Writing.{written, written_u, written_ur, written_byte, is_unreserved_or_reserved};
+ghost use Rattle.text_model.specs.Writing.{written, written_u, written_ur, written_byte};
 ghost use Rattle.text_model.specs.UriText.{IsUriText};
+ghost use Rattle.uri_text.specs.Private.Copied.{is_copied};
 
 use crate::classes::{high_digit, is_unreserved, is_unreserved_or_reserved, low_digit};
 use crate::triplet::begins_with_triplet;
@@ -49,46 +49,51 @@ fn push_byte(bytes: &mut Vec<u8>, byte: u8, stays: bool)
     }
 }
 
-// Appends the first byte as U encodes it. Returns what is left.
+// Whether the first byte is copied: one that may stay or, by UR, the `%` of a triplet. The digits of a triplet are
+// unreserved.
 #[inline(always)]
-fn push_first_u<'t>(bytes: &mut Vec<u8>, text: &'t [u8]) -> &'t [u8]
-    requires some { 0 < length text.now }
-    requires room { vec_len bytes.old + length (written_u text.now) ≤ vec_capacity bytes.old }
-    ensures shorter { length result.now < length text.now }
-    ensures items { bytes.new.items ++ written_u result.now ≡ bytes.old.items ++ written_u text.now }
-    ensures len { vec_len bytes.new + length (written_u result.now) ≡ vec_len bytes.old + length (written_u text.now) }
-    ensures capacity { vec_capacity bytes.new ≡ vec_capacity bytes.old }
-{
-    let (first, rest) = text.split_at(1);
-    push_byte(bytes, first[0], is_unreserved(first[0]));
-    rest
-}
-
-// Whether UR copies the first byte: one that is unreserved or reserved, or the `%` of a triplet. The digits of a
-// triplet are unreserved.
-#[inline(always)]
-fn is_copied_by_ur(text: &[u8]) -> bool
+fn is_copied(text: &[u8], writing: Writing) -> bool
     requires { 0 < length text.now }
-    ensures { result
-        ≡ (is_unreserved_or_reserved (slice_index text.now 0) || begins_with_triplet text.now) }
+    ensures { result ≡ is_copied writing text.now }
 {
-    is_unreserved_or_reserved(text[0]) || begins_with_triplet(text)
+    match writing {
+        Writing::U => is_unreserved(text[0]),
+        Writing::UR => is_unreserved_or_reserved(text[0]) || begins_with_triplet(text),
+    }
 }
 
-// Appends the first byte as UR encodes it. Returns what is left.
+// Appends the first byte encoded. Returns what is left.
 #[inline(always)]
-fn push_first_ur<'t>(bytes: &mut Vec<u8>, text: &'t [u8]) -> &'t [u8]
+fn push_first<'t>(bytes: &mut Vec<u8>, text: &'t [u8], writing: Writing) -> &'t [u8]
     requires some { 0 < length text.now }
-    requires room { vec_len bytes.old + length (written_ur text.now) ≤ vec_capacity bytes.old }
+    requires room { vec_len bytes.old + length (written writing text.now) ≤ vec_capacity bytes.old }
     ensures shorter { length result.now < length text.now }
-    ensures items { bytes.new.items ++ written_ur result.now ≡ bytes.old.items ++ written_ur text.now }
-    ensures len { vec_len bytes.new + length (written_ur result.now) ≡ vec_len bytes.old
-        + length (written_ur text.now) }
+    ensures items { bytes.new.items ++ written writing result.now ≡ bytes.old.items ++ written writing text.now }
+    ensures len { vec_len bytes.new + length (written writing result.now) ≡ vec_len bytes.old
+        + length (written writing text.now) }
     ensures capacity { vec_capacity bytes.new ≡ vec_capacity bytes.old }
 {
     let (first, rest) = text.split_at(1);
-    push_byte(bytes, first[0], is_copied_by_ur(text));
+    push_byte(bytes, first[0], is_copied(text, writing));
     rest
+}
+
+// Appends the text encoded. Each call names its writing, for which the loop is compiled.
+#[inline(always)]
+fn push_text(out: &mut String, text: &[u8], writing: Writing)
+    requires room { string_len out.old + length (written writing text.now) ≤ string_capacity out.old }
+    ensures bytes { string_bytes out.new ≡ string_bytes out.old ++ written writing text.now }
+    ensures len { string_len out.new ≡ string_len out.old + length (written writing text.now) }
+    ensures capacity { string_capacity out.old ≤ string_capacity out.new }
+    ensures at_most_triples { length (written writing text.now) ≤ 3 * length text.now }
+    ensures uri_text { IsUriText (written writing text.now) }
+{
+    let mut bytes = take_bytes(out);
+    let mut rest = text;
+    while !rest.is_empty() {
+        rest = push_first(&mut bytes, rest, writing);
+    }
+    put_back(out, bytes);
 }
 
 /// Appends the text encoded by U: unreserved characters stay, and every other byte becomes a triplet with upper-case
@@ -104,12 +109,7 @@ pub fn encode_u(out: &mut String, text: &[u8])
     ensures at_most_triples { length (written_u text.now) ≤ 3 * length text.now }
     ensures uri_text { IsUriText (written_u text.now) }
 {
-    let mut bytes = take_bytes(out);
-    let mut rest = text;
-    while !rest.is_empty() {
-        rest = push_first_u(&mut bytes, rest);
-    }
-    put_back(out, bytes);
+    push_text(out, text, Writing::U)
 }
 
 /// Appends the text encoded by UR: unreserved and reserved characters and whole triplets stay, and every other byte
@@ -125,12 +125,7 @@ pub fn encode_ur(out: &mut String, text: &[u8])
     ensures at_most_triples { length (written_ur text.now) ≤ 3 * length text.now }
     ensures uri_text { IsUriText (written_ur text.now) }
 {
-    let mut bytes = take_bytes(out);
-    let mut rest = text;
-    while !rest.is_empty() {
-        rest = push_first_ur(&mut bytes, rest);
-    }
-    put_back(out, bytes);
+    push_text(out, text, Writing::UR)
 }
 
 /// Appends the text encoded by U or by UR, as [`encode_u`] and [`encode_ur`] do.

@@ -1,21 +1,33 @@
-use Rattle.std.proofs.Common.{rules, subst, sym, ◌∙◌}
+use Rattle.std.proofs.Common.{◌≡◌, ◌++◌, rules, subst, sym, ap, ◌∙◌, drop, drop_at, length}
 use Rattle.std.specs.Prelude.{IsUtf8}
-use Rattle.std.proofs.lemmas.Str.{IsUtf8-from_ascii}
-use Rattle.kev_read.proofs.DecodedForms.{decoded_plain, plain_ascii}
+use Rattle.std.proofs.lemmas.List.{take_rest}
+use Rattle.std.proofs.lemmas.Str.{utf8_lossy-IsUtf8}
+use Rattle.form_urlencoded.specs.Form as form
 use Rattle.kev_read.proofs.decoding.push_decoded.Goals as goal
 
-pub ascii_str-requires : goal.ascii_str-requires
-ascii_str-requires c = plain_ascii c.args.input.now (c.are_plain.ensures c.if-are_plain.true)
+-- the bytes that were appended are UTF-8
+appended_utf8 : (c : goal.Then-are_utf8) → IsUtf8 (form.decode c.args.input.now)
+appended_utf8 c =
+    let before = c.args.out.now.items in
+    let bytes = form.decode c.args.input.now in
+    let all : c.append_decoded.new.out.items ≡ before ++ bytes = search rules in
+    let start : length before ≡ c.len-start.result = search rules in
+    let appended : drop c.len-start.result c.append_decoded.new.out.items ≡ bytes = rw all (drop_at before bytes c.len-start.result start) in
+    let utf8 = c.are_utf8.ensures c.if-are_utf8.true in
+    let tested : IsUtf8 (drop c.len-start.result c.append_decoded.new.out.items) =
+    search (rules, utf8, take_rest c.append_decoded.new.out.items c.len-start.result) in
+    subst IsUtf8 appended tested
 
-pub returns-then-are_plain-clause-ok : goal.returns-then-are_plain-clause-ok
-returns-then-are_plain-clause-ok c =
-    rw (decoded_plain c.args.input.now (c.are_plain.ensures c.if-are_plain.true)) (search rules)
+pub returns-then-are_utf8-clause-utf8 : goal.returns-then-are_utf8-clause-utf8
+returns-then-are_utf8-clause-utf8 c =
+    let utf8 = appended_utf8 c in
+    subst IsUtf8 (sym (utf8_lossy-IsUtf8 (form.decode c.args.input.now) utf8)) utf8
 
-pub returns-then-are_plain-clause-utf8 : goal.returns-then-are_plain-clause-utf8
-returns-then-are_plain-clause-utf8 c =
-    let each = c.are_plain.ensures c.if-are_plain.true in
-    let utf8 = subst IsUtf8 (sym (decoded_plain c.args.input.now each)) (IsUtf8-from_ascii c.args.input.now (plain_ascii c.args.input.now each)) in
-    search (rules, utf8)
+pub returns-then-are_utf8-clause-ok : goal.returns-then-are_utf8-clause-ok
+returns-then-are_utf8-clause-ok c =
+    let bytes = form.decode c.args.input.now in
+    let all : c.append_decoded.new.out.items ≡ c.args.out.now.items ++ bytes = search rules in
+    all ∙ ap (λ x. c.args.out.now.items ++ x) (sym (utf8_lossy-IsUtf8 bytes (appended_utf8 c)))
 
 pub returns-clause-utf8 : goal.returns-clause-utf8
 returns-clause-utf8 c =

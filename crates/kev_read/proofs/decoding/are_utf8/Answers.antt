@@ -1,0 +1,6 @@
+use Rattle.std.proofs.Common.{rules, sym, ◌∙◌}
+use Rattle.std.proofs.lemmas.Str.{IsUtf8-from_ascii}
+use Rattle.kev_read.proofs.decoding.are_utf8.Goals as goal
+
+pub returns-then-is_ascii : goal.returns-then-is_ascii
+returns-then-is_ascii c = λ _. IsUtf8-from_ascii c.args.bytes.now (search (rules, c.is_ascii.ensures, c.if-is_ascii.true))
