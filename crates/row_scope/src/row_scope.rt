@@ -8,8 +8,12 @@ ghost use Rattle.row_scope.specs.Private.Kept.{IsRow};
 
 use crate::binding::Binding;
 use crate::target_request::TargetRequest;
+use smallvec::SmallVec;
 use std::marker::Model;
 use target_vars::Scope;
+
+/// As many names as this are bound without an allocation.
+pub(crate) const FEW_NAMES: usize = 16;
 
 /// A row over a request. The buffer has the request's values and then the row's line, and each text is a piece of it.
 /// Contracts see the environment, and the names of the code.
@@ -18,7 +22,8 @@ pub struct RowScope<'t, 'a> {
     target: &'t TargetRequest<'a>,
     row: usize,
     line: &'t str,
-    bindings: Vec<Binding>,
+    // Most codes have few names, whose bindings need no allocation.
+    bindings: SmallVec<Binding, FEW_NAMES>,
     // E (bytes) and M (members) of the environment.
     bytes: usize,
     members: usize,
@@ -49,7 +54,7 @@ impl<'t, 'a> RowScope<'t, 'a> {
         target: &'t TargetRequest<'a>,
         row: usize,
         line: &'t str,
-        bindings: Vec<Binding>,
+        bindings: SmallVec<Binding, FEW_NAMES>,
         bytes: usize,
         members: usize,
     ) -> RowScope<'t, 'a>

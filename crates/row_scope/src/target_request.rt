@@ -16,13 +16,14 @@ use crate::hidden::{HiddenKey, hidden_keys};
 use crate::known_values::KnownValues;
 use crate::name_columns::NameColumns;
 use crate::request_values::RequestValues;
-use crate::row_scope::RowScope;
+use crate::row_scope::{FEW_NAMES, RowScope};
 use code_file::Code;
 use kbart_rows::{RowCursor, Table};
 use row_laws::{
     hidden_by_columns, one_more_list, requests_are_small, row_bytes_are_cell_bytes, rows_by_names,
     rows_shadow_requests, same_lists, sums_of_rows_over_requests,
 };
+use smallvec::SmallVec;
 use std::alloc::{AllocError, Global};
 use std::marker::Model;
 
@@ -109,7 +110,11 @@ impl<'a> TargetRequest<'a> {
     }
 
     /// What the names are bound to in a row's line or, if it has no cell for them, in the request.
-    fn bindings_over(&self, alloc: Global, line: &str) -> Result<Vec<Binding>, AllocError>
+    fn bindings_over(
+        &self,
+        alloc: Global,
+        line: &str,
+    ) -> Result<SmallVec<Binding, FEW_NAMES>, AllocError>
         requires { length line.now ≤ 65537 }
         ensures { IfOk result (λ bindings. AreBound
             (laid_over self.now.request.values line.now
@@ -117,9 +122,24 @@ impl<'a> TargetRequest<'a> {
             self.now.request.pairs))
             (names_of self.now.code) bindings.items) }
     {
+        let mut bindings = SmallVec::from_slice(alloc, &self.bindings)?;
+        self.bind_cells(line, bindings.as_mut_slice());
+        Ok(bindings)
+    }
+
+    /// Binds the names for which a row's line has cells to these; all names are bound as in the request alone.
+    fn bind_cells(&self, line: &str, bindings: &mut [Binding])
+        requires short { length line.now ≤ 65537 }
+        requires bound { AreBound (laid_in self.now.request.values (requested (lists_of self.now.code)
+            self.now.request.pairs)) (names_of self.now.code) bindings.old }
+        ensures { AreBound
+            (laid_over self.now.request.values line.now
+            (by_pairs.filled (lists_of self.now.code) (row_of (named_cells self.now.table.header (cells_in line.now)))
+            self.now.request.pairs))
+            (names_of self.now.code) bindings.new }
+    {
         rows_shadow_requests();
         rows_by_names();
-        let mut bindings = Vec::from_slice(alloc, &self.bindings)?;
         let seam = self.request.size() as u32;
         let mut cells = RowCursor::new(line);
         for place in &self.names.columns {
@@ -128,7 +148,6 @@ impl<'a> TargetRequest<'a> {
                 bindings[place.number] = Binding::Text(seam + start, len);
             }
         }
-        Ok(bindings)
     }
 
     /// How many bytes and members of the request the cells of a row's line hide.

@@ -1,4 +1,4 @@
-use Rattle.std.proofs.Common.{◌≡◌, ℕ, ◌+◌, Vec, Global, Some, slice_get, length, get_or, set, subst, sym, ap, ◌∙◌, arith}
+use Rattle.std.proofs.Common.{◌≡◌, ℕ, ◌+◌, Some, slice_get, length, get_or, set, subst, sym, ap, ◌∙◌, arith}
 use Rattle.std.proofs.Math.ListN.{length-set}
 use Rattle.std.proofs.lemmas.Option.{slice_get-get_or}
 use Rattle.std.proofs.lemmas.List.Elements.{All-get_or}
@@ -9,12 +9,11 @@ use Rattle.row_scope.specs.NameColumns.{AreColumns, IsNameColumn}
 use Rattle.row_scope.specs.RowEnvironments.{lists_of}
 use Rattle.row_scope.specs.RowValue.{TargetRequestValue}
 use Rattle.row_scope.specs.Private.Kept.{IsTargetRequest}
-use Rattle.row_scope.specs.declared.binding.Binding.{Binding}
 use Rattle.row_scope.specs.declared.binding.Binding.TheVariants as binding
 use Rattle.row_scope.specs.declared.name_columns.NameColumn.{NameColumn}
 use Rattle.row_scope.proofs.OverLemmas.{AreBoundSoFar, none_so_far, bound_without_cell, bound_with_cell, bound_at_last}
-use Rattle.row_scope.proofs.target_request.TargetRequest.bindings_over.Goals.{then-len-gt0, else-len-gt0}
-use Rattle.row_scope.proofs.target_request.TargetRequest.bindings_over.Goals as goal
+use Rattle.row_scope.proofs.target_request.TargetRequest.bind_cells.Goals.{then-len-gt0, else-len-gt0}
+use Rattle.row_scope.proofs.target_request.TargetRequest.bind_cells.Goals as goal
 
 pub loop-place-init : goal.loop-place-init
 loop-place-init c =
@@ -23,30 +22,28 @@ loop-place-init c =
     let kept = subst (λ (v : TargetRequestValue). IsTargetRequest v s.names.now s.bindings.items s.bytes s.members s.hidden.items) c.self.view_is
     c.self.invariant in
     let is = c.new-cells.ensures in
-    let same : c.in_ok-bindings.bindings.items ≡ s.bindings.items = c.in_ok-bindings.ensures.items ∙ c.deref.ensures.value in
     record {
       line = ap (λ (cursor : CursorValue). cursor.line) is;
       ahead = λ j from below. omega (arith, ap (λ (cursor : CursorValue). cursor.column) is);
-      one_each = ap length same ∙ kept.bound.one_each;
-      bound = subst (AreBoundSoFar t c.args.line.now c.deref-place-items.result.now 0) (sym same)
-          (none_so_far t c.args.line.now c.deref-place-items.result.now s.bindings.items kept.bound);
+      one_each = c.requires.bound.one_each;
+      bound = none_so_far t c.args.line.now c.deref-place-items.result.now c.args.bindings.now c.requires.bound;
     }
 
 pub seek-start-requires-clause-ahead : goal.seek-start-requires-clause-ahead
 seek-start-requires-clause-ahead c = c.loop-place.invariant.ahead c.loop-place.place-index (omega arith) c.loop-place-test.true
 
 pub seek-start-requires-clause-short : goal.seek-start-requires-clause-short
-seek-start-requires-clause-short c = omega (arith, ap length c.loop-place.invariant.line, c.requires)
+seek-start-requires-clause-short c = omega (arith, ap length c.loop-place.invariant.line, c.requires.short)
 
-pub overflow_add-seam : goal.overflow_add-seam
-overflow_add-seam c =
+pub overflow_add-bindings : goal.overflow_add-bindings
+overflow_add-bindings c =
     omega (
       arith,
       c.size-seam.ensures.value,
       c.size-seam.ensures.known.short,
       c.seek-start.ensures.place.within,
       ap length c.loop-place.invariant.line,
-      c.requires,
+      c.requires.short,
     )
 
 pub loop-place-preserved : goal.loop-place-preserved
@@ -74,27 +71,27 @@ loop-place-preserved c =
     let there = c.rows_by_names.ensures.there t.table.header (cells_in line) in
     let seam : c.size-seam.result ≡ length t.request.values.buffer =
     c.size-seam.ensures.value ∙ ap (λ (v : TargetRequestValue). length v.request.values.buffer) c.self.view_is in
-    let over = λ (n : ℕ). set c.loop-place.bindings.items place.number (binding.Text (n + c.seek-start.result.0) c.seek-start.result.1) in
+    let over = λ (n : ℕ). set c.loop-place.bindings place.number (binding.Text (n + c.seek-start.result.0) c.seek-start.result.1) in
     record {
       line = c.seek-start.ensures.line ∙ inv.line;
       ahead = λ j from below. omega (arith, c.seek-start.ensures.column, rise k j d (omega (arith, from)) below);
       one_each = elim c.if-len-gt0.branch [
         | then-len-gt0 w ↦
-            ap (λ (bs : Vec Binding Global). length bs.items) w.bindings-is
-            ∙ length-set c.loop-place.bindings.items place.number (binding.Text (c.size-seam.result + c.seek-start.result.0) c.seek-start.result.1)
+            ap length w.bindings-is
+            ∙ length-set c.loop-place.bindings place.number (binding.Text (c.size-seam.result + c.seek-start.result.0) c.seek-start.result.1)
             ∙ inv.one_each
-        | else-len-gt0 w ↦ ap (λ (bs : Vec Binding Global). length bs.items) w.bindings-is ∙ inv.one_each
+        | else-len-gt0 w ↦ ap length w.bindings-is ∙ inv.one_each
       ];
       bound = elim c.if-len-gt0.branch [
         | then-len-gt0 w ↦
-            let same : over (length t.request.values.buffer) ≡ c.if-len-gt0.bindings.items =
-            ap over (sym seam) ∙ sym (ap (λ (bs : Vec Binding Global). bs.items) w.bindings-is) in
+            let same : over (length t.request.values.buffer) ≡ c.if-len-gt0.bindings =
+            ap over (sym seam) ∙ sym w.bindings-is in
             subst (AreBoundSoFar t line places (k + 1)) same
-            (bound_with_cell t line places shadow by_name there k place c.seek-start.result.0 c.seek-start.result.1 c.loop-place.bindings.items here column at
+            (bound_with_cell t line places shadow by_name there k place c.seek-start.result.0 c.seek-start.result.1 c.loop-place.bindings here column at
             w.if-len-gt0.true inv.bound)
         | else-len-gt0 w ↦
-            subst (λ (bs : Vec Binding Global). AreBoundSoFar t line places (k + 1) bs.items) (sym w.bindings-is)
-            (bound_without_cell t line places shadow by_name there k place c.seek-start.result.0 c.seek-start.result.1 c.loop-place.bindings.items here at
+            subst (AreBoundSoFar t line places (k + 1)) (sym w.bindings-is)
+            (bound_without_cell t line places shadow by_name there k place c.seek-start.result.0 c.seek-start.result.1 c.loop-place.bindings here at
             (omega (arith, w.if-len-gt0.false)) inv.bound)
       ];
     }
@@ -115,5 +112,5 @@ returns c =
     let by_name = c.rows_by_names.ensures.text t.table.header (cells_in line) in
     let there = c.rows_by_names.ensures.there t.table.header (cells_in line) in
     let last : c.loop-place.place-index ≡ length places = omega (arith, c.loop-place-test.false, c.loop-place.auto.place-index-end) in
-    bound_at_last t line places shadow by_name there c.loop-place.bindings.items columns kept.values.inside inv.one_each
-    (subst (λ (k : ℕ). AreBoundSoFar t line places k c.loop-place.bindings.items) last inv.bound)
+    bound_at_last t line places shadow by_name there c.loop-place.bindings columns kept.values.inside inv.one_each
+    (subst (λ (k : ℕ). AreBoundSoFar t line places k c.loop-place.bindings) last inv.bound)
