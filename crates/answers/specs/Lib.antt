@@ -1,5 +1,6 @@
 pub mod Refusals
 pub mod Reading
+pub mod Line
 pub mod Expansion
 pub mod Link
 pub mod Code

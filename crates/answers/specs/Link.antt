@@ -1,5 +1,5 @@
 -- The link that rules give for a query, and why they give none.
-use Rattle.std.specs.Prelude.{◌≡◌, [], ◌∷◌, ◌++◌, Option, Some, None, Result, Ok, Err}
+use Rattle.std.specs.Prelude.{◌≡◌, [], Option, Some, None, Result, Err}
 use Rattle.text_model.specs.Texts.{Text}
 use Rattle.environment_model.specs.Lists.{list_names}
 use Rattle.kev_read.specs.Pairs.{pairs_of}
@@ -10,6 +10,7 @@ use Rattle.rule_parser.specs.Grammar.{IsRuleText}
 use Rattle.rule_parser.specs.Names.{each_once}
 use Rattle.rule_parser.specs.Meaning.{meaning}
 use Rattle.answers.specs.Reading.{IsNoRules, IsNoRequest}
+use Rattle.answers.specs.Line.{IsLine}
 use Rattle.answers.specs.declared.refusal.Refusal.{Refusal}
 use Rattle.answers.specs.declared.refusal.Refusal.TheVariants.{NoLink, Memory}
 
@@ -18,11 +19,14 @@ pub record Means (rules : RuleSet) (query : Text) (link : Option Text) : Type 0 
   pub request : refusal query ≡ None
   pub meant : link ≡ meaning rules (filled (each_once (list_names rules.lists)) [] (pairs_of query))
 
+-- the line of the link that the rules give, or the first reason why there is none
+pub data IsLinkFor (rules : RuleSet) (query : Text) : Result Text Refusal → Type 0 where
+  no_memory : IsLinkFor rules query (Err Memory)
+  no_request : (e : Refusal) → IsNoRequest query e → IsLinkFor rules query (Err e)
+  no_link : Means rules query None → IsLinkFor rules query (Err NoLink)
+  linked : (link : Text) (end : Result Text Refusal) → Means rules query (Some link) → IsLine link end → IsLinkFor rules query end
+
 -- the line of the link of a rule text, or the first reason why there is none
 pub data IsLinkOf (bytes query : Text) : Result Text Refusal → Type 0 where
-  no_memory : (rules : RuleSet) → IsRuleText bytes rules → IsLinkOf bytes query (Err Memory)
   no_rules : (e : Refusal) → IsNoRules bytes e → IsLinkOf bytes query (Err e)
-  no_request : (rules : RuleSet) (e : Refusal) → IsRuleText bytes rules → IsNoRequest query e → IsLinkOf bytes query (Err e)
-  no_link : (rules : RuleSet) → IsRuleText bytes rules → Means rules query None → IsLinkOf bytes query (Err NoLink)
-  linked : (rules : RuleSet) (link line : Text) → IsRuleText bytes rules → Means rules query (Some link) → line ≡ link ++ 10 ∷ []
-      → IsLinkOf bytes query (Ok line)
+  parsed : (rules : RuleSet) (end : Result Text Refusal) → IsRuleText bytes rules → IsLinkFor rules query end → IsLinkOf bytes query end
