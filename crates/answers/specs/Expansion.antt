@@ -1,5 +1,5 @@
 -- The expansion of a template for a query, and why there is none.
-use Rattle.std.specs.Prelude.{◌≡◌, List, [], None, Result, Err}
+use Rattle.std.specs.Prelude.{◌≡◌, List, [], ◌∷◌, ◌++◌, None, Result, Ok, Err}
 use Rattle.text_model.specs.Texts.{Text}
 use Rattle.environment_model.specs.Environment.{look_up}
 use Rattle.uri_grammar.specs.Texts.{IsTemplate}
@@ -9,7 +9,6 @@ use Rattle.kev_read.specs.Pairs.{pairs_of}
 use Rattle.kev_read.specs.Refusal.{refusal}
 use Rattle.kev_read.specs.Filling.{filled}
 use Rattle.answers.specs.Reading.{IsNoTemplate, IsNoRequest}
-use Rattle.answers.specs.Line.{IsLine}
 use Rattle.answers.specs.declared.refusal.Refusal.{Refusal}
 use Rattle.answers.specs.declared.refusal.Refusal.TheVariants.{Memory}
 
@@ -18,5 +17,5 @@ pub data IsExpansionOf (lists : List Text) (template query : Text) : Result Text
   no_memory : IsExpansionOf lists template query (Err Memory)
   no_template : (e : Refusal) → IsNoTemplate template e → IsExpansionOf lists template query (Err e)
   no_request : (parts : List Part) (e : Refusal) → IsTemplate template parts → IsNoRequest query e → IsExpansionOf lists template query (Err e)
-  expanded : (parts : List Part) (end : Result Text Refusal) → IsTemplate template parts → refusal query ≡ None
-      → IsLine (expansion (look_up (filled lists [] (pairs_of query))) parts) end → IsExpansionOf lists template query end
+  expanded : (parts : List Part) (line : Text) → IsTemplate template parts → refusal query ≡ None
+      → line ≡ expansion (look_up (filled lists [] (pairs_of query))) parts ++ 10 ∷ [] → IsExpansionOf lists template query (Ok line)

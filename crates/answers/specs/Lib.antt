@@ -1,6 +1,5 @@
 pub mod Refusals
 pub mod Reading
-pub mod Line
 pub mod Expansion
 pub mod Link
 pub mod Code

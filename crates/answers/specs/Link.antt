@@ -1,5 +1,5 @@
 -- The link that rules give for a query, and why they give none.
-use Rattle.std.specs.Prelude.{◌≡◌, [], Option, Some, None, Result, Err}
+use Rattle.std.specs.Prelude.{◌≡◌, [], ◌∷◌, ◌++◌, Option, Some, None, Result, Ok, Err}
 use Rattle.text_model.specs.Texts.{Text}
 use Rattle.environment_model.specs.Lists.{list_names}
 use Rattle.kev_read.specs.Pairs.{pairs_of}
@@ -10,7 +10,6 @@ use Rattle.rule_parser.specs.Grammar.{IsRuleText}
 use Rattle.rule_parser.specs.Names.{each_once}
 use Rattle.rule_parser.specs.Meaning.{meaning}
 use Rattle.answers.specs.Reading.{IsNoRules, IsNoRequest}
-use Rattle.answers.specs.Line.{IsLine}
 use Rattle.answers.specs.declared.refusal.Refusal.{Refusal}
 use Rattle.answers.specs.declared.refusal.Refusal.TheVariants.{NoLink, Memory}
 
@@ -24,7 +23,7 @@ pub data IsLinkFor (rules : RuleSet) (query : Text) : Result Text Refusal → Ty
   no_memory : IsLinkFor rules query (Err Memory)
   no_request : (e : Refusal) → IsNoRequest query e → IsLinkFor rules query (Err e)
   no_link : Means rules query None → IsLinkFor rules query (Err NoLink)
-  linked : (link : Text) (end : Result Text Refusal) → Means rules query (Some link) → IsLine link end → IsLinkFor rules query end
+  linked : (link line : Text) → Means rules query (Some link) → line ≡ link ++ 10 ∷ [] → IsLinkFor rules query (Ok line)
 
 -- the line of the link of a rule text, or the first reason why there is none
 pub data IsLinkOf (bytes query : Text) : Result Text Refusal → Type 0 where

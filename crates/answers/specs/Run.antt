@@ -1,5 +1,5 @@
 -- The link that code gives for a query, and why it gives none.
-use Rattle.std.specs.Prelude.{◌≡◌, ℕ, ◌<◌, ◌≤◌, [], None, map, filter, Result, Err}
+use Rattle.std.specs.Prelude.{◌≡◌, ℕ, ◌<◌, ◌≤◌, [], ◌∷◌, ◌++◌, None, map, filter, Result, Ok, Err}
 use Rattle.text_model.specs.Texts.{Text}
 use Rattle.code_model.specs.Code as model
 use Rattle.environment_model.specs.Environment.{Environment}
@@ -12,7 +12,6 @@ use Rattle.verified_runs.specs.RunValue.{most_bytes}
 use Rattle.verified_runs.specs.declared.run.TheConstants.{MAX_LINK_BYTES}
 use Rattle.safe_runs.specs.Ending.{EndsSafely, IsAcceptedFile}
 use Rattle.answers.specs.Reading.{IsNotAccepted, IsNoRequest}
-use Rattle.answers.specs.Line.{IsLine}
 use Rattle.answers.specs.declared.refusal.Refusal.{Refusal}
 use Rattle.answers.specs.declared.refusal.Refusal.TheVariants.{OverBudget, NoLink, Memory}
 
@@ -45,7 +44,7 @@ pub data IsLinkFor (code : model.Code) (query : Text) : Result Text Refusal → 
   no_request : (e : Refusal) → IsNoRequest query e → IsLinkFor code query (Err e)
   over_budget : (n : ℕ) → IsOverBudget code query n → IsLinkFor code query (Err (OverBudget n))
   no_link : IsRun code query runs.NoLink → IsLinkFor code query (Err NoLink)
-  linked : (link : Text) (end : Result Text Refusal) → IsRun code query (runs.Link link) → IsLine link end → IsLinkFor code query end
+  linked : (link line : Text) → IsRun code query (runs.Link link) → line ≡ link ++ 10 ∷ [] → IsLinkFor code query (Ok line)
 
 -- the line of the link of accepted code, or the first reason why there is none
 pub data IsRunLinkOf (bytes query : Text) : Result Text Refusal → Type 0 where

@@ -26,7 +26,7 @@ pub fn expansion_of(
 {
     let template = template_of(alloc, template)?;
     let text = expand(alloc, &template, &environment(alloc, lists, query)?);
-    ended(text?)
+    Ok(ended(text?)?)
 }
 
 /// The template of a text.

@@ -1,14 +1,12 @@
 //! A line of output.
 
-ghost use Rattle.std.specs.Prelude.{string_bytes};
-ghost use Rattle.answers.specs.Line.{IsLine};
-ghost use Rattle.answers.specs.Results.{text_result};
+ghost use Rattle.std.specs.Prelude.{◌≡◌, ◌++◌, ◌∷◌, [], IfOk, string_bytes};
 
-use crate::refusal::Refusal;
+use std::alloc::AllocError;
 
 /// The text with a line feed after it.
-pub(crate) fn ended(text: String) -> Result<String, Refusal>
-    ensures { IsLine (string_bytes text) (text_result result) }
+pub(crate) fn ended(text: String) -> Result<String, AllocError>
+    ensures { IfOk result (λ line. string_bytes line ≡ string_bytes text ++ 10 ∷ []) }
 {
     let mut line = text;
     line.push('\n')?;

@@ -25,7 +25,7 @@ fn link_for(alloc: Global, rules: &Rules, query: &str) -> Result<String, Refusal
     let lists = rules.lists(alloc)?;
     let link = meaning(alloc, rules, &environment(alloc, &lists, query)?);
     match link? {
-        Some(link) => ended(link),
+        Some(link) => Ok(ended(link)?),
         None => Err(Refusal::NoLink),
     }
 }

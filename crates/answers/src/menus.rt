@@ -1,12 +1,11 @@
 //! The menu of a registry for a query.
 
-ghost use Rattle.answers.specs.Menu.{IsMenuOf, IsTextOf};
+ghost use Rattle.answers.specs.Menu.{IsMenuOf};
 ghost use Rattle.answers.specs.Results.{text_result};
 
 use crate::refusal::Refusal;
 use crate::request::request_of;
 use link_menu::resolve;
-use menu::Menu;
 use registry::Registry;
 use std::alloc::Global;
 
@@ -16,13 +15,6 @@ pub fn menu_text_of(alloc: Global, registry: &Registry, query: &str) -> Result<S
 {
     let request = request_of(alloc, query)?;
     let menu = resolve(alloc, registry, &request)?;
-    text_of(alloc, &menu)
-}
-
-/// The text of the menu, if it has a link.
-fn text_of(alloc: Global, menu: &Menu) -> Result<String, Refusal>
-    ensures { IsTextOf menu.now (text_result result) }
-{
     if menu.is_empty() {
         return Err(Refusal::NoLink);
     }

@@ -28,7 +28,7 @@ fn link_for(alloc: Global, code: &Verified, query: &str) -> Result<String, Refus
     let lists = code.code().lists(alloc)?;
     let outcome = run_verified(alloc, code, &environment(alloc, &lists, query)?);
     match outcome {
-        Ok(Outcome::Link(link)) => ended(link),
+        Ok(Outcome::Link(link)) => Ok(ended(link)?),
         Ok(Outcome::NoLink) => Err(Refusal::NoLink),
         Err(PrepareError::OverBudget(most)) => Err(Refusal::OverBudget(most)),
         Err(PrepareError::NoMemory) => Err(Refusal::Memory),

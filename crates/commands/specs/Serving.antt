@@ -24,38 +24,33 @@ listening_line port = codes "listening 127.0.0.1:" ++ (decimal port ++ 10 ∷ []
 abbrev pub wait : ℕ
 wait = 2_000_000_000
 
--- a listener is bound to the port of the service, or to a free one if that is 0
-pub record IsBound {PortState Listener : Type 0} (binds : PortState → ℕ → Listener × ℕ → PortState → Type 0) (old : PortState) (service : Service)
-    (new : PortState) (listener : Listener) (place : ℕ) : Type 0 where
-  pub bound : binds old service.port (listener, place) new
-  pub at_port : service.port ≢ 0 → place ≡ service.port
+module _ {PortState Listener : Type 0} (binds : PortState → ℕ → Listener × ℕ → PortState → Type 0) (old : PortState) (service : Service) (new : PortState) where
+  -- a listener is bound to the port, or to a free one if that is 0
+  pub record IsBound (listener : Listener) (place : ℕ) : Type 0 where
+    pub bound : binds old service.port (listener, place) new
+    pub at_port : service.port ≢ 0 → place ≡ service.port
 
--- it listens, and the line says where
-pub record Listens {PortState Listener : Type 0} (binds : PortState → ℕ → Listener × ℕ → PortState → Type 0) (old : PortState) (service : Service)
-    (new : PortState) (listener : Listener) (line : Text) : Type 0 where
-  pub place : ℕ
-  pub bound : IsBound binds old service new listener place
-  pub said : line ≡ listening_line place
+  -- it listens, and the line says where
+  abbrev pub Listens : Listener → Text → Type 0
+  Listens listener line = (place : ℕ) × IsBound listener place × (line ≡ listening_line place)
 
--- why it does not listen
-pub data IsDeaf {PortState Listener : Type 0} (binds : PortState → ℕ → Listener × ℕ → PortState → Type 0) (no_port : PortState → ℕ → PortState → Type 0)
-    (old : PortState) (service : Service) (new : PortState) : Fault → Type 0 where
-  unbound : no_port old service.port new → IsDeaf binds no_port old service new (Port service.port_text)
-  no_memory : (listener : Listener) (place : ℕ) → IsBound binds old service new listener place → IsDeaf binds no_port old service new out_of_memory
+  -- why it does not listen
+  pub data IsDeaf (no_port : PortState → ℕ → PortState → Type 0) : Fault → Type 0 where
+    unbound : no_port old service.port new → IsDeaf no_port (Port service.port_text)
+    no_memory : (listener : Listener) (place : ℕ) → IsBound listener place → IsDeaf no_port out_of_memory
 
 -- how the service of the menus of these targets ends
-pub data ServesMenus {System : Type 0} (told : Told System) (old : told.PortState) (service : Service) (new : told.PortState) (targets : List TargetValue)
-    (output : Output) : Option Fault → Type 0 where
-  deaf : (fault : Fault) → IsDeaf told.binds told.no_port old service new fault → output.gets_nothing
-      → ServesMenus told old service new targets output (Some fault)
-  unprinted : (listener : told.Listener) (line : Text) (path : Bor Text) → Listens told.binds old service new listener line
-      → path.now ≡ codes "-" → output.gets_part line → ServesMenus told old service new targets output (Some (Device path))
-  stops : (first last : told.Listener) (line : Text) → Listens told.binds old service new first line → output.gets line
-      → StopsEarly (menu_of targets) told.gives told.closes told.no_more told.input_state told.output_state wait service.count first last
-      → ServesMenus told old service new targets output (Some (Port service.port_text))
-  serves : (first last : told.Listener) (line : Text) (counts : Counts) → Listens told.binds old service new first line → output.gets line
-      → ServesAll (menu_of targets) told.gives told.closes told.input_state told.output_state wait service.count first last counts
-      → ServesMenus told old service new targets output None
+module _ {System : Type 0} (told : Told System) (old : told.PortState) (service : Service) (new : told.PortState) where
+  pub data ServesMenus (targets : List TargetValue) (output : Output) : Option Fault → Type 0 where
+    deaf : (fault : Fault) → IsDeaf told.binds old service new told.no_port fault → output.gets_nothing → ServesMenus targets output (Some fault)
+    unprinted : (listener : told.Listener) (line : Text) (path : Bor Text) → Listens told.binds old service new listener line
+        → path.now ≡ codes "-" → output.gets_part line → ServesMenus targets output (Some (Device path))
+    stops : (first last : told.Listener) (line : Text) → Listens told.binds old service new first line → output.gets line
+        → StopsEarly (menu_of targets) told.gives told.closes told.no_more told.input_state told.output_state wait service.count first last
+        → ServesMenus targets output (Some (Port service.port_text))
+    serves : (first last : told.Listener) (line : Text) (counts : Counts) → Listens told.binds old service new first line → output.gets line
+        → ServesAll (menu_of targets) told.gives told.closes told.input_state told.output_state wait service.count first last counts
+        → ServesMenus targets output None
 
 -- how it ends; no port is bound before the registry is loaded
 pub data Serves {System : Type 0} (told : Told System) (old : System) (service : Service) (new : System) (output : Output) : Option Fault → Type 0 where

@@ -63,7 +63,7 @@ fn listen<'a, P: Ports>(
     service: Service<'a>,
 ) -> Result<(P::Bound, String), Fault<'a>>
     ensures ok { IfOk result (λ parts. Listens P.binds ports.old service.entry ports.new parts.0 (string_bytes parts.1)) }
-    ensures err { IfErr result (IsDeaf P.binds P.fails ports.old service.entry ports.new) }
+    ensures err { IfErr result (IsDeaf P.binds ports.old service.entry ports.new P.fails) }
 {
     let Ok((listener, port)) = ports.bind(service.port) else {
         return Err(Fault::Port(service.port_text));

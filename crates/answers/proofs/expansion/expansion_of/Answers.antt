@@ -1,8 +1,6 @@
-use Rattle.std.proofs.Common.{ap, subst, ◌∙◌}
+use Rattle.std.proofs.Common.{[], ◌∷◌, ◌++◌, ap, ◌∙◌}
 use Rattle.environment_model.specs.Environment.{look_up}
 use Rattle.uri_template.specs.Expansion.{expansion}
-use Rattle.answers.specs.Line.{IsLine}
-use Rattle.answers.specs.Results.{text_result}
 use Rattle.answers.specs.Expansion.{IsExpansionOf}
 use Rattle.answers.proofs.RefusalLemmas.{is_err}
 use Rattle.answers.proofs.expansion.expansion_of.Goals as goal
@@ -18,9 +16,12 @@ returns-in_err-environment c =
 pub returns-in_err-text : goal.returns-in_err-text
 returns-in_err-text c = rw (is_err _ _ c.from_residual-in_err-text.ensures.1) IsExpansionOf.no_memory
 
+pub returns-in_err-ended : goal.returns-in_err-ended
+returns-in_err-ended c = rw (is_err _ _ c.from_residual-in_err-ended.ensures.1) IsExpansionOf.no_memory
+
 pub returns : goal.returns
 returns c =
     let parts = c.in_ok-template.template.parts in
     let text = c.in_ok-text.ensures.ok ∙ ap (λ entries. expansion (look_up entries) parts) c.in_ok-environment.ensures.entries in
     IsExpansionOf.expanded parts _ c.in_ok-template.ensures.ok c.in_ok-environment.ensures.accepted
-    (subst (λ text. IsLine text (text_result c.ended.result)) text c.ended.ensures)
+    (c.in_ok-ended.ensures ∙ ap (λ text. text ++ 10 ∷ []) text)

@@ -31,12 +31,15 @@ returns-in_err-environment c = rw (is_err _ _ c.from_residual-in_err-environment
 pub returns-in_err-link : goal.returns-in_err-link
 returns-in_err-link c = rw (is_err _ _ c.from_residual-in_err-link.ensures.1) IsLinkFor.no_memory
 
+pub returns-in_err-ended-in-Some : goal.returns-in_err-ended-in-Some
+returns-in_err-ended-in-Some c = rw (is_err _ _ c.from_residual-in_err-ended-in-Some.ensures.1) IsLinkFor.no_memory
+
 pub returns-in-Some : goal.returns-in-Some
 returns-in-Some c =
     let value = c.in_ok-link.ensures.value ∙ ap (meaning c.args.rules.now) c.in_ok-environment.ensures.entries in
     IsLinkFor.linked (string_bytes c.in-Some.link) _
     (means _ _ _ _ (ap texts_of c.deref.ensures.value ∙ c.in_ok-lists.ensures) c.in_ok-environment.ensures.accepted
-    (sym (ap (option_map string_bytes) c.in-Some.is) ∙ value)) c.ended.ensures
+    (sym (ap (option_map string_bytes) c.in-Some.is) ∙ value)) c.in_ok-ended-in-Some.ensures
 
 pub returns : goal.returns
 returns c =

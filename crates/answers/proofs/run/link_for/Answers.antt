@@ -24,6 +24,9 @@ returns-in_err-lists c = rw (is_err _ _ c.from_residual.ensures.1) IsLinkFor.no_
 pub returns-in_err-environment : goal.returns-in_err-environment
 returns-in_err-environment c = rw (is_err _ _ c.from_residual-in_err-environment.ensures.1) (IsLinkFor.no_request _ c.in_err-environment.ensures.err)
 
+pub returns-in_err-ended-in-Ok-Link : goal.returns-in_err-ended-in-Ok-Link
+returns-in_err-ended-in-Ok-Link c = rw (is_err _ _ c.from_residual-in_err-ended-in-Ok-Link.ensures.1) IsLinkFor.no_memory
+
 pub returns-in-Ok-Link : goal.returns-in-Ok-Link
 returns-in-Ok-Link c =
     let filled = request c.args.code.now _ c.args.query.now c.in_ok-environment.field-0 _ c.in_ok-environment.ensures.accepted
@@ -35,7 +38,7 @@ returns-in-Ok-Link c =
       within = c.in-Ok-Link.ensures.within;
       ends = rw c.in-Ok-Link.field-0-is at c.in-Ok-Link.ensures.ends;
     })
-    c.ended.ensures
+    c.in_ok-ended-in-Ok-Link.ensures
 
 pub returns-in-Ok-NoLink : goal.returns-in-Ok-NoLink
 returns-in-Ok-NoLink c =
