@@ -62,7 +62,8 @@ fn listen<'a, P: Ports>(
     ports: &mut P,
     service: Service<'a>,
 ) -> Result<(P::Bound, String), Fault<'a>>
-    ensures ok { IfOk result (λ parts. Listens P.binds ports.old service.entry ports.new parts.0 (string_bytes parts.1)) }
+    ensures ok { IfOk result (λ parts. Listens P.binds ports.old service.entry ports.new parts.0
+        (string_bytes parts.1)) }
     ensures err { IfErr result (IsDeaf P.binds ports.old service.entry ports.new P.fails) }
 {
     let Ok((listener, port)) = ports.bind(service.port) else {
