@@ -1,6 +1,6 @@
 -- What the exit of a `?` returns; which errors say that memory ran out, and for which bytes.
-use Rattle.std.proofs.Common.{◌≡◌, ◌≢◌, ℕ, ◌<◌, ◌≤◌, inl, inr, subst, sym, ap, arith}
-use Rattle.std.specs.Prelude.{◌⊎◌, ◌↔◌, Result, Ok, Err, IfErr}
+use Rattle.std.proofs.Common.{◌≡◌, ◌≢◌, ℕ, ◌<◌, ◌≤◌, inl, inr, ap, arith}
+use Rattle.std.specs.Prelude.{◌⊎◌, ◌↔◌, Result, Ok, Err}
 use Rattle.std.specs.Result.{IsErrAnd}
 use Rattle.text_model.specs.Texts.{Text}
 use Rattle.code_model.specs.Code.{Code}
@@ -11,10 +11,6 @@ use Rattle.verifier.specs.declared.error.LoadError.TheVariants as load
 use Rattle.answers.specs.declared.refusal.Refusal.{Refusal}
 
 -- what the exit of a `?` returns, if this is the error that `From` made
-pub exit : {T : Type 0} (result : Result T Refusal) (made : Refusal) (Q : Refusal → Type 0) → IsErrAnd result (λ e. e ≡ made) → Q made → IfErr result Q
-exit (Ok x) made Q same q = tt
-exit (Err e) made Q same q = subst Q (sym same) q
-
 pub is_err : {T : Type 0} {E : Type 0} (result : Result T E) (made : E) → IsErrAnd result (λ e. e ≡ made) → result ≡ Err made
 is_err (Ok x) made same = absurd same
 is_err (Err e) made same = ap Err same

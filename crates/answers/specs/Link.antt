@@ -18,11 +18,14 @@ pub record Means (rules : RuleSet) (query : Text) (link : Option Text) : Type 0 
   pub request : refusal query ≡ None
   pub meant : link ≡ meaning rules (filled (each_once (list_names rules.lists)) [] (pairs_of query))
 
+-- the line of the link that the rules give, or the first reason why there is none
+pub data IsLinkFor (rules : RuleSet) (query : Text) : Result Text Refusal → Type 0 where
+  no_memory : IsLinkFor rules query (Err Memory)
+  no_request : (e : Refusal) → IsNoRequest query e → IsLinkFor rules query (Err e)
+  no_link : Means rules query None → IsLinkFor rules query (Err NoLink)
+  linked : (link line : Text) → Means rules query (Some link) → line ≡ link ++ 10 ∷ [] → IsLinkFor rules query (Ok line)
+
 -- the line of the link of a rule text, or the first reason why there is none
 pub data IsLinkOf (bytes query : Text) : Result Text Refusal → Type 0 where
-  no_memory : (rules : RuleSet) → IsRuleText bytes rules → IsLinkOf bytes query (Err Memory)
   no_rules : (e : Refusal) → IsNoRules bytes e → IsLinkOf bytes query (Err e)
-  no_request : (rules : RuleSet) (e : Refusal) → IsRuleText bytes rules → IsNoRequest query e → IsLinkOf bytes query (Err e)
-  no_link : (rules : RuleSet) → IsRuleText bytes rules → Means rules query None → IsLinkOf bytes query (Err NoLink)
-  linked : (rules : RuleSet) (link line : Text) → IsRuleText bytes rules → Means rules query (Some link) → line ≡ link ++ 10 ∷ []
-      → IsLinkOf bytes query (Ok line)
+  parsed : (rules : RuleSet) (end : Result Text Refusal) → IsRuleText bytes rules → IsLinkFor rules query end → IsLinkOf bytes query end

@@ -38,12 +38,15 @@ pub record IsOverBudget (code : model.Code) (query : Text) (n : ℕ) : Type 0 wh
   pub bound : n ≡ most_bytes code env
   pub over : MAX_LINK_BYTES < n
 
+-- the line of the link that the code gives, or the first reason why there is none
+pub data IsLinkFor (code : model.Code) (query : Text) : Result Text Refusal → Type 0 where
+  no_memory : IsLinkFor code query (Err Memory)
+  no_request : (e : Refusal) → IsNoRequest query e → IsLinkFor code query (Err e)
+  over_budget : (n : ℕ) → IsOverBudget code query n → IsLinkFor code query (Err (OverBudget n))
+  no_link : IsRun code query runs.NoLink → IsLinkFor code query (Err NoLink)
+  linked : (link line : Text) → IsRun code query (runs.Link link) → line ≡ link ++ 10 ∷ [] → IsLinkFor code query (Ok line)
+
 -- the line of the link of accepted code, or the first reason why there is none
 pub data IsRunLinkOf (bytes query : Text) : Result Text Refusal → Type 0 where
-  no_memory : (code : model.Code) → IsAcceptedFile bytes code → IsRunLinkOf bytes query (Err Memory)
   not_accepted : (e : Refusal) → IsNotAccepted bytes e → IsRunLinkOf bytes query (Err e)
-  no_request : (code : model.Code) (e : Refusal) → IsAcceptedFile bytes code → IsNoRequest query e → IsRunLinkOf bytes query (Err e)
-  over_budget : (code : model.Code) (n : ℕ) → IsAcceptedFile bytes code → IsOverBudget code query n → IsRunLinkOf bytes query (Err (OverBudget n))
-  no_link : (code : model.Code) → IsAcceptedFile bytes code → IsRun code query runs.NoLink → IsRunLinkOf bytes query (Err NoLink)
-  linked : (code : model.Code) (link line : Text) → IsAcceptedFile bytes code → IsRun code query (runs.Link link) → line ≡ link ++ 10 ∷ []
-      → IsRunLinkOf bytes query (Ok line)
+  accepted : (code : model.Code) (end : Result Text Refusal) → IsAcceptedFile bytes code → IsLinkFor code query end → IsRunLinkOf bytes query end

@@ -16,8 +16,8 @@ pub fn code_of(alloc: Global, bytes: &[u8]) -> Result<Vec<u8>, Refusal>
 {
     compiled_code_is_accepted();
     accepted_file_has_no_fault();
-    let rules = rules_of(alloc, bytes)?;
-    match compile(alloc, &rules) {
+    let code = compile(alloc, &rules_of(alloc, bytes)?);
+    match code {
         Ok(code) => Ok(code.write(alloc)?),
         Err(e) if e == CompileError::NoMemory => Err(Refusal::Memory),
         Err(e) => Err(Refusal::Compile(e)),

@@ -25,9 +25,8 @@ pub fn expansion_of(
     ensures { IsExpansionOf (texts_of lists.now) template.now query.now (text_result result) }
 {
     let template = template_of(alloc, template)?;
-    let env = environment(alloc, lists, query)?;
-    let text = expand(alloc, &template, &env)?;
-    Ok(ended(text)?)
+    let text = expand(alloc, &template, &environment(alloc, lists, query)?);
+    Ok(ended(text?)?)
 }
 
 /// The template of a text.

@@ -16,14 +16,14 @@ use table_inspection::inspect;
 pub fn inspection_of(alloc: Global, bytes: &[u8], keys: Keys) -> Result<Findings, Refusal>
     ensures { IsInspectionOf bytes.now keys (report_result result) }
 {
-    let table = table_of(alloc, bytes, keys)?;
-    Ok(inspect(alloc, &table)?)
+    let findings = inspect(alloc, &table_of(alloc, bytes, keys)?);
+    Ok(findings?)
 }
 
 /// The findings in the rules and the holdings table of a target. The keys are those of the table's hashed look-ups.
 pub fn lint_of(alloc: Global, rules: &Rules, bytes: &[u8], keys: Keys) -> Result<Findings, Refusal>
     ensures { IsLintOf rules.now bytes.now keys (report_result result) }
 {
-    let table = table_of(alloc, bytes, keys)?;
-    Ok(lint(alloc, rules, &table)?)
+    let findings = lint(alloc, rules, &table_of(alloc, bytes, keys)?);
+    Ok(findings?)
 }

@@ -1,13 +1,13 @@
 //! The link that rules give for a query.
 
-ghost use Rattle.answers.specs.Link.{IsLinkOf};
+ghost use Rattle.answers.specs.Link.{IsLinkFor, IsLinkOf};
 ghost use Rattle.answers.specs.Results.{text_result};
 
 use crate::line::ended;
 use crate::reading::rules_of;
 use crate::refusal::Refusal;
 use crate::request::environment;
-use rule_parser::meaning;
+use rule_parser::{Rules, meaning};
 use std::alloc::Global;
 
 /// The line of the link that the rules of a rule text give for the query: that of the first rule whose guards all hold.
@@ -15,9 +15,16 @@ pub fn link_of(alloc: Global, bytes: &[u8], query: &str) -> Result<String, Refus
     ensures { IsLinkOf bytes.now query.now (text_result result) }
 {
     let rules = rules_of(alloc, bytes)?;
+    link_for(alloc, &rules, query)
+}
+
+/// The line of the link that the rules give for the query.
+fn link_for(alloc: Global, rules: &Rules, query: &str) -> Result<String, Refusal>
+    ensures { IsLinkFor rules.now query.now (text_result result) }
+{
     let lists = rules.lists(alloc)?;
-    let env = environment(alloc, &lists, query)?;
-    match meaning(alloc, &rules, &env)? {
+    let link = meaning(alloc, rules, &environment(alloc, &lists, query)?);
+    match link? {
         Some(link) => Ok(ended(link)?),
         None => Err(Refusal::NoLink),
     }

@@ -11,6 +11,6 @@ use std::alloc::Global;
 pub fn listing_of(alloc: Global, bytes: &[u8]) -> Result<String, Refusal>
     ensures { IsListingOf bytes.now (text_result result) }
 {
-    let code = read_code(alloc, bytes)?;
-    Ok(code.listing(alloc)?)
+    let listing = read_code(alloc, bytes)?.listing(alloc);
+    Ok(listing?)
 }

@@ -1,7 +1,7 @@
 //! The link that code gives for a query.
 
 ghost use Rattle.answers.specs.Results.{text_result};
-ghost use Rattle.answers.specs.Run.{IsRunLinkOf};
+ghost use Rattle.answers.specs.Run.{IsLinkFor, IsRunLinkOf};
 
 use crate::line::ended;
 use crate::reading::accepted_code;
@@ -10,6 +10,7 @@ use crate::request::environment;
 use safe_runs::run_verified;
 use std::alloc::Global;
 use verified_runs::{Outcome, PrepareError};
+use verifier::Verified;
 
 /// The line of the link that the code of a code file gives for the query, if the verifier accepts it. A link has at
 /// most 1,048,576 bytes: code that might print more for the request is not run.
@@ -17,9 +18,16 @@ pub fn run_link_of(alloc: Global, bytes: &[u8], query: &str) -> Result<String, R
     ensures { IsRunLinkOf bytes.now query.now (text_result result) }
 {
     let code = accepted_code(alloc, bytes)?;
+    link_for(alloc, &code, query)
+}
+
+/// The line of the link that the code gives for the query.
+fn link_for(alloc: Global, code: &Verified, query: &str) -> Result<String, Refusal>
+    ensures { IsLinkFor code.now query.now (text_result result) }
+{
     let lists = code.code().lists(alloc)?;
-    let env = environment(alloc, &lists, query)?;
-    match run_verified(alloc, &code, &env) {
+    let outcome = run_verified(alloc, code, &environment(alloc, &lists, query)?);
+    match outcome {
         Ok(Outcome::Link(link)) => Ok(ended(link)?),
         Ok(Outcome::NoLink) => Err(Refusal::NoLink),
         Err(PrepareError::OverBudget(most)) => Err(Refusal::OverBudget(most)),

@@ -11,7 +11,7 @@ use std::alloc::Global;
 pub fn upgrade_of(alloc: Global, bytes: &[u8]) -> Result<Vec<u8>, Refusal>
     ensures { IsUpgradeOf bytes.now (file_result result) }
 {
-    let code = read_code(alloc, bytes)?;
-    let upgraded = code.upgrade(alloc)?;
-    Ok(upgraded.write(alloc)?)
+    let upgraded = read_code(alloc, bytes)?.upgrade(alloc);
+    let file = upgraded?.write(alloc);
+    Ok(file?)
 }

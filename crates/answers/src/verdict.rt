@@ -14,8 +14,8 @@ use std::alloc::{AllocError, Global};
 pub fn verdict_of(alloc: Global, bytes: &[u8]) -> Result<String, Refusal>
     ensures { IsVerdictOf bytes.now (text_result result) }
 {
-    let code = accepted_code(alloc, bytes)?;
-    Ok(budget_lines(alloc, code.budget())?)
+    let lines = budget_lines(alloc, accepted_code(alloc, bytes)?.budget());
+    Ok(lines?)
 }
 
 /// The lines for accepted code with this budget.

@@ -91,17 +91,11 @@ two_left arguments (template ∷ query ∷ third ∷ rest) options d so_far more
 length-texts_of : (arguments : List (Bor Text)) → length (texts_of arguments) ≡ length arguments
 length-texts_of arguments = length-map arguments (λ argument. argument.now)
 
-two_arguments : (rest : List Text) (template query : Text) → rest ≡ template ∷ query ∷ [] → length rest ≡ 2
-two_arguments rest template query e = ap length e
-
-option_first : (rest : List Text) (name : Text) (arguments : List Text) → rest ≡ codes "--list" ∷ name ∷ arguments → begins_with_option rest ≡ true
-option_first rest name arguments e = ap begins_with_option e
-
 -- options, and then arguments that begin with none and are not two
 only_options : (done rest lists : List Text) (template query : Text) → begins_with_option rest ≡ false → (length rest ≡ 2 → ⊥) → template ≢ codes "--list"
     → list_options done ++ rest ≡ list_options lists ++ template ∷ query ∷ [] → ⊥
-only_options [] rest [] template query e h n w = h (two_arguments rest template query w)
-only_options [] rest (name ∷ lists) template query e h n w = cc (e, option_first rest name (list_options lists ++ template ∷ query ∷ []) w)
+only_options [] rest [] template query e h n w = h (ap length w)
+only_options [] rest (name ∷ lists) template query e h n w = cc (e, ap begins_with_option w)
 only_options (name ∷ done) rest [] template query e h n w = n (cc (w))
 only_options (name ∷ done) rest (other ∷ lists) template query e h n w =
     let same : list_options done ++ rest ≡ list_options lists ++ template ∷ query ∷ [] = cc (w) in

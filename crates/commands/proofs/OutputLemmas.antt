@@ -9,16 +9,8 @@ pub prints_by : (A B : Result Text Fault → Type 0) (output : Output) (end : Op
     → Prints B output end
 prints_by A B output end by (fails fault answer nothing) = fails fault (by (Err fault) answer) nothing
 prints_by A B output end by (unprinted text path answer named part) = unprinted text path (by (Ok text) answer) named part
-prints_by A B output end by (prints text answer all) = prints text (by (Ok text) answer) all
+prints_by A B output end by (prints text answer all) = prints text (by (Ok text) answer) a-- the answer is what a call returned
 
-reports_by : (A B : Result Report Fault → Type 0) (output : Output) (end : Option Fault) → ((r : Result Report Fault) → A r → B r) → Reports A output end
-    → Reports B output end
-reports_by A B output end by (fails fault answer nothing) = fails fault (by (Err fault) answer) nothing
-reports_by A B output end by (unprinted found path answer named part) = unprinted found path (by (Ok found) answer) named part
-reports_by A B output end by (warns found answer all warned) = warns found (by (Ok found) answer) all warned
-reports_by A B output end by (clean found answer all warned) = clean found (by (Ok found) answer) all warned
-
--- the answer is what a call returned
 pub prints_answer : (Answers : Result Text Fault → Type 0) (output : Output) (end : Option Fault) (r : Result Text Fault) → Answers r
     → Prints (λ printed. printed ≡ r) output end → Prints Answers output end
 prints_answer Answers output end r answer printed =
@@ -26,5 +18,7 @@ prints_answer Answers output end r answer printed =
 
 pub reports_answer : (Answers : Result Report Fault → Type 0) (output : Output) (end : Option Fault) (r : Result Report Fault) → Answers r
     → Reports (λ found. found ≡ r) output end → Reports Answers output end
-reports_answer Answers output end r answer reported =
-    reports_by (λ found. found ≡ r) Answers output end (λ other same. subst Answers (sym same) answer) reported
+reports_answer Answers output end r answer (fails fault same nothing) = fails fault (subst Answers (sym same) answer) nothing
+reports_answer Answers output end r answer (unprinted found path same named part) = unprinted found path (subst Answers (sym same) answer) named part
+reports_answer Answers output end r answer (warns found same all warned) = warns found (subst Answers (sym same) answer) all warned
+reports_answer Answers output end r answer (clean found same all warned) = clean found (subst Answers (sym same) answer) all warned

@@ -24,32 +24,38 @@ listening_line port = codes "listening 127.0.0.1:" ++ (decimal port ++ 10 ∷ []
 abbrev pub wait : ℕ
 wait = 2_000_000_000
 
-module _ {System : Type 0} (told : Told System) (old : System) (service : Service) (new : System) where
-  -- the registry is loaded, and then the listener is bound to the port, or to a free one if that is 0
-  pub record IsBound (targets : List TargetValue) (listener : told.Listener) (place : ℕ) : Type 0 where
-    pub loaded : IsLoaded told.draws (disk told old) (told.keys old) service.registry.now (told.keys new) targets
-    pub bound : told.binds (told.ports old) service.port (listener, place) (told.ports new)
+module _ {PortState Listener : Type 0} (binds : PortState → ℕ → Listener × ℕ → PortState → Type 0) (old : PortState) (service : Service) (new : PortState) where
+  -- a listener is bound to the port, or to a free one if that is 0
+  pub record IsBound (listener : Listener) (place : ℕ) : Type 0 where
+    pub bound : binds old service.port (listener, place) new
     pub at_port : service.port ≢ 0 → place ≡ service.port
 
   -- it listens, and the line says where
-  abbrev pub Listens : List TargetValue → told.Listener → Text → Type 0
-  Listens targets listener line = (place : ℕ) × IsBound targets listener place × (line ≡ listening_line place)
+  abbrev pub Listens : Listener → Text → Type 0
+  Listens listener line = (place : ℕ) × IsBound listener place × (line ≡ listening_line place)
 
-  -- why it does not listen, in this order; no port is bound before the registry is loaded
-  pub data IsDeaf : Fault → Type 0 where
-    unloaded : (fault : Fault) → IsNoRegistry told old new service.registry fault → told.ports new ≡ told.ports old → IsDeaf fault
-    unbound : (targets : List TargetValue) → IsLoaded told.draws (disk told old) (told.keys old) service.registry.now (told.keys new) targets
-        → told.no_port (told.ports old) service.port (told.ports new) → IsDeaf (Port service.port_text)
-    no_memory : (targets : List TargetValue) (listener : told.Listener) (place : ℕ) → IsBound targets listener place → IsDeaf out_of_memory
+  -- why it does not listen
+  pub data IsDeaf (no_port : PortState → ℕ → PortState → Type 0) : Fault → Type 0 where
+    unbound : no_port old service.port new → IsDeaf no_port (Port service.port_text)
+    no_memory : (listener : Listener) (place : ℕ) → IsBound listener place → IsDeaf no_port out_of_memory
 
-  -- how it ends
-  pub data Serves (output : Output) : Option Fault → Type 0 where
-    deaf : (fault : Fault) → IsDeaf fault → output.gets_nothing → Serves output (Some fault)
-    unprinted : (targets : List TargetValue) (listener : told.Listener) (line : Text) (path : Bor Text) → Listens targets listener line
-        → path.now ≡ codes "-" → output.gets_part line → Serves output (Some (Device path))
-    stops : (targets : List TargetValue) (first last : told.Listener) (line : Text) → Listens targets first line → output.gets line
+-- how the service of the menus of these targets ends
+module _ {System : Type 0} (told : Told System) (old : told.PortState) (service : Service) (new : told.PortState) where
+  pub data ServesMenus (targets : List TargetValue) (output : Output) : Option Fault → Type 0 where
+    deaf : (fault : Fault) → IsDeaf told.binds old service new told.no_port fault → output.gets_nothing → ServesMenus targets output (Some fault)
+    unprinted : (listener : told.Listener) (line : Text) (path : Bor Text) → Listens told.binds old service new listener line
+        → path.now ≡ codes "-" → output.gets_part line → ServesMenus targets output (Some (Device path))
+    stops : (first last : told.Listener) (line : Text) → Listens told.binds old service new first line → output.gets line
         → StopsEarly (menu_of targets) told.gives told.closes told.no_more told.input_state told.output_state wait service.count first last
-        → Serves output (Some (Port service.port_text))
-    serves : (targets : List TargetValue) (first last : told.Listener) (line : Text) (counts : Counts) → Listens targets first line → output.gets line
+        → ServesMenus targets output (Some (Port service.port_text))
+    serves : (first last : told.Listener) (line : Text) (counts : Counts) → Listens told.binds old service new first line → output.gets line
         → ServesAll (menu_of targets) told.gives told.closes told.input_state told.output_state wait service.count first last counts
-        → Serves output None
+        → ServesMenus targets output None
+
+-- how it ends; no port is bound before the registry is loaded
+pub data Serves {System : Type 0} (told : Told System) (old : System) (service : Service) (new : System) (output : Output) : Option Fault → Type 0 where
+  unloaded : (fault : Fault) → IsNoRegistry told old new service.registry fault → told.ports new ≡ told.ports old → output.gets_nothing
+      → Serves told old service new output (Some fault)
+  loaded : (targets : List TargetValue) (end : Option Fault)
+      → IsLoaded told.draws (disk told old) (told.keys old) service.registry.now (told.keys new) targets
+      → ServesMenus told (told.ports old) service (told.ports new) targets output end → Serves told old service new output end

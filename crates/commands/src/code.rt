@@ -38,8 +38,7 @@ pub(crate) fn verify<'a, F: Files, K: KeySource, P: Ports>(
         (text_result result) }
     ensures same { Unchanged (F.at rt.old.files) (F.at rt.new.files) }
 {
-    let too_long = Refusal::Load(LONG_CODE_TO_LOAD);
-    let bytes = read_file(rt, code, MAX_BYTES, too_long)?;
+    let bytes = read_file(rt, code, MAX_BYTES, Refusal::Load(LONG_CODE_TO_LOAD))?;
     answered(verdict_of(rt.alloc, &bytes))
 }
 
@@ -52,8 +51,7 @@ pub(crate) fn show<'a, F: Files, K: KeySource, P: Ports>(
         (text_result result) }
     ensures same { Unchanged (F.at rt.old.files) (F.at rt.new.files) }
 {
-    let too_long = Refusal::Code(LONG_CODE);
-    let bytes = read_file(rt, code, MAX_BYTES, too_long)?;
+    let bytes = read_file(rt, code, MAX_BYTES, Refusal::Code(LONG_CODE))?;
     answered(listing_of(rt.alloc, &bytes))
 }
 
@@ -67,8 +65,7 @@ pub(crate) fn upgrade<'a, F: Files, K: KeySource, P: Ports>(
     ensures { Makes ⟦<System<F, K, P> as World>⟧.told rt.old rt.new code_file IsUpgradeOf old.entry new.entry
         (text_result result) }
 {
-    let too_long = Refusal::Code(LONG_CODE);
-    let bytes = read_file(rt, old, MAX_BYTES, too_long)?;
+    let bytes = read_file(rt, old, MAX_BYTES, Refusal::Code(LONG_CODE))?;
     let file = upgrade_of(rt.alloc, &bytes)?;
     place_counted(rt, new, &file)
 }
@@ -83,7 +80,6 @@ pub(crate) fn run<'a, F: Files, K: KeySource, P: Ports>(
         (λ bytes. IsRunLinkOf bytes query.now) code.entry (text_result result) }
     ensures same { Unchanged (F.at rt.old.files) (F.at rt.new.files) }
 {
-    let too_long = Refusal::Load(LONG_CODE_TO_LOAD);
-    let bytes = read_file(rt, code, MAX_BYTES, too_long)?;
+    let bytes = read_file(rt, code, MAX_BYTES, Refusal::Load(LONG_CODE_TO_LOAD))?;
     answered(run_link_of(rt.alloc, &bytes, query))
 }

@@ -2,7 +2,7 @@
 
 ghost use Rattle.std.specs.Prelude.{◌≡◌};
 ghost use Rattle.commands.specs.Faults as faults;
-ghost use Rattle.commands.specs.Faults.{answered, status_of, status_of_target};
+ghost use Rattle.commands.specs.Faults.{answered, status_of};
 
 use answers::{FAILED, NO_LINK, REFUSED, Refusal};
 use files::PrintedPath;
@@ -50,19 +50,12 @@ impl<'a> Fault<'a> {
             Fault::Usage => USAGE,
             Fault::Refused(refusal) => refusal.status(),
             Fault::Registry(_) => REFUSED,
-            Fault::Target(e) => status_of_target(&e.fault),
+            Fault::Target(e) => match &e.fault {
+                TargetFault::Device(_) => FAILED,
+                TargetFault::Load(_) | TargetFault::Table(_) | TargetFault::Add(_) => REFUSED,
+            },
             Fault::Port(_) | Fault::Device(_) => FAILED,
         }
-    }
-}
-
-/// The exit status if a target is rejected.
-fn status_of_target(fault: &TargetFault) -> u8
-    ensures { result ≡ status_of_target fault.now }
-{
-    match fault {
-        TargetFault::Device(_) => FAILED,
-        TargetFault::Load(_) | TargetFault::Table(_) | TargetFault::Add(_) => REFUSED,
     }
 }
 

@@ -41,8 +41,7 @@ pub(crate) fn link<'a, F: Files, K: KeySource, P: Ports>(
         rules.entry (text_result result) }
     ensures same { Unchanged (F.at rt.old.files) (F.at rt.new.files) }
 {
-    let too_long = Refusal::Rules(LONG_RULES);
-    let bytes = read_file(rt, rules, MAX_BYTES, too_long)?;
+    let bytes = read_file(rt, rules, MAX_BYTES, Refusal::Rules(LONG_RULES))?;
     answered(link_of(rt.alloc, &bytes, query))
 }
 
@@ -56,8 +55,7 @@ pub(crate) fn compile<'a, F: Files, K: KeySource, P: Ports>(
     ensures { Makes ⟦<System<F, K, P> as World>⟧.told rt.old rt.new rule_file IsCodeOf rules.entry code.entry
         (text_result result) }
 {
-    let too_long = Refusal::Rules(LONG_RULES);
-    let bytes = read_file(rt, rules, MAX_BYTES, too_long)?;
+    let bytes = read_file(rt, rules, MAX_BYTES, Refusal::Rules(LONG_RULES))?;
     let file = code_of(rt.alloc, &bytes)?;
     place_counted(rt, code, &file)
 }

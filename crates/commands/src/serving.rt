@@ -3,7 +3,7 @@
 ghost use Rattle.std.specs.Prelude.{◌≡◌, IfOk, IfErr, string_bytes};
 ghost use Rattle.files.specs.Changes.{Unchanged};
 ghost use Rattle.commands.specs.Output.{end_of, output_of};
-ghost use Rattle.commands.specs.Serving.{IsDeaf, Listens, Serves, listening_line};
+ghost use Rattle.commands.specs.Serving.{IsDeaf, Listens, Serves, ServesMenus, listening_line};
 
 use crate::fault::Fault;
 use crate::menus::open_registry;
@@ -29,33 +29,48 @@ pub(crate) fn serve<'a, F: Files, K: KeySource, P: Ports, O: Write>(
         (output_of O.contents output.old output.new) (end_of result) }
     ensures same { Unchanged (F.at rt.old.files) (F.at rt.new.files) }
 {
-    let (registry, mut listener, line) = listen(rt, service)?;
+    let registry = open_registry(rt, service.registry)?;
+    serve_menus(rt, service, &registry, output)
+}
+
+/// Binds a listener, prints the line that says where it listens, and serves the connections.
+fn serve_menus<'a, F: Files, K: KeySource, P: Ports, O: Write>(
+    rt: &mut System<F, K, P>,
+    service: Service<'a>,
+    registry: &Registry,
+    output: &mut O,
+) -> Result<(), Fault<'a>>
+    ensures ends { ServesMenus ⟦<System<F, K, P> as World>⟧.told rt.old.ports service.entry rt.new.ports registry.now
+        (output_of O.contents output.old output.new) (end_of result) }
+    ensures files { rt.new.files ≡ rt.old.files }
+    ensures keys { rt.new.keys ≡ rt.old.keys }
+{
+    let (mut listener, line) = listen(rt.alloc, &mut rt.ports, service)?;
     let Ok(()) = write_text(output, &line) else {
         return Err(Fault::Device("-"));
     };
-    let menus = RegistryMenus::new(&registry);
+    let menus = RegistryMenus::new(registry);
     match serve_on(rt.alloc, &mut listener, service.count, &menus) {
         Ok(_) => Ok(()),
         Err(_) => Err(Fault::Port(service.port_text)),
     }
 }
 
-/// The registry, a listener at the port, and the line that says where it listens.
-fn listen<'a, F: Files, K: KeySource, P: Ports>(
-    rt: &mut System<F, K, P>,
+/// A listener at the port, and the line that says where it listens.
+fn listen<'a, P: Ports>(
+    alloc: Global,
+    ports: &mut P,
     service: Service<'a>,
-) -> Result<(Registry, P::Bound, String), Fault<'a>>
-    ensures ok { IfOk result (λ parts. Listens ⟦<System<F, K, P> as World>⟧.told rt.old service.entry rt.new parts.0
-        parts.1 (string_bytes parts.2)) }
-    ensures err { IfErr result (IsDeaf ⟦<System<F, K, P> as World>⟧.told rt.old service.entry rt.new) }
-    ensures same { Unchanged (F.at rt.old.files) (F.at rt.new.files) }
+) -> Result<(P::Bound, String), Fault<'a>>
+    ensures ok { IfOk result (λ parts. Listens P.binds ports.old service.entry ports.new parts.0
+        (string_bytes parts.1)) }
+    ensures err { IfErr result (IsDeaf P.binds ports.old service.entry ports.new P.fails) }
 {
-    let registry = open_registry(rt, service.registry)?;
-    let Ok((listener, port)) = rt.ports.bind(service.port) else {
+    let Ok((listener, port)) = ports.bind(service.port) else {
         return Err(Fault::Port(service.port_text));
     };
-    let line = listening_line(rt.alloc, port)?;
-    Ok((registry, listener, line))
+    let line = listening_line(alloc, port)?;
+    Ok((listener, line))
 }
 
 /// The line that says where the service listens.

@@ -76,8 +76,8 @@ fn explain_query<'a, O: Write>(
 ) -> Result<(), Fault<'a>>
     ensures { Explained rules.now table.now query.now (output_of O.contents output.old output.new) (end_of result) }
 {
-    let request = request_of(alloc, query)?;
-    match rule_explanation::explain(alloc, rules, table, &request, output) {
+    let found = rule_explanation::explain(alloc, rules, table, &request_of(alloc, query)?, output);
+    match found {
         Ok(true) => Ok(()),
         Ok(false) => Err(Fault::Warning),
         Err(ExplainError::NoMemory) => Err(Fault::Refused(Refusal::Memory)),

@@ -8,9 +8,10 @@ use Rattle.answers.proofs.expansion.expansion_of.Goals as goal
 pub returns-in_err-template : goal.returns-in_err-template
 returns-in_err-template c = rw (is_err _ _ c.from_residual.ensures.1) (IsExpansionOf.no_template _ c.in_err-template.ensures.err)
 
-pub returns-in_err-env : goal.returns-in_err-env
-returns-in_err-env c =
-    rw (is_err _ _ c.from_residual-in_err-env.ensures.1) (IsExpansionOf.no_request _ _ c.in_ok-template.ensures.ok c.in_err-env.ensures.err)
+pub returns-in_err-environment : goal.returns-in_err-environment
+returns-in_err-environment c =
+    rw (is_err _ _ c.from_residual-in_err-environment.ensures.1)
+    (IsExpansionOf.no_request _ _ c.in_ok-template.ensures.ok c.in_err-environment.ensures.err)
 
 pub returns-in_err-text : goal.returns-in_err-text
 returns-in_err-text c = rw (is_err _ _ c.from_residual-in_err-text.ensures.1) IsExpansionOf.no_memory
@@ -21,6 +22,6 @@ returns-in_err-ended c = rw (is_err _ _ c.from_residual-in_err-ended.ensures.1) 
 pub returns : goal.returns
 returns c =
     let parts = c.in_ok-template.template.parts in
-    let text = c.in_ok-text.ensures.ok ∙ ap (λ entries. expansion (look_up entries) parts) c.in_ok-env.ensures.entries in
-    IsExpansionOf.expanded parts _ c.in_ok-template.ensures.ok c.in_ok-env.ensures.accepted
+    let text = c.in_ok-text.ensures.ok ∙ ap (λ entries. expansion (look_up entries) parts) c.in_ok-environment.ensures.entries in
+    IsExpansionOf.expanded parts _ c.in_ok-template.ensures.ok c.in_ok-environment.ensures.accepted
     (c.in_ok-ended.ensures ∙ ap (λ text. text ++ 10 ∷ []) text)

@@ -1,53 +1,9 @@
-use Rattle.std.proofs.Common.{◌≡◌, List, [], Option, None, string_bytes, sym, ap, ◌∙◌}
-use Rattle.std.specs.Borrow.{Bor}
-use Rattle.std.specs.Option.{option_map}
-use Rattle.text_model.specs.Texts.{Text, texts_of}
-use Rattle.environment_model.specs.Lists.{list_names}
-use Rattle.kev_read.specs.Pairs.{pairs_of}
-use Rattle.kev_read.specs.Refusal.{refusal}
-use Rattle.kev_read.specs.Filling.{filled}
-use Rattle.rule_parser.specs.Rules.{RuleSet}
-use Rattle.rule_parser.specs.Names.{each_once}
-use Rattle.rule_parser.specs.Meaning.{meaning}
-use Rattle.answers.specs.Link.{Means, IsLinkOf}
+use Rattle.answers.specs.Link.{IsLinkOf}
 use Rattle.answers.proofs.RefusalLemmas.{is_err}
 use Rattle.answers.proofs.link.link_of.Goals as goal
-
--- what the rules mean in the environment that was filled
-means : (rules : RuleSet) (query : Text) (lists : List (Bor Text)) (link : Option Text) → texts_of lists ≡ each_once (list_names rules.lists)
-    → refusal query ≡ None → link ≡ meaning rules (filled (texts_of lists) [] (pairs_of query)) → Means rules query link
-means rules query lists link listed accepted meant =
-    record {
-      request = accepted;
-      meant = meant ∙ ap (λ names. meaning rules (filled names [] (pairs_of query))) listed;
-    }
 
 pub returns-in_err-rules : goal.returns-in_err-rules
 returns-in_err-rules c = rw (is_err _ _ c.from_residual.ensures.1) (IsLinkOf.no_rules _ c.in_err-rules.ensures.err)
 
-pub returns-in_err-lists : goal.returns-in_err-lists
-returns-in_err-lists c = rw (is_err _ _ c.from_residual-in_err-lists.ensures.1) (IsLinkOf.no_memory _ c.in_ok-rules.ensures.ok)
-
-pub returns-in_err-env : goal.returns-in_err-env
-returns-in_err-env c =
-    rw (is_err _ _ c.from_residual-in_err-env.ensures.1) (IsLinkOf.no_request c.in_ok-rules.rules _ c.in_ok-rules.ensures.ok c.in_err-env.ensures.err)
-
-pub returns-in_err-link : goal.returns-in_err-link
-returns-in_err-link c = rw (is_err _ _ c.from_residual-in_err-link.ensures.1) (IsLinkOf.no_memory _ c.in_ok-rules.ensures.ok)
-
-pub returns-in_err-ended-in-Some : goal.returns-in_err-ended-in-Some
-returns-in_err-ended-in-Some c = rw (is_err _ _ c.from_residual-in_err-ended-in-Some.ensures.1) (IsLinkOf.no_memory _ c.in_ok-rules.ensures.ok)
-
-pub returns-in-Some : goal.returns-in-Some
-returns-in-Some c =
-    let value = c.in_ok-link.ensures.value ∙ ap (meaning c.in_ok-rules.rules) c.in_ok-env.ensures.entries in
-    IsLinkOf.linked c.in_ok-rules.rules (string_bytes c.in-Some.link) _ c.in_ok-rules.ensures.ok
-    (means _ _ _ _ (ap texts_of c.deref.ensures.value ∙ c.in_ok-lists.ensures) c.in_ok-env.ensures.accepted
-    (sym (ap (option_map string_bytes) c.in-Some.is) ∙ value)) c.in_ok-ended-in-Some.ensures
-
 pub returns : goal.returns
-returns c =
-    let value = c.in_ok-link.ensures.value ∙ ap (meaning c.in_ok-rules.rules) c.in_ok-env.ensures.entries in
-    IsLinkOf.no_link c.in_ok-rules.rules c.in_ok-rules.ensures.ok
-    (means _ _ _ _ (ap texts_of c.deref.ensures.value ∙ c.in_ok-lists.ensures) c.in_ok-env.ensures.accepted
-    (sym (ap (option_map string_bytes) c.in-None.is) ∙ value))
+returns c = IsLinkOf.parsed _ _ c.in_ok-rules.ensures.ok c.link_for.ensures
