@@ -1,15 +1,14 @@
-//! Registry files whose calls fail, and the keys of their tables.
+//! The keys of the tables of a registry file.
 
 use crate::codes::FAIL_CODE;
 use files_in_memory::{Content, Memory};
 use kbart_rows::{Keys, SystemKeys};
-use registry::Registry;
-use registry_file::{RegistryError, load_registry};
+use registry::Target;
+use registry_file::load_registry;
 use std::alloc::{AllocError, Global};
 use std::cell::Cell;
 use std::hash::{BuildHasher, Hasher};
 use std::io;
-use std::process::Abort;
 use std::random::RandomSource;
 use std::test::Fail;
 
@@ -34,45 +33,6 @@ fn memory(alloc: Global) -> Result<Memory, AllocError> {
     Ok(memory)
 }
 
-/// The fault, as it is printed, if call number 0, 1, .. fails; the empty text if there is none.
-const FAULTS: [&str; 6] = [
-    "device",
-    "target alpha: device: a code.olk",
-    "target alpha: device: table.txt",
-    "target beta: device: a code.olk",
-    "target beta: device: table.txt",
-    "",
-];
-
-/// Compares the fault, as it is printed, with the expected one; the empty text means no fault.
-fn compare<R: Abort + AllocGlobal>(
-    rt: &R,
-    loaded: Result<Registry, RegistryError>,
-    expected: &str,
-) -> Result<(), Fail> {
-    let Err(fault) = loaded else {
-        return Ok(assert!(rt; expected.is_empty(), "{expected}"));
-    };
-    if matches!(&fault, RegistryError::NoMemory) {
-        return Err(AllocError.into());
-    }
-    let printed = format!(in rt.alloc(); "{fault}")?;
-    assert_eq!(rt; printed.as_str(), expected);
-    Ok(())
-}
-
-#[test]
-fn each_call_fails_in_turn(rt: HostRuntime) -> Result<(), Fail> {
-    for (calls, expected) in FAULTS.iter().enumerate() {
-        let mut files = memory(rt.alloc())?;
-        files.fail_after(calls);
-        let mut keys = SystemKeys::new(&rt);
-        let loaded = load_registry(rt.alloc(), &mut files, &mut keys, PATH);
-        compare(&rt, loaded, expected)?;
-    }
-    Ok(())
-}
-
 /// A system whose random bytes are 1 at the first call, 2 at the second, and so on.
 #[derive(Drop)]
 struct Counting {
@@ -87,9 +47,10 @@ impl RandomSource for Counting {
     }
 }
 
-/// The hash of no bytes under the keys.
-fn hash_of(keys: Keys) -> u64 {
-    keys.build_hasher().finish()
+/// Whether the hash of no bytes under the table's keys is the one under these.
+fn has_keys(target: &Target, keys: Keys) -> bool {
+    let hash = target.table().keys().build_hasher().finish();
+    hash == keys.build_hasher().finish()
 }
 
 /// A number is drawn for each of the two keys, once for all tables.
@@ -104,7 +65,7 @@ fn tables_have_the_drawn_keys(rt: HostRuntime) -> Result<(), Fail> {
     assert_eq!(rt; registry.targets().len(), 2);
     let expected = Keys::new(0x0101_0101_0101_0101, 0x0202_0202_0202_0202);
     for target in registry.targets() {
-        assert_eq!(rt; hash_of(target.table().keys()), hash_of(expected));
+        assert!(rt; has_keys(target, expected));
     }
     Ok(())
 }
