@@ -1,5 +1,6 @@
 -- The entries of one more row.
-use Rattle.std.proofs.Common.{◌≡◌, ℕ, ◌+◌, ◌*◌, ◌≤◌, ◌<◌, ◌||◌, Bool, true, false, List, [], ◌∷◌, ◌++◌, All, Option, None, Some, ap, arith, drop, get_or, length, nat_lt, option_map, refl, subst, sym, take, ◌∙◌, true≢false}
+use Rattle.std.proofs.Common.{◌≡◌, ℕ, ◌+◌, ◌*◌, ◌≤◌, ◌<◌, ◌||◌, Bool, true, false, List, [], ◌∷◌, ◌++◌}
+use Rattle.std.proofs.Common.{Option, None, Some, ap, arith, drop, get_or, length, nat_lt, option_map, refl, subst, sym, take, ◌∙◌, true≢false}
 use Rattle.std.proofs.lemmas.Bool.Decides.{nat_tests}
 use Rattle.std.proofs.lemmas.List.{length-append}
 use Rattle.std.proofs.lemmas.List.Elements.{All-append, All-cons, All-nil, Contains-append_left, Contains-append_right}
@@ -60,7 +61,8 @@ has_more keys print online rows row cells old at so_far other id less has = by_t
         → Contains ((old ++ entries_for keys row (identifier_in cells print)) ++ entries_for keys row (identifier_in cells online)) (entry_for keys row id)
     by_id true q is_first is_second any = Contains-append_left (old ++ entries_for keys row (identifier_in cells print))
         (entries_for keys row (identifier_in cells online)) (entry_for keys row id)
-        (Contains-append_right old (entries_for keys row (identifier_in cells print)) (entry_for keys row id) (its_own keys row id (identifier_in cells print) is_first))
+        (Contains-append_right old (entries_for keys row (identifier_in cells print)) (entry_for keys row id) (its_own keys row id (identifier_in
+        cells print) is_first))
     by_id false true is_first is_second any = Contains-append_right (old ++ entries_for keys row (identifier_in cells print))
         (entries_for keys row (identifier_in cells online)) (entry_for keys row id) (its_own keys row id (identifier_in cells online) is_second)
     by_id false false is_first is_second any = absurd (true≢false (sym any))
@@ -69,14 +71,16 @@ has_more keys print online rows row cells old at so_far other id less has = by_t
         → Contains ((old ++ entries_for keys row (identifier_in cells print)) ++ entries_for keys row (identifier_in cells online)) (entry_for keys other id)
     by_test true early =
         let before : other < row = grind (arith, nat_tests) in
-        Contains-append_left (old ++ entries_for keys row (identifier_in cells print)) (entries_for keys row (identifier_in cells online)) (entry_for keys other id)
+        Contains-append_left (old ++ entries_for keys row (identifier_in cells print)) (entries_for keys row (identifier_in cells online)) (entry_for
+        keys other id)
         (Contains-append_left old (entries_for keys row (identifier_in cells print)) (entry_for keys other id) (so_far other id before has))
     by_test false late =
         let not_before : row ≤ other = grind (arith, nat_tests) in
         let same : row ≡ other = omega (arith, less, not_before) in
         let here : has_identifier (print ∷ online ∷ []) id cells ≡ true =
         ap (has_identifier (print ∷ online ∷ []) id) (at ∙ ap (λ n. get_or rows n []) same) ∙ has in
-        subst (λ n. Contains ((old ++ entries_for keys row (identifier_in cells print)) ++ entries_for keys row (identifier_in cells online)) (entry_for keys n id)) same
+        subst (λ n. Contains ((old ++ entries_for keys row (identifier_in cells print)) ++ entries_for keys row (identifier_in cells online))
+        (entry_for keys n id)) same
         (by_id (is_id id (identifier_in cells print)) (is_id id (identifier_in cells online)) refl refl
         (sym (one_of_two id (identifier_in cells print) (identifier_in cells online)) ∙ here))
 

@@ -16,3 +16,4 @@ pub mod NormalBytes
 pub mod IndexLemmas
 pub mod EntryLemmas
 pub mod RunLemmas
+pub mod MatchLemmas

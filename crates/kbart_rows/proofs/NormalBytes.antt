@@ -1,5 +1,6 @@
 -- An identifier is normalised byte by byte.
-use Rattle.std.proofs.Common.{◌≡◌, ℕ, ◌+◌, ◌-◌, ◌≤◌, ◌<◌, Bool, true, false, cond, List, [], ◌∷◌, ◌++◌, All, filter, length, map, refl, sym, ap, ◌∙◌, arith, nat_lt, get_or}
+use Rattle.std.proofs.Common.{◌≡◌, ℕ, ◌-◌, ◌≤◌, ◌<◌, Bool, true, false, cond, List, []}
+use Rattle.std.proofs.Common.{◌∷◌, ◌++◌, All, filter, map, refl, sym, ap, ◌∙◌, arith, nat_lt, get_or}
 use Rattle.std.proofs.lemmas.Bool.Decides.{nat_tests}
 use Rattle.std.proofs.lemmas.List.{append-nil, get_or_default, map-append}
 use Rattle.std.proofs.lemmas.List.Elements.{All-head, All-tail, filter-append}
@@ -35,7 +36,8 @@ all_high (b ∷ bs) high =
     rw (high_counts b here) (ap (λ first. first ∷ normal bs) (high_stays b here) ∙ ap (λ rest. b ∷ rest) (all_high bs (All-tail (λ b. 128 ≤ b) b bs high)))
 
 pub normal_append : (xs ys : Text) → normal (xs ++ ys) ≡ normal xs ++ normal ys
-normal_append xs ys = ap (map to_ascii_uppercase) (filter-append spec.counts xs ys) ∙ map-append to_ascii_uppercase (filter spec.counts xs) (filter spec.counts ys)
+normal_append xs ys = ap (map to_ascii_uppercase) (filter-append spec.counts xs ys) ∙ map-append to_ascii_uppercase (filter spec.counts xs) (filter
+    spec.counts ys)
 
 -- each byte of a character past ASCII is past ASCII
 high_bytes : (c : ℕ) → 128 ≤ c → All (λ b. 128 ≤ b) (encode c)

@@ -4,7 +4,8 @@ ghost use Rattle.std.specs.Prelude.{◌≡◌, ℕ, ◌+◌, ◌*◌, ◌≤◌,
 ghost use Rattle.std.specs.Option.{option_map, option_to_list};
 ghost use Rattle.kbart_rows.specs.Identifiers.{identifier_in};
 ghost use Rattle.kbart_rows.specs.Lines.{cells_in};
-ghost use Rattle.kbart_rows.specs.Private.Index.{AreSmall, AreStarts, HasEntries, IsOrdered, bucket_of, entry_for, entry_key};
+ghost use Rattle.kbart_rows.specs.Private.Index.{AreSmall, AreStarts, HasEntries, IsOrdered, bucket_of};
+ghost use Rattle.kbart_rows.specs.Private.Index.{entry_for, entry_key};
 ghost use Rattle.kbart_rows.specs.Private.Index as spec;
 ghost use Rattle.kbart_rows.specs.declared.index.Entry.{Entry};
 ghost use Rattle.kbart_rows.specs.declared.read.TheConstants.{MAX_ROWS};

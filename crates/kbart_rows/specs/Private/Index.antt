@@ -46,8 +46,10 @@ bucket_of shift hash = hash / 2 ^ shift
 -- of each bucket, and of one past the last, where its entries start
 pub record AreStarts (shift : ℕ) (entries : List Entry) (starts : List ℕ) : Type 0 where
   pub all : length starts ≡ bucket_of shift 4294967295 + 2
-  pub before : (bucket k : ℕ) (d : Entry) → bucket < length starts → k < get_or starts bucket 0 → k < length entries → bucket_of shift (get_or entries k d).hash < bucket
-  pub after : (bucket k : ℕ) (d : Entry) → bucket < length starts → get_or starts bucket 0 ≤ k → k < length entries → bucket ≤ bucket_of shift (get_or entries k d).hash
+  pub before : (bucket k : ℕ) (d : Entry) → bucket < length starts → k < get_or starts bucket 0 → k < length entries
+      → bucket_of shift (get_or entries k d).hash < bucket
+  pub after : (bucket k : ℕ) (d : Entry) → bucket < length starts → get_or starts bucket 0 ≤ k → k < length entries
+      → bucket ≤ bucket_of shift (get_or entries k d).hash
   pub within : (bucket : ℕ) → bucket < length starts → get_or starts bucket 0 ≤ length entries
 
 -- entries in order, and the starts of their buckets

@@ -1,5 +1,5 @@
 -- What a table keeps: how it is read, and how its rows are found.
-use Rattle.std.specs.Prelude.{◌≡◌, ℕ, ◌↔◌, ◌==◌, if◌then◌else◌, ◌+◌, ◌≤◌, ◌<◌, List, [], ◌∷◌, filter, map, min, drop, length, get_or, String, Vec, Bool, false}
+use Rattle.std.specs.Prelude.{◌≡◌, ℕ, ◌↔◌, ◌==◌, if◌then◌else◌, ◌+◌, ◌≤◌, ◌<◌, List, [], ◌∷◌, map, min, drop, length, get_or, String, Vec, Bool, false}
 use Rattle.std.specs.Prelude.{true, All, Option, None, Some}
 use Rattle.std.specs.Borrow.{Bor}
 use Rattle.std.specs.HashMap.{HashMap, get_by_text, hasher_of}
@@ -16,7 +16,7 @@ use Rattle.target_vars.specs.declared.env.TheConstants.{MAX_BYTES}
 use Rattle.target_vars.specs.declared.error.VarsError.{VarsError}
 use Rattle.target_vars.specs.declared.error.VarsError.TheVariants as vars_error
 use Rattle.kbart_rows.specs.Cells.{Row, Holdings, NamedCell, cell_bytes, column_of, is_first, name_cell, named_cells, row_bytes}
-use Rattle.kbart_rows.specs.Identifiers.{has_identifier, identifier_columns}
+use Rattle.kbart_rows.specs.Identifiers.{identifier_columns}
 use Rattle.kbart_rows.specs.Private.Index.{HasEntries}
 use Rattle.kbart_rows.specs.Reading.{AllFit}
 use Rattle.kbart_rows.specs.declared.error.TableError.{TableError}

@@ -1,5 +1,5 @@
 -- The rows that match the identifiers of a request, read from an index.
-use Rattle.std.specs.Prelude.{◌≡◌, ℕ, ◌≤◌, ◌<◌, zero, suc, List, [], length, get_or, Option, Bool}
+use Rattle.std.specs.Prelude.{ℕ, ◌≤◌, ◌<◌, zero, suc, List, [], length, get_or, Option, Bool}
 use Rattle.text_model.specs.Texts.{Text}
 use Rattle.kbart_rows.specs.Cells.{Holdings}
 use Rattle.kbart_rows.specs.Hashing.{hash_of}

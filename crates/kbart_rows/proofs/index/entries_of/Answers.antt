@@ -5,7 +5,7 @@ use Rattle.kbart_rows.specs.Lines.{cells_in}
 use Rattle.kbart_rows.specs.Private.Index.{AreSmall}
 use Rattle.kbart_rows.specs.declared.index.Entry.{Entry}
 use Rattle.kbart_rows.proofs.EntryLemmas.{HasSoFar, entries_for, few_more, has_more, small_more}
-use Rattle.kbart_rows.proofs.RunLemmas.{has_within}
+use Rattle.kbart_rows.proofs.MatchLemmas.{has_within}
 use Rattle.kbart_rows.proofs.index.entries_of.Goals as goal
 
 pub loop-row-preserved : goal.loop-row-preserved
@@ -23,7 +23,8 @@ loop-row-preserved c =
     let test = c.loop-row-test.true in
     let end = c.len-row-end.ensures in
     let few = c.requires.few in
-    let grown : c.add_entry-in-loop-row.new.entries.items ≡ (old ++ entries_for keys row (identifier_in cells print)) ++ entries_for keys row (identifier_in cells online) =
+    let grown : c.add_entry-in-loop-row.new.entries.items ≡ (old ++ entries_for keys row (identifier_in cells print)) ++ entries_for keys row
+    (identifier_in cells online) =
     c.in_ok-add_entry-2.ensures ∙ ap (λ (entries : List Entry). entries ++ entries_for keys row (identifier_in cells online)) c.in_ok-add_entry.ensures in
     record {
       has = subst (HasSoFar keys print online (drop 1 lines) (row + 1)) (sym grown)

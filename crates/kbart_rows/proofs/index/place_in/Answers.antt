@@ -11,7 +11,8 @@ use Rattle.kbart_rows.proofs.index.place_in.Goals as goal
 abbrev mid : (c : goal.After-partition_point) → List Entry
 mid c = take (c.args.end - c.args.start) (drop c.args.start c.args.entries.now)
 
-parts : (c : goal.After-partition_point) → IsPartitionPoint (λ entry. nat_lt (entry_key entry) c.args.key ≡ true) (λ entry. nat_lt (entry_key entry) c.args.key ≡ false)
+parts : (c : goal.After-partition_point) → IsPartitionPoint (λ entry. nat_lt (entry_key entry) c.args.key ≡ true) (λ entry. nat_lt (entry_key entry)
+    c.args.key ≡ false)
     (mid c) c.partition_point.result
 parts c =
     IsPartitionPoint-from_clause (λ entry. nat_lt (entry_key entry) c.args.key) (mid c) c.partition_point.result c.partition_point.ensures.partitioned

@@ -6,7 +6,7 @@ use Rattle.kbart_rows.specs.Private.Runs.{AreReady, least, matches}
 use Rattle.kbart_rows.specs.declared.runs.Runs.{Runs}
 use Rattle.text_model.specs.Texts.{Text}
 use Rattle.std.proofs.Common.{List, length, ap}
-use Rattle.kbart_rows.proofs.RunLemmas.{first_match, least_small, less_left, match_reached, match_within, none_in, ready_passed}
+use Rattle.kbart_rows.proofs.MatchLemmas.{first_match, least_small, less_left, match_reached, match_within, none_in, ready_passed}
 use Rattle.kbart_rows.proofs.matches.next_row.Goals as goal
 
 -- no row that matches is before the least row
@@ -31,7 +31,8 @@ after_it table ids row other fails match le = by_test (nat_lt row other) refl
 
 pub is_match-requires : goal.is_match-requires
 is_match-requires c =
-    let small = least_small c.args.table.now c.args.ids.now c.loop-least.least c.in-Some.row c.loop-least.runs c.loop-least.invariant.ready (sym c.in-Some.ensures) in
+    let small = least_small c.args.table.now c.args.ids.now c.loop-least.least c.in-Some.row c.loop-least.runs c.loop-least.invariant.ready (sym
+    c.in-Some.ensures) in
     omega (arith, small)
 
 pub returns-then-is_match-clause-first : goal.returns-then-is_match-clause-first
@@ -57,11 +58,13 @@ returns-then-is_match-clause-ready c =
 
 pub overflow_add-least : goal.overflow_add-least
 overflow_add-least c =
-    let small = least_small c.args.table.now c.args.ids.now c.loop-least.least c.in-Some.row c.loop-least.runs c.loop-least.invariant.ready (sym c.in-Some.ensures) in
+    let small = least_small c.args.table.now c.args.ids.now c.loop-least.least c.in-Some.row c.loop-least.runs c.loop-least.invariant.ready (sym
+    c.in-Some.ensures) in
     omega (arith, small)
 
 pub loop-least-smaller-then-row-least : goal.loop-least-smaller-then-row-least
-loop-least-smaller-then-row-least c = less_left c.loop-least.runs c.pass.new.self c.in-Some.row c.pass.ensures.entries c.pass.ensures.first c.pass.ensures.second
+loop-least-smaller-then-row-least c = less_left c.loop-least.runs c.pass.new.self c.in-Some.row c.pass.ensures.entries c.pass.ensures.first
+    c.pass.ensures.second
     c.pass.ensures.third (sym c.in-Some.ensures)
 
 pub loop-least-preserved-then-row-least : goal.loop-least-preserved-then-row-least
@@ -78,7 +81,8 @@ loop-least-preserved-then-row-least c =
           c.pass.ensures.first c.pass.ensures.second c.pass.ensures.third (omega (arith, at)) (omega arith) ready;
       from = omega (arith, from, at);
       none = λ other match low. after_it table ids row other fails match
-          (not_before table ids c.loop-least.least row other c.loop-least.runs ready (sym c.in-Some.ensures) match (c.loop-least.invariant.none other match low));
+          (not_before table ids c.loop-least.least row other c.loop-least.runs ready (sym c.in-Some.ensures) match (c.loop-least.invariant.none other
+          match low));
     }
 
 pub loop-least-smaller : goal.loop-least-smaller
@@ -90,7 +94,8 @@ loop-least-preserved c =
     let early = c.if-row-least.false in
     record {
       ready = ready_passed c.args.table.now c.args.ids.now c.loop-least.least c.loop-least.least c.in-Some.row c.loop-least.runs c.pass.new.self
-          c.pass.ensures.entries c.pass.ensures.first c.pass.ensures.second c.pass.ensures.third (omega arith) (omega (arith, early)) c.loop-least.invariant.ready;
+          c.pass.ensures.entries c.pass.ensures.first c.pass.ensures.second c.pass.ensures.third (omega arith) (omega (arith, early))
+          c.loop-least.invariant.ready;
       from = c.loop-least.invariant.from;
       none = c.loop-least.invariant.none;
     }
@@ -100,5 +105,6 @@ returns-clause-first c =
     let table = c.args.table.now in
     let ids = c.args.ids.now in
     sym (none_in (matches table ids) c.args.from (λ row match low.
-    let reached = match_reached table ids c.loop-least.least row c.loop-least.runs c.loop-least.invariant.ready match (c.loop-least.invariant.none row match low) in
+    let reached = match_reached table ids c.loop-least.least row c.loop-least.runs c.loop-least.invariant.ready match (c.loop-least.invariant.none
+    row match low) in
     none-some reached.0 (sym (sym c.least.ensures ∙ c.in_default.is) ∙ reached.1)) 0 (length table.rows))

@@ -1,6 +1,6 @@
 use Rattle.std.proofs.Common.{◌≡◌, ℕ, ◌≤◌, true}
 use Rattle.kbart_rows.specs.Private.Runs.{AreReady, matches}
-use Rattle.kbart_rows.proofs.RunLemmas.{all_left}
+use Rattle.kbart_rows.proofs.MatchLemmas.{all_left}
 use Rattle.kbart_rows.proofs.matches.next_row.Given as goal
 
 -- no row before `least` is left that matches

@@ -31,7 +31,8 @@ either a b (id ∷ ids) =
 -- both columns decide
 both : (lines : List Row) (table : Holdings) (keys : Keys) (print online : Option ℕ) (ids : List Text) (row : ℕ) (line : Text) → holdings_of lines keys ≡ table
     → print ∷ online ∷ [] ≡ identifier_columns (get_or lines 0 []) → cells_in line ≡ get_or lines (row + 1) []
-    → matches table ids row ≡ (list_any (λ id. is_id id (identifier_in (cells_in line) print)) ids || list_any (λ id. is_id id (identifier_in (cells_in line) online)) ids)
+    → matches table ids row ≡ (list_any (λ id. is_id id (identifier_in (cells_in line) print)) ids || list_any (λ id. is_id id (identifier_in
+    (cells_in line) online)) ids)
 both lines table keys print online ids row line view identified cells =
     let next : row + 1 ≡ 1 + row = omega arith in
     let at : cells_in line ≡ get_or (drop 1 lines) row [] = cells ∙ ap (λ place. get_or lines place []) next ∙ sym (get_or-drop 1 lines row []) in
@@ -43,13 +44,15 @@ both lines table keys print online ids row line view identified cells =
 pub returns-then-has_one : goal.returns-then-has_one
 returns-then-has_one c =
     let second = list_any (λ (id : Text). is_id id (identifier_in (cells_in c.line-line.result.now) c.self.inside.online)) c.args.ids.now in
-    let both = both c.self.inside.lines c.args.self.now _ c.self.inside.print c.self.inside.online c.args.ids.now c.args.row c.line-line.result.now c.self.view_is
+    let both = both c.self.inside.lines c.args.self.now _ c.self.inside.print c.self.inside.online c.args.ids.now c.args.row c.line-line.result.now
+    c.self.view_is
     c.self.invariant.identified c.line-line.ensures.cells in
     c.if-has_one.true ∙ sym (both ∙ ap (λ (first : Bool). first || second) (sym c.has_one.ensures ∙ c.if-has_one.true))
 
 pub returns-else-has_one : goal.returns-else-has_one
 returns-else-has_one c =
     let second = list_any (λ (id : Text). is_id id (identifier_in (cells_in c.line-line.result.now) c.self.inside.online)) c.args.ids.now in
-    let both = both c.self.inside.lines c.args.self.now _ c.self.inside.print c.self.inside.online c.args.ids.now c.args.row c.line-line.result.now c.self.view_is
+    let both = both c.self.inside.lines c.args.self.now _ c.self.inside.print c.self.inside.online c.args.ids.now c.args.row c.line-line.result.now
+    c.self.view_is
     c.self.invariant.identified c.line-line.ensures.cells in
     c.has_one-else-has_one.ensures ∙ sym (both ∙ ap (λ (first : Bool). first || second) (sym c.has_one.ensures ∙ c.if-has_one.false))

@@ -1,4 +1,4 @@
-use Rattle.std.proofs.Common.{◌<◌, ℕ, List, All, length, subst, sym}
+use Rattle.std.proofs.Common.{◌<◌, ℕ, All, length, subst, sym}
 use Rattle.kbart_rows.proofs.RowOrder.{matching_rows_within}
 use Rattle.kbart_rows.proofs.table.Table.matches.Goals as goal
 
