@@ -1,5 +1,6 @@
 pub mod Pieces
 pub mod LinkLemmas
+pub mod Lengths
 pub mod Escapes
 pub mod ContainedLemmas
 pub mod ReadingLemmas

@@ -1,6 +1,6 @@
 -- How a link is written into the value of an attribute between quotation marks, and what is read there
 -- (HTML Living Standard, sections 13.1.2.3 and 13.1.4).
-use Rattle.std.specs.Prelude.{◌≢◌, ℕ, ◌==◌, [], ◌∷◌, ◌++◌, codes, if◌then◌else◌}
+use Rattle.std.specs.Prelude.{◌≢◌, ℕ, ◌<◌, ◌==◌, [], ◌∷◌, ◌++◌, codes, if◌then◌else◌, length, get_or}
 use Rattle.std.specs.List.{flat_map}
 use Rattle.text_model.specs.Texts.{Text}
 
@@ -24,6 +24,10 @@ escaped_byte b = if b == ampersand then ampersand_reference else (if b == apostr
 
 abbrev pub escaped : Text → Text
 escaped link = flat_map escaped_byte link
+
+-- the byte does not occur in the text
+abbrev pub HasNone : ℕ → Text → Type 0
+HasNone byte t = (i : ℕ) → i < length t → get_or t i 0 ≢ byte
 
 -- how a reader of HTML reads a text with these two references: each reference is one character
 pub data IsReadAs : Text → Text → Type 0 where

@@ -7,7 +7,7 @@ ghost use Rattle.menu.specs.Printed.{text, html, report};
 
 use crate::entry::MenuEntry;
 use crate::html::push_list;
-use crate::lines::{push_report_line, push_text_line};
+use crate::lines::{push_report_line, push_text_line, text_len};
 use std::alloc::{AllocError, Global};
 use std::marker::Model;
 
@@ -53,7 +53,7 @@ impl<'a> Menu<'a> {
     pub fn text(&self, alloc: Global) -> Result<String, AllocError>
         ensures { IfOk result (λ printed. string_bytes printed ≡ text self.now) }
     {
-        let mut out = String::new(alloc);
+        let mut out = String::with_capacity(alloc, text_len(&self.list))?;
         for entry in &self.list {
             push_text_line(&mut out, entry)?;
         }
