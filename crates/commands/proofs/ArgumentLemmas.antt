@@ -88,9 +88,6 @@ two_left arguments (template ∷ query ∷ third ∷ rest) options d so_far more
 
 -- ---- arguments that are wrong for `expand`
 
-length-texts_of : (arguments : List (Bor Text)) → length (texts_of arguments) ≡ length arguments
-length-texts_of arguments = length-map arguments (λ argument. argument.now)
-
 -- options, and then arguments that begin with none and are not two
 only_options : (done rest lists : List Text) (template query : Text) → begins_with_option rest ≡ false → (length rest ≡ 2 → ⊥) → template ≢ codes "--list"
     → list_options done ++ rest ≡ list_options lists ++ template ∷ query ∷ [] → ⊥
@@ -107,4 +104,5 @@ no_arguments arguments rest so_far e h lists template query a =
     let whole : texts_of arguments ≡ list_options so_far.1 ++ texts_of rest =
     ap texts_of so_far.2 ∙ map-append (λ argument. argument.now) so_far.0 rest ∙ ap (λ options. options ++ texts_of rest) so_far.3
     in
-    only_options so_far.1 (texts_of rest) lists template query e (λ two. h (sym (length-texts_of rest) ∙ two)) a.no_option (sym whole ∙ a.whole)
+    only_options so_far.1 (texts_of rest) lists template query e (λ two. h (sym (length-map rest (λ argument. argument.now)) ∙ two))
+    a.no_option (sym whole ∙ a.whole)

@@ -9,8 +9,9 @@ pub prints_by : (A B : Result Text Fault → Type 0) (output : Output) (end : Op
     → Prints B output end
 prints_by A B output end by (fails fault answer nothing) = fails fault (by (Err fault) answer) nothing
 prints_by A B output end by (unprinted text path answer named part) = unprinted text path (by (Ok text) answer) named part
-prints_by A B output end by (prints text answer all) = prints text (by (Ok text) answer) a-- the answer is what a call returned
+prints_by A B output end by (prints text answer all) = prints text (by (Ok text) answer) all
 
+-- the answer is what a call returned
 pub prints_answer : (Answers : Result Text Fault → Type 0) (output : Output) (end : Option Fault) (r : Result Text Fault) → Answers r
     → Prints (λ printed. printed ≡ r) output end → Prints Answers output end
 prints_answer Answers output end r answer printed =
