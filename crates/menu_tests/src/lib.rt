@@ -1,7 +1,7 @@
 //! Tests of environments, requests, tables, menus, registries, the runs of a request, files, registry files and HTTP,
 //! for what no contract says and no command shows: sizes and places, names that no rule can have, where filling stops,
-//! what an error gives back, how values are printed, what a watch observes, files and random numbers that fail, and
-//! peers that send and receive a few bytes at a time or fail.
+//! what an error gives back, how values are printed, what a watch observes, the keys of tables, the calls of the
+//! system's files, and peers that send and receive a few bytes at a time or fail.
 #![tactic(auto)]
 
 #[cfg(test)]

@@ -2,39 +2,50 @@
 
 use crate::codes::LIST_CODE;
 use crate::shared::add;
-use registry::{AddErrorKind, Registry};
-use std::alloc::AllocError;
+use registry::{AddError, AddErrorKind, Registry};
+use std::alloc::{AllocError, Global};
 use std::test::Fail;
 
-/// Whether the registry has the one target alpha, with the instructions of its code and the rows of its table.
-fn has_alpha_alone(registry: &Registry) -> bool {
-    let [target] = registry.targets() else {
-        return false;
+/// How many targets the registry has if the first is alpha, with the instructions of its code and the rows of its
+/// table; 0 if it is not.
+fn count_from_alpha(registry: &Registry) -> usize {
+    let targets = registry.targets();
+    let Some(first) = targets.first() else {
+        return 0;
     };
-    target.name() == "alpha" && target.code().code().len() == 6 && target.table().rows() == 2
+    let parts = (
+        first.name(),
+        first.code().code().len(),
+        first.table().rows(),
+    );
+    if parts == ("alpha", 6, 2) {
+        targets.len()
+    } else {
+        0
+    }
 }
 
-/// The code and the table that are given back make a target of another name.
+/// Adds a target of the same code and table under the name `alpha`, and returns whether it is added.
+fn add_again(alloc: Global, registry: &mut Registry, error: AddError) -> Result<bool, AllocError> {
+    let name = String::from_str(alloc, "alpha")?;
+    Ok(registry.add(name, error.code, error.table).is_ok())
+}
+
+/// Whether a target with this name is not added, for its name, which is given back; and whether its parts then make
+/// another target.
+fn refuse(alloc: Global, registry: &mut Registry, name: &str) -> Result<(bool, bool), Fail> {
+    let Err(error) = add(alloc, registry, name, LIST_CODE)? else {
+        return Ok((false, false));
+    };
+    let is_bad = error.kind == AddErrorKind::BadTargetName && error.name.as_str() == name;
+    let is_refused = is_bad && registry.targets().is_empty();
+    Ok((is_refused, add_again(alloc, registry, error)?))
+}
+
 #[test]
 fn gives_the_parts_back(rt: HostRuntime) -> Result<(), Fail> {
     let mut registry = Registry::new(rt.alloc());
-    let Err(error) = add(rt.alloc(), &mut registry, "a b", LIST_CODE)? else {
-        return Ok(assert!(rt; false));
-    };
-    assert_eq!(rt; Some(error.kind), Some(AddErrorKind::BadTargetName));
-    assert_eq!(rt; error.name.as_str(), "a b");
-    assert!(rt; registry.targets().is_empty());
-    let name = String::from_str(rt.alloc(), "alpha")?;
-    if let Err(error) = registry.add(name, error.code, error.table) {
-        return Err(Fail::from(error.kind));
-    }
-    assert!(rt; has_alpha_alone(&registry));
-    Ok(())
-}
-
-#[test]
-fn errors_print_their_kind(rt: HostRuntime) -> Result<(), AllocError> {
-    let kind = AddErrorKind::NoMemory;
-    assert_eq!(rt; format!(in rt.alloc(); "{kind}")?.as_str(), "NoMemory");
+    let refused = refuse(rt.alloc(), &mut registry, "a b")?;
+    assert_eq!(rt; (refused, count_from_alpha(&registry)), ((true, true), 1));
     Ok(())
 }

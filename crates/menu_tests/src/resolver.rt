@@ -1,51 +1,90 @@
-//! The menu of a small registry: what a watch observes until it is complete, and a link of 20,000 bytes.
+//! The menus of small registries, and what a watch observes until they are complete.
 
 use crate::codes::{ISSN_CODE, LIST_CODE};
-use crate::shared::{add, lists};
+use crate::shared::{add, has_lists};
 use kev_read::read_kev;
-use link_menu::{Shown, resolve, resolve_watched};
+use link_menu::{Shown, resolve_watched};
 use registry::Registry;
+use std::alloc::{AllocError, Global};
 use std::test::Fail;
 
-/// A target whose link is not a web link, and one that has its link after eight steps.
-const TARGETS: [(&str, &[u8]); 2] = [("p", LIST_CODE), ("q", ISSN_CODE)];
+/// Names of targets that have the journal, and their codes.
+type Targets = &'static [(&'static str, &'static [u8])];
 
-/// The target that has its link takes no part in later rounds.
-#[test]
-fn rounds(rt: HostRuntime) -> Result<(), Fail> {
-    let mut registry = Registry::new(rt.alloc());
-    for (name, code) in TARGETS {
-        if let Err(error) = add(rt.alloc(), &mut registry, name, code)? {
+/// Targets, how many members of `list` the request has and of how many letters, the report, and what is observed.
+const MENUS: [(Targets, (usize, usize), &str, &str); 2] = [
+    // A target whose link is not a web link, and one that has its link after eight steps. This takes no part in the
+    // later round.
+    (
+        &[("p", LIST_CODE), ("q", ISSN_CODE)],
+        (40, 1),
+        "p\tnot a web link\nq\tlink 0\n",
+        "[[64, 8], [123, 8], [64], [123]]",
+    ),
+    // The head of a request over HTTP is too small for these members.
+    (
+        &[("gamma", LIST_CODE)],
+        (20, 1_000),
+        "gamma\tnot a web link\n",
+        "[[63], [63]]",
+    ),
+];
+
+fn registry(alloc: Global, targets: Targets) -> Result<Registry, Fail> {
+    let mut registry = Registry::new(alloc);
+    for (name, code) in targets {
+        if let Err(error) = add(alloc, &mut registry, name, code)? {
             return Err(Fail::from(error.kind));
         }
     }
-    let members = "&list=a".repeat(rt.alloc(), 40)?;
-    let query = format!(in rt.alloc(); "rft.issn=1234567x{members}")?;
-    let request = read_kev(rt.alloc(), query.as_bytes())?;
-    let mut recorder = Shown::new(rt.alloc());
-    let menu = resolve_watched(rt.alloc(), &registry, &request, &mut recorder)?;
-    let report = menu.report(rt.alloc())?;
-    assert_eq!(rt; report.as_str(), "p\tnot a web link\nq\tlink 0\n");
-    let lists = lists(rt.alloc(), &recorder)?;
-    assert_eq!(rt; lists.as_str(), "[[64, 8], [123, 8], [64], [123]]");
-    Ok(())
+    Ok(registry)
 }
 
-/// The link is written, and is not a web link. The head of a request over HTTP is too small for these members.
-#[test]
-fn twenty_long_members(rt: HostRuntime) -> Result<(), Fail> {
-    let mut registry = Registry::new(rt.alloc());
-    if let Err(error) = add(rt.alloc(), &mut registry, "gamma", LIST_CODE)? {
-        return Err(Fail::from(error.kind));
+/// A query for the journal, with so many members of so many letters.
+fn query(alloc: Global, members: usize, letters: usize) -> Result<String, AllocError> {
+    let mut query = String::from_str(alloc, "rft.issn=1234567x")?;
+    let member = "a".repeat(alloc, letters)?;
+    for _ in 0..members {
+        query.push_str("&list=")?;
+        query.push_str(&member)?;
     }
-    let member = "a".repeat(rt.alloc(), 1_000)?;
-    let member = format!(in rt.alloc(); "&list={member}")?;
-    let members = member.as_str().repeat(rt.alloc(), 20)?;
-    let query = format!(in rt.alloc(); "rft.issn=1234567x{members}")?;
-    let request = read_kev(rt.alloc(), query.as_bytes())?;
-    let menu = resolve(rt.alloc(), &registry, &request)?;
-    let report = menu.report(rt.alloc())?;
-    assert_eq!(rt; report.as_str(), "gamma\tnot a web link\n");
-    assert!(rt; menu.is_empty());
+    Ok(query)
+}
+
+/// Whether the menu of the query has this report.
+fn has_report(
+    alloc: Global,
+    registry: &Registry,
+    query: &str,
+    recorder: &mut Shown,
+    expected: &str,
+) -> Result<bool, Fail> {
+    let request = read_kev(alloc, query.as_bytes())?;
+    let menu = resolve_watched(alloc, registry, &request, recorder)?;
+    let report = menu.report(alloc)?;
+    Ok(report.as_str() == expected)
+}
+
+/// The same of the targets and the members; the watch observes the runs.
+fn shows(
+    alloc: Global,
+    targets: Targets,
+    members: (usize, usize),
+    recorder: &mut Shown,
+    expected: &str,
+) -> Result<bool, Fail> {
+    let registry = registry(alloc, targets)?;
+    let query = query(alloc, members.0, members.1)?;
+    has_report(alloc, &registry, &query, recorder, expected)
+}
+
+#[test]
+fn rounds(rt: HostRuntime) -> Result<(), Fail> {
+    for (targets, members, report, observed) in MENUS {
+        let mut recorder = Shown::new(rt.alloc());
+        let is_shown = shows(rt.alloc(), targets, members, &mut recorder, report)?;
+        let is_observed = has_lists(rt.alloc(), &recorder, observed)?;
+        assert_eq!(rt; (is_shown, is_observed), (true, true), "{report}");
+    }
     Ok(())
 }

@@ -1,12 +1,12 @@
 //! Interleaved runs.
 
 use crate::codes::{LIST_CODE, TEXT_CODE};
-use crate::shared::lists;
-use interpreter::{Run, prepare};
-use link_menu::{Blind, Fate, Shown, Watch, play, round, turn_all};
+use crate::shared::has_lists;
+use link_menu::{Blind, Fate, Run, Shown, Watch, play, round, turn_all};
 use std::alloc::{AllocError, Global};
 use std::test::Fail;
 use target_vars::Env;
+use verified_runs::prepare;
 use verifier::{Verified, load};
 
 /// A code, the members of `list`, and how many letters the text `x` has.
@@ -61,28 +61,35 @@ fn runs<'a>(alloc: Global, codes: &'a [Verified], envs: &'a [Env]) -> Result<Vec
     Ok(runs)
 }
 
-/// Turns of two, two and 64 steps of all runs: how many continue after each. The watch observes the runs.
-fn turned(alloc: Global, recorder: &mut Shown) -> Result<Vec<usize>, Fail> {
+/// How many runs continue after turns of two, two and 64 steps of all. The watch observes the runs.
+fn turn(
+    alloc: Global,
+    runs: &mut [Run<'_>],
+    recorder: &mut Shown,
+) -> Result<Vec<usize>, AllocError> {
+    let mut live = Vec::new(alloc);
+    for n in [2, 2, 64] {
+        live.push(turn_all(runs, n))?;
+        recorder.seen(runs)?;
+    }
+    Ok(live)
+}
+
+/// Whether these numbers of runs continue.
+fn turned(alloc: Global, recorder: &mut Shown, expected: &[usize]) -> Result<bool, Fail> {
     let codes = codes(alloc, TWO)?;
     let envs = environments(alloc, TWO)?;
     let mut runs = runs(alloc, &codes, &envs)?;
-    let mut live = Vec::new(alloc);
-    for n in [2, 2, 64] {
-        live.push(turn_all(runs.as_mut_slice(), n))?;
-        recorder.seen(&runs)?;
-    }
-    Ok(live)
+    let live = turn(alloc, runs.as_mut_slice(), recorder)?;
+    Ok(live.as_slice() == expected)
 }
 
 #[test]
 fn turns_of_all(rt: HostRuntime) -> Result<(), Fail> {
     let mut recorder = Shown::new(rt.alloc());
-    let live = turned(rt.alloc(), &mut recorder)?;
-    assert_eq!(rt; live.as_slice(), [2, 1, 0].as_slice());
-    assert_eq!(rt;
-        lists(rt.alloc(), &recorder)?.as_str(),
-        "[[2, 2], [4, 4], [12, 4]]"
-    );
+    let is_turned = turned(rt.alloc(), &mut recorder, &[2, 1, 0])?;
+    let is_observed = has_lists(rt.alloc(), &recorder, "[[2, 2], [4, 4], [12, 4]]")?;
+    assert_eq!(rt; (is_turned, is_observed), (true, true));
     Ok(())
 }
 
@@ -93,54 +100,79 @@ fn play_both(runs: &mut [Run<'_>]) {
     }
 }
 
-/// What both have printed by then. The watch observes the runs.
-fn played(alloc: Global, recorder: &mut Shown) -> Result<Vec<u8>, Fail> {
-    let codes = codes(alloc, TWO)?;
-    let envs = environments(alloc, TWO)?;
-    let mut runs = runs(alloc, &codes, &envs)?;
-    play_both(runs.as_mut_slice());
-    recorder.seen(&runs)?;
+/// What the runs have printed, with a `;` after each.
+fn printed(alloc: Global, runs: &[Run<'_>]) -> Result<Vec<u8>, AllocError> {
     let mut printed = Vec::new(alloc);
-    for run in &runs {
+    for run in runs {
         printed.extend_from_slice(run.output())?;
         printed.push(b';')?;
     }
     Ok(printed)
 }
 
+/// Whether both have printed this by then. The watch observes the runs.
+fn played(alloc: Global, recorder: &mut Shown, expected: &[u8]) -> Result<bool, Fail> {
+    let codes = codes(alloc, TWO)?;
+    let envs = environments(alloc, TWO)?;
+    let mut runs = runs(alloc, &codes, &envs)?;
+    play_both(runs.as_mut_slice());
+    recorder.seen(&runs)?;
+    let printed = printed(alloc, &runs)?;
+    Ok(printed.as_slice() == expected)
+}
+
 #[test]
 fn schedule(rt: HostRuntime) -> Result<(), Fail> {
     let mut recorder = Shown::new(rt.alloc());
-    let printed = played(rt.alloc(), &mut recorder)?;
-    assert_eq!(rt; printed.as_slice(), b"red;a;".as_slice());
-    assert_eq!(rt; lists(rt.alloc(), &recorder)?.as_str(), "[[4, 3]]");
+    let is_played = played(rt.alloc(), &mut recorder, b"red;a;")?;
+    let is_observed = has_lists(rt.alloc(), &recorder, "[[4, 3]]")?;
+    assert_eq!(rt; (is_played, is_observed), (true, true));
     Ok(())
 }
 
-/// Fates as text.
-fn fates_text(alloc: Global, fates: &[Fate]) -> Result<String, AllocError> {
-    let mut fates_text = String::new(alloc);
-    for fate in fates {
-        let one = match fate {
-            Fate::OverBudget(bytes) => format!(in alloc; "over budget {bytes};")?,
-            Fate::Link(link) => format!(in alloc; "link {link};")?,
-            Fate::NoLink => format!(in alloc; "no link;")?,
-        };
-        fates_text.push_str(one.as_str())?;
-    }
-    Ok(fates_text)
+fn push_fate(alloc: Global, text: &mut String, fate: &Fate) -> Result<(), AllocError> {
+    let fate = match fate {
+        Fate::OverBudget(bytes) => format!(in alloc; "over budget {bytes};")?,
+        Fate::Link(link) => format!(in alloc; "link {link};")?,
+        Fate::NoLink => String::from_str(alloc, "no link;")?,
+    };
+    text.push_str(fate.as_str())
 }
 
-/// The fates of the runs, as text; the watch observes the runs.
-fn fates(alloc: Global, given: &[Given], recorder: &mut Shown) -> Result<String, Fail> {
-    let codes = codes(alloc, given)?;
-    let envs = environments(alloc, given)?;
+fn fates_text(alloc: Global, fates: &[Fate]) -> Result<String, AllocError> {
+    let mut text = String::new(alloc);
+    for fate in fates {
+        push_fate(alloc, &mut text, fate)?;
+    }
+    Ok(text)
+}
+
+/// Whether the text of the fates of these runs begins so; the watch observes the runs.
+fn end(
+    alloc: Global,
+    codes: &[Verified],
+    envs: &[Env],
+    recorder: &mut Shown,
+    expected: &str,
+) -> Result<bool, Fail> {
     let codes = codes.iter().collect::<Vec<&Verified>>(alloc)?;
     if codes.len() != envs.len() {
-        return Ok(String::new(alloc));
+        return Ok(false);
     }
-    let fates = round(alloc, &codes, &envs, recorder)?;
-    Ok(fates_text(alloc, &fates)?)
+    let fates = round(alloc, &codes, envs, recorder)?;
+    Ok(fates_text(alloc, &fates)?.as_str().starts_with(expected))
+}
+
+/// The same of what is given.
+fn given_end(
+    alloc: Global,
+    given: &[Given],
+    recorder: &mut Shown,
+    expected: &str,
+) -> Result<bool, Fail> {
+    let codes = codes(alloc, given)?;
+    let envs = environments(alloc, given)?;
+    end(alloc, &codes, &envs, recorder, expected)
 }
 
 /// The codes, how the text of their fates begins, and what the watch observes. A run that has ended waits for the
@@ -157,11 +189,11 @@ const ROUNDS: [(&[Given], &str, &str); 3] = [
 
 #[test]
 fn rounds(rt: HostRuntime) -> Result<(), Fail> {
-    for (given, fates_text, expected) in ROUNDS {
+    for (given, fates, observed) in ROUNDS {
         let mut recorder = Shown::new(rt.alloc());
-        let fates = fates(rt.alloc(), given, &mut recorder)?;
-        assert!(rt; fates.as_str().starts_with(fates_text), "{fates_text}");
-        assert_eq!(rt; lists(rt.alloc(), &recorder)?.as_str(), expected);
+        let is_expected = given_end(rt.alloc(), given, &mut recorder, fates)?;
+        let is_observed = has_lists(rt.alloc(), &recorder, observed)?;
+        assert_eq!(rt; (is_expected, is_observed), (true, true), "{fates}");
     }
     Blind.seen::<Env>(&[])?;
     Ok(())

@@ -95,17 +95,25 @@ fn peers_in_memory(alloc: Global) -> Result<Peers, AllocError> {
     Ok(peers)
 }
 
-/// The beginning of the reply to a head that does not end.
-const BAD: &[u8] = b"HTTP/1.1 400 Bad Request\r\n";
+/// The reply to a head that does not end.
+const BAD: &[u8] = b"HTTP/1.1 400 Bad Request\r\nContent-Type: text/plain; charset=utf-8\r\n\
+    Content-Length: 12\r\nConnection: close\r\n\r\nbad request\n";
+
+/// Whether each of the first three peers has its reply, and the fourth has none.
+fn have_replies(peers: &Peers) -> bool {
+    for (peer, reply) in [(0, b"".as_slice()), (1, BAD), (2, REPLY)] {
+        if peers.reply(peer) != Some(reply) {
+            return false;
+        }
+    }
+    peers.reply(3).is_none()
+}
 
 #[test]
 fn serves_peers_in_memory(rt: HostRuntime) -> Result<(), Fail> {
     let mut peers = peers_in_memory(rt.alloc())?;
     assert_eq!(rt; counted(rt.alloc(), &mut peers, 3, None)?, (2, 1, 0));
-    assert_eq!(rt; peers.reply(0), Some(b"".as_slice()));
-    assert!(rt; peers.reply(1).is_some_and(|reply| reply.starts_with(BAD)));
-    assert_eq!(rt; peers.reply(2), Some(REPLY.as_slice()));
-    assert_eq!(rt; peers.reply(3), None);
+    assert!(rt; have_replies(&peers));
     assert_eq!(rt; counted(rt.alloc(), &mut peers, 1, Some(0))?, (0, 0, 1));
     Ok(())
 }

@@ -25,10 +25,15 @@ pub(crate) fn add(
     Ok(registry.add(name, code, table))
 }
 
-/// The lists that the watch recorded, as text.
-pub(crate) fn lists(alloc: Global, recorder: &Shown) -> Result<String, AllocError> {
+/// Whether the watch recorded these lists.
+pub(crate) fn has_lists(
+    alloc: Global,
+    recorder: &Shown,
+    expected: &str,
+) -> Result<bool, AllocError> {
     let lists = recorder.lists();
-    format!(in alloc; "{lists:?}")
+    let printed = format!(in alloc; "{lists:?}")?;
+    Ok(printed.as_str() == expected)
 }
 
 /// A request for a path that is none of the pages.

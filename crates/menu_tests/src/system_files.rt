@@ -4,9 +4,14 @@ use files::{FileError, Files, SystemFiles};
 use std::alloc::Global;
 use std::test::Fail;
 
-/// The bytes at the path.
-fn bytes_at<F: Files>(alloc: Global, files: &mut F, path: &str) -> Result<Vec<u8>, FileError> {
-    files.read(alloc, path, 100)
+/// A call, or what makes or reads a file by several.
+#[derive(Copy, Clone)]
+enum Step {
+    Write(&'static str),
+    Read(&'static str),
+    Rename(&'static str, &'static str),
+    CheckPlace(&'static str),
+    Remove(&'static str),
 }
 
 /// Writes a new file in two parts.
@@ -17,24 +22,48 @@ fn write_new<F: Files>(files: &mut F, path: &str) -> Result<(), FileError> {
     files.keep(draft)
 }
 
+/// Whether the file has what is written.
+fn has_both_parts<F: Files>(alloc: Global, files: &mut F, path: &str) -> bool {
+    match files.read(alloc, path, 100) {
+        Ok(bytes) => bytes.as_slice() == b"abc".as_slice(),
+        Err(_) => false,
+    }
+}
+
+/// Whether the step succeeds.
+fn succeeds<F: Files>(alloc: Global, files: &mut F, step: Step) -> bool {
+    match step {
+        Step::Write(path) => write_new(files, path).is_ok(),
+        Step::Read(path) => has_both_parts(alloc, files, path),
+        Step::Rename(from, to) => from != to && files.rename(from, to).is_ok(),
+        Step::CheckPlace(path) => files.check_place(path).is_ok(),
+        Step::Remove(path) => files.remove(path).is_ok(),
+    }
+}
+
+/// Steps in their order, and whether each succeeds.
+const STEPS: [(Step, bool); 10] = [
+    (Step::Write("a file.new"), true),
+    (Step::Write("a file.new"), false),
+    (Step::Rename("a file.new", "a file"), true),
+    (Step::Read("a file"), true),
+    (Step::Rename("a file.new", "a file"), false),
+    (Step::CheckPlace("a file"), true),
+    (Step::Remove("a file"), true),
+    (Step::Remove("a file"), false),
+    (Step::CheckPlace("a file"), true),
+    (Step::Read("a file"), false),
+];
+
 #[test]
 fn a_file_is_written_renamed_and_removed(rt: HostRuntime) -> Result<(), Fail> {
     let mut files = SystemFiles::new(&rt);
-    write_new(&mut files, "a file.new")?;
-    assert_eq!(rt; write_new(&mut files, "a file.new"), Err(FileError::Failed));
-    files.rename("a file.new", "a file")?;
-    assert_eq!(rt;
-        bytes_at(rt.alloc(), &mut files, "a file")?.as_slice(),
-        b"abc".as_slice()
-    );
-    assert_eq!(rt;
-        files.rename("a file.new", "a file"),
-        Err(FileError::Failed)
-    );
-    files.check_place("a file")?;
-    files.remove("a file")?;
-    assert_eq!(rt; files.remove("a file"), Err(FileError::Failed));
-    files.check_place("a file")?;
-    assert!(rt; bytes_at(rt.alloc(), &mut files, "a file").is_err());
+    for (number, (step, expected)) in STEPS.into_iter().enumerate() {
+        assert_eq!(rt;
+            succeeds(rt.alloc(), &mut files, step),
+            expected,
+            "step {number}"
+        );
+    }
     Ok(())
 }

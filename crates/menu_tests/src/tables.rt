@@ -1,56 +1,90 @@
 //! Holdings tables: cells under names that no rule can have, and where filling stops.
 
-use crate::environments::nearly_full;
+use crate::environments::{has_texts, nearly_full};
 use crate::shared::JOURNAL;
-use kbart_rows::{ColumnNames, Keys, RowCursor, Table};
+use kbart_rows::{RowCursor, Table};
+use std::alloc::Global;
 use std::test::Fail;
 use target_vars::{Env, VarsError};
 
-// A table, the name of a column, and its cell in the first row.
-const CELLS: &[(&[u8], &str, Option<&str>)] = &[
+/// A table with two columns `a` and two that have no name.
+const TWICE: &[u8] = b"a\tb\ta\t\t\n\tB\tx\tD\tE\tF\n1\tB\n";
+
+/// A table, a row, the name of a column, and its cell.
+const CELLS: [(&[u8], usize, &str, Option<&str>); 4] = [
     // An empty name is a name.
-    (b"a\t\n1\t2\n", "", Some("2")),
+    (b"a\t\n1\t2\n", 0, "", Some("2")),
     // One byte order mark is dropped, a second is text.
-    (b"\xEF\xBB\xBF\xEF\xBB\xBFa\n1\n", "\u{FEFF}a", Some("1")),
+    (b"\xEF\xBB\xBF\xEF\xBB\xBFa\n1\n", 0, "\u{FEFF}a", Some("1")),
     // Cells beyond the columns of the header.
-    (b"a\n1\t2\n", "", None),
+    (b"a\n1\t2\n", 0, "", None),
+    // No such row.
+    (JOURNAL, 2, "title_url", None),
 ];
 
 #[test]
 fn reads_cells(rt: HostRuntime) -> Result<(), Fail> {
-    for &(bytes, name, cell) in CELLS {
+    for (bytes, row, name, cell) in CELLS {
         let table = Table::read(rt.alloc(), bytes)?;
-        assert!(rt; table.cell(0, name) == cell, "{bytes:?}");
+        assert!(rt; table.cell(row, name) == cell, "{bytes:?}");
     }
     Ok(())
 }
 
-#[test]
-fn fills_a_row_into_an_environment(rt: HostRuntime) -> Result<(), Fail> {
-    let table = Table::read(rt.alloc(), JOURNAL)?;
-    let mut env = Env::new(rt.alloc());
-    assert_eq!(rt; table.rows(), 2);
-    table.fill(1, &mut env)?;
-    assert!(rt; env.bytes() == 27 && env.members() == 0);
-    assert!(rt; table.cell(2, "title_url").is_none());
-    Ok(())
+fn fill_row(table: &Table, row: usize, env: &mut Env) -> Result<bool, VarsError> {
+    if row >= table.rows() {
+        return Ok(false);
+    }
+    table.fill(row, env)?;
+    Ok(true)
 }
 
-const TWICE: &[u8] = b"a\tb\ta\t\t\n\tB\tx\tD\tE\tF\n1\tB\n";
+/// A table, one of its rows, a text that is there before the row is filled in, and some texts that are there then.
+type Filling = (
+    &'static [u8],
+    usize,
+    &'static str,
+    &'static [(&'static str, Option<&'static str>)],
+);
 
-const LETTERS: &[u8] = b"a\tb\tc\n1\t22\t3\n";
+/// How many rows the table has, how many bytes and members the environment, and whether it has the texts.
+fn fill(alloc: Global, filling: Filling) -> Result<(usize, usize, usize, bool), Fail> {
+    let (bytes, row, text, texts) = filling;
+    let table = Table::read(alloc, bytes)?;
+    let mut env = Env::new(alloc);
+    env.put_text("b", text)?;
+    let is_filled = fill_row(&table, row, &mut env)?;
+    let has_texts = is_filled && has_texts(&env, texts);
+    Ok((table.rows(), env.bytes(), env.members(), has_texts))
+}
+
+/// The same, and how many bytes there are.
+const FILLINGS: [(Filling, usize); 3] = [
+    (
+        (JOURNAL, 1, "", &[("title_url", Some("http://e.org/b"))]),
+        27,
+    ),
+    // The first column of a name counts, and the first text.
+    (
+        (
+            TWICE,
+            0,
+            "mine",
+            &[("a", None), ("b", Some("mine")), ("", Some("D"))],
+        ),
+        5,
+    ),
+    (
+        (TWICE, 1, "mine", &[("a", Some("1")), ("b", Some("mine"))]),
+        5,
+    ),
+];
 
 #[test]
-fn fills_cells_under_the_first_column_of_a_name(rt: HostRuntime) -> Result<(), Fail> {
-    let table = Table::read(rt.alloc(), TWICE)?;
-    let mut env = Env::new(rt.alloc());
-    assert!(rt; env.put_text("b", "mine")?);
-    assert_eq!(rt; table.rows(), 2);
-    table.fill(0, &mut env)?;
-    assert!(rt; env.bytes() == 5 && env.text("a").is_none());
-    assert!(rt; env.text("b") == Some("mine") && env.text("") == Some("D"));
-    table.fill(1, &mut env)?;
-    assert!(rt; env.text("a") == Some("1"));
+fn fills_a_row_into_an_environment(rt: HostRuntime) -> Result<(), Fail> {
+    for (filling, bytes) in FILLINGS {
+        assert_eq!(rt; fill(rt.alloc(), filling)?, (2, bytes, 0, true));
+    }
     Ok(())
 }
 
@@ -58,40 +92,24 @@ fn fills_cells_under_the_first_column_of_a_name(rt: HostRuntime) -> Result<(), F
 fn finds_cells_in_a_line(rt: HostRuntime) -> Result<(), Fail> {
     let table = Table::read(rt.alloc(), TWICE)?;
     let mut header = RowCursor::new(table.header());
-    assert!(rt; header.seek(1) == (2, 1) && header.seek(3) == (6, 0));
+    assert_eq!(rt; (header.seek(1), header.seek(3)), ((2, 1), (6, 0)));
     Ok(())
 }
 
-// A name, and whether a column of the two tables has it.
-const NAMES: &[(&str, bool)] = &[
-    ("a", true),
-    ("b", true),
-    ("c", true),
-    ("", true),
-    ("A", false),
-    (" a", false),
-    ("B", false),
-    ("1", false),
-];
-
-#[test]
-fn knows_the_columns_of_all_tables(rt: HostRuntime) -> Result<(), Fail> {
-    let mut names = ColumnNames::new(rt.alloc(), Keys::new(1, 2));
-    assert!(rt; !names.contains("") && !names.contains("a"));
-    names.add(rt.alloc(), &Table::read(rt.alloc(), TWICE)?)?;
-    names.add(rt.alloc(), &Table::read(rt.alloc(), LETTERS)?)?;
-    for &(name, is_known) in NAMES {
-        assert_eq!(rt; names.contains(name), is_known);
-    }
-    Ok(())
+/// The result for a row of which the second cell is too long, and whether the cells before it alone were added.
+fn fill_nearly_full(alloc: Global) -> Result<(Result<bool, VarsError>, bool), Fail> {
+    let table = Table::read(alloc, b"a\tb\tc\n1\t22\t3\n")?;
+    let mut env = nearly_full(alloc)?;
+    let filled = fill_row(&table, 0, &mut env);
+    let texts = [("a", Some("1")), ("b", None), ("c", None)];
+    Ok((filled, has_texts(&env, &texts)))
 }
 
 #[test]
 fn stops_at_a_refused_cell(rt: HostRuntime) -> Result<(), Fail> {
-    let table = Table::read(rt.alloc(), LETTERS)?;
-    let mut env = nearly_full(rt.alloc())?;
-    assert_eq!(rt; table.rows(), 1);
-    assert_eq!(rt; table.fill(0, &mut env), Err(VarsError::TooLarge));
-    assert!(rt; env.text("a") == Some("1") && env.text("b").is_none() && env.text("c").is_none());
+    assert_eq!(rt;
+        fill_nearly_full(rt.alloc())?,
+        (Err(VarsError::TooLarge), true)
+    );
     Ok(())
 }
