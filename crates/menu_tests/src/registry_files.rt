@@ -1,10 +1,10 @@
-//! The keys of the tables of a registry file.
+//! Registry files whose calls fail, and the keys of their tables.
 
 use crate::codes::FAIL_CODE;
 use files_in_memory::{Content, Memory};
-use kbart_rows::{Keys, SystemKeys};
+use kbart_rows::{KeySource, Keys, SystemKeys};
 use registry::Target;
-use registry_file::load_registry;
+use registry_file::{RegistryError, load_registry};
 use std::alloc::{AllocError, Global};
 use std::cell::Cell;
 use std::hash::{BuildHasher, Hasher};
@@ -31,6 +31,51 @@ fn memory(alloc: Global) -> Result<Memory, AllocError> {
         memory.put(path, Content::File(Vec::from_slice(alloc, bytes)?))?;
     }
     Ok(memory)
+}
+
+/// The fault, as it is printed, if call number 0, 1, .. fails; the empty text if there is none.
+const FAULTS: [&str; 6] = [
+    "device",
+    "target alpha: device: a code.olk",
+    "target alpha: device: table.txt",
+    "target beta: device: a code.olk",
+    "target beta: device: table.txt",
+    "",
+];
+
+fn is_printed(alloc: Global, fault: &RegistryError, expected: &str) -> Result<bool, Fail> {
+    if matches!(fault, RegistryError::NoMemory) {
+        return Err(AllocError.into());
+    }
+    let printed = format!(in alloc; "{fault}")?;
+    Ok(printed.as_str() == expected)
+}
+
+/// Whether this fault is returned if this call fails.
+fn fails<K: KeySource>(
+    alloc: Global,
+    keys: &mut K,
+    calls: usize,
+    expected: &str,
+) -> Result<bool, Fail> {
+    let mut files = memory(alloc)?;
+    files.fail_after(calls);
+    match load_registry(alloc, &mut files, keys, PATH) {
+        Ok(_) => Ok(expected.is_empty()),
+        Err(fault) => is_printed(alloc, &fault, expected),
+    }
+}
+
+#[test]
+fn each_call_fails_in_turn(rt: HostRuntime) -> Result<(), Fail> {
+    for (calls, expected) in FAULTS.into_iter().enumerate() {
+        let mut keys = SystemKeys::new(&rt);
+        assert!(rt;
+            fails(rt.alloc(), &mut keys, calls, expected)?,
+            "{expected}"
+        );
+    }
+    Ok(())
 }
 
 /// A system whose random bytes are 1 at the first call, 2 at the second, and so on.

@@ -95,8 +95,19 @@ fn peers_in_memory(alloc: Global) -> Result<Peers, AllocError> {
     Ok(peers)
 }
 
-/// The beginning of the reply to a head that does not end.
-const BAD: &[u8] = b"HTTP/1.1 400 Bad Request\r\n";
+/// The reply to a head that does not end.
+const BAD: &[u8] = b"HTTP/1.1 400 Bad Request\r\nContent-Type: text/plain; charset=utf-8\r\n\
+    Content-Length: 12\r\nConnection: close\r\n\r\nbad request\n";
+
+/// Whether each of the first three peers has its reply, and the fourth has none.
+fn have_replies(peers: &Peers) -> bool {
+    for (peer, reply) in [(0, b"".as_slice()), (1, BAD), (2, REPLY)] {
+        if peers.reply(peer) != Some(reply) {
+            return false;
+        }
+    }
+    peers.reply(3).is_none()
+}
 
 /// Whether each of the first three peers has the beginning of its reply, and the fourth has none.
 fn have_replies(peers: &Peers) -> bool {

@@ -120,7 +120,8 @@ returns-clause-menu g c =
     let outcomes : map entry_so_far searches.items ≡ menu_of (held pairs c.targets-targets.result.now) pairs =
     sym (menu_at_end searches.items none) ∙ c.loop-searches.invariant.menu ∙ ap (λ ts. menu_of (held pairs ts) pairs) (sym c.targets-targets.ensures.value) in
     subst (λ all. IfOk c.menu_with.result (λ menu. menu ≡ all))
-    (with_outcomes pairs c.targets-targets.result.now c.deref-2.result.now searches.items marked outcomes ∙ ap (λ ts. menu_of ts pairs) c.targets-targets.ensures.value)
+    (with_outcomes pairs c.targets-targets.result.now c.deref-2.result.now searches.items marked outcomes
+    ∙ ap (λ ts. menu_of ts pairs) c.targets-targets.ensures.value)
     c.menu_with.ensures
 
 pub returns-clause-observed : goal.returns-clause-observed

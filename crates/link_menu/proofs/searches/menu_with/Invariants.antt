@@ -7,5 +7,5 @@ abbrev pub invariant-loop-target : goal.invariant-loop-target
 invariant-loop-target l = record {
   many : length l.entries.items ≡ l.target-index;
   rest : l.entries.items ++ entries_with (drop l.target-index l.targets) (drop l.target-index l.held) (map (λ s. s.resolution) (into_iter_items l.searches))
-    ≡ entries_with l.targets l.held (map (λ s. s.resolution) l.fn.searches.items);
+      ≡ entries_with l.targets l.held (map (λ s. s.resolution) l.fn.searches.items);
 }
