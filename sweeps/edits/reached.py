@@ -12,8 +12,11 @@ DEFINITIONS = re.compile(r"Rattle\.(\w+)\.specs\.([\w.]*\w)(?:\.\{([^}]*)\})?(?:
 IMPORT = re.compile(r"^ *(?:pub )?use ([\w:{},\s]*);", re.M)
 PATH = re.compile(r"\b([a-z_]\w*)::((?:\w+::)*\w+)")
 WORD = re.compile(r"[^\s(){}\[\],;:.<>&']+")
+DOTTED = re.compile(r"\b(\w+)\.(?=(\w+))")
 CALL = re.compile(r"\.(\w+)\(|::(\w+)")
 DEFINED = re.compile(r"^(?:(?:unfoldable|abbrev|pub|record|data|mutual) )*([^\s:(){}=]+)", re.M)
+FUNCTION = re.compile(r"^(?:pub(?:\(crate\))? )?(?:const |unsafe )*fn (\w+)", re.M)
+TYPE = re.compile(r"^(?:pub(?:\(crate\))? )?(?:struct|enum|trait|const|type) (\w+)", re.M)
 IMPLEMENTED = re.compile(r"^impl(?:<[^{]*?>)? (?:([\w:]+)[^{\n]*? for )?(\w+)", re.M)
 
 
@@ -69,21 +72,38 @@ def definitions(path):
 
 def named_in(text, crate, crates, words):
     """Yields what a text of a crate names; if there are words, only by names that are among them."""
-    for other, module, names, alias in DEFINITIONS.findall(text):
+    for other, module, names, alias in definitions_named_in(text):
         if other not in crates:
             continue
         prefix = alias or module.rpartition(".")[2]
-        used = WORD.findall(names) if names else re.findall(rf"\b{prefix}\.(\w+)", text)
+        used = WORD.findall(names) if names else [it for at, it in dotted_in(text) if at == prefix]
         used = [it for it in used if words is None or it in words or prefix in words]
         if used or words is None:
             yield from of_module(other, module, used)
-    paths = [path for it in IMPORT.findall(text) for path in spelled_out(it)]
-    paths += ["::".join(it) for it in PATH.findall(text) if words is None]
-    for path in paths:
+    for path in paths_in(text) if words is None else imported_by(text):
         first, *rest = re.split("::| as ", path)
         first = crate if first == "crate" else first
         if first in crates and rest and (words is None or not words.isdisjoint(rest)):
             yield from sources_of(first, tuple(rest), crates)
+
+
+@functools.lru_cache(maxsize=None)
+def definitions_named_in(text):
+    return DEFINITIONS.findall(text)
+
+
+@functools.lru_cache(maxsize=None)
+def dotted_in(text):
+    return DOTTED.findall(text)
+
+
+@functools.lru_cache(maxsize=None)
+def imported_by(text):
+    return [path for it in IMPORT.findall(text) for path in spelled_out(it)]
+
+
+def paths_in(text):
+    return [*imported_by(text), *("::".join(it) for it in PATH.findall(text))] if "::" in text else []
 
 
 def spelled_out(imported):
@@ -114,7 +134,7 @@ def of_module(crate, module, names):
     if path is None:
         yield from ((it, name) for it in all_of(crate) for name in ([""] if it.endswith(".rt") else definitions(it)))
     elif is_source:
-        yield path, next((it for it in rest[::-1] if re.search(rf"\b(?:struct|enum|trait) {it}\b", text_of(path))), "")
+        yield path, next((it for it in rest[::-1] if it in names_in(path, TYPE)), "")
     else:
         yield from ((path, name) for name in names or definitions(path))
 
@@ -145,7 +165,7 @@ def sources_of(crate, names, crates):
         names = (first, *rest)
     path = longest(f"crates/{crate}/src", names, ".rt")
     root = f"crates/{crate}/src/lib.rt"
-    if path is None and re.search(rf"\b(fn|struct|enum|trait|const|type) {names[0]}\b", text_of(root)):
+    if path is None and (names[0] in names_in(root, TYPE) or names[0] in names_in(root, FUNCTION)):
         path = root
     return [(path, names[-1])] if path else [(it, "") for it in all_of(crate) if it.endswith(".rt")]
 
@@ -161,11 +181,16 @@ def exports(crate):
 @functools.lru_cache(maxsize=None)
 def is_inner(path, name):
     """Whether a source has a function of the name that its crate does not export."""
-    if not path.endswith(".rt") or not re.search(rf"^(?:pub(?:\(crate\))? )?fn {name}\b", text_of(path), re.M):
+    if not path.endswith(".rt") or name not in names_in(path, FUNCTION):
         return False
     _, crate, _, *module = path[: -len(".rt")].split("/")
-    is_open = re.search(rf"^pub mod {module[0]};", text_of(f"crates/{crate}/src/lib.rt"), re.M)
+    is_open = f"\npub mod {module[0]};" in text_of(f"crates/{crate}/src/lib.rt")
     return not is_open and module != ["lib"] and "::".join([*module, name]) not in exports(crate).values()
+
+
+@functools.lru_cache(maxsize=None)
+def names_in(path, pattern):
+    return frozenset(pattern.findall(text_of(path)))
 
 
 @functools.lru_cache(maxsize=None)
