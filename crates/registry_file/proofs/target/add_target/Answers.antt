@@ -1,5 +1,7 @@
-use Rattle.std.proofs.Common.{subst}
-use Rattle.std.proofs.lemmas.Result.{IfErr-weaker, err_from_is_err_and}
+use Rattle.std.proofs.Common.{refl, subst}
+use Rattle.std.proofs.lemmas.Result.{IfErr-weaker, err_from_is_err_and, on_ok_weaker}
+use Rattle.files.specs.Found.{OfFile}
+use Rattle.kbart_rows.specs.Reading.{IsTable}
 use Rattle.registry_file.specs.Loading.{HasTable}
 use Rattle.registry_file.specs.Private.Stops.{IsNoTable, IsNotAdded, IsStop}
 use Rattle.registry_file.proofs.StopLemmas.{no_code, no_table, not_taken}
@@ -36,3 +38,16 @@ returns-clause-err g c =
     (code.0, code.1, (c.in_ok-code.code, code.2))
     (subst HasTable (c.load_code.ensures.same line.table.now) (table.0, table.1, (c.in_ok-table.table, table.2)))
     why) c.add_named.ensures.err
+
+pub returns-clause-ok : goal.returns-clause-ok
+returns-clause-ok g c =
+    let line = c.args.line.now in
+    let code = c.in_ok-code.code in
+    let table = c.in_ok-table.table in
+    let found = subst (λ file. OfFile file (λ bytes. IsTable bytes table)) (c.load_code.ensures.same line.table.now) c.in_ok-table.ensures.ok in
+    on_ok_weaker c.add_named.result
+    (λ (added : _). (
+      record { name = line.name.now; code = code; table = table },
+      record { named = refl; code = c.in_ok-code.ensures.ok; table = found; keyed = c.in_ok-table.ensures.keyed },
+      added,
+    )) c.add_named.ensures.ok
