@@ -109,19 +109,6 @@ fn have_replies(peers: &Peers) -> bool {
     peers.reply(3).is_none()
 }
 
-/// Whether each of the first three peers has the beginning of its reply, and the fourth has none.
-fn have_replies(peers: &Peers) -> bool {
-    for (peer, start) in [(0, b"".as_slice()), (1, BAD), (2, REPLY)] {
-        if !peers
-            .reply(peer)
-            .is_some_and(|reply| reply.starts_with(start))
-        {
-            return false;
-        }
-    }
-    peers.reply(3).is_none()
-}
-
 #[test]
 fn serves_peers_in_memory(rt: HostRuntime) -> Result<(), Fail> {
     let mut peers = peers_in_memory(rt.alloc())?;

@@ -80,8 +80,11 @@ fn leaves_what_is_no_head(rt: HostRuntime) -> Result<(), Fail> {
 /// What is written, in two parts.
 const DIGITS: &[u8; 10] = b"0123456789";
 
+/// What is written after them, in one piece.
+const MUCH: &[u8; 1_000] = &[b'x'; 1_000];
+
 /// Whether writing the digits in two parts, at most `piece` bytes at a time, has this result and leaves the first
-/// `written` bytes, if write number `fail_at` fails. The write after the one that fails succeeds.
+/// `written` bytes, if write number `fail_at` fails. The next write succeeds, with a whole piece.
 fn go_out(
     alloc: Global,
     piece: usize,
@@ -93,15 +96,18 @@ fn go_out(
     let (first, rest) = DIGITS.split_at(4);
     let is_expected = write_both(&mut output, first, rest) == expected;
     let is_written = output.written() == &DIGITS[..written.min(10)];
-    Ok(is_expected && is_written && output.write(b"") == Ok(0))
+    let much = &MUCH[..piece.min(1_000)];
+    let takes_much = output.write(much) == Ok(piece) && output.written().ends_with(much);
+    Ok(is_expected && is_written && takes_much)
 }
 
 /// How many bytes are written at a time, which write fails, the result, and how many bytes are written.
-const WRITTEN: [(usize, Option<usize>, Result<(), usize>, usize); 6] = [
+const WRITTEN: [(usize, Option<usize>, Result<(), usize>, usize); 7] = [
     (1, None, Ok(()), 10),
     (3, None, Ok(()), 10),
     (10, None, Ok(()), 10),
     (11, None, Ok(()), 10),
+    (1_000, None, Ok(()), 10),
     (4, Some(2), Err(8), 8),
     (3, Some(3), Err(7), 7),
 ];
