@@ -8,5 +8,5 @@ returns-in_err-bytes-clause-ends g c = rw (is_err _ _ c.from_residual.ensures.1)
 
 pub returns-clause-ends : goal.returns-clause-ends
 returns-clause-ends g c =
-    read _ _ _ c.in_ok-bytes.ensures.ok c.in_ok-bytes.ensures.drawn
+    read _ c.in_ok-bytes.keys _ c.in_ok-bytes.ensures.ok c.in_ok-bytes.ensures.drawn
     (rw c.answered.ensures (report_answered _ _ (rw c.deref.ensures.value at c.inspection_of.ensures)))
