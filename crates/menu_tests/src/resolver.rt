@@ -40,7 +40,7 @@ fn registry(alloc: Global, targets: Targets) -> Result<Registry, Fail> {
     Ok(registry)
 }
 
-/// A query for the journal, with so many members of so many letters.
+/// A query for the journal, with this number of members, each of this number of letters.
 fn query(alloc: Global, members: usize, letters: usize) -> Result<String, AllocError> {
     let mut query = String::from_str(alloc, "rft.issn=1234567x")?;
     let member = "a".repeat(alloc, letters)?;
