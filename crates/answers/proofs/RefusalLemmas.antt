@@ -15,7 +15,7 @@ pub is_err : {T : Type 0} {E : Type 0} (result : Result T E) (made : E) → IsEr
 is_err (Ok x) made same = absurd same
 is_err (Err e) made same = ap Err same
 
--- the library finds a fault, if it is not out of memory
+-- the library finds an error, if it is not out of memory
 pub faulty : {E : Type 0} (out e : E) (Fault : Type 0) → (e ≢ out) → (e ≡ out) ⊎ Fault → Fault
 faulty out e Fault other (inl same) = absurd (other same)
 faulty out e Fault other (inr why) = why

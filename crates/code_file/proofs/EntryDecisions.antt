@@ -1,4 +1,4 @@
--- Each entry and each table is valid or has a fault.
+-- Each entry and each table is valid or has an error.
 use Rattle.std.proofs.Common.{◌≡◌, ◌<◌, ◌+◌, ◌*◌, ◌⊎◌, ℕ, zero, suc, Bool, true, false, [], ◌∷◌, ◌++◌, length, take, drop, refl, sym, ◌∙◌, ap, subst, inl, inr}
 use Rattle.std.proofs.Common.{append_assoc, arith}
 use Rattle.std.specs.Prelude.{◌==◌}
@@ -23,7 +23,7 @@ use Rattle.code_file.proofs.PartsLemmas.{first_wrong_of}
 
 -- ---- an entry
 
--- bytes begin with a valid entry, or have the fault of one
+-- bytes begin with a valid entry, or have the error of one
 abbrev IsEntryOrFault : {X : Type 0} → (X → Type 0) → (X → Text) → (Text → CodeError → Type 0) → Text → Type 0
 IsEntryOrFault {X} IsGood field IsFault bytes = BeginsWith IsGood field bytes ⊎ ((e : CodeError) × IsFault bytes e)
 

@@ -1,4 +1,4 @@
--- The faults of small files, each with its place.
+-- The errors of small files, each with its place.
 use Rattle.std.proofs.Common.{◌≡◌, ℕ, true, false, [], ◌∷◌, ◌++◌, ◌≤◌, length, refl, inl, inr, subst, codes, arith}
 use Rattle.std.proofs.Common.{length-append}
 use Rattle.std.specs.Prelude.{All}
@@ -69,7 +69,7 @@ no_instructions = in_field _ (omega arith) (bad_counts past _ refl)
 abbrev named : Text → Text
 named rest = codes "OLK1" ++ 0 ∷ 1 ∷ 0 ∷ 0 ∷ 0 ∷ 1 ∷ rest
 
--- the fault of the first entry is that of the table
+-- the error of the first entry is that of the table
 of_first : {X : Type 0} (IsGood : X → Type 0) (field : X → Text) (IsFault : Text → CodeError → Type 0) (bytes : Text) (e : CodeError)
     → e ≡ after 0 e → IsFault bytes e → IsTableFault IsGood field IsFault 1 bytes e
 of_first IsGood field IsFault bytes e here f =

@@ -1,4 +1,4 @@
--- Any bytes have a code or a first fault: each field is valid or has a fault, from the first to the last.
+-- Any bytes have a code or a first error: each field is valid or has an error, from the first to the last.
 use Rattle.std.proofs.Common.{◌≡◌, ◌<◌, ◌≤◌, ◌+◌, ◌*◌, ◌⊎◌, ℕ, [], ◌∷◌, ◌++◌, length, take, drop, refl, sym, ◌∙◌, ap, subst, inl, inr, arith, Option, Some}
 use Rattle.std.proofs.Common.{None}
 use Rattle.std.specs.Prelude.{All}

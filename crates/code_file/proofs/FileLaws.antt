@@ -1,4 +1,4 @@
--- A file has one code or one first fault, since each stage of reading has one result.
+-- A file has one code or one first error, since each stage of reading has one result.
 use Rattle.std.proofs.Common.{◌≡◌, ◌≤◌, ◌+◌, ◌*◌, ℕ, false, List, [], ◌∷◌, ◌++◌, length, refl, sym, ◌∙◌, ap, subst, inl, inr, append_assoc, arith}
 use Rattle.std.proofs.Common.{length-append, Option, None}
 use Rattle.std.specs.Prelude.{Result, Ok, Err, ◌==◌}
@@ -20,7 +20,7 @@ use Rattle.code_file.proofs.PartsLemmas.{length-instrs}
 use Rattle.code_file.proofs.ReadingStages.{outcome, ReadsHeader, no_magic, short_counts, counted, names_found, names_faulty, ReadsLiterals, literals_found}
 use Rattle.code_file.proofs.ReadingStages.{literals_faulty, ReadsInstrs, too_few, too_many, whole, Reads, one_reading}
 
--- ---- a code, or a fault, is the result of the stages
+-- ---- a code, or an error, is the result of the stages
 
 no_header_fault : (h : Header) → IsHeader h → header_fault h ≡ None
 no_header_fault h a =

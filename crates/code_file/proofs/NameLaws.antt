@@ -1,4 +1,4 @@
--- Bytes begin with at most one name, and have at most one fault of a name.
+-- Bytes begin with at most one name, and have at most one error of a name.
 use Rattle.std.proofs.Common.{◌≡◌, ◌<◌, ◌+◌, ◌⊎◌, ℕ, Bool, true, false, [], ◌∷◌, ◌++◌, length, take, get_or, refl, sym, ◌∙◌, ap, subst, inl, inr, arith}
 use Rattle.std.proofs.Common.{length-append}
 use Rattle.std.specs.Prelude.{Result, Ok, Err, nat_lt, nat_le, ◌&&◌, slice_index, if◌then◌else◌}
@@ -36,7 +36,7 @@ same_kind false false h = refl
 
 -- ---- names
 
--- the text of the name at the beginning, whatever its bytes are, or a fault
+-- the text of the name at the beginning, whatever its bytes are, or an error
 abbrev name_shape_from : ℕ → ℕ → Text → Result Text CodeError
 name_shape_from kind len rest =
     if (nat_lt 0 len && nat_le len MAX_NAME_BYTES)
@@ -76,7 +76,7 @@ text_shape n rest len =
     good_kind_shape n.list (length n.text) (n.text ++ rest)
     ∙ rw (good_length (length n.text) len, enough, take-append_seam n.text rest) refl
 
--- a fault of a name is one of its shape, or a wrong byte of its text
+-- an error of a name is one of its shape, or a wrong byte of its text
 abbrev IsShapedName : Text → CodeError → Type 0
 IsShapedName bytes e =
     (name_shape bytes ≡ Err e)

@@ -1,4 +1,4 @@
--- Parts that are given as values, and the faults of the file that they would make.
+-- Parts that are given as values, and the errors of the file that they would make.
 use Rattle.std.proofs.Common.{◌≡◌, ◌<◌, ◌≤◌, ◌+◌, ◌*◌, ◌^◌, ◌⊎◌, ℕ, suc, Bool, true, false, List, [], ◌∷◌, ◌++◌, length, take, drop, refl, sym, ◌∙◌, ap, inl}
 use Rattle.std.proofs.Common.{inr, append_assoc, arith, length-append, drop-cons, cond, Some, None}
 use Rattle.std.specs.Prelude.{All, min, Option, nat_lt, ◌==◌, is_some, IfSome, IfNone}
@@ -43,7 +43,7 @@ header_small c known short =
       instrs = omega (arith, i, front, back);
     }
 
--- ---- the first fault of a name and of a literal
+-- ---- the first error of a name and of a literal
 
 is_name_byte_or_not : (b : ℕ) → IsNameByte b ⊎ (IsNameByte b → ⊥)
 is_name_byte_or_not b = elim (cases_lt b 0x21) [
@@ -87,7 +87,7 @@ literal_fault_of : (l : Literal) (rest : Text) → length l.bytes < 2 ^ 16 → (
     → IsLiteralFault (literal_field l ++ rest) (fault BadLiteral 3)
 literal_fault_of l rest short bad = bad_text l rest refl short (λ t. bad (record { short = short; text = t }))
 
--- ---- the first fault of the file of parts
+-- ---- the first error of the file of parts
 
 -- the first bad entry, after the valid ones and before the others
 parted : {X : Type 0} (field : X → Text) (xs : List X) (place : ℕ) (d : X) → place < length xs

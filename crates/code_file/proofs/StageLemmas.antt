@@ -1,4 +1,4 @@
--- Bytes have at most one code or first fault. Each stage of reading has one result, and so have several stages in a row.
+-- Bytes have at most one code or first error. Each stage of reading has one result, and so have several stages in a row.
 use Rattle.std.proofs.Common.{◌≡◌, ◌<◌, ◌≤◌, ℕ, List, [], ◌∷◌, ◌++◌, length, refl, sym, ◌∙◌, ap, subst, inl, inr, append_assoc, arith, length-append}
 use Rattle.std.specs.Prelude.{All, Result, Ok, Err}
 use Rattle.std.specs.List.{flat_map}
@@ -31,7 +31,7 @@ first_entries {X = X} IsGood field IsFault apart (x ∷ xs) (y ∷ ys) s t g h e
     let more = first_entries IsGood field IsFault apart xs ys s t (All-tail IsGood x xs g) (All-tail IsGood y ys h) one.1 (omega arith) in
     (more.0, more.1, ap (λ (l : List X). y ∷ l) more.2 ∙ ap (λ (z : X). z ∷ (xs ++ more.0)) (sym one.0), more.3)
 
--- the result of reading a table of that many entries: the entries and the bytes after them, or the first fault
+-- the result of reading a table of that many entries: the entries and the bytes after them, or the first error
 pub data ReadsTable {X : Type 0} (IsGood : X → Type 0) (field : X → Text) (IsFault : Text → CodeError → Type 0)
     (count : ℕ) (bytes : Text) : Result (List X × Text) CodeError → Type 0 where
   found : (xs : List X) (rest : Text) → All IsGood xs → length xs ≡ count → bytes ≡ flat_map field xs ++ rest
@@ -39,7 +39,7 @@ pub data ReadsTable {X : Type 0} (IsGood : X → Type 0) (field : X → Text) (I
   faulty : (xs : List X) (rest : Text) (e : CodeError) → All IsGood xs → length xs < count → bytes ≡ flat_map field xs ++ rest
       → IsFault rest e → ReadsTable IsGood field IsFault count bytes (Err (after (length (flat_map field xs)) e))
 
--- there are no further entries where a fault is
+-- there are no further entries where an error is
 no_more : {X : Type 0} (IsGood : X → Type 0) (field : X → Text) (IsFault : Text → CodeError → Type 0)
     → IsApart IsGood field IsFault → (xs ys : List X) (s t : Text) (e : CodeError) → All IsGood xs → All IsGood ys
     → flat_map field xs ++ s ≡ flat_map field ys ++ t → length xs < length ys → IsFault s e → ⊥
@@ -88,7 +88,7 @@ one_table IsGood field IsFault apart count bytes r q (faulty xs s v g n e j) (fa
 abbrev pub IsOne : {A B : Type 0} → (A → Result B CodeError → Type 0) → Type 0
 IsOne {A} {B} R = (a : A) (r q : Result B CodeError) → R a r → R a q → r ≡ q
 
--- the second stage reads the result of the first; a fault of the first is the fault of both
+-- the second stage reads the result of the first; an error of the first is the error of both
 pub data Then {A B C : Type 0} (R : A → Result B CodeError → Type 0) (S : B → Result C CodeError → Type 0) (a : A) :
     Result C CodeError → Type 0 where
   stops : (e : CodeError) → R a (Err e) → Then R S a (Err e)

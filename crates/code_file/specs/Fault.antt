@@ -1,4 +1,4 @@
--- The first fault of bytes that are not a code file. Fields are read from the left: first fields without a fault, and then one that is incomplete or wrong.
+-- The first error of bytes that are not a code file. Fields are read from the left: first fields without an error, and then one that is incomplete or wrong.
 use Rattle.std.specs.Prelude.{◌≡◌, ℕ, ◌+◌, ◌*◌, ◌^◌, ◌<◌, ◌≤◌, ◌⊎◌, Bool, List, [], ◌∷◌, ◌++◌, length, take, slice_index, All, Option, Some, None, nat_lt, ◌==◌}
 use Rattle.std.specs.Prelude.{if◌then◌else◌}
 use Rattle.std.specs.List.{flat_map}
@@ -20,11 +20,11 @@ fault kind at = record { kind = kind; at = at }
 abbrev pub cut_short : Text → CodeError
 cut_short bytes = fault Truncated (length bytes)
 
--- the same fault, if this number of bytes comes before those that were examined
+-- the same error, if this number of bytes comes before those that were examined
 abbrev pub after : ℕ → CodeError → CodeError
 after n e = fault e.kind (n + e.at)
 
--- ---- the fault of an entry at the beginning of bytes
+-- ---- the error of an entry at the beginning of bytes
 
 -- the byte at a place is the first that no name may have
 pub record IsFirstWrong (text : Text) (place : ℕ) : Type 0 where
@@ -59,9 +59,9 @@ pub data IsLiteralFault (bytes : Text) : CodeError → Type 0 where
   bad_text : (literal : Literal) (rest : Text) → bytes ≡ literal_field literal ++ rest → length literal.bytes < 2 ^ 16
       → (IsTextOf literal.compared literal.bytes → ⊥) → IsLiteralFault bytes (fault BadLiteral 3)
 
--- ---- the fault of a table
+-- ---- the error of a table
 
--- the bytes are these entries, one after another: that many, none with a fault
+-- the bytes are these entries, one after another: that many, none with an error
 pub record IsTableOf {X : Type 0} (IsGood : X → Type 0) (field : X → Text) (count : ℕ) (bytes : Text) (entries : List X) : Type 0 where
   pub good : All IsGood entries
   pub counted : length entries ≡ count
@@ -76,7 +76,7 @@ AreNames count bytes = IsTable IsName name_field count bytes
 abbrev pub AreLiterals : ℕ → Text → Type 0
 AreLiterals count bytes = IsTable IsLiteral literal_field count bytes
 
--- fewer entries without a fault than the count says, and then one with a fault
+-- fewer entries without an error than the count says, and then one with an error
 pub record IsTableFault {X : Type 0} (IsGood : X → Type 0) (field : X → Text) (IsFault : Text → CodeError → Type 0)
     (count : ℕ) (bytes : Text) (e : CodeError) : Type 0 where
   pub before : ℕ
@@ -95,7 +95,7 @@ IsFaultOfNames count bytes e = IsTableFault IsName name_field IsNameFault count 
 abbrev pub IsFaultOfLiterals : ℕ → Text → CodeError → Type 0
 IsFaultOfLiterals count bytes e = IsTableFault IsLiteral literal_field IsLiteralFault count bytes e
 
--- ---- the fault of the header
+-- ---- the error of the header
 
 -- a count over its limit, or no instruction
 abbrev pub header_fault : Header → Option CodeError
@@ -112,7 +112,7 @@ pub record IsHeaderField (h : Header) : Type 0 where
   pub literals : h.literals < 2 ^ 16
   pub instrs : h.instrs < 2 ^ 16
 
--- ---- bytes whose first fields have no fault
+-- ---- bytes whose first fields have no error
 
 pub record PastMagic (bytes : Text) : Type 0 where
   pub version : ℕ
@@ -151,9 +151,9 @@ pub record PastLiterals (bytes : Text) : Type 0 where
   pub literal_table : AreLiterals header.literals literals
   pub spells : bytes ≡ header_field header ++ (names ++ (literals ++ rest))
 
--- ---- the fault of a file
+-- ---- the error of a file
 
--- the fault of the field that comes after fields without a fault
+-- the error of the field that comes after fields without an error
 pub data IsFieldFault (bytes : Text) : CodeError → Type 0 where
   bad_magic : (PastMagic bytes → ⊥) → IsFieldFault bytes (fault BadMagic 0)
   no_counts : (p : PastMagic bytes) → length p.rest < 6 → IsFieldFault bytes (cut_short bytes)
@@ -170,6 +170,6 @@ pub data IsFirstFault (bytes : Text) : CodeError → Type 0 where
   too_long : MAX_BYTES < length bytes → IsFirstFault bytes (fault TooLong MAX_BYTES)
   in_field : (e : CodeError) → length bytes ≤ MAX_BYTES → IsFieldFault bytes e → IsFirstFault bytes e
 
--- the error for bytes that are rejected: their first fault, or, only if they have none, out of memory
+-- the error for bytes that are rejected: their first error, or, only if they have none, out of memory
 abbrev pub IsRefusal : Text → CodeError → Type 0
 IsRefusal bytes e = IsFirstFault bytes e ⊎ ((e ≡ fault NoMemory 0) × ((c : Code) × IsCodeFile bytes c))

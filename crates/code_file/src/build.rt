@@ -1,4 +1,4 @@
-//! The parts of a code, built from tables without a fault.
+//! The parts of a code, built from tables without an error.
 
 ghost use Rattle.std.specs.Prelude.{◌≡◌, ◌<◌, ◌+◌, ◌*◌, ◌++◌, ℕ, List, length, IfOk};
 ghost use Rattle.code_model.specs.Code as code;
@@ -25,7 +25,7 @@ fn read_name(alloc: Global, bytes: &[u8]) -> Result<(Name, &[u8]), AllocError>
     Ok((Name { list, text }, rest))
 }
 
-/// The names of a table without a fault.
+/// The names of a table without an error.
 pub(crate) fn read_names(alloc: Global, bytes: &[u8], count: u16) -> Result<Vec<Name>, AllocError>
     requires { AreNames count bytes.now }
     ensures { IfOk result (λ v. IsTableOf IsName name_field count bytes.now v.items) }
@@ -53,7 +53,7 @@ fn read_literal(alloc: Global, bytes: &[u8]) -> Result<(Literal, &[u8]), AllocEr
     Ok((Literal { compared, bytes }, rest))
 }
 
-/// The literals of a table without a fault.
+/// The literals of a table without an error.
 pub(crate) fn read_literals(
     alloc: Global,
     bytes: &[u8],

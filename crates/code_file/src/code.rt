@@ -56,7 +56,7 @@ impl Model for Code {
 }
 
 impl Code {
-    /// Reads a code file of at most 65,536 bytes. The error is the first fault of the bytes and its place. It is found
+    /// Reads a code file of at most 65,536 bytes. The error is the first one of the bytes, with its place. It is found
     /// before anything is allocated, so `NoMemory` is returned only for bytes that are a code file.
     pub fn read(alloc: Global, bytes: &[u8]) -> Result<Code, CodeError>
         ensures code { IfOk result (IsCodeFile bytes.now) }
@@ -74,7 +74,7 @@ impl Code {
         })
     }
 
-    /// The code of version 1 of these parts, or the kind of the first fault in the file that they would make, in which
+    /// The code of version 1 of these parts, or the kind of the first error in the file that they would make, in which
     /// a name may have any length. Rejected parts are dropped.
     pub fn from_parts(
         names: Vec<Name>,
@@ -88,7 +88,7 @@ impl Code {
         Code::of_parts(1, names, literals, instrs)
     }
 
-    /// The code of version 2 of these parts, or the kind of the first fault, as in [`Code::from_parts`].
+    /// The code of version 2 of these parts, or the kind of the first error, as in [`Code::from_parts`].
     pub fn from_parts2(
         names: Vec<Name>,
         literals: Vec<Literal>,

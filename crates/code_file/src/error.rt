@@ -57,7 +57,7 @@ impl CodeErrorKind {
 }
 
 impl CodeError {
-    /// The same fault, when this number of bytes comes before the ones that were examined.
+    /// The same error, when this number of bytes comes before the ones that were examined.
     pub(crate) fn after(self, front: usize) -> CodeError
         requires { front + self.at < 2 ^ 64 }
         ensures { result ≡ after front self }

@@ -53,7 +53,7 @@ pub(crate) fn first_wrong(text: &[u8]) -> Option<usize>
     text.iter().position(|b| !is_name_byte(*b))
 }
 
-/// The fault of bytes that end before a field does.
+/// The error of bytes that end before a field does.
 pub(crate) fn cut_short(bytes: &[u8]) -> CodeError
     ensures { result ≡ fault.cut_short bytes.now }
 {
@@ -82,7 +82,7 @@ pub(crate) fn is_name_length(len: usize) -> bool
     1 <= len && len <= MAX_NAME_BYTES
 }
 
-/// What follows the name with which the bytes begin, or its fault.
+/// What follows the name with which the bytes begin, or its error.
 pub(crate) fn after_name(bytes: &[u8]) -> Result<&[u8], CodeError>
     ensures good { IfOk result (λ rest. (name : Name) × IsName name × (bytes.now ≡ name_field name ++ rest.now)) }
     ensures fault { IfErr result (IsNameFault bytes.now) }
@@ -117,7 +117,7 @@ pub(crate) fn is_text_of(compared: bool, bytes: &[u8]) -> bool
     }
 }
 
-/// What follows the literal with which the bytes begin, or its fault.
+/// What follows the literal with which the bytes begin, or its error.
 pub(crate) fn after_literal(bytes: &[u8]) -> Result<&[u8], CodeError>
     ensures good { IfOk result (λ rest. (literal : Literal) × IsLiteral literal
         × (bytes.now ≡ literal_field literal ++ rest.now)) }

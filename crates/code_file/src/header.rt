@@ -18,7 +18,7 @@ pub(crate) struct Header {
 }
 
 impl Header {
-    /// The first fault of the counts: one is over its limit, or there is no instruction.
+    /// The first error of the counts: one is over its limit, or there is no instruction.
     pub(crate) fn fault(self) -> Option<CodeError>
         ensures { result ≡ header_fault self }
     {

@@ -16,7 +16,7 @@ pub fn number_has_two_bytes()
         ≡ high ∷ low ∷ [] }
 {}
 
-/// Any bytes are the file of a code, or have a first fault.
+/// Any bytes are the file of a code, or have a first error.
 pub fn bytes_have_a_code_or_a_fault()
     ensures { (bytes : Text) → All (λ b. b < 2 ^ 8) bytes → ((c : Code) × IsCodeFile bytes c)
         ⊎ ((e : CodeError) × IsFirstFault bytes e) }
@@ -32,7 +32,7 @@ pub fn code_has_one_file()
     ensures { (x y : Text) (c : Code) → IsCodeFile x c → IsCodeFile y c → x ≡ y }
 {}
 
-/// The file of a code has no fault.
+/// The file of a code has no error.
 pub fn file_has_no_fault()
     ensures { (bytes : Text) (c : Code) (e : CodeError) → IsCodeFile bytes c → IsFirstFault bytes e → ⊥ }
 {}
@@ -44,7 +44,7 @@ pub fn written_code_is_read()
         × ((e : CodeError) → IsRefusal bytes e → e ≡ fault kind.NoMemory 0) }
 {}
 
-/// Bytes have at most one first fault.
+/// Bytes have at most one first error.
 pub fn file_has_one_fault()
     ensures { (bytes : Text) (e f : CodeError) → IsFirstFault bytes e → IsFirstFault bytes f → e ≡ f }
 {}

@@ -1,4 +1,4 @@
-//! The first fault of a code's parts that are given as values.
+//! The first error of a code's parts that are given as values.
 
 ghost use Rattle.std.specs.Prelude.{◌≡◌, ◌<◌, ℕ, length, min, IfNone, IfSome, All, IsTrue, ◌↔◌};
 ghost use Rattle.std.specs.List.{flat_map};
@@ -76,7 +76,7 @@ fn first_bad_literal(literals: &[Literal]) -> Option<usize>
     literals.iter().position(|literal| !is_literal(literal))
 }
 
-/// The kind of the first fault in the file that the parts would make.
+/// The kind of the first error in the file that the parts would make.
 pub(crate) fn parts_fault(
     version: u8,
     names: &[Name],

@@ -21,7 +21,7 @@ pub(crate) struct Tables<'a> {
 }
 
 impl<'a> Tables<'a> {
-    /// The tables of a file, or its first fault.
+    /// The tables of a file, or its first error.
     pub(crate) fn find(bytes: &'a [u8]) -> Result<Tables<'a>, CodeError>
         ensures good { IfOk result (λ t. AreTables bytes.now t.header t.names.now t.literals.now t.instrs.now) }
         ensures short { IfOk result (λ t. length bytes.now ≤ MAX_BYTES) }
@@ -104,7 +104,7 @@ fn split_header(bytes: &[u8]) -> Result<(Header, &[u8]), CodeError>
     }
 }
 
-/// The table of names with which the bytes begin and what follows it, or its first fault.
+/// The table of names with which the bytes begin and what follows it, or its first error.
 fn split_names(bytes: &[u8], count: u16) -> Result<(&[u8], &[u8]), CodeError>
     ensures good { IfOk result (λ r. AreNames count r.0.now × (bytes.now ≡ r.0.now ++ r.1.now)) }
     ensures fault { IfErr result (IsFaultOfNames count bytes.now) }
@@ -120,7 +120,7 @@ fn split_names(bytes: &[u8], count: u16) -> Result<(&[u8], &[u8]), CodeError>
     Ok(bytes.split_at(at))
 }
 
-/// The table of literals with which the bytes begin and what follows it, or its first fault.
+/// The table of literals with which the bytes begin and what follows it, or its first error.
 fn split_literals(bytes: &[u8], count: u16) -> Result<(&[u8], &[u8]), CodeError>
     ensures good { IfOk result (λ r. AreLiterals count r.0.now × (bytes.now ≡ r.0.now ++ r.1.now)) }
     ensures fault { IfErr result (IsFaultOfLiterals count bytes.now) }

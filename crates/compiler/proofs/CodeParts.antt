@@ -97,7 +97,7 @@ pub known_version : (b : Bool) → IsVersion (if b then 2 else 1)
 known_version true = inr refl
 known_version false = inl refl
 
--- parts whose only fault is the length of the file are rejected for the length
+-- parts whose only error is the length of the file are rejected for the length
 pub refused_long : ((bytes : Text) (c : Code) (e : CodeError) → IsCodeFile bytes c → IsFirstFault bytes e → ⊥) → (c : Code) (e : CodeError)
     → (length (spelled c) ≤ MAX_BYTES → IsCode c) → All IsInstr c.instrs → IsFirstFault (spelled c) e → MAX_BYTES < file_size c
 refused_long no_fault c e good fields fault = elim (cases_lt MAX_BYTES (length (spelled c))) [

@@ -28,7 +28,7 @@ use Rattle.compiler_model.proofs.Places.{IsPlaced, ArePlaced, placed_both}
 use Rattle.compiler_model.proofs.Formed.{IsFormed}
 
 module _ (c : Code) where
-  -- ---- a place at which every check passes has no fault
+  -- ---- a place at which every check passes has no error
 
   none_fails : (ks : List Check) → AllByRecursion (λ k. k.passes ≡ true) ks → first_failing ks ≡ None
   none_fails [] h = refl
@@ -183,5 +183,5 @@ module _ (c : Code) where
   body_past Leave version away p q o f h eq lt room at =
       let e : q ≡ p + 1 = omega (arith, eq) in
       ap (body_at c) e ∙ body_next p _ h.0.reads refl o at (room_less o (p + 1) q (omega (arith, eq)) room)
-  -- ---- no faults
-  -- no place from p to before q has a fault
+  -- ---- no errors
+  -- no place from p to before q has an error

@@ -59,7 +59,7 @@ pub record IsParseMemory (bytes : Text) (error : RuleError) : Type 0 where
   pub short : length bytes ≤ MAX_BYTES
   pub utf8 : IsUtf8 bytes
 
--- the first fault of bytes that are not a rule text, with its line; or that memory ran out
+-- the first error of bytes that are not a rule text, with its line; or that memory ran out
 abbrev pub IsParseCause : Text → RuleError → Type 0
 IsParseCause bytes error = IsRefused bytes error.kind error.line ⊎ IsParseMemory bytes error
 
@@ -73,7 +73,7 @@ pub record IsRunCause (bytes : Text) (e : EnvValue) (error : RulesError) : Type 
 
 -- what each error says about the bytes of a rule file
 abbrev pub IsRuleFileCause : Text → EnvValue → RuleFileError → Type 0
--- they are not a rule text, because of this fault; or memory ran out while they were parsed
+-- they are not a rule text, because of this error; or memory ran out while they were parsed
 IsRuleFileCause bytes e (file.Parse error) = IsParseCause bytes error
 -- they are the text of rules, which are not run for this reason
 IsRuleFileCause bytes e (file.Run error) = IsRunCause bytes e error

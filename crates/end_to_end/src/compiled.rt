@@ -24,7 +24,7 @@ use verified_runs::Outcome;
 ///   file), or `NoMemory` while the code is made.
 /// - `NoMemory`: memory runs out while the file is written.
 /// - `Run`: `OverBudget`, with the bound on output bytes, if that is over 1,048,576; or `NoMemory`, while the file is
-///   loaded, or while a run within that limit is prepared. The verifier never rejects the file for a fault.
+///   loaded, or while a run within that limit is prepared. The verifier never rejects the file for an error.
 pub fn run_rules(alloc: Global, rules: &Rules, env: &Env) -> Result<Outcome, RulesError>
     ensures ends { IfOk result (λ outcome. RulesEndSafely rules.now env.now (outcome_of outcome)) }
     ensures refused { IfErr result (IsRulesCause rules.now env.now) }

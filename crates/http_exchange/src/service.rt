@@ -33,7 +33,7 @@ pub fn serve_on<L: Listener, S: MenuSource>(
 /// closed before the next is accepted. A read or a write that takes longer than `wait` fails. So a peer that sends
 /// nothing blocks the service for one `wait`, and one that sends a byte within each `wait` can block it for up to
 /// 16,384 of them. If the time-out cannot be set, as with a `wait` of 0, the connection is not read, and counts with
-/// the faults.
+/// the `faults`.
 ///
 /// The error is that of the listener, if it cannot accept a connection; no further connection is served then.
 pub fn serve_within<L: Listener, S: MenuSource>(

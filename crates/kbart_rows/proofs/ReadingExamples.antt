@@ -109,7 +109,7 @@ first_line_is_the_header = record {
       (fits (codes "1" ∷ codes "2" ∷ []) ((codes "3" ∷ []) ∷ []) (omega arith) (fits (codes "3" ∷ []) [] (omega arith) (All-nil _)));
 }
 
--- ---- faults
+-- ---- errors
 
 -- a byte order mark counts
 too_long : (letters : Text) → length letters ≡ 16777214 → IsFault (mark ++ letters) TooLong × ¬ (IsFault (mark ++ letters) NotUtf8)

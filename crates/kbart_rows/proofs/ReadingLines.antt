@@ -62,7 +62,7 @@ pub no_tab_in_last : (bytes : Text) (lines : List Row) (cells : Row) (reader : R
     → All HasNoTab cells
 no_tab_in_last bytes lines cells reader reading = last_is_plain lines cells reader.state (strip_bom bytes) reading.rest reading.reached
 
--- why a line was rejected, as a fault of the bytes
+-- why a line was rejected, as an error of the bytes
 pub line_refused : (bytes : Text) (lines : List Row) (cells : Row) (reader : Reader (Bor (List ℕ))) (e : TableError)
     → IsReading bytes (lines ++ cells ∷ []) reader
     → AllFit lines → length lines ≤ MAX_ROWS + 1 → IsRefusedLine (length lines) cells e → IsLineFault bytes e

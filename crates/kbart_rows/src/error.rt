@@ -4,7 +4,7 @@ use std::alloc::AllocError;
 use thiserror::Error;
 
 /// Why a table is rejected. The first two are checked first, in this order; then the lines are read in order, up to the
-/// first fault. `NoMemory` can be returned instead of a fault of the lines, but never instead of the first two, which
+/// first error. `NoMemory` can be returned instead of an error of the lines, but never instead of the first two, which
 /// need no allocation.
 #[derive(Clone, Copy, Debug, PartialEq, Eq, Error)]
 pub enum TableError {

@@ -85,7 +85,7 @@ impl Table {
     /// Reads a holdings table. Its hashed look-ups have the keys 0 and 0, which anybody knows; for a table from a
     /// stranger use [`read_keyed`](Table::read_keyed).
     ///
-    /// Bytes that are not a table are rejected by their first fault: see [`TableError`].
+    /// Bytes that are not a table are rejected by their first error: see [`TableError`].
     pub fn read(alloc: Global, bytes: &[u8]) -> Result<Table, TableError>
         ensures accepted { IfOk result (IsTable bytes.now) }
         ensures keyed { IfOk result (λ table. hasher_at_start table.keys ≡ keyed 0 0) }

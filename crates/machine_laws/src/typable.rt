@@ -8,7 +8,7 @@ ghost use Rattle.machine_model.specs.Typable.{Table, IsClosed, MeetsNeeds, IsTyp
 ghost use Rattle.machine_model.specs.Mismatch.{first_mismatch, IsFirstMismatch};
 ghost use Rattle.machine_model.specs.Passes.{table_in, passes, is_closed};
 
-/// A code has good form exactly if no first fault is found.
+/// A code has good form exactly if no first error is found.
 pub fn form_is_decided()
     ensures { (c : Code) → HasGoodForm c ↔ (first_form_fault c ≡ None) }
 {}

@@ -39,7 +39,7 @@ cases =
     0 ∷ instruction.Next ∷ instruction.Halt ∷ [])) (sums 3 5 0 3 6 0)
     ∷ case (sample (instruction.List 0 0 ∷ instruction.Each 1 0 5 ∷ instruction.Put 2 0 ∷ instruction.Cut 0 1 0 ∷ instruction.Next ∷ instruction.Halt ∷ []))
     (sums 3 3 0 60 0 6)
-    -- places that no step reaches count, and other faults change nothing
+    -- places that no step reaches count, and other errors change nothing
     ∷ case (sample (instruction.Halt ∷ instruction.Emit 0 ∷ instruction.Halt ∷ [])) (sums 3 0 1 0 0 0)
     ∷ case (with_fields 1 (row 16 1 0 7 5) list_code) (sums 3 3 0 1 3 0)
     ∷ case (with_fields 3 (row 14 99 9 9 9) list_code) (sums 3 3 0 1 0 3)

@@ -1,4 +1,4 @@
--- The faults of form of small codes.
+-- The errors of form of small codes.
 use Rattle.std.proofs.Common.{◌≡◌, ℕ, List, [], ◌∷◌, Option, Some, None, refl}
 use Rattle.std.specs.Prelude.{map}
 use Rattle.code_model.specs.Code.{Code, row, reading, upgraded}
@@ -11,7 +11,7 @@ use Rattle.machine_model.specs.First.{Located, first_below}
 use Rattle.machine_model.specs.Form.{body_at, fault_at, first_form_fault}
 use Rattle.machine_model.proofs.Listings.{list_code, issn_code, x_code, sample, second, with_fields, with_instruction}
 
--- a code, and its first fault
+-- a code, and its first error
 record Case : Type 0 where
   code : Code
   first : Option (Located FormFault)
@@ -194,7 +194,7 @@ bodies : map (body_at list_code) (0 ∷ 1 ∷ 2 ∷ 3 ∷ 4 ∷ 5 ∷ 6 ∷ []) 
 unfolding body_at reading
 bodies = refl
 
--- bodies depend only on the operations: EACH and NEXT may have other faults
+-- bodies depend only on the operations: EACH and NEXT may have other errors
 unread_each : fault_at (with_fields 1 (row 16 1 0 7 5) list_code) 2 ≡ None
 unfolding fault_at body_at reading
 unread_each = refl

@@ -1,4 +1,4 @@
--- The order of the checks of form: if two fail at a place, the earlier one is its fault.
+-- The order of the checks of form: if two fail at a place, the earlier one is its error.
 use Rattle.std.proofs.Common.{◌≡◌, ℕ, List, [], ◌∷◌, Option, Some, refl}
 use Rattle.std.specs.Prelude.{map}
 use Rattle.code_model.specs.Code.{row, reading}

@@ -33,7 +33,7 @@ fn memory(alloc: Global) -> Result<Memory, AllocError> {
     Ok(memory)
 }
 
-/// The fault, as it is printed, if call number 0, 1, .. fails; the empty text if there is none.
+/// The error, as it is printed, if call number 0, 1, .. fails; the empty text if there is none.
 const FAULTS: [&str; 6] = [
     "device",
     "target alpha: device: a code.olk",
@@ -51,7 +51,7 @@ fn is_printed(alloc: Global, fault: &RegistryError, expected: &str) -> Result<bo
     Ok(printed.as_str() == expected)
 }
 
-/// Whether this fault is returned if this call fails.
+/// Whether this error is returned if this call fails.
 fn fails<K: KeySource>(
     alloc: Global,
     keys: &mut K,

@@ -41,7 +41,7 @@ fn peers<R: Net<Stream = TcpStream> + AllocGlobal>(
     Ok(peers)
 }
 
-/// How `count` connections ended: with a reply, with nothing, or with a fault. A read times out after this number of
+/// How `count` connections ended: with a reply, with nothing, or with an error. A read times out after this number of
 /// milliseconds, if it is given.
 fn counted<L: Listener>(
     alloc: Global,

@@ -42,7 +42,7 @@ module _ {F : Type 0} (fails : F → FileCall → Text → F → Type 0) (disk :
   not_taken (Add kind) code table why = (why.0, code, table, why.1)
   not_taken NoMemory code table why = tt
 
-  -- the fault that is named is that of the stop
+  -- the error that is named is that of the stop
   pub named_fault : (stop : Stop) (f : TargetFault) → IsStop fails disk targets name code_path table_path stop → IsFaultOf stop f
       → IsTargetFault fails disk targets name code_path table_path f
   named_fault stop (fault.Device named) why is =

@@ -1,4 +1,4 @@
--- Loading a registry file: its targets, or its first fault.
+-- Loading a registry file: its targets, or its first error.
 use Rattle.std.specs.Prelude.{◌≡◌, ◌≢◌, ℕ, ◌+◌, ◌≤◌, ◌⊎◌, List, [], ◌∷◌, ◌++◌, length, string_bytes}
 use Rattle.text_model.specs.Texts.{Text}
 use Rattle.code_model.specs.Code.{Code}
@@ -64,7 +64,7 @@ pub record AreTargetsOf (disk : Disk) (keys : Keys) (bytes : Text) (targets : Li
   pub lines : AreLines bytes rows
   pub held : AreTargets disk keys rows targets
 
--- ---- faults
+-- ---- errors
 
 module _ {F : Type 0} (fails : F → FileCall → Text → F → Type 0) (disk : Disk) where
   -- a read failed, and the error has its path: that of the code or, if the code is accepted, that of the table

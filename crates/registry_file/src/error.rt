@@ -7,7 +7,7 @@ use std::alloc::AllocError;
 use thiserror::Error;
 use verifier::LoadError;
 
-/// Why a registry file could not be loaded: its first fault.
+/// Why a registry file could not be loaded: its first error.
 #[derive(Debug, Drop, Error)]
 pub enum RegistryError {
     /// The registry file could not be read, or there were no random keys for the tables.

@@ -23,7 +23,7 @@ use std::alloc::Global;
 /// read, and then the target is added. Paths are used as they are written. The keys of the tables' hashed look-ups are
 /// drawn once, after the registry file has been read.
 ///
-/// Rejects the file by its first fault: see [`RegistryError`].
+/// Rejects the file by its first error: see [`RegistryError`].
 pub fn load_registry<F: Files, K: KeySource>(
     alloc: Global,
     files: &mut F,

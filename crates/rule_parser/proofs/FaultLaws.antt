@@ -1,4 +1,4 @@
--- The lines of rules have no fault, and other lines have one first fault.
+-- The lines of rules have no error, and other lines have one first error.
 
 use Rattle.std.proofs.Common.{◌≡◌, ℕ, List, [], ◌∷◌, true, false, None, ◌⊎◌, inl, inr, is_some, is_none, ◌&&◌, ◌==◌, length, refl, ap, subst, sym, ◌∙◌}
 use Rattle.std.proofs.lemmas.Bool.{both_ways}
@@ -16,11 +16,11 @@ use Rattle.rule_parser.specs.Private.Progress.{no_rules}
 use Rattle.rule_parser.proofs.LawLemmas.{OneTree, Follows, Runs, so_far_runs}
 use Rattle.rule_parser.proofs.LineLaws.{statement_same, AreStatements}
 
--- a template's text has no fault
+-- a template's text has no error
 abbrev pub NoFault : Type 0
 NoFault = (text : Text) (parts : List Part) (k : TemplateErrorKind) (at : ℕ) → IsTemplate text parts → IsRefusedTemplate text k at → ⊥
 
--- a template's text has one first fault
+-- a template's text has one first error
 abbrev pub OneFault : Type 0
 OneFault = (text : Text) (k other : TemplateErrorKind) (at place : ℕ) → IsRefusedTemplate text k at → IsRefusedTemplate text other place
     → (k ≡ other) × (at ≡ place)

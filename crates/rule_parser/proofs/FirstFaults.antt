@@ -1,4 +1,4 @@
--- The lines of rules have no first fault, and any other lines have at most one.
+-- The lines of rules have no first error, and any other lines have at most one.
 
 use Rattle.std.proofs.Common.{◌≡◌, ℕ, List, [], ◌∷◌, ◌++◌, Some, None, ◌⊎◌, inl, inr, map, length, refl, ap, subst, sym, ◌∙◌, arith}
 use Rattle.std.specs.Str.Lines.{lines}
@@ -80,7 +80,7 @@ not_complete whole guards rules e = not_none (ap (λ (b : RulesSoFar). b.guards)
     not_none : Some guards ≡ None → ⊥
     not_none x = cc
 
--- the lines of rules have no first fault
+-- the lines of rules have no first error
 rules_have_no_fault : OneTree → NoFault → (ls : List Text) (rules : RuleSet) (k : RuleErrorKind) (at : ℕ) → IsSound rules
     → significant ls ≡ map line_of (statements rules) → IsNumberedFault ls k at → ⊥
 rules_have_no_fault tree none ls rules k at s e (line_fault l b line rest k' t f fault) =
@@ -111,7 +111,7 @@ rules_have_no_fault tree none ls rules k at s e (open_fault l whole guards rest 
     by_comparison (inr (inl n)) = open_not_extended tree whole guards (complete rules) rest t (complete_is_sound rules s) r n
     by_comparison (inr (inr n)) = nothing_next _ _ n
 
--- a faulty line, and a rule without its link, cannot both be the first fault
+-- a faulty line, and a rule without its link, cannot both be the first error
 line_and_open : OneTree → NoFault → (ls : List Text) (b : RulesSoFar) (line : Text) (rest : List Text) (k : RuleErrorKind) (whole : RuleSet)
     (guards : List Guard)
     (following : List Text) → AreSoundSoFar b → significant ls ≡ map line_of (statements_so_far b) ++ line ∷ rest → IsLineFault b line k
@@ -129,7 +129,7 @@ line_and_open tree none ls b line rest k whole guards following s e fault t f r 
     by_comparison (inr (inl n)) = extends_not tree none b (open_rule whole guards) line k rest s t fault n
     by_comparison (inr (inr n)) = open_not_extended tree whole guards b following t s r n
 
--- a faulty line, and another first fault of the same lines, are the same
+-- a faulty line, and another first error of the same lines, are the same
 line_fault_same : OneTree → NoFault → OneFault → (ls : List Text) (b : RulesSoFar) (line : Text) (rest : List Text) (k : RuleErrorKind) (other : RuleErrorKind)
     (place : ℕ)
     → AreSoundSoFar b → significant ls ≡ map line_of (statements_so_far b) ++ line ∷ rest → IsLineFault b line k → IsNumberedFault ls other place
@@ -152,7 +152,7 @@ line_fault_same tree none one ls b line rest k other place s e fault (line_fault
 line_fault_same tree none one ls b line rest k other place s e fault (open_fault l whole guards rest' t f r) =
     absurd (line_and_open tree none l b line rest k whole guards rest' s e fault t f r)
 
--- a rule without a link, and another first fault of the same lines, are the same
+-- a rule without a link, and another first error of the same lines, are the same
 open_fault_same : OneTree → NoFault → OneFault → (ls : List Text) (whole : RuleSet) (guards : List Guard) (rest : List Text) (other : RuleErrorKind) (place : ℕ)
     → AreSoundSoFar (open_rule whole guards) → significant ls ≡ map line_of (statements_so_far (open_rule whole guards)) ++ rest → EndsRule rest
     → IsNumberedFault ls other place → (kind.NoLink ≡ other) × (line_number ls (length (statements whole)) ≡ place)
@@ -176,7 +176,7 @@ open_fault_same tree none one ls whole guards rest other place s e r (open_fault
     by_comparison (inr (inl n)) = absurd (open_not_extended tree whole guards (open_rule whole' guards') rest s t r n)
     by_comparison (inr (inr n)) = absurd (open_not_extended tree whole' guards' (open_rule whole guards) rest' t s q n)
 
--- two first faults are one
+-- two first errors are one
 first_faults_same : OneTree → NoFault → OneFault → (ls : List Text) (k other : RuleErrorKind) (at place : ℕ) → IsNumberedFault ls k at
     → IsNumberedFault ls other place
     → (k ≡ other) × (at ≡ place)

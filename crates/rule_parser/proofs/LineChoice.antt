@@ -1,4 +1,4 @@
--- Bytes are the text of rules or have a first fault: each line continues those before it, or it is the first that cannot.
+-- Bytes are the text of rules or have a first error: each line continues those before it, or it is the first that cannot.
 use Rattle.std.proofs.Common.{◌≡◌, ℕ, ◌<◌, ◌≤◌, List, [], ◌∷◌, ◌++◌, ◌+◌, ◌-◌, take, get_or, if◌then◌else◌, Bool, true, false, ◌==◌, Option, Some, None, ◌⊎◌}
 use Rattle.std.proofs.Common.{inl, inr, is_some, map, length, refl, ap, subst, sym, ◌∙◌, codes, arith}
 use Rattle.std.specs.List.{AllByRecursion, join_with_byte, slice_index, slice_split}
@@ -33,7 +33,7 @@ use Rattle.rule_parser.proofs.GuardChoice.{text_choice, front_choice}
 use Rattle.rule_parser.proofs.WholeGuards.{guard_choice}
 use Rattle.rule_parser.proofs.LineLemmas.{no_rules_are_sound}
 
--- a template's text has a tree or a fault
+-- a template's text has a tree or an error
 abbrev pub TreeOrFault : Type 0
 TreeOrFault = (text : Text) → IsUtf8 text → ((parts : List Part) × IsTemplate text parts) ⊎ ((k : TemplateErrorKind) × (at : ℕ) × IsRefusedTemplate text k at)
 

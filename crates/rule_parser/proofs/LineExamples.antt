@@ -1,4 +1,4 @@
--- Lines that are skipped, lines of rules, and texts with their rules or their first fault, computed from the definitions.
+-- Lines that are skipped, lines of rules, and texts with their rules or their first error, computed from the definitions.
 use Rattle.std.proofs.Common.{◌++◌, ◌≡◌, ℕ, ◌≤◌, [], ◌∷◌, true, false, Some, None, inl, inr, length, map, refl, codes, arith}
 use Rattle.std.specs.Prelude.{nat_le, nat_lt}
 use Rattle.std.specs.List.{list_all}
@@ -67,7 +67,7 @@ text_of text t = leb-true (length text) 65536 t
 no_rules_are_sound : IsSound (record { lists = []; rules = [] })
 no_rules_are_sound = record { names = All-nil IsName; rules = All-nil (IsSoundRule []) }
 
--- the empty text has no rules, which is no fault
+-- the empty text has no rules, which is no error
 nothing : IsRuleText [] (record { lists = []; rules = [] })
 nothing = record { short = text_of [] refl; utf8 = IsUtf8-nil; spelled = refl; sound = no_rules_are_sound }
 

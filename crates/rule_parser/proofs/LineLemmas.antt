@@ -55,7 +55,7 @@ line_skipped ls i reader line r h e x = record {
   numbered = r.numbered;
 }
 
--- ---- faults
+-- ---- errors
 
 -- the rule whose link has not been read has none
 no_link_found : (ls : List Text) (whole : RuleSet) (guards : List Guard) (rule_line : Option ℕ) (at : ℕ) (k : RuleErrorKind) (rest : List Text)

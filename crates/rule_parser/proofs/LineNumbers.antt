@@ -74,7 +74,7 @@ number_is ls i ss line h e x s =
     length_take : (n : ℕ) (xs : List Text) → n < length xs → length (take n xs) ≡ n
     length_take n xs l = simp length-take (omega arith)
 
--- ---- first faults, by the numbers of their statements
+-- ---- first errors, by the numbers of their statements
 
 pub data IsNumberedFault : List Text → RuleErrorKind → ℕ → Type 0 where
   line_fault : (ls : List Text) (started : RulesSoFar) (line : Text) (rest : List Text) (k : RuleErrorKind) → AreSoundSoFar started

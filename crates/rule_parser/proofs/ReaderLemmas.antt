@@ -108,7 +108,7 @@ no_other line rule list when link Begin k e = rule e
 no_other line rule list when link (When g) k e = when (guard_text g) e
 no_other line rule list when link (Link t) k e = link t e
 
--- ---- faults
+-- ---- errors
 
 pub line_faulty : (r : Reader) (number : ℕ) (line : Text) (e : RuleError) (k : RuleErrorKind) → e ≡ record { kind = k; line = number }
     → IsLineFault (so_far_of r) line k → IsStepFault r number line e
@@ -139,7 +139,7 @@ no_memory_or_not : (k : TemplateErrorKind) → (k ≡ template_kind.NoMemory) �
 no_memory_or_not template_kind.NoMemory = inl refl
 no_memory_or_not k = inr (λ e. cc)
 
--- a fault of a template, unless memory ran out
+-- an error of a template, unless memory ran out
 pub template_faulty : (r : Reader) (number : ℕ) (text : Text) (t : TemplateError) (e : RuleError) → is_some (so_far_of r).guards ≡ true
     → (t ≡ TEMPLATE_NO_MEMORY) ⊎ IsRefused text t.kind t.at
     → (t.kind ≡ template_kind.NoMemory → e ≡ NO_MEMORY) → (t.kind ≢ template_kind.NoMemory → e ≡ record { kind = kind.Template t.kind; line = number })

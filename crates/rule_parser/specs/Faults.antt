@@ -1,4 +1,4 @@
--- The first fault of bytes that are not a rule text: lines that begin a set of rules, and then a line that cannot continue it.
+-- The first error of bytes that are not a rule text: lines that begin a set of rules, and then a line that cannot continue it.
 use Rattle.std.specs.Prelude.{◌≡◌, ℕ, ◌+◌, ◌<◌, ◌≤◌, List, [], ◌∷◌, ◌++◌, Bool, true, false, Option, Some, None, is_some, is_none, ◌&&◌, ◌==◌, map, length, All}
 use Rattle.std.specs.Prelude.{IsUtf8, ◌⊎◌}
 use Rattle.std.specs.Str.Lines.{lines}
@@ -59,7 +59,7 @@ pub data IsLineFault : RulesSoFar → Text → RuleErrorKind → Type 0 where
   mismatched_link : (started : RulesSoFar) (text : Text) (parts : List Part) → is_in_order started (Link text) ≡ true → IsTemplate text parts
       → parts_fit started.whole.lists parts ≡ false → IsLineFault started (line_of (Link text)) kind.KindMismatch
 
--- ---- the first fault
+-- ---- the first error
 
 -- a line that cannot continue with those before it
 pub record StopsAtLine (ls : List Text) (k : RuleErrorKind) (number : ℕ) : Type 0 where
@@ -97,7 +97,7 @@ pub record LacksLink (ls : List Text) (k : RuleErrorKind) (number : ℕ) : Type 
 abbrev pub IsFirstFault : List Text → RuleErrorKind → ℕ → Type 0
 IsFirstFault ls k number = StopsAtLine ls k number ⊎ LacksLink ls k number
 
--- the bytes are not a rule text: what is wrong with them, and the number of the line, from 1; 0 if the fault belongs to no line
+-- the bytes are not a rule text: what is wrong with them, and the number of the line, from 1; 0 if the error belongs to no line
 abbrev pub IsRefused : Text → RuleErrorKind → ℕ → Type 0
 IsRefused bytes k number =
     ((MAX_BYTES < length bytes) × (k ≡ kind.TooLong) × (number ≡ 0))

@@ -35,13 +35,13 @@ impl fmt::Display for RuleErrorKind {
     }
 }
 
-/// The first fault of a rule text, and the number of its line, from 1; 0 if the fault belongs to no line.
+/// The first error of a rule text, and the number of its line, from 1; 0 if the error belongs to no line.
 #[derive(Clone, Copy, Debug, PartialEq, Eq, Error)]
 #[error("line {line}: {kind}")]
 pub struct RuleError {
     /// What is wrong.
     pub kind: RuleErrorKind,
-    /// The number of the line, from 1; 0 if the fault belongs to no line.
+    /// The number of the line, from 1; 0 if the error belongs to no line.
     pub line: usize,
 }
 
@@ -52,7 +52,7 @@ impl RuleError {
         RuleError { kind, line }
     }
 
-    // A template's fault, at its line. Out of memory in a template is out of memory in the rule text.
+    // A template's error, at its line. Out of memory in a template is out of memory in the rule text.
     pub(crate) fn in_template(kind: TemplateErrorKind, line: usize) -> RuleError
         ensures no_memory { kind ≡ TemplateErrorKind.NoMemory → result ≡ NO_MEMORY }
         ensures fault { kind ≢ TemplateErrorKind.NoMemory

@@ -19,7 +19,7 @@ pub fn one_rule_set()
     one_tree();
 }
 
-/// Bytes that have rules have no fault.
+/// Bytes that have rules have no error.
 pub fn rules_without_fault()
     ensures { (bytes : Text) (rules : RuleSet) (kind : RuleErrorKind) (line : ℕ) → IsRuleText bytes rules
         → IsRefused bytes kind line → ⊥ }
@@ -28,7 +28,7 @@ pub fn rules_without_fault()
     tree_without_fault();
 }
 
-/// Bytes have rules or a first fault.
+/// Bytes have rules or a first error.
 pub fn rules_or_fault()
     ensures { (bytes : Text) → ((rules : RuleSet) × IsRuleText bytes rules)
         ⊎ ((kind : RuleErrorKind) × (line : ℕ) × IsRefused bytes kind line) }
@@ -36,7 +36,7 @@ pub fn rules_or_fault()
     tree_or_fault();
 }
 
-/// Bytes have at most one first fault.
+/// Bytes have at most one first error.
 pub fn one_first_fault()
     ensures { (bytes : Text) (kind other : RuleErrorKind) (line place : ℕ) → IsRefused bytes kind line
         → IsRefused bytes other place → (kind ≡ other) × (line ≡ place) }

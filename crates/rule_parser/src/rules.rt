@@ -49,7 +49,7 @@ impl Rules {
     /// may be missing. Empty lines, and lines that begin with `#`, are skipped. First come lines `list NAME`, then
     /// rules: a line `rule`, any number of lines `when ..`, and one line `link TEMPLATE`.
     ///
-    /// Any other bytes are rejected by their first fault. A rule without a link is found where the next one begins, or
+    /// Any other bytes are rejected by their first error. A rule without a link is found where the next one begins, or
     /// at the end. `NoMemory` if an allocation failed, but never instead of `TooLong` and `NotUtf8`. The clause
     /// `limits` says what the limits of every rule text are.
     pub fn parse(alloc: Global, bytes: &[u8]) -> Result<Rules, RuleError>

@@ -1,4 +1,4 @@
--- The file of a code that has good form and is typable has no fault.
+-- The file of a code that has good form and is typable has no error.
 use Rattle.std.proofs.Common.{◌≡◌, None, refl, subst}
 use Rattle.std.specs.Prelude.{◌↔◌, ℕ}
 use Rattle.text_model.specs.Texts.{Text}

@@ -31,7 +31,7 @@ pub record IsWithinBudget (bytes : Text) (e : EnvValue) : Type 0 where
 
 -- what each error says about the bytes
 abbrev pub IsCause : Text → EnvValue → RunError → Type 0
--- this is the fault for which the verifier rejects them, or they are a code file and memory ran out while it was loaded
+-- this is the error for which the verifier rejects them, or they are a code file and memory ran out while it was loaded
 IsCause bytes e (Load error) = IsLoadFault bytes error
 -- they are accepted, and the bound on output bytes, this number, is over the limit
 IsCause bytes e (Prepare (OverBudget n)) = IsOverBudget bytes e n

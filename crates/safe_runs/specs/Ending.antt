@@ -15,7 +15,7 @@ use Rattle.verifier.specs.declared.error.LoadError.TheVariants as load
 use Rattle.verified_runs.specs.RunValue.{most_steps, most_bytes}
 use Rattle.verified_runs.specs.declared.run.TheConstants.{MAX_LINK_BYTES}
 
--- the verifier finds no fault of the file, of form or of kinds in the bytes: it can only run out of memory
+-- the verifier finds no error of the file, of form or of kinds in the bytes: it can only run out of memory
 abbrev pub HasNoFault : Text → Type 0
 HasNoFault bytes = (e : LoadError) → IsLoadFault bytes e → e ≡ load.NoMemory
 
@@ -25,7 +25,7 @@ pub record IsAcceptedFile (bytes : Text) (c : Code) : Type 0 where
   pub is_file : IsCodeFile bytes c
   -- the code has good form, is typable, and is safe on every environment
   pub accepted : IsAccepted c
-  -- the verifier finds no fault in the bytes
+  -- the verifier finds no error in the bytes
   pub no_fault : HasNoFault bytes
 
 -- the run of a code on an environment, with its outcome

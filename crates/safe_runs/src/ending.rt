@@ -39,9 +39,9 @@ pub fn run_verified(alloc: Global, code: &Verified, env: &Env) -> Result<Outcome
 }
 
 /// Runs the code of a file on an environment, as [`run_verified`] does, if the verifier accepts it. Code that the
-/// verifier rejects is never run: an outcome is returned only for bytes in which it finds no fault.
+/// verifier rejects is never run: an outcome is returned only for bytes in which it finds no error.
 ///
-/// `Load` has the fault for which the verifier rejects the bytes, or says that memory ran out while a code file was
+/// `Load` has the error for which the verifier rejects the bytes, or says that memory ran out while a code file was
 /// loaded. `Prepare` is returned only for accepted code: `OverBudget` if its bound on output bytes is over
 /// [`MAX_LINK_BYTES`], 1,048,576 bytes, and `NoMemory`, only for code within that limit, if memory runs out.
 pub fn run_file(alloc: Global, bytes: &[u8], env: &Env) -> Result<Outcome, RunError>

@@ -10,7 +10,7 @@ ghost use Rattle.safe_runs.specs.Ending.{HasNoFault};
 use code_file::laws::{file_has_no_fault, file_has_one_code};
 use machine_laws::{form_is_decided, mismatch_is_exact};
 
-/// The verifier finds no fault in the file of a code that has good form and is typable: it can only run out of memory.
+/// The verifier finds no error in the file of a code that has good form and is typable: it can only run out of memory.
 pub fn accepted_file_has_no_fault()
     ensures { (bytes : Text) (c : Code) → IsCodeFile bytes c → HasGoodForm c → IsTypable c → HasNoFault bytes }
 {

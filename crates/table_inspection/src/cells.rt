@@ -30,7 +30,7 @@ impl<'a> Cells<'a> {
         }
     }
 
-    /// Counts a cell that has a fault.
+    /// Counts a cell that has an error.
     pub(crate) fn add_if(&mut self, has_fault: bool, row: usize, text: &'a str)
         requires { self.old.count < usize.MAX }
         ensures count { self.new.count ≡ (if has_fault then self.old.count + 1 else self.old.count) }

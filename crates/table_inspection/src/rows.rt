@@ -24,7 +24,7 @@ impl Rows {
         Rows { count: 0, first: 0 }
     }
 
-    /// Counts a row that has a fault.
+    /// Counts a row that has an error.
     pub(crate) fn add_if(&mut self, has_fault: bool, row: usize)
         requires { self.old.count < usize.MAX }
         ensures count { self.new.count ≡ (if has_fault then self.old.count + 1 else self.old.count) }

@@ -1,4 +1,4 @@
--- Every text has a tree or a first fault: read from the left, item by item.
+-- Every text has a tree or a first error: read from the left, item by item.
 
 use Rattle.std.proofs.Common.{◌≡◌, ◌≢◌, ℕ, zero, suc, ◌+◌, ◌-◌, ◌<◌, ◌≤◌, Bool, true, false, ◌⊎◌, ⊎_elim, inl, inr, List, [], ◌∷◌, ◌++◌, length, take, drop}
 use Rattle.std.proofs.Common.{refl, ap, ◌∙◌, sym, arith, append_assoc, take-append-drop, length-append, length-drop, ◌==◌, Option, Some, None}

@@ -1,4 +1,4 @@
--- Texts with their trees, and texts with their first faults, computed from the definitions.
+-- Texts with their trees, and texts with their first errors, computed from the definitions.
 
 use Rattle.std.proofs.Common.{◌≡◌, ◌≢◌, ℕ, ◌<◌, Bool, true, false, inr, List, [], ◌∷◌, ◌++◌, length, refl, ap, ◌∙◌, sym, subst, arith, append_assoc}
 use Rattle.std.proofs.Common.{append-nil, ◌==◌, not, codes, encode_utf8_all}

@@ -1,4 +1,4 @@
--- Any text is that of an expression or has a first fault, and so is any text that of a template or has one.
+-- Any text is that of an expression or has a first error, and so is any text that of a template or has one.
 
 use Rattle.std.proofs.Common.{◌≡◌, ℕ, zero, suc, ◌+◌, ◌-◌, ◌<◌, ◌≤◌, ◌⊎◌, ⊎_elim, inl, inr, List, [], ◌∷◌, ◌++◌, length, drop, refl, ap, ◌∙◌, sym, subst, arith}
 use Rattle.std.proofs.Common.{append_assoc, append-nil, length-append, encode_utf8_all}

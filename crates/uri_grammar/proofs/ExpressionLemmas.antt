@@ -119,7 +119,7 @@ operator_same body o p l m h k =
     let texts : operator_text o ++ l ≡ operator_text o ++ m = sym h.whole ∙ (k.whole ∙ ap (λ (q : Op). operator_text q ++ m) (sym same)) in
     (same, append_cancel_left (operator_text o) l m texts)
 
--- ---- faults of bodies
+-- ---- errors of bodies
 
 pub body_moves : (body : List ℕ) (k : TemplateErrorKind) (d at n : ℕ) → IsBodyFault body k d → moved_place k at n ≡ at + n
 body_moves body k d at n (reserved_operator b h) = refl

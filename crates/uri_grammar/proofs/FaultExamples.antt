@@ -1,4 +1,4 @@
--- Examples of faults.
+-- Examples of errors.
 
 use Rattle.std.proofs.Common.{◌≡◌, ℕ, ◌+◌, ◌<◌, true, false, inr, None, List, [], ◌∷◌, ◌++◌, length, refl, ap, arith, append-nil, ◌==◌, not, codes}
 use Rattle.std.proofs.Common.{encode_utf8, encode_utf8_all}
@@ -25,11 +25,11 @@ use Rattle.uri_grammar.proofs.NameLemmas.{ended_varname}
 use Rattle.uri_grammar.proofs.SpecLemmas.{modifier_of-none, no_name, bad_follower}
 use Rattle.uri_grammar.proofs.Examples.{characters, lacks, no_operator, refused, spec_of, spelled_spec, word}
 
--- a fault of the first part
+-- an error of the first part
 faulty : (cs : List ℕ) (k : TemplateErrorKind) (d : ℕ) → IsPartFault cs k d → IsFirstFault cs k d
 faulty cs k d f = record { front = []; parts = []; rest = cs; distance = d; whole = refl; spelled = refl; fault = f; place = omega arith }
 
--- `{`, a list, `}`: the fault of the list
+-- `{`, a list, `}`: the error of the list
 listed : (list : List ℕ) (k : TemplateErrorKind) (d : ℕ) → 0 < length list → Lacks close_brace list → IsBodyFault list k d
     → IsFirstFault (open_brace ∷ list ++ close_brace ∷ []) k (1 + d)
 listed list k d some lack f = faulty (open_brace ∷ list ++ close_brace ∷ []) k (1 + d) (bad_expression list [] k d some lack f)

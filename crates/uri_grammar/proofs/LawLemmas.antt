@@ -1,4 +1,4 @@
--- A text has one tree or one first fault, and not both.
+-- A text has one tree or one first error, and not both.
 
 use Rattle.std.proofs.Common.{◌≡◌, ◌≢◌, ℕ, List, [], ◌∷◌, ◌++◌, length, refl, ap, ◌∙◌, sym, subst, arith, append-nil, length-append}
 use Rattle.std.proofs.lemmas.Bool.{both_ways}

@@ -152,7 +152,7 @@ spec_same cs s t h k =
     let rest = modifier_same h.after k.after s.cut t.cut s.explode t.explode same.1 h.modified k.modified in
     spec_by_fields s t same.0 rest.0 rest.1
 
--- a text with a fault is not a spec
+-- a text with an error is not a spec
 pub spec_no_fault : (cs : List ℕ) (spec : Spec) (k : TemplateErrorKind) (d : ℕ) → IsSpec cs spec → IsSpecFault cs k d → ⊥
 spec_no_fault cs spec k d h (bad_name xs never) = never spec.name h.after (spec_named cs spec h)
 spec_no_fault cs spec k d h (bad_modifier xs other following is never) =

@@ -1,4 +1,4 @@
--- Parts one after another: what the reader needs to know of expressions, parts and their faults.
+-- Parts one after another: what the reader needs to know of expressions, parts and their errors.
 use Rattle.std.proofs.Common.{◌≡◌, ℕ, ◌+◌, ◌<◌, ◌≤◌, ⊎_elim, inl, inr, suc, List, [], ◌∷◌, ◌++◌, length, get_or, drop, take, refl, ap, ◌∙◌, sym, subst, arith}
 use Rattle.std.proofs.Common.{append_assoc, append-nil, take-append-drop, true, false, ◌==◌, encode_utf8_all}
 use Rattle.std.proofs.Math.Seq.{take-add, take-append-add}
@@ -130,7 +130,7 @@ pub Spells-more_expression : (cs : List ℕ) (done len : ℕ) (part : Part) (par
 Spells-more_expression cs done len part parts parts' h e s =
     rw (take-add, e) (Spells-expression (take done cs) (take len (drop done cs)) parts part s h)
 
--- ---- faults
+-- ---- errors
 
 part_moves : (cs : List ℕ) (k : TemplateErrorKind) (d at n : ℕ) → IsPartFault cs k d → moved_place k at n ≡ at + n
 part_moves cs k d at n (bad_literal c xs l b) = refl
@@ -172,7 +172,7 @@ IsPartFault-empty cs inner end b is l h z =
     subst (λ (t : List ℕ). IsPartFault t kind.EmptyExpression 0) (sym (whole ∙ ap (λ (t : List ℕ). open_brace ∷ t ++ close_brace ∷ drop (end + 1) inner) nil))
     (empty_expression (drop (end + 1) inner))
 
--- a fault after what was read is the first fault of the text
+-- an error after what was read is the first error of the text
 pub IsFirstFault-after : (cs : List ℕ) (done : ℕ) (parts : List Part) (e : TemplateError) → Spells (take done cs) parts
     → IsFault e (IsPartFault (drop done cs)) → IsFault (moved e (length (encode_utf8_all (take done cs)))) (IsFirstFault cs)
 IsFirstFault-after cs done parts e s f =

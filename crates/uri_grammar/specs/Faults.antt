@@ -1,5 +1,5 @@
--- The first fault of a text that is not a template: parts that can be read, and then a text that no part begins with. All characters of an expression before
--- its fault are ASCII, so places within it count bytes.
+-- The first error of a text that is not a template: parts that can be read, and then a text that no part begins with. All characters of an expression before
+-- its error are ASCII, so places within it count bytes.
 use Rattle.std.specs.Prelude.{◌≡◌, ◌≢◌, ℕ, ◌+◌, ◌<◌, Bool, true, false, ◌||◌, ◌==◌, List, [], ◌∷◌, ◌++◌, length, encode_utf8_all, ◌⊎◌, ◌≤◌}
 use Rattle.uri_grammar.specs.declared.error.TemplateErrorKind.{TemplateErrorKind}
 use Rattle.uri_grammar.specs.declared.error.TemplateErrorKind.TheVariants as kind

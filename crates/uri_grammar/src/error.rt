@@ -6,7 +6,7 @@ ghost use Rattle.uri_grammar.specs.Private.Moved.{moved};
 use std::alloc::{AllocError, AllocFailed};
 use thiserror::Error;
 
-/// What is wrong with a template; at one place, the first of these that applies is the fault.
+/// What is wrong with a template; at one place, the first of these that applies is the error.
 #[derive(Clone, Copy, Debug, PartialEq, Eq)]
 pub enum TemplateErrorKind {
     /// It has more than 8,192 bytes.
@@ -27,7 +27,7 @@ pub enum TemplateErrorKind {
     NoMemory,
 }
 
-/// The first fault of a template, and the byte at which it is: the `{` of an expression that is unclosed or empty, the
+/// The first error of a template, and the byte at which it is: the `{` of an expression that is unclosed or empty, the
 /// reserved operator, the first byte of a variable whose name is bad, the `:` or `*` of a bad modifier, or the
 /// character that is not a literal. `TooLong` is at 8,192, and `NoMemory` at 0.
 #[derive(Clone, Copy, Debug, PartialEq, Eq, Error)]
@@ -46,7 +46,7 @@ impl TemplateError {
         TemplateError { kind, at }
     }
 
-    // The same fault, when this number of bytes comes before the text.
+    // The same error, when this number of bytes comes before the text.
     pub(crate) fn after(self, front: usize) -> TemplateError
         requires { self.at + front < 2 ^ 64 }
         ensures { result ≡ moved self front }

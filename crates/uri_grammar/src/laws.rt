@@ -1,4 +1,4 @@
-//! What holds for every text: it has one tree or one first fault, and never both.
+//! What holds for every text: it has one tree or one first error, and never both.
 
 ghost use Rattle.std.specs.Prelude.{◌≡◌, ◌⊎◌, ℕ, List, All};
 ghost use Rattle.std.specs.Str.{IsUtf8};
@@ -14,19 +14,19 @@ pub fn one_tree()
         → parts ≡ others }
 {}
 
-/// A text with a tree has no fault.
+/// A text with a tree has no error.
 pub fn tree_without_fault()
     ensures { (text : Text) (parts : List Part) (kind : TemplateErrorKind) (at : ℕ) → IsTemplate text parts
         → IsRefused text kind at → ⊥ }
 {}
 
-/// A text has at most one first fault.
+/// A text has at most one first error.
 pub fn one_first_fault()
     ensures { (text : Text) (kind other : TemplateErrorKind) (at place : ℕ) → IsRefused text kind at
         → IsRefused text other place → (kind ≡ other) × (at ≡ place) }
 {}
 
-/// A text has a tree or a fault.
+/// A text has a tree or an error.
 pub fn tree_or_fault()
     ensures { (text : Text) → IsUtf8 text → ((parts : List Part) × IsTemplate text parts)
         ⊎ ((kind : TemplateErrorKind) × (at : ℕ) × IsRefused text kind at) }

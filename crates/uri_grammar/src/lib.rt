@@ -1,4 +1,4 @@
-//! The grammar of URI Templates (RFC 6570, section 2): a template's text, its tree, its first fault,
+//! The grammar of URI Templates (RFC 6570, section 2): a template's text, its tree, its first error,
 //! and the laws of the grammar.
 //!
 //! The differences from the RFC are listed at [`Template`].

@@ -51,7 +51,7 @@ impl Model for Template {
 
 impl Template {
     /// Reads a template of at most 8,192 bytes. Any other text is rejected, with the kind and the place of its first
-    /// fault. A text that is too long is never reported as out of memory. The clause `limits` says what the limits of
+    /// error. A text that is too long is never reported as out of memory. The clause `limits` says what the limits of
     /// every template are.
     pub fn parse(alloc: Global, text: &str) -> Result<Template, TemplateError>
         ensures limits { (MAX_BYTES ≡ 8192) × (MAX_NAME_BYTES ≡ 255) × (MAX_PREFIX ≡ 9999) }

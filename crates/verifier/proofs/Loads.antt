@@ -1,4 +1,4 @@
--- From errors of reading, and from faults of a code, to errors of loading.
+-- From errors of reading, and from errors of a code, to errors of loading.
 use Rattle.std.proofs.Common.{◌≡◌, ℕ, Option, Some, None, Bool, true, false, refl, sym, ap, ◌∙◌, subst, inl, inr}
 use Rattle.std.specs.Prelude.{slice_get, if◌then◌else◌, not}
 use Rattle.std.proofs.lemmas.Option.{get_or_from_slice_get, slice_get_within}
@@ -28,7 +28,7 @@ use Rattle.verifier.specs.Private.Checks.{located_of}
 use Rattle.verifier.specs.Faults.{form_error, mismatch_error, read_error, IsLoadFault, IsRefusal}
 use Rattle.verifier.specs.Faults as faults
 
--- ---- a first fault is never out of memory
+-- ---- a first error is never out of memory
 
 in_kind_field : (bytes : Text) (e : CodeError) → IsKindFault bytes e → e.kind ≡ NoMemory → ⊥
 in_kind_field bytes e (no_kind h) k = absurd (cc)
@@ -80,7 +80,7 @@ pub read_refused : (bytes : Text) (e : CodeError) → read.IsRefusal bytes e →
 read_refused bytes e (inl h) = read_first bytes e h
 read_refused bytes e (inr h) = subst (λ x. IsLoadFault bytes (read_error x)) (sym h.0) (faults.no_memory h.1.0 h.1.1)
 
--- ---- faults of a code
+-- ---- errors of a code
 
 pub code_refused : (bytes : Text) (c : Code) (e : LoadError) → IsCodeFile bytes c → IsRefusal c e → IsLoadFault bytes e
 code_refused bytes c e file (IsRefusal.bad_form f h) = IsLoadFault.bad_form c f file h

@@ -15,7 +15,7 @@ use Rattle.machine_model.specs.Mismatch.{IsFirstMismatch}
 use Rattle.verifier.specs.declared.error.LoadError.{LoadError}
 use Rattle.verifier.specs.declared.error.LoadError.TheVariants as load
 
--- a fault of form, with its place
+-- an error of form, with its place
 abbrev pub form_error : Located FormFault → LoadError
 form_error f = of_form f.what f.place
   where
@@ -38,7 +38,7 @@ form_error f = of_form f.what f.place
 abbrev pub mismatch_error : Located ℕ → LoadError
 mismatch_error m = load.KindMismatch m.place m.what
 
--- The first fault, in this order: of the file, of form, of kinds.
+-- The first error, in this order: of the file, of form, of kinds.
 pub data IsLoadFault (bytes : Text) : LoadError → Type 0 where
   no_code : (e : CodeError) → IsFirstFault bytes e → IsLoadFault bytes (load.Code e.kind e.at)
   bad_form : (c : Code) (f : Located FormFault) → IsCodeFile bytes c → first_form_fault c ≡ Some f → IsLoadFault bytes (form_error f)

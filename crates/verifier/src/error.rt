@@ -12,7 +12,7 @@ use thiserror::Error;
 /// order of their places, then the kinds of registers. The number is the place of an instruction.
 #[derive(Clone, Copy, Debug, PartialEq, Eq, Error)]
 pub enum LoadError {
-    /// The bytes are not a code file: the kind of the first fault, and the byte at which it is.
+    /// The bytes are not a code file: the kind of the first error, and the byte at which it is.
     #[error("{0} at {1}")]
     Code(CodeErrorKind, usize),
     /// No operation of the code's version has this number.
@@ -64,7 +64,7 @@ pub enum LoadError {
 }
 
 impl LoadError {
-    /// A fault of form, with its place.
+    /// An error of form, with its place.
     pub(crate) fn of_form(fault: FormFault, place: usize) -> LoadError
         ensures { result ≡ form_error (record { place = place; what = fault }) }
     {

@@ -226,7 +226,7 @@ impl<'a> Layout<'a> {
         self.order_fault(place, instruction)
     }
 
-    /// The first fault of form in the order of the places, with its place.
+    /// The first error of form in the order of the places, with its place.
     pub(crate) fn first_fault(&self) -> Option<(FormFault, usize)>
         ensures { located_of result ≡ first_form_fault self.now.code.now }
     {

@@ -45,7 +45,7 @@ fn check(alloc: Global, code: &Code) -> Result<Vec<Instruction>, LoadError>
 /// Reads code from anyone, of either version, and accepts it if it is of good form and typable. Accepted code is safe
 /// on every environment; for code that is rejected with `KindMismatch`, no table of kinds fits.
 ///
-/// The error is the first fault: of the file, with its byte; then of form, in the order of the places; then of kinds,
+/// The error is the first one: of the file, with its byte; then of form, in the order of the places; then of kinds,
 /// in the order of the places. `NoMemory` is returned only for bytes that are a code file; other bytes are rejected
 /// without an allocation. A loop's body is walked again only if a kind changed at its first place.
 pub fn load(alloc: Global, bytes: &[u8]) -> Result<Verified, LoadError>

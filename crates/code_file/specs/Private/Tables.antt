@@ -14,11 +14,11 @@ pub record AreTables (bytes : Text) (h : Header) (names literals instrs : Text) 
   pub room : length instrs ≡ 8 * h.instrs
   pub spells : bytes ≡ header_field h ++ (names ++ (literals ++ instrs))
 
--- the bytes begin with an entry without a fault
+-- the bytes begin with an entry without an error
 abbrev pub BeginsWith : {X : Type 0} → (X → Type 0) → (X → Text) → Text → Type 0
 BeginsWith {X} IsGood field bytes = (x : X) × (rest : Text) × IsGood x × (bytes ≡ field x ++ rest)
 
--- the first entry with a fault is at a place
+-- the first entry with an error is at a place
 pub record IsFirstBad {X : Type 0} (IsGood : X → Type 0) (entries : List X) (place : ℕ) : Type 0 where
   pub within : place < length entries
   pub before : All IsGood (take place entries)

@@ -22,7 +22,7 @@ fn reads_an_instruction_whatever_its_unused_fields(rt: HostRuntime) {
     assert!(rt; instruction(2, instr(20, 0, 0, 0, 0)).is_none());
 }
 
-/// The fault of one name, one link text, and a number of equal instructions, if there is one.
+/// The error of one name, one link text, and a number of equal instructions, if there is one.
 fn fault(
     alloc: Global,
     letters: usize,
@@ -39,7 +39,7 @@ fn fault(
     Ok(Code::from_parts(names, literals, instrs).err())
 }
 
-/// How many letters a name has, a link text, how many instructions there are, and the fault. What the instructions do
+/// How many letters a name has, a link text, how many instructions there are, and the error. What the instructions do
 /// is not examined.
 const FAULTS: [(usize, &str, usize, Option<CodeErrorKind>); 7] = [
     (1, ",", 1, None),

@@ -90,7 +90,7 @@ module _ {F : Type 0} (fails : F → FileCall → Text → F → Type 0) where
   IsStop disk targets name code_path table_path (Add kind) = IsTargetFault fails disk targets name code_path table_path (fault.Add kind)
   IsStop disk targets name code_path table_path NoMemory = Unit {0}
 
--- the fault of a target that is not added
+-- the error of a target that is not added
 abbrev pub IsFaultOf : Stop → TargetFault → Type 0
 IsFaultOf stop (fault.Device named) = (path : Bor Text) × (stop ≡ Device path) × (string_bytes named ≡ path.now)
 IsFaultOf stop (fault.Load e) = stop ≡ Load e

@@ -12,7 +12,7 @@ use Rattle.uri_grammar.specs.Characters.{open_brace, colon, asterisk}
 use Rattle.uri_grammar.specs.Specs.{is_max_length}
 use Rattle.uri_grammar.specs.Templates.{BeginsWithExpression}
 
--- the error is out of memory, or a fault
+-- the error is out of memory, or one of the text
 abbrev pub IsFault : TemplateError → (TemplateErrorKind → ℕ → Type 0) → Type 0
 IsFault e Fault = (e ≡ NO_MEMORY) ⊎ Fault e.kind e.at
 

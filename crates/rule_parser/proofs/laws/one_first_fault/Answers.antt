@@ -1,4 +1,4 @@
--- Bytes are too many, or not UTF-8, or have lines with one first fault.
+-- Bytes are too many, or not UTF-8, or have lines with one first error.
 use Rattle.rule_parser.proofs.FirstFaults.{one_refusal}
 use Rattle.rule_parser.proofs.laws.one_first_fault.Goals as goal
 

@@ -1,4 +1,4 @@
--- The lines of rules have no fault, and their bytes are not too many, and are UTF-8.
+-- The lines of rules have no error, and their bytes are not too many, and are UTF-8.
 use Rattle.rule_parser.proofs.FirstFaults.{no_refusal}
 use Rattle.rule_parser.proofs.laws.rules_without_fault.Goals as goal
 
