@@ -46,14 +46,14 @@ fn push_known(out: &mut String, known: Instruction) -> Result<(), AllocError>
     }
 }
 
-// A number after a text.
+/// A number after a text.
 fn push_one(out: &mut String, before: &str, number: u16) -> Result<(), AllocError>
     ensures { OnOk result (string_bytes out.new ≡ string_bytes out.old ++ (before.now ++ decimal number)) }
 {
     write!(out, "{before}{number}")
 }
 
-// Two numbers, each after a text.
+/// Two numbers, each after a text.
 fn push_two(
     out: &mut String,
     before: &str,
@@ -68,7 +68,7 @@ fn push_two(
     write!(out, "{before}{first}{between}{second}")
 }
 
-// A register after a text, another one, and a place.
+/// A register after a text, another one, and a place.
 fn push_three(out: &mut String, before: &str, a: u8, b: u16, d: u16) -> Result<(), AllocError>
     ensures { OnOk result (string_bytes out.new ≡ string_bytes out.old
         ++ (before.now ++ (decimal a ++ (codes " r" ++ (decimal b ++ (codes " " ++ decimal d)))))) }

@@ -44,14 +44,14 @@ fn rule_counts(rule: &Rule) -> bool
     rule.guards.as_slice().iter().any(|guard| counts(guard))
 }
 
-// Whether a rule has a guard `counts`.
+/// Whether a rule has a guard `counts`.
 fn has_counts(rules: &Rules) -> bool
     ensures { result ≡ has_guard_counts rules.now }
 {
     rules.rules().iter().any(|rule| rule_counts(rule))
 }
 
-// The instructions of all rules, and FAIL after them.
+/// The instructions of all rules, and FAIL after them.
 fn instructions(alloc: Global, rules: &Rules, tables: &Tables) -> Result<Vec<Instr>, AllocError>
     requires names { length tables.now.names.items ≤ MAX_NAMES }
     requires literals { length tables.now.literals.items ≤ MAX_LITERALS }
@@ -90,8 +90,8 @@ fn of_parts(
     }
 }
 
-// The code of the parts that the rules' code has. The other limits hold, so it can only be rejected for the length of
-// its file.
+/// The code of the parts that the rules' code has. The other limits hold, so it can only be rejected for the length of
+/// its file.
 fn finish(rules: &Rules, tables: Tables, instrs: Vec<Instr>) -> Result<Code, CompileError>
     requires names { tables.names.items ≡ (code_of rules.now).names }
     requires literals { tables.literals.items ≡ (code_of rules.now).literals }

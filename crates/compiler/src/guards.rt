@@ -42,7 +42,7 @@ pub(crate) fn missing(list: bool) -> Test
     }
 }
 
-// Loads the number of the text in r2 into r3 and tests it, if the text has one.
+/// Loads the number of the text in r2 into r3 and tests it, if the text has one.
 fn push_number(alloc: Global, out: &mut Vec<Line>, test: Test) -> Result<(), AllocError>
     ensures { OnOk result (out.new.items ≡ out.old.items ++ lines (Unless (tests.HasNoNumber 3 2) (LeaveIf test))) }
 {
@@ -85,7 +85,7 @@ fn push_bound(
     }
 }
 
-// Leaves the rule if the number in r1 is out of bounds.
+/// Leaves the rule if the number in r1 is out of bounds.
 fn push_bounds(
     alloc: Global,
     out: &mut Vec<Line>,
@@ -117,7 +117,7 @@ fn push_lacks(alloc: Global, out: &mut Vec<Line>, list: bool, name: &str) -> Res
     push_unless(out, missing(list), body)
 }
 
-// Loads a text into r0; leaves the rule if it is undefined.
+/// Loads a text into r0; leaves the rule if it is undefined.
 fn push_text(alloc: Global, out: &mut Vec<Line>, name: &str) -> Result<(), AllocError>
     ensures { OnOk result
         (out.new.items ≡ out.old.items
@@ -142,7 +142,7 @@ fn push_same(alloc: Global, out: &mut Vec<Line>, name: &str, text: &str) -> Resu
     push_leave_if(out, Test::Differs(0, 1))
 }
 
-// The loop that looks for the text in r1 among the members of the list in r0.
+/// The loop that looks for the text in r1 among the members of the list in r0.
 fn push_search(alloc: Global, out: &mut Vec<Line>) -> Result<(), AllocError>
     ensures { OnOk result (out.new.items ≡ out.old.items
         ++ lines (ForEach 3 0 (Unless (tests.Differs 3 1) (Does (actions.LoadConst 2 (codes "1")))))) }
@@ -164,7 +164,7 @@ fn push_holds(alloc: Global, out: &mut Vec<Line>, name: &str, text: &str) -> Res
     push_leave_if(out, Test::IsEmpty(2))
 }
 
-// Loads the number that a text begins with into r1; leaves the rule if there is none.
+/// Loads the number that a text begins with into r1; leaves the rule if there is none.
 fn push_leading_number(alloc: Global, out: &mut Vec<Line>, name: &str) -> Result<(), AllocError>
     ensures { OnOk result (out.new.items ≡ out.old.items
         ++ lines (Then (Then (Does (loading false name.now)) (LeaveIf (tests.IsUndefined 0)))
@@ -174,7 +174,7 @@ fn push_leading_number(alloc: Global, out: &mut Vec<Line>, name: &str) -> Result
     push_leave_if(out, Test::HasNoNumber(1, 0))
 }
 
-// Loads the number of a list's members into r1.
+/// Loads the number of a list's members into r1.
 fn push_count(alloc: Global, out: &mut Vec<Line>, name: &str) -> Result<(), AllocError>
     ensures { OnOk result
         (out.new.items ≡ out.old.items

@@ -67,7 +67,7 @@ fn of_test(test: Test, place: u16) -> Instruction
     }
 }
 
-// The place that a jump at a place leads to.
+/// The place that a jump at a place leads to.
 fn place_from(away: usize, place: usize, target: Target) -> u16
     requires away { away ≤ MAX_INSTRS }
     requires ahead { place + distance target ≤ MAX_INSTRS }

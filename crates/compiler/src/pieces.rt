@@ -18,7 +18,7 @@ use text_model::Writing;
 use uri_grammar::{Op, Part, Spec, Text};
 use uri_template::Style;
 
-// Writes the separator before a piece, except before the first.
+/// Writes the separator before a piece, except before the first.
 fn push_later_lead(alloc: Global, out: &mut Vec<Line>, sep: &str) -> Result<(), AllocError>
     ensures { OnOk result (out.new.items ≡ out.old.items ++ lines (lead_block [] sep.now)) }
 {
@@ -56,7 +56,7 @@ fn push_lead(alloc: Global, out: &mut Vec<Line>, first: &str, sep: &str) -> Resu
     }
 }
 
-// The action that writes the text of a register, or its first `cut` items; 0 means the whole text.
+/// The action that writes the text of a register, or its first `cut` items; 0 means the whole text.
 #[tactic(auto, using(crate::proofs::ShapeChoice::writes_prefix))]
 fn writing(register: u8, writing: Writing, cut: u16) -> Action
     ensures { result ≡ writing_action register writing cut }
@@ -75,7 +75,7 @@ fn push_value(out: &mut Vec<Line>, register: u8, by: Writing, cut: u16) -> Resul
     Ok(())
 }
 
-// A name and the equals sign.
+/// A name and the equals sign.
 fn push_name_sign(alloc: Global, out: &mut Vec<Line>, name: &str) -> Result<(), AllocError>
     ensures { OnOk result (out.new.items ≡ out.old.items ++ lines (Does (actions.Emits (name.now ++ codes "=")))) }
 {
@@ -85,7 +85,7 @@ fn push_name_sign(alloc: Global, out: &mut Vec<Line>, name: &str) -> Result<(), 
     Ok(())
 }
 
-// A name, and, if the value is not empty, the equals sign and the value.
+/// A name, and, if the value is not empty, the equals sign and the value.
 fn push_bare(
     alloc: Global,
     out: &mut Vec<Line>,
@@ -140,7 +140,7 @@ fn push_named(
     }
 }
 
-// The text of a register, with its name if the values have names.
+/// The text of a register, with its name if the values have names.
 fn push_item(
     alloc: Global,
     out: &mut Vec<Line>,
@@ -169,7 +169,7 @@ fn push_head(alloc: Global, out: &mut Vec<Line>, named: bool, name: &str) -> Res
     }
 }
 
-// The members of the list in r0, each as an item of its own or joined by commas.
+/// The members of the list in r0, each as an item of its own or joined by commas.
 fn push_members(
     alloc: Global,
     out: &mut Vec<Line>,

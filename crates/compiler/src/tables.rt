@@ -116,7 +116,7 @@ pub(crate) fn add_literals(
     Ok(())
 }
 
-// The place of a name in its table, if it is in it.
+/// The place of a name in its table, if it is in it.
 fn find_name(names: &[Name], list: bool, text: &str) -> Option<usize>
     ensures { result ≡ position (is_same_name (name_entry list text.now)) names.now }
 {
@@ -125,7 +125,7 @@ fn find_name(names: &[Name], list: bool, text: &str) -> Option<usize>
         .position(|name| text == name.text.as_str() && list == name.list)
 }
 
-// The place of a literal in its table, if it is in it.
+/// The place of a literal in its table, if it is in it.
 fn find_literal(literals: &[Literal], compared: bool, bytes: &[u8]) -> Option<usize>
     ensures { result ≡ position (is_same_literal (literal_entry compared bytes.now)) literals.now }
 {

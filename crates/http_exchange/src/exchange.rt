@@ -32,7 +32,7 @@ pub enum ServeError {
     WriteFault(usize),
 }
 
-// Writes a reply: its head, and then its body.
+/// Writes a reply: its head, and then its body.
 fn send<O: Output>(
     output: &mut O,
     status: u16,
@@ -47,7 +47,7 @@ fn send<O: Output>(
     }
 }
 
-// Writes the reply to the bytes of a request.
+/// Writes the reply to the bytes of a request.
 fn answer<O: Output, S: MenuSource>(
     alloc: Global,
     output: &mut O,

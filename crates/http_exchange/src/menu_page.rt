@@ -15,7 +15,7 @@ use menu::Menu;
 use menu_source::MenuSource;
 use std::alloc::{AllocError, Global};
 
-// The text of a page.
+/// The text of a page.
 fn page_text(alloc: Global, page: Page, menu: &Menu) -> Result<String, AllocError>
     ensures { IfOk result (λ text. string_bytes text ≡ spec.page_text page menu.now) }
 {
@@ -26,7 +26,7 @@ fn page_text(alloc: Global, page: Page, menu: &Menu) -> Result<String, AllocErro
     }
 }
 
-// The page of the menu for a request.
+/// The page of the menu for a request.
 fn menu_reply<S: MenuSource>(
     alloc: Global,
     source: &S,
@@ -40,7 +40,7 @@ fn menu_reply<S: MenuSource>(
     Ok(Reply::new(StatusCode::OK, page == Page::Html, text))
 }
 
-// The page of the menu for a query, or the reply that says why the query is rejected.
+/// The page of the menu for a query, or the reply that says why the query is rejected.
 fn query_reply<S: MenuSource>(
     alloc: Global,
     source: &S,

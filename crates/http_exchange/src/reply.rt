@@ -44,7 +44,7 @@ impl Reply {
         self.status.as_u16()
     }
 
-    // The line of the status (RFC 9112, section 4).
+    /// The line of the status (RFC 9112, section 4).
     fn push_status_line(&self, out: &mut String) -> Result<(), AllocError>
         ensures { OnOk result (string_bytes out.new ≡ string_bytes out.old ++ spec.status_line self.now.status) }
     {
@@ -69,7 +69,7 @@ impl Reply {
         write!(out, "Content-Length: {length}\r\n")
     }
 
-    // The Allow field, in a reply to a method that is not served (RFC 9110, section 15.5.6).
+    /// The Allow field, in a reply to a method that is not served (RFC 9110, section 15.5.6).
     fn allow_line(&self) -> &'static str
         ensures { result.now ≡ spec.allow_line self.now.status }
     {

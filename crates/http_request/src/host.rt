@@ -6,7 +6,7 @@ ghost use Rattle.http_request.specs.Host.{is_host_name};
 
 use httparse::spans::HeaderSpan;
 
-// Whether a field's name is Host, its letters in either case.
+/// Whether a field's name is Host, its letters in either case.
 fn is_host(name: &[u8]) -> bool
     ensures { result ≡ is_host_name name.now }
 {

@@ -14,7 +14,7 @@ use httparse::spans::{EMPTY_HEADER_SPAN, HeaderSpan, RequestSpans, parse_request
 /// The maximum number of fields of a head.
 pub const MAX_FIELDS: usize = 128;
 
-// The spans of the head that the bytes begin with, if there is one and `fields` has room for its fields.
+/// The spans of the head that the bytes begin with, if there is one and `fields` has room for its fields.
 fn find_head(bytes: &[u8], fields: &mut [HeaderSpan]) -> Option<RequestSpans>
     ensures found { IfSome result (λ spans. (head : RequestHead) × IsRequestAt bytes.now fields.new spans head
         × (length head.fields ≤ length fields.old)) }
@@ -28,7 +28,7 @@ fn find_head(bytes: &[u8], fields: &mut [HeaderSpan]) -> Option<RequestSpans>
     }
 }
 
-// The route of bytes that begin with no such head.
+/// The route of bytes that begin with no such head.
 fn route_without_head(bytes: &[u8]) -> Route<'_>
     ensures { route_value result ≡ route_without_head bytes.now }
 {

@@ -41,7 +41,7 @@ pub struct HttpRequest<'a> {
     pub without_body: bool,
 }
 
-// The route of a target.
+/// The route of a target.
 fn route_at(target: &[u8]) -> Route<'_>
     ensures route { spec.route_value result ≡ spec.route_at target.now }
     ensures query { spec.query_length (spec.route_value result) ≤ length target.now }
@@ -56,7 +56,7 @@ fn route_at(target: &[u8]) -> Route<'_>
     }
 }
 
-// Whether a request of this minor version may have this number of Host fields.
+/// Whether a request of this minor version may have this number of Host fields.
 fn is_right_host_count(minor: u8, hosts: usize) -> bool
     ensures { result ≡ spec.is_right_host_count minor hosts }
 {

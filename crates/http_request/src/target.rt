@@ -7,14 +7,14 @@ ghost use Rattle.http_request.specs.Target as spec;
 use crate::route::Page;
 use uri_text::begins_in_any_case;
 
-// Where the authority at the beginning ends: at the first `/` or `?`.
+/// Where the authority at the beginning ends: at the first `/` or `?`.
 fn authority_end(bytes: &[u8]) -> Option<usize>
     ensures { result ≡ position (λ b. spec.is_slash b || spec.is_question_mark b) bytes.now }
 {
     bytes.iter().position(|byte| *byte == b'/' || *byte == b'?')
 }
 
-// How many bytes the authority at the beginning has.
+/// How many bytes the authority at the beginning has.
 #[tactic(auto, using(crate::proofs::Places::place_or_length))]
 fn authority_length(bytes: &[u8]) -> usize
     ensures length { result ≡ spec.authority_length bytes.now }
@@ -23,7 +23,7 @@ fn authority_length(bytes: &[u8]) -> usize
     authority_end(bytes).unwrap_or(bytes.len())
 }
 
-// What follows the authority, if that is not empty.
+/// What follows the authority, if that is not empty.
 fn after_authority(bytes: &[u8]) -> Option<&[u8]>
     ensures after { option_copied result ≡ spec.after_authority bytes.now }
     ensures within { IfSome result (λ rest. length rest.now ≤ length bytes.now) }
@@ -34,7 +34,7 @@ fn after_authority(bytes: &[u8]) -> Option<&[u8]>
     }
 }
 
-// What follows the scheme, whose letters may be in either case.
+/// What follows the scheme, whose letters may be in either case.
 fn after_scheme<'a>(target: &'a [u8], scheme: &[u8]) -> Option<&'a [u8]>
     ensures after { option_copied result ≡ spec.after_scheme scheme.now target.now }
     ensures within { IfSome result (λ rest. length rest.now ≤ length target.now) }
@@ -61,7 +61,7 @@ pub(crate) fn resource_of(target: &[u8]) -> Option<&[u8]>
     }
 }
 
-// Where the `?` before the query is.
+/// Where the `?` before the query is.
 fn query_mark(resource: &[u8]) -> Option<usize>
     ensures { result ≡ position spec.is_question_mark resource.now }
 {

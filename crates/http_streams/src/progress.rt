@@ -20,14 +20,14 @@ pub(crate) enum Progress {
 }
 
 impl Progress {
-    // Whether the empty line has been read.
+    /// Whether the empty line has been read.
     pub(crate) fn is_done(self) -> bool
         ensures { result ≡ closes_with self [] }
     {
         matches!(self, Progress::Closed)
     }
 
-    // The progress after one more byte.
+    /// The progress after one more byte.
     fn after(self, byte: u8) -> Progress
         ensures { (more : List ℕ) → closes_with result more ≡ closes_with self (byte ∷ more) }
     {
@@ -53,7 +53,7 @@ impl Progress {
         }
     }
 
-    // The progress after these further bytes.
+    /// The progress after these further bytes.
     pub(crate) fn after_all(self, bytes: &[u8]) -> Progress
         ensures { (more : List ℕ) → closes_with result more ≡ closes_with self (bytes.now ++ more) }
     {

@@ -13,7 +13,7 @@ use std::alloc::Global;
 /// The maximum number of bytes that are read of a request.
 pub const MAX_HEAD_BYTES: usize = 16_384;
 
-// One read into the buffer, after its first `filled` bytes.
+/// One read into the buffer, after its first `filled` bytes.
 fn read_more<I: Input>(input: &mut I, room: &mut [u8], filled: usize) -> Result<usize, Failed>
     requires { filled < length room.old }
     ensures within { IfOk result (λ n. filled + n ≤ length room.new) }
@@ -26,8 +26,8 @@ fn read_more<I: Input>(input: &mut I, room: &mut [u8], filled: usize) -> Result<
     input.read(&mut room[filled..])
 }
 
-// Reads into the buffer until an empty line ends the head, the input ends or the buffer is full, and returns the number
-// of bytes.
+/// Reads into the buffer until an empty line ends the head, the input ends or the buffer is full, and returns the
+/// number of bytes.
 fn fill<I: Input>(input: &mut I, room: &mut [u8]) -> Result<usize, Failed>
     ensures within { IfOk result (λ n. n ≤ length room.new) }
     ensures whole { IfOk result
@@ -48,7 +48,7 @@ fn fill<I: Input>(input: &mut I, room: &mut [u8]) -> Result<usize, Failed>
     Ok(filled)
 }
 
-// The same into a new buffer, for at most `most` bytes.
+/// The same into a new buffer, for at most `most` bytes.
 fn read_up_to<I: Input>(alloc: Global, input: &mut I, most: usize) -> Result<Vec<u8>, HeadError>
     ensures whole { IfOk result (λ head. IsReadWhole most (I.input_state input.old) head.items
         (I.input_state input.new)) }

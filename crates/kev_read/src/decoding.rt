@@ -11,7 +11,7 @@ use std::alloc::AllocError;
 use std::mem;
 use std::str::from_utf8;
 
-// For each hexadecimal digit the character that comes as long after `@` as its value says, and `-` for the others.
+/// For each hexadecimal digit the character that comes as long after `@` as its value says, and `-` for the others.
 static DIGITS: [u8; 256] = *b"\
     --------------------------------\
     ----------------@ABCDEFGHI------\

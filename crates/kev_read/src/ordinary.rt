@@ -6,7 +6,7 @@ ghost use Rattle.kev_read.specs.Private.Ordinary.{IsOrdinary, all_bits_at, is_sp
 
 use std::simd::prelude::*;
 
-// A dot for each ordinary byte, and the byte or `-` for the others.
+/// A dot for each ordinary byte, and the byte or `-` for the others.
 static ORDINARY: [u8; 256] = *b"\
     ................................\
     .....%&....+.................=..\

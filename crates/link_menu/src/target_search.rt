@@ -23,7 +23,7 @@ use std::marker::Model;
 pub(crate) struct TargetSearch<'a> {
     pub(crate) target: &'a Target,
     pub(crate) request: TargetRequest<'a>,
-    /// The matching rows after the next one.
+    // The matching rows after the next one.
     rows: Matches<'a>,
     /// `None` if a row gave a link, or no more row matches.
     pub(crate) next: Option<usize>,

@@ -8,7 +8,7 @@ use crate::entry::{MenuEntry, Resolution};
 use crate::lines::text_len;
 use std::alloc::AllocError;
 
-// Appends a part of a link that has no ampersand, as `push_escaped` does.
+/// Appends a part of a link that has no ampersand, as `push_escaped` does.
 fn push_escaped_part(out: &mut String, part: &str) -> Result<(), AllocError>
     requires { HasNone ampersand part.now }
     ensures { OnOk result (string_bytes out.new ≡ string_bytes out.old ++ escaped part.now) }
@@ -22,7 +22,7 @@ fn push_escaped_part(out: &mut String, part: &str) -> Result<(), AllocError>
     out.push_str(rest)
 }
 
-// Appends a link as the value of an attribute, escaped so that a reader of HTML gets the same link.
+/// Appends a link as the value of an attribute, escaped so that a reader of HTML gets the same link.
 fn push_escaped(out: &mut String, link: &str) -> Result<(), AllocError>
     ensures { OnOk result (string_bytes out.new ≡ string_bytes out.old ++ escaped link.now) }
 {
@@ -35,7 +35,7 @@ fn push_escaped(out: &mut String, link: &str) -> Result<(), AllocError>
     push_escaped_part(out, rest)
 }
 
-// Appends the list item with a link and the name of its target.
+/// Appends the list item with a link and the name of its target.
 fn push_link_item(out: &mut String, name: &str, link: &str) -> Result<(), AllocError>
     ensures { OnOk result
         (string_bytes out.new ≡ string_bytes out.old ++ html_item (record { name = name.now; link = link.now })) }
@@ -45,7 +45,7 @@ fn push_link_item(out: &mut String, name: &str, link: &str) -> Result<(), AllocE
     write!(out, "\">{name}</a></li>\n")
 }
 
-// Appends the entry's item, if it has a link.
+/// Appends the entry's item, if it has a link.
 fn push_item(out: &mut String, entry: &MenuEntry) -> Result<(), AllocError>
     ensures { OnOk result (string_bytes out.new ≡ string_bytes out.old ++ html_items (entry.now ∷ [])) }
 {
@@ -58,7 +58,7 @@ fn push_item(out: &mut String, entry: &MenuEntry) -> Result<(), AllocError>
 /// About the length of an item's tags, in bytes.
 const TAGS_LEN: usize = 25;
 
-// Appends the list of all items. The text grows at most once, unless many characters of the links are escaped.
+/// Appends the list of all items. The text grows at most once, unless many characters of the links are escaped.
 pub(crate) fn push_list(out: &mut String, entries: &[MenuEntry]) -> Result<(), AllocError>
     ensures { OnOk result (string_bytes out.new ≡ string_bytes out.old ++ html_list entries.now) }
 {

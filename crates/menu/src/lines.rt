@@ -6,7 +6,7 @@ ghost use Rattle.menu.specs.Printed.{text, resolution_text, report_line};
 use crate::entry::{MenuEntry, Resolution};
 use std::alloc::AllocError;
 
-// The length of the entry's line of the plain text in bytes, or the largest number.
+/// The length of the entry's line of the plain text in bytes, or the largest number.
 fn text_line_len(entry: &MenuEntry) -> usize
     ensures { result ≡ min (length (text (entry.now ∷ []))) usize.MAX }
 {
@@ -23,7 +23,7 @@ fn text_line_len(entry: &MenuEntry) -> usize
     }
 }
 
-// The length of the plain text in bytes, or the largest number.
+/// The length of the plain text in bytes, or the largest number.
 pub(crate) fn text_len(entries: &[MenuEntry]) -> usize
     ensures { result ≡ min (length (text entries.now)) usize.MAX }
 {
@@ -34,7 +34,7 @@ pub(crate) fn text_len(entries: &[MenuEntry]) -> usize
     len
 }
 
-// Appends the entry's line of the plain text, if it has a link.
+/// Appends the entry's line of the plain text, if it has a link.
 pub(crate) fn push_text_line(out: &mut String, entry: &MenuEntry) -> Result<(), AllocError>
     ensures { OnOk result (string_bytes out.new ≡ string_bytes out.old ++ text (entry.now ∷ [])) }
 {
@@ -60,7 +60,7 @@ fn push_resolution(out: &mut String, resolution: &Resolution) -> Result<(), Allo
     }
 }
 
-// Appends the entry's line of the report.
+/// Appends the entry's line of the report.
 pub(crate) fn push_report_line(out: &mut String, entry: &MenuEntry) -> Result<(), AllocError>
     ensures { OnOk result (string_bytes out.new ≡ string_bytes out.old ++ report_line entry.now) }
 {

@@ -254,7 +254,7 @@ pub(crate) fn has_texts(env: &Env, texts: &[(&str, Option<&str>)]) -> bool {
     true
 }
 
-// Kinds that no command prints.
+/// Kinds that no command prints.
 #[test]
 fn errors_print_their_kind(rt: HostRuntime) -> Result<(), AllocError> {
     let printed = format!(in rt.alloc();

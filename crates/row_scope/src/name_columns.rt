@@ -22,13 +22,13 @@ pub struct NameColumn {
 /// What is known about a code and a table before any request.
 #[derive(Drop)]
 pub struct NameColumns {
-    // Each name that has a column, in the order of the columns.
+    /// Each name that has a column, in the order of the columns.
     pub(crate) columns: Vec<NameColumn>,
-    // The numbers of the lists that the code declares in addition to those of the standard, each once.
+    /// The numbers of the lists that the code declares in addition to those of the standard, each once.
     pub(crate) lists: Vec<usize>,
-    // For each name of the code, whether it names a list.
+    /// For each name of the code, whether it names a list.
     pub(crate) marks: Vec<bool>,
-    // For each name of the code, its number among those of many codes.
+    /// For each name of the code, its number among those of many codes.
     pub(crate) numbers: Vec<usize>,
 }
 

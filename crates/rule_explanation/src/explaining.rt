@@ -51,7 +51,7 @@ pub fn explain<W: Write>(
     }
 }
 
-// Writes what the rules give on each row that is tried.
+/// Writes what the rules give on each row that is tried.
 fn explain_rows<W: Write>(
     alloc: Global,
     rules: &Rules,

@@ -15,7 +15,7 @@ use rule_parser::{Guard, Rule, holds, push_guard};
 use std::alloc::{AllocError, Global};
 use uri_template::Variables;
 
-// Appends the guard's line without `when `, in visible characters.
+/// Appends the guard's line without `when `, in visible characters.
 fn push_visible_guard(alloc: Global, out: &mut String, guard: &Guard) -> Result<(), AllocError>
     ensures { OnOk result (string_bytes out.new ≡ string_bytes out.old ++ visible (guard_text guard.now)) }
 {
@@ -24,7 +24,7 @@ fn push_visible_guard(alloc: Global, out: &mut String, guard: &Guard) -> Result<
     push_visible(out, line.as_bytes())
 }
 
-// Appends a guard that fails, with its number and that of its rule, and the values of its names.
+/// Appends a guard that fails, with its number and that of its rule, and the values of its names.
 fn push_failing_guard<V: Variables>(
     alloc: Global,
     out: &mut String,
@@ -43,14 +43,14 @@ fn push_failing_guard<V: Variables>(
     push_names(out, variables, names.as_slice())
 }
 
-// The index of the first guard that fails.
+/// The index of the first guard that fails.
 fn first_failing<V: Variables>(variables: &V, guards: &[Guard]) -> Option<usize>
     ensures { result ≡ position (λ guard. not (guard_holds (V.look variables.now) guard)) guards.now }
 {
     guards.iter().position(|guard| !holds(variables, guard))
 }
 
-// Appends the first guard of a rule that fails, with the number of the rule.
+/// Appends the first guard of a rule that fails, with the number of the rule.
 fn push_failing_rule<V: Variables>(
     alloc: Global,
     out: &mut String,
@@ -68,7 +68,7 @@ fn push_failing_rule<V: Variables>(
     }
 }
 
-// Appends the first guard that fails for each rule.
+/// Appends the first guard that fails for each rule.
 fn push_numbered_rules<V: Variables>(
     alloc: Global,
     out: &mut String,
@@ -84,7 +84,7 @@ fn push_numbered_rules<V: Variables>(
     Ok(())
 }
 
-// Appends the rules before the first that holds.
+/// Appends the rules before the first that holds.
 pub(crate) fn push_failing_rules<V: Variables>(
     alloc: Global,
     out: &mut String,

@@ -21,7 +21,7 @@ fn all_hold<V: Variables>(variables: &V, guards: &[Guard]) -> bool
     guards.iter().all(|guard| holds(variables, guard))
 }
 
-// The index of the first rule that holds.
+/// The index of the first rule that holds.
 pub(crate) fn first_holding<V: Variables>(variables: &V, rules: &[Rule]) -> Option<usize>
     ensures { result ≡ position (guards_hold (V.look variables.now)) rules.now }
 {
@@ -30,7 +30,7 @@ pub(crate) fn first_holding<V: Variables>(variables: &V, rules: &[Rule]) -> Opti
         .position(|rule| all_hold(variables, rule.guards.as_slice()))
 }
 
-// Appends a rule that holds, with its number and its link. Returns whether this is a web link.
+/// Appends a rule that holds, with its number and its link. Returns whether this is a web link.
 fn push_link<V: Variables>(
     alloc: Global,
     out: &mut String,
@@ -53,7 +53,7 @@ fn push_link<V: Variables>(
     Ok(false)
 }
 
-// Appends the rule that holds. Returns whether there is one with a web link.
+/// Appends the rule that holds. Returns whether there is one with a web link.
 pub(crate) fn push_holding_rule<V: Variables>(
     alloc: Global,
     out: &mut String,

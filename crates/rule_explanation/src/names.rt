@@ -9,7 +9,7 @@ use printed_text::push_shortened;
 use std::alloc::AllocError;
 use uri_template::Variables;
 
-// Appends the value of a name.
+/// Appends the value of a name.
 fn push_meaning<V: Variables>(out: &mut String, variables: &V, name: &str) -> Result<(), AllocError>
     ensures { OnOk result (string_bytes out.new
         ≡ string_bytes out.old ++ meaning_text (V.look variables.now name.now)) }
@@ -34,7 +34,7 @@ fn push_name<V: Variables>(out: &mut String, variables: &V, name: &str) -> Resul
     out.push_str("\n")
 }
 
-// Appends a line with the value of each name.
+/// Appends a line with the value of each name.
 pub(crate) fn push_names<V: Variables>(
     out: &mut String,
     variables: &V,

@@ -22,7 +22,7 @@ pub(crate) struct ExplainedRow {
     pub(crate) has_web_link: bool,
 }
 
-// Appends what the rules give, with the rules that fail or without them. Returns whether there is a web link.
+/// Appends what the rules give, with the rules that fail or without them. Returns whether there is a web link.
 fn push_rules<V: Variables>(
     alloc: Global,
     out: &mut String,

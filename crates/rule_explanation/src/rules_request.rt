@@ -16,7 +16,7 @@ pub(crate) struct RulesRequest<'a> {
     pub(crate) rules: &'a Rules,
     pub(crate) table: &'a Table,
     request: &'a Request,
-    // The values of the request without a row, with the lists of the rules.
+    /// The values of the request without a row, with the lists of the rules.
     pub(crate) values: Env,
 }
 

@@ -167,7 +167,7 @@ fn check_link(
     check_host(alloc, out, target, at, parts)
 }
 
-// Checks a rule: its index counts from 0, and its printed number from 1.
+/// Checks a rule: its index counts from 0, and its printed number from 1.
 fn check_rule(
     alloc: Global,
     out: &mut Findings,

@@ -12,9 +12,9 @@ use std::alloc::{AllocError, Global};
 /// The cells of a column in the rows so far.
 #[derive(Clone, Copy)]
 pub(crate) struct Column {
-    // How many rows there are before the first one in which the cell is undefined.
+    /// How many rows there are before the first one in which the cell is undefined.
     pub(crate) complete: usize,
-    // The states after any of the defined cells, by the state before it.
+    /// The states after any of the defined cells, by the state before it.
     pub(crate) outside: HostState,
     pub(crate) slash: HostState,
     pub(crate) opened: HostState,
@@ -22,7 +22,7 @@ pub(crate) struct Column {
 }
 
 impl Column {
-    // A column before the first row.
+    /// A column before the first row.
     fn none() -> Column
         ensures { result ≡ spec.no_cells }
     {
@@ -35,7 +35,7 @@ impl Column {
         }
     }
 
-    // The column with the cell of one more row, which may be empty.
+    /// The column with the cell of one more row, which may be empty.
     fn with_cell(self, row: usize, cell: &str) -> Column
         requires { row < usize.MAX }
         ensures { result ≡ spec.with_cell self row cell.now }
@@ -75,7 +75,7 @@ fn longer_by_one(complete: usize, row: usize) -> usize
     if complete == row { row + 1 } else { complete }
 }
 
-// Adds the cells of one more row. It takes no time for columns past the last cell.
+/// Adds the cells of one more row. It takes no time for columns past the last cell.
 fn add_row(columns: &mut [Column], row: usize, line: &str)
     requires { row < usize.MAX }
     ensures { (k : ℕ) (d : Column) → k < length columns.old

@@ -29,7 +29,7 @@ fn leads_past_host(op: Op) -> bool
     matches!(op, Op::Slash | Op::Question | Op::Hash)
 }
 
-// Whether the part decides that `/`, `?` or `#` comes next, or that it does not; `None` if it may write nothing.
+/// Whether the part decides that `/`, `?` or `#` comes next, or that it does not; `None` if it may write nothing.
 fn decides_end(part: &Part) -> Option<bool>
     ensures { result ≡ hosts.decides_end part.now }
 {
@@ -102,7 +102,7 @@ impl<'a> Target<'a> {
         Ok(())
     }
 
-    // The state after an expression all of whose names the row decides.
+    /// The state after an expression all of whose names the row decides.
     fn after_own(&self, state: HostState, op: Op, specs: &[Spec]) -> HostState
         requires { hosts.are_rows_own self.now.rules.now self.now.table.now specs.now ≡ true }
         ensures { result ≡ hosts.after_own self.now.table.now state op specs.now }
@@ -117,7 +117,7 @@ impl<'a> Target<'a> {
         }
     }
 
-    // The state after the whole cell of a single name, as it is in each row.
+    /// The state after the whole cell of a single name, as it is in each row.
     fn after_cells(&self, state: HostState, specs: &[Spec]) -> HostState
         requires own { hosts.are_rows_own self.now.rules.now self.now.table.now specs.now ≡ true }
         requires early { hosts.is_early state ≡ true }
@@ -139,7 +139,7 @@ impl<'a> Target<'a> {
         }
     }
 
-    // The state after a part that comes before these parts.
+    /// The state after a part that comes before these parts.
     fn after_part(&self, state: HostState, part: &Part, rest: &[Part]) -> HostState
         ensures { result ≡ hosts.after_part self.now.rules.now self.now.table.now state part.now rest.now }
     {
@@ -165,7 +165,7 @@ impl<'a> Target<'a> {
         }
     }
 
-    // Adds the names of a part that the row does not decide, unless the host has ended before it.
+    /// Adds the names of a part that the row does not decide, unless the host has ended before it.
     fn add_open_names<'b>(
         &self,
         names: &mut Vec<&'b str>,

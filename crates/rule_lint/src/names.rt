@@ -75,7 +75,7 @@ impl<'a> Target<'a> {
             || is_among(request_keys(), name)
     }
 
-    // The first column that resembles the name and whose own name can be used in a template.
+    /// The first column that resembles the name and whose own name can be used in a template.
     fn column_like(&self, name: &str) -> Option<&'a str>
         ensures { option_copied result
             ≡ find (resembles name.now) (filter is_template_name self.now.table.now.header) }

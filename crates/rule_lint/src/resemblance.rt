@@ -45,7 +45,7 @@ fn is_edited_first(text: &[u8], other: &[u8]) -> bool
         || has_two_exchanged(text, other)
 }
 
-// Whether one text becomes the other if one byte is inserted, deleted or replaced, or two neighbours are exchanged.
+/// Whether one text becomes the other if one byte is inserted, deleted or replaced, or two neighbours are exchanged.
 fn is_one_edit(text: &[u8], other: &[u8]) -> bool
     ensures { result ≡ is_edited_once text.now other.now }
 {

@@ -20,7 +20,7 @@ fn next_hash(hash: u64, byte: u8) -> u64
     (hash % 4_294_967_296) * 31 + byte as u64
 }
 
-// The hash of a text, of which the bytes before these have this hash.
+/// The hash of a text, of which the bytes before these have this hash.
 fn hash_on(start: u64, bytes: &[u8]) -> u64
     ensures { result ≡ fold spec.next_hash start bytes.now }
 {
@@ -66,7 +66,7 @@ fn slot(firsts: &[usize], hash: u64) -> usize
     (hash % firsts.len() as u64) as usize
 }
 
-// The first name that has the hash, or one before it.
+/// The first name that has the hash, or one before it.
 fn first_with(firsts: &[usize], hash: u64) -> usize
     requires { 0 < length firsts.now }
     ensures { result ≡ spec.first_with firsts.now hash }
@@ -74,7 +74,7 @@ fn first_with(firsts: &[usize], hash: u64) -> usize
     firsts[slot(firsts, hash)]
 }
 
-// The name at this place has the hash.
+/// The name at this place has the hash.
 fn mark(firsts: &mut [usize], place: usize, hash: u64)
     requires { 0 < length firsts.old }
     ensures marked { spec.first_with firsts.new hash ≤ place }

@@ -19,8 +19,8 @@ fn is_dot(b: u8, due: bool) -> bool
     b == b'.' && !due
 }
 
-// Whether the bytes continue a name to its end: varchars, with at most one dot before each. If `due`, a varchar must
-// come next; if `digit`, a hexadecimal digit of a triplet, and if `second`, another one after it.
+/// Whether the bytes continue a name to its end: varchars, with at most one dot before each. If `due`, a varchar must
+/// come next; if `digit`, a hexadecimal digit of a triplet, and if `second`, another one after it.
 fn are_varchars(due: bool, digit: bool, second: bool, text: &[u8]) -> bool
     ensures { result ≡ are_all_varchars due digit second text.now }
 {

@@ -52,7 +52,7 @@ impl RuleError {
         RuleError { kind, line }
     }
 
-    // A template's error, at its line. Out of memory in a template is out of memory in the rule text.
+    /// A template's error, at its line. Out of memory in a template is out of memory in the rule text.
     pub(crate) fn in_template(kind: TemplateErrorKind, line: usize) -> RuleError
         ensures no_memory { kind ≡ TemplateErrorKind.NoMemory → result ≡ NO_MEMORY }
         ensures fault { kind ≢ TemplateErrorKind.NoMemory

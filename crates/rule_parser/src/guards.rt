@@ -44,7 +44,7 @@ pub fn holds<V: Variables>(variables: &V, guard: &Guard) -> bool
     }
 }
 
-// A list without members is undefined.
+/// A list without members is undefined.
 fn is_defined<V: Variables>(variables: &V, name: &str) -> bool
     ensures { result ≡ denotes_something (V.look variables.now name.now) }
 {
@@ -96,7 +96,7 @@ fn number<V: Variables>(variables: &V, name: &str) -> Option<u32>
     leading_number(variables.text(name)?.as_bytes())
 }
 
-// The number of a bound; `None` if it is open.
+/// The number of a bound; `None` if it is open.
 fn bound_number<V: Variables>(variables: &V, bound: &Bound) -> Option<u32>
     ensures { result ≡ number_of_bound (V.look variables.now) bound.now }
 {

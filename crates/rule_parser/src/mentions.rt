@@ -8,7 +8,7 @@ ghost use Rattle.rule_parser.specs.Mentions.{bound_names, mentioned};
 use crate::rule::{Bound, Guard};
 use std::alloc::{AllocError, Global};
 
-// Adds the bound's name, unless the bound has none or the list already contains it.
+/// Adds the bound's name, unless the bound has none or the list already contains it.
 fn add_bound<'a>(names: &mut Vec<&'a str>, bound: &'a Bound) -> Result<(), AllocError>
     ensures { OnOk result ((before : List Text) → texts_of names.old.items ≡ each_once before
         → texts_of names.new.items ≡ each_once (before ++ bound_names bound.now)) }
@@ -23,7 +23,7 @@ fn add_bound<'a>(names: &mut Vec<&'a str>, bound: &'a Bound) -> Result<(), Alloc
     Ok(())
 }
 
-// The name that a guard begins with, and its bounds.
+/// The name that a guard begins with, and its bounds.
 fn bounded<'a>(
     alloc: Global,
     name: &'a str,

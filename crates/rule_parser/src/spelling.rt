@@ -6,7 +6,7 @@ ghost use Rattle.rule_parser.specs.Statements.{bound_text, bounds_text, escaped,
 use crate::rule::{Bound, Guard};
 use std::alloc::AllocError;
 
-// Appends a character of a text, after a backslash if it is a quote or a backslash.
+/// Appends a character of a text, after a backslash if it is a quote or a backslash.
 #[tactic(auto, using(crate::proofs::SpellingLemmas::plain_character))]
 fn push_escaped_char(out: &mut String, c: char) -> Result<(), AllocError>
     ensures { OnOk result (string_bytes out.new ≡ string_bytes out.old ++ escaped (encode_utf8 c)) }
@@ -53,7 +53,7 @@ fn push_bounds(out: &mut String, low: &Bound, high: &Bound) -> Result<(), AllocE
     push_bound(out, high)
 }
 
-// Appends two pieces of a line.
+/// Appends two pieces of a line.
 fn push_two(out: &mut String, first: &str, second: &str) -> Result<(), AllocError>
     ensures { OnOk result (string_bytes out.new ≡ string_bytes out.old ++ (first.now ++ second.now)) }
 {

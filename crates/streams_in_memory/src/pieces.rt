@@ -71,7 +71,7 @@ impl PieceIn {
         })
     }
 
-    // An input of a connection, which returns these bytes in one read.
+    /// An input of a connection, which returns these bytes in one read.
     pub(crate) fn of(input: Vec<u8>, wait: Duration) -> PieceIn
         ensures { result ≡ record {
           left = input.items;
@@ -95,7 +95,7 @@ impl PieceIn {
 impl Input for PieceIn {
     ghost input_state = { pieces_as_input };
 
-    // As many bytes as are left, fit into the room and are allowed by the piece.
+    /// As many bytes as are left, fit into the room and are allowed by the piece.
     fn read(&mut self, room: &mut [u8]) -> Result<usize, Failed>
         requires { 0 < length room.old }
         ensures within { IfOk result (λ n. n ≤ length room.new) }
@@ -150,7 +150,7 @@ impl Model for PieceOut {
     ghost invariant = { λ stream. 0 < stream.piece };
 }
 
-// How many bytes an output has room for before it grows.
+/// How many bytes an output has room for before it grows.
 const FIRST_ROOM: usize = 256;
 
 impl PieceOut {
@@ -176,7 +176,7 @@ impl PieceOut {
         })
     }
 
-    // An output of a connection, which accepts all bytes in one write.
+    /// An output of a connection, which accepts all bytes in one write.
     pub(crate) fn of(alloc: Global, wait: Duration) -> PieceOut
         ensures { result ≡ record {
           written = [];
@@ -202,7 +202,7 @@ impl PieceOut {
         self.output.as_slice()
     }
 
-    // What was written, as an owned value.
+    /// What was written, as an owned value.
     pub(crate) fn into_written(self) -> Vec<u8>
         ensures { result.items ≡ self.written }
     {

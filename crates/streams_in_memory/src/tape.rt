@@ -65,7 +65,7 @@ impl Input for Tape {
 
     ghost input_state = { tape_as_input };
 
-    // As many bytes as are left and fit into the room.
+    /// As many bytes as are left and fit into the room.
     fn read(&mut self, room: &mut [u8]) -> Result<usize, Failed>
         requires { 0 < length room.old }
         ensures within { IfOk result (λ n. n ≤ length room.new) }
@@ -90,7 +90,7 @@ impl Output for Tape {
 
     ghost output_state = { tape_as_output };
 
-    // All of the bytes.
+    /// All of the bytes.
     fn write(&mut self, bytes: &[u8]) -> Result<usize, Failed>
         ensures within { IfOk result (λ n. n ≤ length bytes.now) }
         ensures some { IfOk result (λ n. 0 < length bytes.now → 0 < n) }

@@ -21,7 +21,7 @@ use std::collections::HashMap;
 #[derive(Drop)]
 pub(crate) struct Identified<'a> {
     pub(crate) counts: RowCounts,
-    // No identifier has more rows.
+    /// No identifier has more rows.
     pub(crate) most: usize,
     pub(crate) unidentified: Rows,
     pub(crate) bad_numbers: Cells<'a>,

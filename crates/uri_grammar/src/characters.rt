@@ -14,7 +14,7 @@ fn is_hexadecimal(c: char) -> bool
     c.is_ascii_hexdigit()
 }
 
-// Whether the characters begin with a triplet (RFC 3986, section 2.1).
+/// Whether the characters begin with a triplet (RFC 3986, section 2.1).
 pub(crate) fn begins_with_triplet(text: &[char]) -> bool
     ensures value { result ≡ texts.begins_with_triplet text.now }
     ensures within { IsTrue result → 3 ≤ length text.now }
@@ -25,7 +25,7 @@ pub(crate) fn begins_with_triplet(text: &[char]) -> bool
     }
 }
 
-// Where the first such character is.
+/// Where the first such character is.
 pub(crate) fn place_of(text: &[char], sought: char) -> Option<usize>
     ensures none { IfNone result (Lacks sought text.now) }
     ensures found { IfSome result (λ at. (at < length text.now) × (slice_index text.now at ≡ sought)
@@ -39,7 +39,7 @@ pub(crate) fn place_of(text: &[char], sought: char) -> Option<usize>
     None
 }
 
-// The characters of a text, in one allocation.
+/// The characters of a text, in one allocation.
 pub(crate) fn chars_of(alloc: Global, text: &str) -> Result<Vec<char>, AllocError>
     ensures { IfOk result (λ chars. text.now ≡ encode_utf8_all chars.items) }
 {
@@ -50,7 +50,7 @@ pub(crate) fn chars_of(alloc: Global, text: &str) -> Result<Vec<char>, AllocErro
     Ok(chars)
 }
 
-// The characters as text. ASCII takes one allocation.
+/// The characters as text. ASCII takes one allocation.
 pub(crate) fn text_of(alloc: Global, chars: &[char]) -> Result<String, AllocError>
     ensures { IfOk result (λ text. string_bytes text ≡ encode_utf8_all chars.now) }
 {
@@ -61,7 +61,7 @@ pub(crate) fn text_of(alloc: Global, chars: &[char]) -> Result<String, AllocErro
     Ok(text)
 }
 
-// How many bytes the characters have as text.
+/// How many bytes the characters have as text.
 pub(crate) fn byte_len(chars: &[char]) -> usize
     requires { length (encode_utf8_all chars.now) ≤ MAX_BYTES }
     ensures { result ≡ length (encode_utf8_all chars.now) }

@@ -46,7 +46,7 @@ impl TemplateError {
         TemplateError { kind, at }
     }
 
-    // The same error, when this number of bytes comes before the text.
+    /// The same error, when this number of bytes comes before the text.
     pub(crate) fn after(self, front: usize) -> TemplateError
         requires { self.at + front < 2 ^ 64 }
         ensures { result ≡ moved self front }

@@ -15,7 +15,7 @@ use crate::template::MAX_BYTES;
 use crate::variables::spec;
 use std::alloc::Global;
 
-// How many characters come before the first comma, or before the end.
+/// How many characters come before the first comma, or before the end.
 fn piece_len(rest: &[char]) -> usize
     ensures within { result ≤ length rest.now }
     ensures lacks { Lacks comma (take result rest.now) }
@@ -27,14 +27,14 @@ fn piece_len(rest: &[char]) -> usize
     }
 }
 
-// How many commas there are.
+/// How many commas there are.
 fn comma_count(list: &[char]) -> usize
     ensures { result ≤ length list.now }
 {
     list.iter().filter(|c| **c == ',').count()
 }
 
-// A list of variables with commas between them.
+/// A list of variables with commas between them.
 fn variable_list(alloc: Global, list: &[char]) -> Result<Vec<Spec>, TemplateError>
     requires { length list.now ≤ MAX_BYTES }
     ensures ok { IfOk result (λ specs. SpellsSpecs (list.now ++ comma ∷ []) specs.items) }
@@ -85,7 +85,7 @@ fn begins_with_reserved(body: &[char]) -> bool
     matches!(body, ['=' | ',' | '!' | '@' | '|', ..])
 }
 
-// What is written between the braces.
+/// What is written between the braces.
 fn body(alloc: Global, text: &[char]) -> Result<(Op, Vec<Spec>), TemplateError>
     requires { length text.now ≤ MAX_BYTES }
     ensures ok { IfOk result (λ body. IsBody text.now body.0 body.1.items) }
@@ -109,7 +109,7 @@ fn begins_with_brace(text: &[char]) -> bool
     matches!(text, ['{', ..])
 }
 
-// The expression at the beginning, and how many characters it has.
+/// The expression at the beginning, and how many characters it has.
 pub(crate) fn expression(alloc: Global, text: &[char]) -> Result<(Part, usize), TemplateError>
     requires short { length text.now ≤ MAX_BYTES }
     requires some { 0 < length text.now }

@@ -27,7 +27,7 @@ fn is_literal_character(c: char) -> bool
     }
 }
 
-// How many characters the literal at the beginning has, which is one character or one triplet; 0 if there is none.
+/// How many characters the literal at the beginning has, which is one character or one triplet; 0 if there is none.
 fn literal_item_len(text: &[char]) -> usize
     ensures value { result ≡ literal_item_len text.now }
     ensures within { result ≤ length text.now }
@@ -39,7 +39,7 @@ fn literal_item_len(text: &[char]) -> usize
     }
 }
 
-// How many characters the literals at the beginning have.
+/// How many characters the literals at the beginning have.
 pub(crate) fn literals_len(text: &[char]) -> usize
     requires { length text.now ≤ MAX_BYTES }
     ensures within { result ≤ length text.now }
@@ -56,7 +56,7 @@ pub(crate) fn literals_len(text: &[char]) -> usize
     len
 }
 
-// A text as it is written in a link.
+/// A text as it is written in a link.
 fn written(alloc: Global, text: &str) -> Result<Text, AllocError>
     requires { length text.now ≤ MAX_BYTES }
     ensures { IfOk result (λ written. written ≡ written_ur text.now) }
@@ -66,7 +66,7 @@ fn written(alloc: Global, text: &str) -> Result<Text, AllocError>
     Ok(Text::new(written))
 }
 
-// Literals as a part.
+/// Literals as a part.
 pub(crate) fn literal(alloc: Global, literals: &[char]) -> Result<Part, AllocError>
     requires { length (encode_utf8_all literals.now) ≤ MAX_BYTES }
     ensures { IfOk result (λ part. part ≡ Part.Literal (written_ur (encode_utf8_all literals.now))) }

@@ -16,7 +16,7 @@ fn is_name_character(c: char) -> bool
     c.is_ascii_alphanumeric() || c == '_'
 }
 
-// How many characters the varchar at the beginning has; 0 if there is none.
+/// How many characters the varchar at the beginning has; 0 if there is none.
 fn varchar_len(text: &[char]) -> usize
     ensures value { result ≡ varchar_len text.now }
     ensures within { result ≤ length text.now }
@@ -28,7 +28,7 @@ fn varchar_len(text: &[char]) -> usize
     }
 }
 
-// How many characters the next varchar of a name has, with the dot before it if there is one; 0 if the name ends.
+/// How many characters the next varchar of a name has, with the dot before it if there is one; 0 if the name ends.
 fn next_len(text: &[char]) -> usize
     ensures value { result ≡ next_len text.now }
     ensures within { result ≤ length text.now }
@@ -42,7 +42,7 @@ fn next_len(text: &[char]) -> usize
     }
 }
 
-// How many characters the longest varname at the beginning has; 0 if there is none.
+/// How many characters the longest varname at the beginning has; 0 if there is none.
 pub(crate) fn varname_len(text: &[char]) -> usize
     requires { length text.now ≤ MAX_BYTES }
     ensures within { result ≤ length text.now }

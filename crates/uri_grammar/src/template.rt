@@ -90,7 +90,7 @@ impl Template {
     }
 }
 
-// The parts of the template with these characters, read from left to right.
+/// The parts of the template with these characters, read from left to right.
 fn read(alloc: Global, chars: &[char]) -> Result<Vec<Part>, TemplateError>
     requires { length (encode_utf8_all chars.now) ≤ MAX_BYTES }
     ensures ok { IfOk result (λ parts. Spells chars.now parts.items) }

@@ -32,7 +32,7 @@ fn digit(c: char) -> u32
     u32::from(c) - u32::from('0')
 }
 
-// The number of a prefix.
+/// The number of a prefix.
 fn number(digits: &[char]) -> Option<u16>
     ensures { result ≡ number_of digits.now }
 {
@@ -52,7 +52,7 @@ fn number(digits: &[char]) -> Option<u16>
     Some(number as u16)
 }
 
-// The length of the prefix (0 for none), and whether the variable is exploded.
+/// The length of the prefix (0 for none), and whether the variable is exploded.
 fn modifier(after: &[char]) -> Option<(u16, bool)>
     ensures { result ≡ modifier_of after.now }
 {
@@ -70,7 +70,7 @@ fn begins_with_modifier(after: &[char]) -> bool
     matches!(after, [':' | '*', ..])
 }
 
-// How long the name at the beginning is, if the variable can continue or end after it.
+/// How long the name at the beginning is, if the variable can continue or end after it.
 fn named_len(text: &[char]) -> Option<usize>
     requires { length text.now ≤ MAX_BYTES }
     ensures some { IfSome result

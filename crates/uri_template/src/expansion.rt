@@ -13,8 +13,8 @@ use std::alloc::{AllocError, Global};
 use target_vars::Env;
 use uri_grammar::{Op, Part, Spec, Template};
 
-// Appends the piece of a variable, after `first` or `sep`, or nothing if it is undefined. Returns whether the first
-// defined variable is still to come.
+/// Appends the piece of a variable, after `first` or `sep`, or nothing if it is undefined. Returns whether the first
+/// defined variable is still to come.
 fn push_variable<V: Variables>(
     out: &mut String,
     style: &Style,

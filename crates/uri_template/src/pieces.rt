@@ -23,7 +23,7 @@ fn push_written(out: &mut String, text: &[u8], writing: Writing) -> Result<(), A
     Ok(())
 }
 
-// A value, with its name if the operator writes names.
+/// A value, with its name if the operator writes names.
 fn push_item(out: &mut String, style: &Style, name: &str, value: &[u8]) -> Result<(), AllocError>
     requires { length value.now ≤ MAX_BYTES }
     ensures { OnOk result (string_bytes out.new ≡ string_bytes out.old ++ item style.now name.now value.now) }
@@ -39,7 +39,7 @@ fn push_item(out: &mut String, style: &Style, name: &str, value: &[u8]) -> Resul
     push_written(out, value, style.writing)
 }
 
-// The first n items of a value; 0 is no prefix.
+/// The first n items of a value; 0 is no prefix.
 fn prefix(text: &str, n: u16, writing: Writing) -> &[u8]
     ensures value { result.now ≡ prefix writing n text.now }
     ensures within { length result.now ≤ length text.now }
@@ -75,7 +75,7 @@ pub(crate) fn push_text(
     )
 }
 
-// A member, as an item of its own if the list is exploded.
+/// A member, as an item of its own if the list is exploded.
 fn push_member(out: &mut String, style: &Style, spec: &Spec, member: &str) -> Result<(), AllocError>
     requires { length member.now ≤ MAX_BYTES }
     ensures { OnOk result
@@ -89,14 +89,14 @@ fn push_member(out: &mut String, style: &Style, spec: &Spec, member: &str) -> Re
     }
 }
 
-// What is written between two members.
+/// What is written between two members.
 fn member_sep(style: &Style, explode: bool) -> &'static str
     ensures { result.now ≡ member_sep style.now explode }
 {
     if explode { style.sep } else { "," }
 }
 
-// Member `i`, with the separator before it unless it is the first.
+/// Member `i`, with the separator before it unless it is the first.
 fn push_nth(
     out: &mut String,
     style: &Style,
@@ -131,7 +131,7 @@ fn push_members(
     Ok(())
 }
 
-// The name before the members of a list that is not exploded.
+/// The name before the members of a list that is not exploded.
 fn push_head(out: &mut String, style: &Style, spec: &Spec) -> Result<(), AllocError>
     ensures { OnOk result
         (string_bytes out.new ≡ string_bytes out.old ++ list_head style.now spec.now.name spec.now.explode) }

@@ -4,7 +4,7 @@ ghost use Rattle.std.specs.Prelude.{◌≡◌, ◌/◌};
 ghost use Rattle.text_model.specs.Texts.{is_unreserved};
 ghost use Rattle.text_model.specs.Writing.{is_unreserved_or_reserved, hexadecimal_digit};
 
-// Each unreserved byte is at its own index, and `%` at every other index.
+/// Each unreserved byte is at its own index, and `%` at every other index.
 static UNRESERVED: [u8; 256] = *b"\
     %%%%%%%%%%%%%%%%%%%%%%%%%%%%%%%%\
     %%%%%%%%%%%%%-.%0123456789%%%%%%\
@@ -15,7 +15,7 @@ static UNRESERVED: [u8; 256] = *b"\
     %%%%%%%%%%%%%%%%%%%%%%%%%%%%%%%%\
     %%%%%%%%%%%%%%%%%%%%%%%%%%%%%%%%";
 
-// Each unreserved or reserved byte is at its own index, and `%` at every other index.
+/// Each unreserved or reserved byte is at its own index, and `%` at every other index.
 static UNRESERVED_OR_RESERVED: [u8; 256] = *b"\
     %%%%%%%%%%%%%%%%%%%%%%%%%%%%%%%%\
     %!%#$%&'()*+,-./0123456789:;%=%?\
@@ -26,7 +26,7 @@ static UNRESERVED_OR_RESERVED: [u8; 256] = *b"\
     %%%%%%%%%%%%%%%%%%%%%%%%%%%%%%%%\
     %%%%%%%%%%%%%%%%%%%%%%%%%%%%%%%%";
 
-// The two hexadecimal digits of each byte, in upper case.
+/// The two hexadecimal digits of each byte, in upper case.
 static DIGITS: [u8; 512] = *b"\
     000102030405060708090A0B0C0D0E0F\
     101112131415161718191A1B1C1D1E1F\
@@ -59,7 +59,7 @@ pub(crate) fn is_unreserved_or_reserved(byte: u8) -> bool
     UNRESERVED_OR_RESERVED[byte as usize] != b'%'
 }
 
-// The hexadecimal digit of the upper half of a byte.
+/// The hexadecimal digit of the upper half of a byte.
 #[inline(always)]
 pub(crate) fn high_digit(byte: u8) -> u8
     ensures { result ≡ hexadecimal_digit (byte / 16) }
@@ -67,7 +67,7 @@ pub(crate) fn high_digit(byte: u8) -> u8
     DIGITS[2 * byte as usize]
 }
 
-// The hexadecimal digit of the lower half of a byte.
+/// The hexadecimal digit of the lower half of a byte.
 #[inline(always)]
 pub(crate) fn low_digit(byte: u8) -> u8
     ensures { result ≡ hexadecimal_digit byte }

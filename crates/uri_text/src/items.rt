@@ -8,7 +8,7 @@ ghost use Rattle.uri_text.specs.Private.Items.{continues, code_point_length, beg
 
 use crate::triplet::are_hexadecimal;
 
-// A byte of UTF-8 that continues with the code point before it (RFC 3629, section 3).
+/// A byte of UTF-8 that continues with the code point before it (RFC 3629, section 3).
 fn is_continuation(byte: u8) -> bool
     ensures { result ≡ is_continuation byte }
 {
@@ -40,7 +40,7 @@ fn code_point_len(text: &[u8]) -> usize
     }
 }
 
-// Whether the first three code points are the characters of a triplet.
+/// Whether the first three code points are the characters of a triplet.
 fn begins_with_triplet_item(text: &[u8]) -> bool
     ensures { result ≡ begins_with_triplet_item text.now }
 {
@@ -50,7 +50,7 @@ fn begins_with_triplet_item(text: &[u8]) -> bool
     }
 }
 
-// How many bytes the item at the beginning has.
+/// How many bytes the item at the beginning has.
 #[tactic(auto, using(crate::proofs::FirstItems::lengths))]
 fn item_len(text: &[u8], triplets: bool) -> usize
     ensures value { result ≡ item_length triplets text.now }

@@ -12,8 +12,8 @@ use crate::triplet::begins_with_triplet;
 use std::mem;
 use text_model::Writing;
 
-// Takes the bytes of a string, which `put_back` returns to it. The functions between them hold the vector in a variable
-// of their own: its length then stays in a register.
+/// Takes the bytes of a string, which `put_back` returns to it. The functions between them hold the vector in a
+/// variable of their own: its length then stays in a register.
 fn take_bytes(out: &mut String) -> Vec<u8>
     ensures items { result.items ≡ string_bytes out.old }
     ensures len { vec_len result ≡ string_len out.old }
@@ -32,7 +32,7 @@ fn put_back(out: &mut String, bytes: Vec<u8>)
     *out = unsafe { String::from_utf8_unchecked(bytes) };
 }
 
-// Appends a byte, as it is or as its triplet.
+/// Appends a byte, as it is or as its triplet.
 #[inline(always)]
 fn push_byte(bytes: &mut Vec<u8>, byte: u8, stays: bool)
     requires room { vec_len bytes.old + length (written_byte stays byte) ≤ vec_capacity bytes.old }
@@ -49,8 +49,8 @@ fn push_byte(bytes: &mut Vec<u8>, byte: u8, stays: bool)
     }
 }
 
-// Whether the first byte is copied: one that may stay or, by UR, the `%` of a triplet. The digits of a triplet are
-// unreserved.
+/// Whether the first byte is copied: one that may stay or, by UR, the `%` of a triplet. The digits of a triplet are
+/// unreserved.
 #[inline(always)]
 fn is_copied(text: &[u8], writing: Writing) -> bool
     requires { 0 < length text.now }
@@ -62,7 +62,7 @@ fn is_copied(text: &[u8], writing: Writing) -> bool
     }
 }
 
-// Appends the first byte encoded. Returns what is left.
+/// Appends the first byte encoded. Returns what is left.
 #[inline(always)]
 fn push_first<'t>(bytes: &mut Vec<u8>, text: &'t [u8], writing: Writing) -> &'t [u8]
     requires some { 0 < length text.now }
@@ -78,7 +78,7 @@ fn push_first<'t>(bytes: &mut Vec<u8>, text: &'t [u8], writing: Writing) -> &'t 
     rest
 }
 
-// Appends the text encoded. Each call names its writing, for which the loop is compiled.
+/// Appends the text encoded. Each call names its writing, for which the loop is compiled.
 #[inline(always)]
 fn push_text(out: &mut String, text: &[u8], writing: Writing)
     requires room { string_len out.old + length (written writing text.now) ≤ string_capacity out.old }
