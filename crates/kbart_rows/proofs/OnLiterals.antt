@@ -1,3 +1,4 @@
+-- Computing with literals.
 use Rattle.std.specs.Prelude.{⊤}
 use Rattle.csv.proofs.OnLiterals.{csv_on_literals}
 use Rattle.kev_read.proofs.OnLiterals.{kev_read_on_literals}

@@ -1,3 +1,4 @@
+-- Computing with literals.
 use Rattle.std.specs.Prelude.{⊤}
 use Rattle.std.specs.Str.Lossy.{utf8_lossy, utf8_valid_len, utf8_error_len}
 use Rattle.std.specs.Str.{chars, is_utf8}

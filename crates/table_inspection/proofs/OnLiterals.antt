@@ -1,3 +1,4 @@
+-- Computing with literals.
 use Rattle.std.specs.Prelude.{⊤}
 use Rattle.std.specs.Fmt.{digits}
 use Rattle.std.specs.Str.{chars}

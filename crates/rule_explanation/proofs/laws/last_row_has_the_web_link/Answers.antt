@@ -1,3 +1,4 @@
+-- The rows are tried up to the first one with a web link.
 use Rattle.kbart_rows.specs.Identifiers.{ids_of, matching_rows}
 use Rattle.rule_explanation.specs.Rows.{gives_web_link}
 use Rattle.rule_explanation.proofs.LastTried.{all_tried, last_passes, none_after, one_passes}

@@ -1,3 +1,4 @@
+-- The rule that is printed as holding has the link that the rules mean.
 use Rattle.rule_parser.specs.Meaning.{seen}
 use Rattle.rule_explanation.proofs.LawLemmas.{no_meaning, says_meaning}
 use Rattle.rule_explanation.proofs.laws.printed_rule_gives_the_meaning.Goals as goal

@@ -1,3 +1,4 @@
+-- Each rule that is printed as failing has a guard that fails.
 use Rattle.rule_explanation.proofs.LawLemmas.{rules_fail}
 use Rattle.rule_explanation.proofs.laws.printed_rules_fail.Goals as goal
 

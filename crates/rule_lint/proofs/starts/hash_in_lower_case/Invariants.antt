@@ -1,3 +1,4 @@
+-- The hash of the bytes so far, in lower case.
 use Rattle.std.proofs.Common.{◌≡◌, take}
 use Rattle.rule_lint.specs.Private.Starts.{hash_of, lower_case}
 use Rattle.rule_lint.proofs.starts.hash_in_lower_case.Given as goal

@@ -1,3 +1,4 @@
+-- The hash of the bytes so far, after those before them.
 use Rattle.std.proofs.Common.{◌≡◌, take}
 use Rattle.std.specs.Prelude.{fold}
 use Rattle.rule_lint.specs.Private.Starts.{next_hash}

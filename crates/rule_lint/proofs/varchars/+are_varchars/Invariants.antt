@@ -1,3 +1,4 @@
+-- The text gets shorter with each call.
 use Rattle.std.proofs.Common.{length}
 use Rattle.rule_lint.proofs.varchars.+are_varchars.Given as goal
 

@@ -1,3 +1,4 @@
+-- Without two bounds after `from`, the text is not a guard.
 use Rattle.rule_parser.proofs.GuardLemmas.{no_between}
 use Rattle.rule_parser.proofs.guard.between.Goals as goal
 

@@ -1,3 +1,4 @@
+-- Without two bounds after `counts`, the text is not a guard.
 use Rattle.rule_parser.proofs.GuardLemmas.{no_counts}
 use Rattle.rule_parser.proofs.guard.counts.Goals as goal
 

@@ -1,3 +1,4 @@
+-- Without a quoted text after `holds`, the text is not a guard.
 use Rattle.rule_parser.proofs.GuardLemmas.{no_holds}
 use Rattle.rule_parser.proofs.guard.holds.Goals as goal
 

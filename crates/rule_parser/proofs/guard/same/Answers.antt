@@ -1,3 +1,4 @@
+-- Without a quoted text after `is`, the text is not a guard.
 use Rattle.rule_parser.proofs.GuardLemmas.{no_same}
 use Rattle.rule_parser.proofs.guard.same.Goals as goal
 
