@@ -1,6 +1,6 @@
 //! The rows of a table that have one of a request's identifiers.
 
-ghost use Rattle.std.specs.Prelude.{◌≡◌, ◌+◌, ◌<◌, IfSome, drop, length};
+ghost use Rattle.std.specs.Prelude.{◌≡◌, ◌+◌, ◌<◌, [], IfSome, drop, length, true};
 ghost use Rattle.std.specs.List.{slice_get};
 ghost use Rattle.kbart_rows.specs.Identifiers.{first_from, matching_rows};
 ghost use Rattle.kbart_rows.specs.Private.Runs.{AreReady};
@@ -50,6 +50,9 @@ impl<'a> Matches<'a> {
         ensures head { result ≡ slice_get self.old 0 }
         ensures tail { self.new ≡ drop 1 self.old }
     {
+        if self.is_over() {
+            return None;
+        }
         let mut runs = self.runs;
         match next_row(self.table, self.ids, &mut runs, self.from) {
             Some(row) => {
@@ -58,6 +61,16 @@ impl<'a> Matches<'a> {
                 Some(row)
             }
             None => None,
+        }
+    }
+
+    /// Whether the index has no more entry of the identifiers, so that no row is left.
+    fn is_over(&self) -> bool
+        ensures { result ≡ true → self.now ≡ [] }
+    {
+        match self.runs.least() {
+            Some(_) => false,
+            None => true,
         }
     }
 }

@@ -4,7 +4,6 @@ ghost use Rattle.std.specs.Prelude.{◌≡◌, IfOk};
 ghost use Rattle.kbart_rows.specs.ColumnNames.{has};
 ghost use Rattle.row_scope.specs.RequestValues.{IsApart};
 ghost use Rattle.registry.specs.Entries.{matching_rows_of};
-ghost use Rattle.link_menu.specs.Private.Held.{has_row};
 
 use kbart_rows::{ColumnNames, Ids, Keys, Matches};
 use kev_read::Request;
@@ -56,12 +55,5 @@ impl<'a> Citation<'a> {
         ensures { result ≡ matching_rows_of target.now self.now.pairs }
     {
         target.table().matches(&self.ids)
-    }
-
-    /// Whether a row of a target has the title.
-    pub(crate) fn has_row(&'a self, target: &'a Target) -> bool
-        ensures { result ≡ has_row self.now.pairs target.now }
-    {
-        self.rows(target).next().is_some()
     }
 }

@@ -65,10 +65,11 @@ impl<'a> Searches<'a> {
             ++ map (spec.started citation.now) (held citation.now.pairs (target.now ∷ []))) }
         ensures same { known.new ≡ known.old }
     {
-        let is_held = citation.has_row(target);
-        self.held.push(is_held)?;
-        if is_held {
-            let search = TargetSearch::begin(alloc, target, citation, known)?;
+        let mut rows = citation.rows(target);
+        let first = rows.next();
+        self.held.push(first.is_some())?;
+        if first.is_some() {
+            let search = TargetSearch::begin(alloc, target, known, first, rows)?;
             self.searches.push(search)?;
         }
         Ok(())

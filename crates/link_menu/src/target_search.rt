@@ -1,12 +1,12 @@
 //! The search for a target's link, row after row.
 
-ghost use Rattle.std.specs.Prelude.{◌≡◌, IfOk, None, if◌then◌else◌};
+ghost use Rattle.std.specs.Prelude.{◌≡◌, IfOk, None, drop, if◌then◌else◌, slice_get};
+ghost use Rattle.registry.specs.Entries.{matching_rows_of};
 ghost use Rattle.menu.specs.Links as links;
 ghost use Rattle.row_scope.specs.RequestValues.{IsApartFrom};
 ghost use Rattle.interleaved_runs.specs.Fates.{fate_value};
 ghost use Rattle.link_menu.specs.Private.Searches as spec;
 
-use crate::citation::Citation;
 use crate::resolution::{is_link, resolution_of};
 use interleaved_runs::Fate;
 use kbart_rows::Matches;
@@ -46,23 +46,23 @@ impl<'a> Model for TargetSearch<'a> {
 }
 
 impl<'a> TargetSearch<'a> {
-    /// A search that has tried no row.
+    /// A search that has tried no row. `next` is the first matching row, and `rows` are those after it.
     ///
     /// `AllocError` if an allocation failed.
     pub(crate) fn begin(
         alloc: Global,
         target: &'a Target,
-        citation: &'a Citation<'a>,
         known: &mut KnownValues<'a>,
+        next: Option<usize>,
+        rows: Matches<'a>,
     ) -> Result<TargetSearch<'a>, AllocError>
-        requires apart { IsApartFrom citation.now target.now.table.header }
-        requires known { known.old ≡ citation.now }
-        ensures ok { IfOk result (λ search. search ≡ spec.started citation.now target.now) }
+        requires apart { IsApartFrom known.old target.now.table.header }
+        requires next { next ≡ slice_get (matching_rows_of target.now known.old.pairs) 0 }
+        requires rows { rows ≡ drop 1 (matching_rows_of target.now known.old.pairs) }
+        ensures ok { IfOk result (λ search. search ≡ spec.started known.old target.now) }
         ensures same { known.new ≡ known.old }
     {
         matching_rows_rise();
-        let mut rows = citation.rows(target);
-        let next = rows.next();
         Ok(TargetSearch {
             target,
             request: target.request(alloc, known)?,

@@ -5,7 +5,6 @@ ghost use Rattle.text_model.specs.Texts.{Text};
 ghost use Rattle.environment_model.specs.Lists as lists;
 ghost use Rattle.row_laws.specs.Shadowing.{requested};
 ghost use Rattle.row_scope.specs.Bindings.{IsBound, laid_in};
-ghost use Rattle.row_scope.specs.RequestValues.{AreValues, AreValuesAt};
 
 use crate::binding::Binding;
 use crate::name_numbers::NameNumbers;
@@ -13,15 +12,15 @@ use crate::request_values::RequestValues;
 use std::alloc::{AllocError, Global};
 use std::marker::Model;
 
-/// A name, and where its values are in a request: the first span, and the number of spans.
+/// A name, read as a list or as a text, and what it is bound to in a request without a row.
 #[derive(Clone, Copy)]
 pub struct KnownName<'a> {
     name: &'a str,
-    first: u32,
-    count: u32,
+    is_list: bool,
+    binding: Binding,
 }
 
-/// A request, and where the values of the names are that were already looked up in it. Contracts see the request.
+/// A request, and what the names are bound to that were already looked up in it. Contracts see the request.
 #[derive(Drop)]
 pub struct KnownValues<'a> {
     request: &'a RequestValues<'a>,
@@ -68,24 +67,20 @@ impl<'a> KnownValues<'a> {
             → IsBound (laid_in self.old.values (requested declared self.old.pairs)) name.now result }
         ensures same { self.new ≡ self.old }
     {
-        let (first, count) = self.values_of(number, name);
-        self.request.binding(first, count, is_list)
-    }
-
-    /// Where the values of a name are: the first span, and the number of spans.
-    fn values_of(&mut self, number: usize, name: &'a str) -> (u32, u32)
-        ensures place { AreValuesAt self.old name.now result.0 result.1 }
-        ensures same { self.new ≡ self.old }
-    {
         if let Some(Some(known)) = self.names.get(number) {
-            if known.name == name {
-                return (known.first, known.count);
+            if known.is_list == is_list && known.name == name {
+                return known.binding;
             }
         }
         let (first, count) = self.request.values_of(name);
+        let binding = self.request.binding(first, count, is_list);
         if let Some(known) = self.names.get_mut(number) {
-            *known = Some(KnownName { name, first, count });
+            *known = Some(KnownName {
+                name,
+                is_list,
+                binding,
+            });
         }
-        (first, count)
+        binding
     }
 }

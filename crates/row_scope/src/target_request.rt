@@ -35,7 +35,7 @@ pub struct TargetRequest<'a> {
     names: &'a NameColumns,
     request: &'a RequestValues<'a>,
     // What the names of the code are bound to in the request without a row, and its E (bytes) and M (members).
-    bindings: Vec<Binding>,
+    bindings: SmallVec<Binding, FEW_NAMES>,
     bytes: usize,
     members: usize,
     hidden: Vec<HiddenKey>,
@@ -122,7 +122,7 @@ impl<'a> TargetRequest<'a> {
             self.now.request.pairs))
             (names_of self.now.code) bindings.items) }
     {
-        let mut bindings = SmallVec::from_slice(alloc, &self.bindings)?;
+        let mut bindings = SmallVec::from_slice(alloc, self.bindings.as_slice())?;
         self.bind_cells(line, bindings.as_mut_slice());
         Ok(bindings)
     }
@@ -182,7 +182,7 @@ fn bindings_of<'a>(
     code: &'a Code,
     names: &NameColumns,
     known: &mut KnownValues<'a>,
-) -> Result<Vec<Binding>, AllocError>
+) -> Result<SmallVec<Binding, FEW_NAMES>, AllocError>
     requires marks { AreMarked code.now names.now.marks.items }
     requires numbers { length names.now.numbers.items ≡ length code.now.names }
     ensures ok { IfOk result
@@ -190,7 +190,7 @@ fn bindings_of<'a>(
         (names_of code.now) bindings.items) }
     ensures same { known.new ≡ known.old }
 {
-    let mut bindings = Vec::with_capacity(alloc, names.marks.len())?;
+    let mut bindings = SmallVec::with_capacity(alloc, names.marks.len())?;
     for (name, is_list) in code.names().iter().zip(names.marks.iter()) {
         let number = names.numbers[bindings.len()];
         bindings.push(known.binding(number, name.text.as_str(), *is_list))?;

@@ -3,14 +3,15 @@ use Rattle.std.specs.Prelude.{◌≡◌, ℕ, ◌+◌, ◌≤◌, List, [], All,
 use Rattle.std.specs.List.{filter_map, range_with_len}
 use Rattle.text_model.specs.Texts.{Text}
 use Rattle.environment_model.specs.Environment.{byte_count, member_count}
+use Rattle.environment_model.specs.Lists.{is_list}
 use Rattle.target_vars.specs.EnvValue.{EnvValue, IsInOrder}
 use Rattle.target_vars.specs.declared.env.TheConstants.{MAX_BYTES, MAX_MEMBERS}
 use Rattle.kev_read.specs.Pairs.{KeyValue, all_of}
 use Rattle.kbart_rows.specs.Cells.{Row, is_first}
 use Rattle.row_laws.specs.Shadowing.{requested, requested_bytes, requested_members}
 use Rattle.row_scope.specs.RowEnvironments.{lists_of, names_of}
-use Rattle.row_scope.specs.Bindings.{AreBound, laid_in}
-use Rattle.row_scope.specs.RequestValues.{RequestValue, AreValues, AreValuesAt}
+use Rattle.row_scope.specs.Bindings.{AreBound, IsBound, laid_in}
+use Rattle.row_scope.specs.RequestValues.{RequestValue, AreValues}
 use Rattle.row_scope.specs.NameColumns.{AreNameColumns}
 use Rattle.row_scope.specs.RowValue.{TargetRequestValue}
 use Rattle.row_scope.specs.declared.binding.Binding.{Binding}
@@ -31,9 +32,14 @@ pub record IsRequest (request : RequestValue) (ends : List ℕ) (bytes members :
   pub all_bytes : bytes ≡ byte_count (requested [] request.pairs)
   pub all_members : members ≡ member_count (requested [] request.pairs)
 
--- the values of each known name are at the spans that are stored
+-- a name is bound to this in the request without a row, if it is read so
+abbrev pub IsKnown : RequestValue → KnownName → Type 0
+IsKnown request k =
+    (declared : List Text) → k.is_list ≡ is_list declared k.name.now
+    → IsBound (laid_in request.values (requested declared request.pairs)) k.name.now k.binding
+
 abbrev pub AreKnown : RequestValue → List (Option KnownName) → Type 0
-AreKnown request names = All (λ known. IfSome known (λ k. AreValuesAt request k.name.now k.first k.count)) names
+AreKnown request names = All (λ known. IfSome known (IsKnown request)) names
 
 -- ---- a request at a target
 

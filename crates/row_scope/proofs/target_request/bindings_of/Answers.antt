@@ -48,7 +48,7 @@ loop-name-preserved c =
     record {
       one_each = omega (
         arith,
-        ap length c.in_ok-push.ensures.items,
+        ap length c.in_ok-push.ensures.ok,
         length-append so_far (new ∷ []),
         c.loop-name.invariant.one_each,
         length-append c.loop-name.yielded ((c.in-Some.name, c.in-Some.is_list) ∷ []),
@@ -60,7 +60,7 @@ loop-name-preserved c =
           let here : i ≡ n = last.0 ∙ c.loop-name.invariant.one_each in
           let same : c.as_str.result.now ≡ name = text ∙ ap (name_at code) (sym here) ∙ name_at_is code i name named in
           subst (λ (key : Text). IsBound (env known) key b) same (subst (IsBound (env known) c.as_str.result.now) last.1 bound))
-          (slice_get-push so_far new i b (ap (λ xs. slice_get xs i) (sym c.in_ok-push.ensures.items) ∙ is));
+          (slice_get-push so_far new i b (ap (λ xs. slice_get xs i) (sym c.in_ok-push.ensures.ok) ∙ is));
     }
 
 pub returns-clause-ok : goal.returns-clause-ok

@@ -9,7 +9,6 @@ invariant_of-result c =
     let target = c.args.target.now in
     let request = c.in_ok-request.field-0 in
     let made = c.in_ok-request.ensures.ok in
-    let same = made.2 ∙ c.requires.known in
-    let rows = c.rows-rows.ensures ∙ ap (λ r. matching_rows_of target r.pairs) (sym same) ∙ sym (rise.start target request.request.pairs) in
-    ready rise.no_more rise.next 0 target request c.next-next.result c.next-next.new.self made.0 made.1
-    (c.next-next.ensures.head ∙ ap (λ rs. slice_get rs 0) rows) (c.next-next.ensures.tail ∙ ap (drop 1) rows)
+    let rows = ap (λ r. matching_rows_of target r.pairs) (sym made.2) ∙ sym (rise.start target request.request.pairs) in
+    ready rise.no_more rise.next 0 target request c.args.next c.args.rows made.0 made.1
+    (c.requires.next ∙ ap (λ rs. slice_get rs 0) rows) (c.requires.rows ∙ ap (drop 1) rows)
