@@ -6,7 +6,7 @@ use Rattle.commands.proofs.placing.place_counted.Goals as goal
 pub returns-in_err-line : goal.returns-in_err-line
 returns-in_err-line g c =
     rw (is_err _ _ c.from_residual.ensures.1)
-    (unplaced _ (no_memory (inl (refl {a = c.args.rt.now.files}))) (record { others = λ other apart. refl; nothing_left = inl refl }))
+    (unplaced _ (no_memory (inl (refl {a = c.args.files.now}))) (record { others = λ other apart. refl; nothing_left = inl refl }))
 
 pub returns-in-Ok : goal.returns-in-Ok
 returns-in-Ok g c = placed _ c.in-Ok.ensures.placed c.in-Ok.ensures.modes c.in_ok-line.ensures
