@@ -1,5 +1,4 @@
--- What a command answers, from the files that it reads. Parameters: what the implementers of the traits over files and keys say about their calls; the files
--- and the keys before the command, and after it.
+-- What a command answers, from the files that it reads. Parameters: what is said about calls on files and keys; both before the command, and after it.
 use Rattle.std.specs.Prelude.{◌≡◌, ℕ, List, Result, Ok, Err}
 use Rattle.std.specs.Borrow.{Bor}
 use Rattle.text_model.specs.Texts.{Text}
@@ -52,16 +51,14 @@ module _ {F K : Type 0} (at : F → Disk) (fails runs_out : F → FileCall → T
     read : (set : RuleSet) (bytes : Text) (keys : Keys) (end : Result A Fault) → IsTarget draws (at old) first last rules table set bytes keys
         → Answered (Answers set bytes keys) end → TellsOfTarget Answers rules table end
 
-module _ {F K : Type 0} (fails : F → FileCall → Text → F → Type 0) (draws : K → ℕ → ℕ → K → Type 0) (no_keys : K → K → Type 0)
-    (disk : Disk) (old new : K) where
   -- the registry file at the path, or a file that it names, cannot be loaded
   pub record IsNoRegistry (path : Bor Text) (fault : Fault) : Type 0 where
     pub error : RegistryError
-    pub cause : IsNotLoaded fails draws no_keys disk old path.now new error
+    pub cause : IsNotLoaded fails draws no_keys (at old) first path.now last error
     pub same : fault ≡ registry_fault path error
 
   -- the registry file at the path and the files that it names are loaded, and this is the answer to its targets
   pub data Resolves {A : Type 0} (Answers : List TargetValue → Result A Refusal → Type 0) (path : Bor Text) : Result A Fault → Type 0 where
     no_registry : (fault : Fault) → IsNoRegistry path fault → Resolves Answers path (Err fault)
-    loaded : (targets : List TargetValue) (end : Result A Fault) → IsLoaded draws disk old path.now new targets → Answered (Answers targets) end
+    loaded : (targets : List TargetValue) (end : Result A Fault) → IsLoaded draws (at old) first path.now last targets → Answered (Answers targets) end
         → Resolves Answers path end

@@ -33,12 +33,10 @@ pub data Explained (rules : RuleSet) (table : Holdings) (query : Text) (output :
 
 -- the rules, the table and the query are read, in this order, and what they give is explained
 module _ {F K : Type 0} (at : F → Disk) (fails runs_out : F → FileCall → Text → F → Type 0) (draws : K → ℕ → ℕ → K → Type 0) (no_keys : K → K → Type 0)
-    (old new : F) (first last : K) where
-  pub data Explains (rules table : Bor Text) (query : Text) (output : Output) : Option Fault → Type 0 where
-    no_target : (fault : Fault) → IsNoTarget at fails runs_out no_keys old new first last rules table fault → output.gets_nothing
-        → Explains rules table query output (Some fault)
+    (old new : F) (first last : K) (rules table : Bor Text) (query : Text) (output : Output) where
+  pub data Explains : Option Fault → Type 0 where
+    no_target : (fault : Fault) → IsNoTarget at fails runs_out no_keys old new first last rules table fault → output.gets_nothing → Explains (Some fault)
     no_table : (set : RuleSet) (bytes : Text) (keys : Keys) (e : Refusal) → IsTarget draws (at old) first last rules table set bytes keys → IsNoTable bytes e
-        → output.gets_nothing → Explains rules table query output (Some (Refused e))
-    explains : (set : RuleSet) (bytes : Text) (holdings : Holdings) (end : Option Fault)
-        → IsTarget draws (at old) first last rules table set bytes holdings.keys → IsTable bytes holdings → Explained set holdings query output end
-        → Explains rules table query output end
+        → output.gets_nothing → Explains (Some (Refused e))
+    explains : (set : RuleSet) (bytes : Text) (held : Holdings) (end : Option Fault) → IsTarget draws (at old) first last rules table set bytes held.keys
+        → IsTable bytes held → Explained set held query output end → Explains end

@@ -9,7 +9,7 @@ use Rattle.registry.specs.Entries.{menu_of}
 use Rattle.registry_file.specs.Loading.{IsLoaded}
 use Rattle.http_exchange.specs.Connections.{ServesAll, StopsEarly}
 use Rattle.http_exchange.specs.declared.counts.Counts.{Counts}
-use Rattle.commands.specs.World.{Told, disk}
+use Rattle.commands.specs.World.{Told}
 use Rattle.commands.specs.Answers.{IsNoRegistry}
 use Rattle.commands.specs.Faults.{out_of_memory}
 use Rattle.commands.specs.Output.{Output}
@@ -56,9 +56,9 @@ module _ {P Listener In Out : Type 0} (binds : P → ℕ → Listener × ℕ →
 
 -- how it ends; no port is bound before the registry is loaded
 pub data Serves {System : Type 0} (told : Told System) (old : System) (service : Service) (new : System) (output : Output) : Option Fault → Type 0 where
-  unloaded : (fault : Fault) → IsNoRegistry told.fails told.draws told.no_keys (disk told old) (told.keys old) (told.keys new) service.registry fault
-      → told.ports new ≡ told.ports old → output.gets_nothing → Serves told old service new output (Some fault)
+  unloaded : (fault : Fault) → IsNoRegistry told.at told.fails told.runs_out told.draws told.no_keys (told.files old) (told.files new) (told.keys old)
+      (told.keys new) service.registry fault → told.ports new ≡ told.ports old → output.gets_nothing → Serves told old service new output (Some fault)
   loaded : (targets : List TargetValue) (end : Option Fault)
-      → IsLoaded told.draws (disk told old) (told.keys old) service.registry.now (told.keys new) targets
+      → IsLoaded told.draws (told.at (told.files old)) (told.keys old) service.registry.now (told.keys new) targets
       → ServesMenus told.binds told.no_port told.gives told.closes told.no_more told.input_state told.output_state (told.ports old) service (told.ports new)
       targets output end → Serves told old service new output end

@@ -9,7 +9,7 @@ ghost use Rattle.answers.specs.Verdict.{IsVerdictOf};
 ghost use Rattle.commands.specs.Answers.{Makes, Tells};
 ghost use Rattle.commands.specs.Reading.{code_file, loaded_file};
 
-use crate::fault::{Fault, answered};
+use crate::fault::{Answer, answered};
 use crate::placing::place_counted;
 use crate::reading::read_file;
 use answers::{Refusal, listing_of, run_link_of, upgrade_of, verdict_of};
@@ -25,29 +25,20 @@ const LONG_CODE: CodeError = CodeError {
 };
 
 /// The error of `verify` and `run` for a file of more than 65,536 bytes.
-const LONG_CODE_TO_LOAD: LoadError = LoadError::Code(CodeErrorKind::TooLong, MAX_BYTES);
+const LONG_TO_LOAD: LoadError = LoadError::Code(CodeErrorKind::TooLong, MAX_BYTES);
 
 /// `verify CODE`: the lines of the verdict on the code file.
-pub(crate) fn verify<'a, F: Files>(
-    alloc: Global,
-    files: &mut F,
-    code: &'a str,
-) -> Result<String, Fault<'a>>
+pub(crate) fn verify<'a, F: Files>(alloc: Global, files: &mut F, code: &'a str) -> Answer<'a>
     ensures ends { Tells F.at F.fails F.runs_out files.old files.new loaded_file IsVerdictOf code.entry
         (text_result result) }
     ensures same { Unchanged (F.at files.old) (F.at files.new) }
 {
-    let too_long = Refusal::Load(LONG_CODE_TO_LOAD);
-    let bytes = read_file(alloc, files, code, MAX_BYTES, too_long)?;
+    let bytes = read_file(alloc, files, code, MAX_BYTES, Refusal::Load(LONG_TO_LOAD))?;
     answered(verdict_of(alloc, &bytes))
 }
 
 /// `show CODE`: the listing of the code file.
-pub(crate) fn show<'a, F: Files>(
-    alloc: Global,
-    files: &mut F,
-    code: &'a str,
-) -> Result<String, Fault<'a>>
+pub(crate) fn show<'a, F: Files>(alloc: Global, files: &mut F, code: &'a str) -> Answer<'a>
     ensures ends { Tells F.at F.fails F.runs_out files.old files.new code_file IsListingOf code.entry
         (text_result result) }
     ensures same { Unchanged (F.at files.old) (F.at files.new) }
@@ -56,14 +47,13 @@ pub(crate) fn show<'a, F: Files>(
     answered(listing_of(alloc, &bytes))
 }
 
-/// `upgrade OLD NEW`: writes the code of a file as a file of version 2, and returns the line with the number of its
-/// bytes.
+/// `upgrade OLD NEW`: writes the code of a file as a file of version 2; the line with the number of its bytes.
 pub(crate) fn upgrade<'a, F: Files>(
     alloc: Global,
     files: &mut F,
     old: &'a str,
     new: &'a str,
-) -> Result<String, Fault<'a>>
+) -> Answer<'a>
     ensures { Makes F.at F.fails F.runs_out files.old files.new F.mode_at code_file IsUpgradeOf old.entry new.entry
         (text_result result) }
 {
@@ -78,12 +68,11 @@ pub(crate) fn run<'a, F: Files>(
     files: &mut F,
     code: &'a str,
     query: &str,
-) -> Result<String, Fault<'a>>
+) -> Answer<'a>
     ensures ends { Tells F.at F.fails F.runs_out files.old files.new loaded_file
         (λ bytes. IsRunLinkOf bytes query.now) code.entry (text_result result) }
     ensures same { Unchanged (F.at files.old) (F.at files.new) }
 {
-    let too_long = Refusal::Load(LONG_CODE_TO_LOAD);
-    let bytes = read_file(alloc, files, code, MAX_BYTES, too_long)?;
+    let bytes = read_file(alloc, files, code, MAX_BYTES, Refusal::Load(LONG_TO_LOAD))?;
     answered(run_link_of(alloc, &bytes, query))
 }

@@ -7,7 +7,7 @@ ghost use Rattle.answers.specs.Menu.{IsMenuOf};
 ghost use Rattle.answers.specs.Results.{text_result};
 ghost use Rattle.commands.specs.Answers.{IsNoRegistry, Resolves};
 
-use crate::fault::{Fault, answered, registry_fault};
+use crate::fault::{Answer, Fault, answered, registry_fault};
 use answers::menu_text_of;
 use files::Files;
 use kbart_rows::KeySource;
@@ -22,8 +22,8 @@ pub(crate) fn resolve<'a, F: Files, K: KeySource>(
     keys: &mut K,
     registry: &'a str,
     query: &str,
-) -> Result<String, Fault<'a>>
-    ensures ends { Resolves F.fails K.draws K.fails (F.at files.old) keys.old keys.new
+) -> Answer<'a>
+    ensures ends { Resolves F.at F.fails F.runs_out K.draws K.fails files.old files.new keys.old keys.new
         (λ targets. IsMenuOf targets query.now) registry.entry (text_result result) }
     ensures same { Unchanged (F.at files.old) (F.at files.new) }
 {
@@ -39,7 +39,8 @@ pub(crate) fn open_registry<'a, F: Files, K: KeySource>(
     path: &'a str,
 ) -> Result<Registry, Fault<'a>>
     ensures ok { IfOk result (IsLoaded K.draws (F.at files.old) keys.old path.now keys.new) }
-    ensures err { IfErr result (IsNoRegistry F.fails K.draws K.fails (F.at files.old) keys.old keys.new path.entry) }
+    ensures err { IfErr result (IsNoRegistry F.at F.fails F.runs_out K.draws K.fails files.old files.new keys.old
+        keys.new path.entry) }
     ensures same { Unchanged (F.at files.old) (F.at files.new) }
 {
     match load_registry(alloc, files, keys, path) {

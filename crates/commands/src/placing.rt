@@ -4,7 +4,7 @@ ghost use Rattle.std.specs.Prelude.{◌≡◌, IfOk, length, string_bytes};
 ghost use Rattle.answers.specs.Results.{text_result};
 ghost use Rattle.commands.specs.Placing.{Places, count_line};
 
-use crate::fault::Fault;
+use crate::fault::{Answer, Fault};
 use answers::Refusal;
 use files::{FileError, Files, place};
 use std::alloc::{AllocError, Global};
@@ -16,7 +16,7 @@ pub(crate) fn place_counted<'a, F: Files>(
     files: &mut F,
     path: &'a str,
     bytes: &[u8],
-) -> Result<String, Fault<'a>>
+) -> Answer<'a>
     ensures { Places F.at F.mode_at F.fails F.runs_out files.old files.new path.entry bytes.now (text_result result) }
 {
     // The line is made first, so that no allocation can fail once the file is placed.

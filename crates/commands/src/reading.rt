@@ -10,7 +10,7 @@ use crate::fault::Fault;
 use answers::{Refusal, rules_of};
 use files::{FileError, Files, ReadError, read_whole};
 use kbart_rows::{KeySource, Keys, MAX_TABLE_BYTES, TableError};
-use rule_parser::{RuleError, RuleErrorKind, Rules};
+use rule_parser::{MAX_BYTES, RuleError, RuleErrorKind, Rules};
 use std::alloc::Global;
 
 /// The error of a rule file of more than 65,536 bytes.
@@ -49,8 +49,7 @@ fn read_rules<'a, F: Files>(alloc: Global, files: &mut F, path: &'a str) -> Resu
     ensures err { IfErr result (IsUnruled F.at F.fails F.runs_out files.old files.new path.entry) }
     ensures same { Unchanged (F.at files.old) (F.at files.new) }
 {
-    let too_long = Refusal::Rules(LONG_RULES);
-    let bytes = read_file(alloc, files, path, rule_parser::MAX_BYTES, too_long)?;
+    let bytes = read_file(alloc, files, path, MAX_BYTES, Refusal::Rules(LONG_RULES))?;
     Ok(rules_of(alloc, &bytes)?)
 }
 
@@ -75,8 +74,7 @@ pub(crate) fn read_keyed<'a, F: Files, K: KeySource>(
     }
 }
 
-/// The rules of the first file, all bytes of the holdings table at the second path, and random keys for its hashed
-/// look-ups. The rules are read first.
+/// The rules of the first file, which is read first, all bytes of the table at the second path, and random keys.
 pub(crate) fn read_target<'a, F: Files, K: KeySource>(
     alloc: Global,
     files: &mut F,

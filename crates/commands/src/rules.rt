@@ -10,7 +10,7 @@ ghost use Rattle.commands.specs.ExpandArguments.{names_of};
 ghost use Rattle.commands.specs.Answers.{Answered, Makes, Tells};
 ghost use Rattle.commands.specs.Reading.{rule_file};
 
-use crate::fault::{Fault, answered};
+use crate::fault::{Answer, answered};
 use crate::list_options::{ExpandArguments, list_names};
 use crate::placing::place_counted;
 use crate::reading::{LONG_RULES, read_file};
@@ -20,7 +20,7 @@ use rule_parser::MAX_BYTES;
 use std::alloc::Global;
 
 /// `expand [--list NAME].. TEMPLATE QUERY`: the line of the template's expansion for the query.
-pub(crate) fn expand<'a>(alloc: Global, arguments: ExpandArguments) -> Result<String, Fault<'a>>
+pub(crate) fn expand<'a>(alloc: Global, arguments: ExpandArguments) -> Answer<'a>
     ensures { Answered (IsExpansionOf (names_of (texts_of arguments.entry.options.now))
         arguments.entry.template.now arguments.entry.query.now) (text_result result) }
 {
@@ -34,7 +34,7 @@ pub(crate) fn link<'a, F: Files>(
     files: &mut F,
     rules: &'a str,
     query: &str,
-) -> Result<String, Fault<'a>>
+) -> Answer<'a>
     ensures ends { Tells F.at F.fails F.runs_out files.old files.new rule_file (λ bytes. IsLinkOf bytes query.now)
         rules.entry (text_result result) }
     ensures same { Unchanged (F.at files.old) (F.at files.new) }
@@ -43,14 +43,13 @@ pub(crate) fn link<'a, F: Files>(
     answered(link_of(alloc, &bytes, query))
 }
 
-/// `compile RULES CODE`: writes the code of the rules of the file to a file of its own, and returns the line with the
-/// number of its bytes.
+/// `compile RULES CODE`: writes the code of the rules to a file of its own; the line with the number of its bytes.
 pub(crate) fn compile<'a, F: Files>(
     alloc: Global,
     files: &mut F,
     rules: &'a str,
     code: &'a str,
-) -> Result<String, Fault<'a>>
+) -> Answer<'a>
     ensures { Makes F.at F.fails F.runs_out files.old files.new F.mode_at rule_file IsCodeOf rules.entry code.entry
         (text_result result) }
 {

@@ -14,8 +14,5 @@ returns-in_err-bytes-clause-err g c =
 
 pub returns-clause-ok : goal.returns-clause-ok
 returns-clause-ok g c =
-    record {
-      ruled = c.in_ok-rules.ensures.ok;
-      gives = rw (c.in_ok-rules.ensures.same c.args.table.now) at c.in_ok-bytes.ensures.ok;
-      drawn = c.in_ok-bytes.ensures.drawn;
-    }
+    let gives = rw (c.in_ok-rules.ensures.same c.args.table.now) at c.in_ok-bytes.ensures.ok in
+    record { ruled = c.in_ok-rules.ensures.ok; gives = gives; drawn = c.in_ok-bytes.ensures.drawn }

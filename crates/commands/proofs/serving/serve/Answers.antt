@@ -8,5 +8,4 @@ returns-in_err-registry-clause-ends g c =
     rw (is_err _ _ c.from_residual.ensures.1) (unloaded _ c.in_err-registry.ensures.err (refl {a = c.args.rt.now.ports}) (refl {a = c.args.output.now}))
 
 pub returns-clause-ends : goal.returns-clause-ends
-returns-clause-ends g c =
-    loaded _ _ c.in_ok-registry.ensures.ok c.serve_menus.ensures
+returns-clause-ends g c = loaded _ _ c.in_ok-registry.ensures.ok c.serve_menus.ensures

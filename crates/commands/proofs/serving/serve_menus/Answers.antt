@@ -10,8 +10,7 @@ returns-in_err-listener g c =
 
 pub returns-in_default : goal.returns-in_default
 returns-in_default g c =
-    let parts = c.in_ok-listener in
-    unprinted parts.listener (string_bytes parts.line) _ parts.ensures.ok refl (rw c.deref.ensures at c.in_default.ensures.err)
+    unprinted c.in_ok-listener.listener (string_bytes c.in_ok-listener.line) _ c.in_ok-listener.ensures.ok refl (rw c.deref.ensures at c.in_default.ensures.err)
 
 pub returns-in-Ok-serve_on : goal.returns-in-Ok-serve_on
 returns-in-Ok-serve_on g c =
