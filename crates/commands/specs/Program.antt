@@ -11,7 +11,7 @@ use Rattle.answers.specs.Menu.{IsMenuOf}
 use Rattle.answers.specs.Run.{IsRunLinkOf}
 use Rattle.answers.specs.Upgrade.{IsUpgradeOf}
 use Rattle.answers.specs.Verdict.{IsVerdictOf}
-use Rattle.commands.specs.World.{Told, disk}
+use Rattle.commands.specs.World.{Told}
 use Rattle.commands.specs.ExpandArguments.{names_of}
 use Rattle.commands.specs.Arguments.{AreArgumentsOf, AreNoArguments}
 use Rattle.commands.specs.Faults.{status_of}
@@ -36,16 +36,22 @@ module _ {System : Type 0} (told : Told System) (old new : System) (output : Out
   -- how each command ends
   abbrev pub Ends : Command → Option Fault → Type 0
   Ends (Expand e) = Prints (Answered (IsExpansionOf (names_of (texts_of e.options.now)) e.template.now e.query.now)) output
-  Ends (Link rules query) = Prints (Tells told old new rule_file (λ bytes. IsLinkOf bytes query.now) rules) output
-  Ends (Compile rules code) = Prints (Makes told old new rule_file IsCodeOf rules code) output
-  Ends (Verify code) = Prints (Tells told old new loaded_file IsVerdictOf code) output
-  Ends (Show code) = Prints (Tells told old new code_file IsListingOf code) output
-  Ends (Upgrade source target) = Prints (Makes told old new code_file IsUpgradeOf source target) output
-  Ends (Run code query) = Prints (Tells told old new loaded_file (λ bytes. IsRunLinkOf bytes query.now) code) output
-  Ends (Inspect table) = Reports (TellsKeyed told old new IsInspectionOf table) output
-  Ends (Lint rules table) = Reports (TellsOfTarget told old new IsLintOf rules table) output
-  Ends (Explain rules table query) = Explains told old new rules table query.now output
-  Ends (Resolve registry query) = Prints (Resolves told old new (λ targets. IsMenuOf targets query.now) registry) output
+  Ends (Link rules query) =
+      Prints (Tells told.at told.fails told.runs_out (told.files old) (told.files new) rule_file (λ bytes. IsLinkOf bytes query.now) rules) output
+  Ends (Compile from to) = Prints (Makes told.at told.fails told.runs_out (told.files old) (told.files new) told.mode_at rule_file IsCodeOf from to) output
+  Ends (Verify code) = Prints (Tells told.at told.fails told.runs_out (told.files old) (told.files new) loaded_file IsVerdictOf code) output
+  Ends (Show code) = Prints (Tells told.at told.fails told.runs_out (told.files old) (told.files new) code_file IsListingOf code) output
+  Ends (Upgrade from to) = Prints (Makes told.at told.fails told.runs_out (told.files old) (told.files new) told.mode_at code_file IsUpgradeOf from to) output
+  Ends (Run code query) =
+      Prints (Tells told.at told.fails told.runs_out (told.files old) (told.files new) loaded_file (λ bytes. IsRunLinkOf bytes query.now) code) output
+  Ends (Inspect table) = Reports (TellsKeyed told.at told.fails told.runs_out told.draws told.no_keys (told.files old) (told.files new)
+      (told.keys old) (told.keys new) IsInspectionOf table) output
+  Ends (Lint rules table) = Reports (TellsOfTarget told.at told.fails told.runs_out told.draws told.no_keys (told.files old) (told.files new)
+      (told.keys old) (told.keys new) IsLintOf rules table) output
+  Ends (Explain rules table query) = Explains told.at told.fails told.runs_out told.draws told.no_keys (told.files old) (told.files new)
+      (told.keys old) (told.keys new) rules table query.now output
+  Ends (Resolve registry query) = Prints (Resolves told.at told.fails told.runs_out told.draws told.no_keys (told.files old) (told.files new)
+      (told.keys old) (told.keys new) (λ targets. IsMenuOf targets query.now) registry) output
   Ends (Serve service) = Serves told old service new output
   Ends Help = Prints (λ answer. answer ≡ Ok HELP.now) output
   Ends Version = Prints (λ answer. answer ≡ Ok VERSION.now) output
@@ -54,12 +60,12 @@ module _ {System : Type 0} (told : Told System) (old new : System) (output : Out
   abbrev pub Leaves : Command → Type 0
   Leaves (Compile rules code) = Unit {0}
   Leaves (Upgrade source target) = Unit {0}
-  Leaves command = Unchanged (disk told old) (disk told new)
+  Leaves command = Unchanged (told.at (told.files old)) (told.at (told.files new))
 
   abbrev pub Runs : Command → Option Fault → Type 0
   Runs command end = Ends command end × Leaves command
 
   -- how the program ends: the arguments name no command, or this is how their command ends
-  pub data EndsWith (arguments : List Text) : Option Fault → Type 0 where
-    no_command : AreNoArguments arguments → Unchanged (disk told old) (disk told new) → output.gets_nothing → EndsWith arguments (Some Usage)
-    runs : (command : Command) (end : Option Fault) → AreArgumentsOf arguments command → Runs command end → EndsWith arguments end
+  pub data EndsWith (given : List Text) : Option Fault → Type 0 where
+    no_command : AreNoArguments given → Unchanged (told.at (told.files old)) (told.at (told.files new)) → output.gets_nothing → EndsWith given (Some Usage)
+    runs : (command : Command) (end : Option Fault) → AreArgumentsOf given command → Runs command end → EndsWith given end

@@ -3,12 +3,13 @@ use Rattle.std.specs.Prelude.{◌≡◌, ◌≢◌, ℕ, List, [], ◌∷◌, �
 use Rattle.std.specs.Fmt.{decimal}
 use Rattle.std.specs.Borrow.{Bor}
 use Rattle.text_model.specs.Texts.{Text}
+use Rattle.http_streams.specs.Streams.{InputState, OutputState}
 use Rattle.registry.specs.Targets.{TargetValue}
 use Rattle.registry.specs.Entries.{menu_of}
 use Rattle.registry_file.specs.Loading.{IsLoaded}
 use Rattle.http_exchange.specs.Connections.{ServesAll, StopsEarly}
 use Rattle.http_exchange.specs.declared.counts.Counts.{Counts}
-use Rattle.commands.specs.World.{Told, disk}
+use Rattle.commands.specs.World.{Told}
 use Rattle.commands.specs.Answers.{IsNoRegistry}
 use Rattle.commands.specs.Faults.{out_of_memory}
 use Rattle.commands.specs.Output.{Output}
@@ -40,22 +41,24 @@ module _ {PortState Listener : Type 0} (binds : PortState → ℕ → Listener �
     no_memory : (listener : Listener) (place : ℕ) → IsBound listener place → IsDeaf no_port out_of_memory
 
 -- how the service of the menus of these targets ends
-module _ {System : Type 0} (told : Told System) (old : told.PortState) (service : Service) (new : told.PortState) where
+module _ {P Listener In Out : Type 0} (binds : P → ℕ → Listener × ℕ → P → Type 0) (no_port : P → ℕ → P → Type 0)
+    (gives : Listener → Option (In × Out) → Listener → Type 0) (closes : Listener → In × Out → Listener → Type 0) (no_more : Listener → Listener → Type 0)
+    (input_state : In → InputState) (output_state : Out → OutputState) (old : P) (service : Service) (new : P) where
   pub data ServesMenus (targets : List TargetValue) (output : Output) : Option Fault → Type 0 where
-    deaf : (fault : Fault) → IsDeaf told.binds old service new told.no_port fault → output.gets_nothing → ServesMenus targets output (Some fault)
-    unprinted : (listener : told.Listener) (line : Text) (path : Bor Text) → Listens told.binds old service new listener line
+    deaf : (fault : Fault) → IsDeaf binds old service new no_port fault → output.gets_nothing → ServesMenus targets output (Some fault)
+    unprinted : (listener : Listener) (line : Text) (path : Bor Text) → Listens binds old service new listener line
         → path.now ≡ codes "-" → output.gets_part line → ServesMenus targets output (Some (Device path))
-    stops : (first last : told.Listener) (line : Text) → Listens told.binds old service new first line → output.gets line
-        → StopsEarly (menu_of targets) told.gives told.closes told.no_more told.input_state told.output_state wait service.count first last
+    stops : (first last : Listener) (line : Text) → Listens binds old service new first line → output.gets line
+        → StopsEarly (menu_of targets) gives closes no_more input_state output_state wait service.count first last
         → ServesMenus targets output (Some (Port service.port_text))
-    serves : (first last : told.Listener) (line : Text) (counts : Counts) → Listens told.binds old service new first line → output.gets line
-        → ServesAll (menu_of targets) told.gives told.closes told.input_state told.output_state wait service.count first last counts
-        → ServesMenus targets output None
+    serves : (first last : Listener) (line : Text) (counts : Counts) → Listens binds old service new first line → output.gets line
+        → ServesAll (menu_of targets) gives closes input_state output_state wait service.count first last counts → ServesMenus targets output None
 
 -- how it ends; no port is bound before the registry is loaded
 pub data Serves {System : Type 0} (told : Told System) (old : System) (service : Service) (new : System) (output : Output) : Option Fault → Type 0 where
-  unloaded : (fault : Fault) → IsNoRegistry told old new service.registry fault → told.ports new ≡ told.ports old → output.gets_nothing
-      → Serves told old service new output (Some fault)
+  unloaded : (fault : Fault) → IsNoRegistry told.at told.fails told.runs_out told.draws told.no_keys (told.files old) (told.files new) (told.keys old)
+      (told.keys new) service.registry fault → told.ports new ≡ told.ports old → output.gets_nothing → Serves told old service new output (Some fault)
   loaded : (targets : List TargetValue) (end : Option Fault)
-      → IsLoaded told.draws (disk told old) (told.keys old) service.registry.now (told.keys new) targets
-      → ServesMenus told (told.ports old) service (told.ports new) targets output end → Serves told old service new output end
+      → IsLoaded told.draws (told.at (told.files old)) (told.keys old) service.registry.now (told.keys new) targets
+      → ServesMenus told.binds told.no_port told.gives told.closes told.no_more told.input_state told.output_state (told.ports old) service (told.ports new)
+      targets output end → Serves told old service new output end

@@ -32,11 +32,3 @@ pub record Told (System : Type 0) : Type 1 where
   pub no_more : Listener → Listener → Type 0
   pub input_state : In → InputState
   pub output_state : Out → OutputState
-
--- what is at each path
-abbrev pub disk : {System : Type 0} → Told System → System → Disk
-disk told s = told.at (told.files s)
-
--- the mode of the file at each path, if it is known
-abbrev pub modes : {System : Type 0} → Told System → System → Modes
-modes told s = told.mode_at (told.files s)

@@ -40,6 +40,9 @@ pub enum Fault<'a> {
     Device(&'a str),
 }
 
+/// The text that a command prints, or why there is none.
+pub(crate) type Answer<'a> = Result<String, Fault<'a>>;
+
 impl<'a> Fault<'a> {
     /// The exit status: 1 to 4.
     pub fn status(&self) -> u8

@@ -4,16 +4,13 @@ ghost use Rattle.std.specs.Prelude.{◌≡◌, Ok};
 ghost use Rattle.answers.specs.Results.{report_result, text_result};
 ghost use Rattle.commands.specs.Output.{Prints, Reports, end_of, output_of};
 
-use crate::fault::Fault;
+use crate::fault::{Answer, Fault};
 use printed_text::Findings;
 use std::io::Write;
 use text_output::write_text;
 
 /// Prints the text, if there is one.
-pub(crate) fn print<'a, O: Write>(
-    output: &mut O,
-    text: Result<String, Fault<'a>>,
-) -> Result<(), Fault<'a>>
+pub(crate) fn print<'a, O: Write>(output: &mut O, text: Answer<'a>) -> Result<(), Fault<'a>>
     ensures { Prints (λ printed. printed ≡ text_result text.entry) (output_of O.contents output.old output.new)
         (end_of result) }
 {

@@ -80,18 +80,26 @@ fn run_command<'a, F: Files, K: KeySource, P: Ports, O: Write>(
     ensures { Runs ⟦<System<F, K, P> as World>⟧.told rt.old rt.new (output_of O.contents output.old output.new)
         command.entry (end_of result) }
 {
+    let alloc = rt.alloc;
+    let files = &mut rt.files;
+    let keys = &mut rt.keys;
     match command {
-        Command::Expand(arguments) => print(output, expand(rt.alloc, arguments)),
-        Command::Link(rules, query) => print(output, link(rt, rules, query)),
-        Command::Compile(rules, code) => print(output, compile(rt, rules, code)),
-        Command::Verify(code) => print(output, verify(rt, code)),
-        Command::Show(code) => print(output, show(rt, code)),
-        Command::Upgrade(old, new) => print(output, upgrade(rt, old, new)),
-        Command::Run(code, query) => print(output, run(rt, code, query)),
-        Command::Resolve(registry, query) => print(output, resolve(rt, registry, query)),
-        Command::Inspect(table) => print_findings(output, inspect(rt, table)),
-        Command::Lint(rules, table) => print_findings(output, lint(rt, rules, table)),
-        Command::Explain(rules, table, query) => explain(rt, rules, table, query, output),
+        Command::Expand(arguments) => print(output, expand(alloc, arguments)),
+        Command::Link(rules, query) => print(output, link(alloc, files, rules, query)),
+        Command::Compile(rules, code) => print(output, compile(alloc, files, rules, code)),
+        Command::Verify(code) => print(output, verify(alloc, files, code)),
+        Command::Show(code) => print(output, show(alloc, files, code)),
+        Command::Upgrade(old, new) => print(output, upgrade(alloc, files, old, new)),
+        Command::Run(code, query) => print(output, run(alloc, files, code, query)),
+        Command::Resolve(path, query) => print(output, resolve(alloc, files, keys, path, query)),
+        Command::Inspect(table) => print_findings(output, inspect(alloc, files, keys, table)),
+        Command::Lint(rules, table) => print_findings(
+            output,
+            lint(alloc, files, keys, rules, table),
+        ),
+        Command::Explain(rules, table, query) => explain(
+            alloc, files, keys, rules, table, query, output,
+        ),
         Command::Serve(service) => serve(rt, service, output),
         Command::Help => print_text(output, HELP),
         Command::Version => print_text(output, VERSION),

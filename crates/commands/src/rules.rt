@@ -10,20 +10,17 @@ ghost use Rattle.commands.specs.ExpandArguments.{names_of};
 ghost use Rattle.commands.specs.Answers.{Answered, Makes, Tells};
 ghost use Rattle.commands.specs.Reading.{rule_file};
 
-use crate::fault::{Fault, answered};
+use crate::fault::{Answer, answered};
 use crate::list_options::{ExpandArguments, list_names};
 use crate::placing::place_counted;
 use crate::reading::{LONG_RULES, read_file};
-use crate::world::{System, World};
 use answers::{Refusal, code_of, expansion_of, link_of};
 use files::Files;
-use http_streams::Ports;
-use kbart_rows::KeySource;
 use rule_parser::MAX_BYTES;
 use std::alloc::Global;
 
 /// `expand [--list NAME].. TEMPLATE QUERY`: the line of the template's expansion for the query.
-pub(crate) fn expand<'a>(alloc: Global, arguments: ExpandArguments) -> Result<String, Fault<'a>>
+pub(crate) fn expand<'a>(alloc: Global, arguments: ExpandArguments) -> Answer<'a>
     ensures { Answered (IsExpansionOf (names_of (texts_of arguments.entry.options.now))
         arguments.entry.template.now arguments.entry.query.now) (text_result result) }
 {
@@ -32,30 +29,31 @@ pub(crate) fn expand<'a>(alloc: Global, arguments: ExpandArguments) -> Result<St
 }
 
 /// `link RULES QUERY`: the line of the link that the rules of the file give for the query.
-pub(crate) fn link<'a, F: Files, K: KeySource, P: Ports>(
-    rt: &mut System<F, K, P>,
+pub(crate) fn link<'a, F: Files>(
+    alloc: Global,
+    files: &mut F,
     rules: &'a str,
     query: &str,
-) -> Result<String, Fault<'a>>
-    ensures ends { Tells ⟦<System<F, K, P> as World>⟧.told rt.old rt.new rule_file (λ bytes. IsLinkOf bytes query.now)
+) -> Answer<'a>
+    ensures ends { Tells F.at F.fails F.runs_out files.old files.new rule_file (λ bytes. IsLinkOf bytes query.now)
         rules.entry (text_result result) }
-    ensures same { Unchanged (F.at rt.old.files) (F.at rt.new.files) }
+    ensures same { Unchanged (F.at files.old) (F.at files.new) }
 {
-    let bytes = read_file(rt, rules, MAX_BYTES, Refusal::Rules(LONG_RULES))?;
-    answered(link_of(rt.alloc, &bytes, query))
+    let bytes = read_file(alloc, files, rules, MAX_BYTES, Refusal::Rules(LONG_RULES))?;
+    answered(link_of(alloc, &bytes, query))
 }
 
-/// `compile RULES CODE`: writes the code of the rules of the file to a file of its own, and returns the line with the
-/// number of its bytes.
-pub(crate) fn compile<'a, F: Files, K: KeySource, P: Ports>(
-    rt: &mut System<F, K, P>,
+/// `compile RULES CODE`: writes the code of the rules to a file of its own; the line with the number of its bytes.
+pub(crate) fn compile<'a, F: Files>(
+    alloc: Global,
+    files: &mut F,
     rules: &'a str,
     code: &'a str,
-) -> Result<String, Fault<'a>>
-    ensures { Makes ⟦<System<F, K, P> as World>⟧.told rt.old rt.new rule_file IsCodeOf rules.entry code.entry
+) -> Answer<'a>
+    ensures { Makes F.at F.fails F.runs_out files.old files.new F.mode_at rule_file IsCodeOf rules.entry code.entry
         (text_result result) }
 {
-    let bytes = read_file(rt, rules, MAX_BYTES, Refusal::Rules(LONG_RULES))?;
-    let file = code_of(rt.alloc, &bytes)?;
-    place_counted(rt, code, &file)
+    let bytes = read_file(alloc, files, rules, MAX_BYTES, Refusal::Rules(LONG_RULES))?;
+    let file = code_of(alloc, &bytes)?;
+    place_counted(alloc, files, code, &file)
 }

@@ -29,28 +29,28 @@ pub(crate) fn serve<'a, F: Files, K: KeySource, P: Ports, O: Write>(
         (output_of O.contents output.old output.new) (end_of result) }
     ensures same { Unchanged (F.at rt.old.files) (F.at rt.new.files) }
 {
-    let registry = open_registry(rt, service.registry)?;
-    serve_menus(rt, service, &registry, output)
+    let registry = open_registry(rt.alloc, &mut rt.files, &mut rt.keys, service.registry)?;
+    serve_menus(rt.alloc, &mut rt.ports, service, &registry, output)
 }
 
 /// Binds a listener, prints the line that says where it listens, and serves the connections.
-fn serve_menus<'a, F: Files, K: KeySource, P: Ports, O: Write>(
-    rt: &mut System<F, K, P>,
+fn serve_menus<'a, P: Ports, O: Write>(
+    alloc: Global,
+    ports: &mut P,
     service: Service<'a>,
     registry: &Registry,
     output: &mut O,
 ) -> Result<(), Fault<'a>>
-    ensures ends { ServesMenus ⟦<System<F, K, P> as World>⟧.told rt.old.ports service.entry rt.new.ports registry.now
+    ensures { ServesMenus P.binds P.fails P.Bound.gives P.Bound.closes P.Bound.fails P.Bound.In.input_state
+        P.Bound.Out.output_state ports.old service.entry ports.new registry.now
         (output_of O.contents output.old output.new) (end_of result) }
-    ensures files { rt.new.files ≡ rt.old.files }
-    ensures keys { rt.new.keys ≡ rt.old.keys }
 {
-    let (mut listener, line) = listen(rt.alloc, &mut rt.ports, service)?;
+    let (mut listener, line) = listen(alloc, ports, service)?;
     let Ok(()) = write_text(output, &line) else {
         return Err(Fault::Device("-"));
     };
     let menus = RegistryMenus::new(registry);
-    match serve_on(rt.alloc, &mut listener, service.count, &menus) {
+    match serve_on(alloc, &mut listener, service.count, &menus) {
         Ok(_) => Ok(()),
         Err(_) => Err(Fault::Port(service.port_text)),
     }

@@ -10,10 +10,8 @@ ghost use Rattle.commands.specs.Output.{end_of, output_of};
 
 use crate::fault::{Fault, answered};
 use crate::reading::{read_keyed, read_target};
-use crate::world::{System, World};
 use answers::{Refusal, inspection_of, lint_of, request_of, table_of};
 use files::Files;
-use http_streams::Ports;
 use kbart_rows::{KeySource, Table};
 use printed_text::Findings;
 use rule_explanation::ExplainError;
@@ -22,48 +20,54 @@ use std::alloc::Global;
 use std::io::Write;
 
 /// `inspect TABLE`: the findings in the holdings table.
-pub(crate) fn inspect<'a, F: Files, K: KeySource, P: Ports>(
-    rt: &mut System<F, K, P>,
+pub(crate) fn inspect<'a, F: Files, K: KeySource>(
+    alloc: Global,
+    files: &mut F,
+    keys: &mut K,
     table: &'a str,
 ) -> Result<Findings, Fault<'a>>
-    ensures ends { TellsKeyed ⟦<System<F, K, P> as World>⟧.told rt.old rt.new IsInspectionOf table.entry
-        (report_result result) }
-    ensures same { Unchanged (F.at rt.old.files) (F.at rt.new.files) }
+    ensures ends { TellsKeyed F.at F.fails F.runs_out K.draws K.fails files.old files.new keys.old keys.new
+        IsInspectionOf table.entry (report_result result) }
+    ensures same { Unchanged (F.at files.old) (F.at files.new) }
 {
-    let (bytes, keys) = read_keyed(rt, table)?;
-    answered(inspection_of(rt.alloc, &bytes, keys))
+    let (bytes, keys) = read_keyed(alloc, files, keys, table)?;
+    answered(inspection_of(alloc, &bytes, keys))
 }
 
 /// `lint RULES TABLE`: the findings in the rules and the holdings table. The rules are read first.
-pub(crate) fn lint<'a, F: Files, K: KeySource, P: Ports>(
-    rt: &mut System<F, K, P>,
+pub(crate) fn lint<'a, F: Files, K: KeySource>(
+    alloc: Global,
+    files: &mut F,
+    keys: &mut K,
     rules: &'a str,
     table: &'a str,
 ) -> Result<Findings, Fault<'a>>
-    ensures ends { TellsOfTarget ⟦<System<F, K, P> as World>⟧.told rt.old rt.new IsLintOf rules.entry table.entry
-        (report_result result) }
-    ensures same { Unchanged (F.at rt.old.files) (F.at rt.new.files) }
+    ensures ends { TellsOfTarget F.at F.fails F.runs_out K.draws K.fails files.old files.new keys.old keys.new
+        IsLintOf rules.entry table.entry (report_result result) }
+    ensures same { Unchanged (F.at files.old) (F.at files.new) }
 {
-    let (rules, bytes, keys) = read_target(rt, rules, table)?;
-    answered(lint_of(rt.alloc, &rules, &bytes, keys))
+    let (rules, bytes, keys) = read_target(alloc, files, keys, rules, table)?;
+    answered(lint_of(alloc, &rules, &bytes, keys))
 }
 
 /// `explain RULES TABLE QUERY`: prints what the rules give for the query on each row of the table that is tried;
 /// `Warning` if none of them has a web link. The text is printed row by row, so an error can come after some of it.
-pub(crate) fn explain<'a, F: Files, K: KeySource, P: Ports, O: Write>(
-    rt: &mut System<F, K, P>,
+pub(crate) fn explain<'a, F: Files, K: KeySource, O: Write>(
+    alloc: Global,
+    files: &mut F,
+    keys: &mut K,
     rules: &'a str,
     table: &'a str,
     query: &str,
     output: &mut O,
 ) -> Result<(), Fault<'a>>
-    ensures ends { Explains ⟦<System<F, K, P> as World>⟧.told rt.old rt.new rules.entry table.entry query.now
-        (output_of O.contents output.old output.new) (end_of result) }
-    ensures same { Unchanged (F.at rt.old.files) (F.at rt.new.files) }
+    ensures ends { Explains F.at F.fails F.runs_out K.draws K.fails files.old files.new keys.old keys.new
+        rules.entry table.entry query.now (output_of O.contents output.old output.new) (end_of result) }
+    ensures same { Unchanged (F.at files.old) (F.at files.new) }
 {
-    let (rules, bytes, keys) = read_target(rt, rules, table)?;
-    let table = table_of(rt.alloc, &bytes, keys)?;
-    explain_query(rt.alloc, &rules, &table, query, output)
+    let (rules, bytes, keys) = read_target(alloc, files, keys, rules, table)?;
+    let table = table_of(alloc, &bytes, keys)?;
+    explain_query(alloc, &rules, &table, query, output)
 }
 
 /// Prints what the rules give for the query on each row of the table that is tried.

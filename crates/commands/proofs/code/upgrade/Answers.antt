@@ -13,5 +13,5 @@ returns-in_err-file g c =
 
 pub returns : goal.returns
 returns g c =
-    made c.read_file.new.rt _ c.in_ok-file.file.items _ c.in_ok-bytes.ensures.ok (rw c.deref.ensures.value at c.in_ok-file.ensures)
+    made c.read_file.new.files _ c.in_ok-file.file.items _ c.in_ok-bytes.ensures.ok (rw c.deref.ensures.value at c.in_ok-file.ensures)
     c.in_ok-bytes.ensures.same (rw c.deref-2.ensures.value at c.place_counted.ensures)
