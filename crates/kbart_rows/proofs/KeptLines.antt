@@ -10,6 +10,7 @@ use Rattle.csv.proofs.RecordFacts.{cut-end, cut-length, cut-more, field-bounds, 
 use Rattle.text_model.specs.Texts.{Text}
 use Rattle.kbart_rows.specs.Lines.{cells_in}
 use Rattle.kbart_rows.specs.Private.Kept.{AreKept, lines_in}
+use Rattle.kbart_rows.specs.Private.Line.{IsClosed}
 use Rattle.kbart_rows.specs.declared.read.TheConstants.{MAX_ROW_BYTES}
 
 pub no_lines : lines_in [] [] ≡ []
@@ -23,6 +24,7 @@ nothing_kept = record {
   whole = refl;
   apart = All-nil (IsCharBoundary []);
   short = All-nil (λ (line : Text). length line ≤ MAX_ROW_BYTES + 1);
+  closed = All-nil IsClosed;
 }
 
 -- ---- one more line
@@ -41,9 +43,9 @@ boundary_stays text line i utf8 both at =
     IsCharBoundary-from_take (text ++ line) i both (omega (arith, length-append text line))
     (rw (take-append-le i text line inside) (IsUtf8-take text i utf8 at))
 
-pub one_more_kept : (ends : List ℕ) (text line : Text) → IsUtf8 text → IsUtf8 (text ++ line) → length line ≤ MAX_ROW_BYTES + 1 → AreKept ends text
-    → AreKept (ends ++ length (text ++ line) ∷ []) (text ++ line)
-one_more_kept ends text line utf8 both short kept =
+pub one_more_kept : (ends : List ℕ) (text line : Text) → IsUtf8 text → IsUtf8 (text ++ line) → length line ≤ MAX_ROW_BYTES + 1 → IsClosed line
+    → AreKept ends text → AreKept (ends ++ length (text ++ line) ∷ []) (text ++ line)
+one_more_kept ends text line utf8 both short closed kept =
     let size = length (text ++ line) in
     let rising = rising-more 0 ends (length text) size kept.rising (omega (arith, length-append text line)) in
     record {
@@ -54,6 +56,7 @@ one_more_kept ends text line utf8 both short kept =
           (IsCharBoundary-end (text ++ line));
       short = rw (lines_more ends text line kept)
           (All-push (λ (one : Text). length one ≤ MAX_ROW_BYTES + 1) (lines_in ends text) line kept.short short);
+      closed = rw (lines_more ends text line kept) (All-push IsClosed (lines_in ends text) line kept.closed closed);
     }
 
 -- the cells of the lines

@@ -5,9 +5,10 @@ mod CellExamples
 pub mod LineCells
 pub mod LineRests
 pub mod KeptLines
-pub mod PlainCells
+pub mod WholeLines
 pub mod FirstColumns
 pub mod ReadingLines
+pub mod ReadingWholeLines
 pub mod FillingLemmas
 pub mod Rows
 pub mod RowSums

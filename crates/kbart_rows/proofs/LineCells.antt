@@ -1,8 +1,8 @@
 -- Where a row's cells are in its line.
+use Rattle.std.proofs.Common.{cond, count_by}
 use Rattle.std.proofs.Common.{Bor, ◌≡◌, ◌≢◌, ℕ, ◌+◌, ◌-◌, ◌==◌, ◌≤◌, ◌<◌, true, false, zero, suc, List, [], ◌∷◌, ◌++◌, length, map, take, get_or, All, Option}
 use Rattle.std.proofs.Common.{Some, None, refl, sym, ap, ◌∙◌, arith, append_assoc, length-append, if◌then◌else◌}
 use Rattle.std.proofs.lemmas.Bool.Decides.{nat_tests}
-use Rattle.std.proofs.lemmas.List.{flat_map_more, take_more}
 use Rattle.std.proofs.lemmas.List.Elements.{All-head, All-tail}
 use Rattle.std.proofs.lemmas.List.Sums.{sum_by-cons}
 use Rattle.std.proofs.lemmas.Option.{same_Some, none-some}
@@ -12,7 +12,7 @@ use Rattle.csv.specs.Records.{field_at}
 use Rattle.text_model.specs.Texts.{Text}
 use Rattle.kbart_rows.specs.Cells.{Row, row_bytes, tab}
 use Rattle.kbart_rows.specs.Lines.{prepended, cells_in}
-use Rattle.kbart_rows.specs.Private.Line.{cell_and_tab, line_of, HasNoTab}
+use Rattle.kbart_rows.specs.Private.Line.{cells_of, line_of, HasNoTab, IsClosed}
 
 pub no_cells : cells_in [] ≡ []
 unfolding cells_in
@@ -73,24 +73,54 @@ cells_fit (b ∷ line) =
     prepended_bytes b [] = omega arith
     prepended_bytes b (cell ∷ cells) = omega (arith, sum_by-cons length (b ∷ cell) cells, sum_by-cons length cell cells)
 
--- a line has a tab for each cell
-pub line_bytes : (cells : Row) → length (line_of cells) ≡ sum_by length cells + length cells
-line_bytes [] = refl
-line_bytes (cell ∷ cells) =
-    omega (arith, length-append (cell ++ tab ∷ []) (line_of cells), length-append cell (tab ∷ []), line_bytes cells, sum_by-cons length cell cells)
+-- ---- a line with a tab after its last cell
+
+some_cell : (line : Text) → (first : Text) × (others : Row) × (cells_of line ≡ first ∷ others)
+unfolding cells_in
+some_cell [] = ([], [], refl)
+some_cell (b ∷ line) =
+    let more = some_cell line in
+    elim (b == tab) as (λ is. (first : Text) × (others : Row) × ((if is then [] ∷ cells_of line else prepended b (cells_of line)) ≡ first ∷ others)) [
+      | true ↦ ([], cells_of line, refl)
+      | false ↦ (b ∷ more.0, more.1, ap (prepended b) more.2)
+    ]
+
+pub no_line_closed : IsClosed []
+unfolding cells_in
+no_line_closed = refl
+
+pub line_closed : (line : Text) → IsClosed (line ++ tab ∷ [])
+unfolding cells_in
+line_closed [] = refl
+line_closed (b ∷ line) =
+    let more = some_cell line in
+    elim (b == tab) as (λ is. suc (length (line ++ tab ∷ [])) ≡ sum_by length (if is then [] ∷ cells_of line else prepended b (cells_of line))
+    + length (if is then [] ∷ cells_of line else prepended b (cells_of line))) [
+      | true ↦ omega (arith, line_closed line, sum_by-cons length [] (cells_of line))
+      | false ↦ longer (cells_of line) more.0 more.1 more.2 (line_closed line)
+    ]
+  where
+    longer : (cells : Row) (first : Text) (others : Row) → cells ≡ first ∷ others → length (line ++ tab ∷ []) ≡ sum_by length cells + length cells
+        → suc (length (line ++ tab ∷ [])) ≡ sum_by length (prepended b cells) + length (prepended b cells)
+    longer cells first others is closed =
+        rw is omega (arith, rw is at closed, sum_by-cons length (b ∷ first) others, sum_by-cons length first others)
 
 -- between the cells there is one tab less
-pub row_bytes_of_line : (cells : Row) → row_bytes cells ≡ length (line_of cells) - 1
-row_bytes_of_line [] = refl
-row_bytes_of_line (cell ∷ cells) = omega (arith, line_bytes (cell ∷ cells))
+pub row_bytes_are : (line : Text) → row_bytes (cells_of line) ≡ length line
+row_bytes_are line =
+    let some = some_cell line in
+    omega (arith, line_closed line, length-append line (tab ∷ []), ap length some.2)
 
--- one more cell
-pub line_more : (cells : Row) (column : ℕ) → column < length cells → line_of (take (column + 1) cells)
-    ≡ (line_of (take column cells) ++ get_or cells column []) ++ tab ∷ []
-line_more cells column inside =
-    ap line_of (take_more cells column [] inside)
-    ∙ sym (flat_map_more cell_and_tab [] (take column cells) (get_or cells column []))
-    ∙ sym (append_assoc (line_of (take column cells)) (get_or cells column []) (tab ∷ []))
+-- a tab for each cell
+pub tabs_are_cells : (line : Text) → count_by (λ b. b == tab) line ≡ length (cells_in line)
+unfolding cells_in
+tabs_are_cells [] = refl
+tabs_are_cells (b ∷ line) =
+    sum_by-cons (λ b. cond (b == tab) 1 0) b line
+    ∙ elim (b == tab) as (λ is. cond is 1 0 + count_by (λ b. b == tab) line ≡ length (if is then [] ∷ cells_in line else prepended b (cells_in line))) [
+      | true ↦ omega (arith, tabs_are_cells line)
+      | false ↦ omega (arith, tabs_are_cells line, prepended_cells b (cells_in line))
+    ]
 
 -- the field at a place, or no text
 pub field_or_empty : (fields : Row) (at : ℕ) (found : Option (Bor Text)) (other : Bor Text) → option_map (λ field. field.now) found ≡ field_at fields at

@@ -6,14 +6,12 @@ use Rattle.csv.specs.declared.reader.Reader.{Reader}
 use Rattle.csv.specs.declared.reader.Trim.TheVariants as trim
 use Rattle.csv.proofs.ReadFacts.{rows-end, rows-more}
 use Rattle.text_model.specs.Texts.{Text}
-use Rattle.kbart_rows.specs.Cells.{Row}
+use Rattle.kbart_rows.specs.Cells.{Row, tab}
 use Rattle.kbart_rows.specs.Private.Kept.{IsRefusedLine, rest_of}
-use Rattle.kbart_rows.specs.Private.Line.{HasNoTab}
 use Rattle.kbart_rows.specs.Reading.{tab_separated, AreLines, AreFirstLines, AllFit, IsFreshReader, IsLineFault}
 use Rattle.kbart_rows.specs.declared.error.TableError.{TableError}
 use Rattle.kbart_rows.specs.declared.error.TableError.TheVariants.{TooLong, NotUtf8, NoHeader, TooManyRows, RowTooLong, NoMemory}
 use Rattle.kbart_rows.specs.declared.read.TheConstants.{MAX_ROWS}
-use Rattle.kbart_rows.proofs.PlainCells.{last_is_plain}
 
 -- the reader has read these lines of the bytes
 pub record IsReading (bytes : Text) (lines : List Row) (reader : Reader (Bor (List ℕ))) : Type 0 where
@@ -24,7 +22,7 @@ pub record IsReading (bytes : Text) (lines : List Row) (reader : Reader (Bor (Li
   pub source : source_of rest_of reader ≡ Some rest
   pub reached : Reached tab_separated state.StartRecord (strip_bom bytes) lines reader.state rest
 
-pub reading_starts : (bytes : Text) (reader : Reader (Bor (List ℕ))) → IsFreshReader bytes reader → IsReading bytes [] reader
+pub reading_starts : (bytes : Text) (reader : Reader (Bor (List ℕ))) → IsFreshReader tab bytes reader → IsReading bytes [] reader
 unfolding Reached
 reading_starts bytes reader fresh = record {
   trim = fresh.trim;
@@ -49,31 +47,22 @@ reading_continues bytes lines old new cells reading read first =
       reached = more.2;
     }
 
-pub first_lines : (bytes : Text) (lines : List Row) (reader : Reader (Bor (List ℕ))) → IsReading bytes lines reader → AreFirstLines bytes lines
-first_lines bytes lines reader reading = record { after = reader.state; rest = reading.rest; reached = reading.reached }
-
 pub reading_ends : (bytes : Text) (lines : List Row) (old new : Reader (Bor (List ℕ))) (cells : Row) → IsReading bytes lines old
     → ReadRecord rest_of old new false cells
     → AreLines bytes lines
 reading_ends bytes lines old new cells reading read =
     (old.state, reading.rest, reading.reached, rows-end rest_of old new cells tab_separated reading.rest reading.config reading.source read)
 
-pub no_tab_in_last : (bytes : Text) (lines : List Row) (cells : Row) (reader : Reader (Bor (List ℕ))) → IsReading bytes (lines ++ cells ∷ []) reader
-    → All HasNoTab cells
-no_tab_in_last bytes lines cells reader reading = last_is_plain lines cells reader.state (strip_bom bytes) reading.rest reading.reached
-
--- why a line was rejected, as an error of the bytes
-pub line_refused : (bytes : Text) (lines : List Row) (cells : Row) (reader : Reader (Bor (List ℕ))) (e : TableError)
-    → IsReading bytes (lines ++ cells ∷ []) reader
+-- why a line was rejected, as a fault of the bytes
+pub line_refused : (bytes : Text) (lines : List Row) (cells : Row) (e : TableError) → AreFirstLines bytes (lines ++ cells ∷ [])
     → AllFit lines → length lines ≤ MAX_ROWS + 1 → IsRefusedLine (length lines) cells e → IsLineFault bytes e
-line_refused bytes lines cells reader TooManyRows reading fit few why =
-    (lines, cells, record { lines = first_lines bytes (lines ++ cells ∷ []) reader reading; few = few; fit = fit }, omega (arith, few, why))
-line_refused bytes lines cells reader RowTooLong reading fit few why =
-    (lines, cells, record { lines = first_lines bytes (lines ++ cells ∷ []) reader reading; few = few; fit = fit }, why.0, why.1)
-line_refused bytes lines cells reader NoMemory reading fit few why = tt
-line_refused bytes lines cells reader TooLong reading fit few why = absurd why
-line_refused bytes lines cells reader NotUtf8 reading fit few why = absurd why
-line_refused bytes lines cells reader NoHeader reading fit few why = absurd why
+line_refused bytes lines cells TooManyRows first fit few why =
+    (lines, cells, record { lines = first; few = few; fit = fit }, omega (arith, few, why))
+line_refused bytes lines cells RowTooLong first fit few why = (lines, cells, record { lines = first; few = few; fit = fit }, why.0, why.1)
+line_refused bytes lines cells NoMemory first fit few why = tt
+line_refused bytes lines cells TooLong first fit few why = absurd why
+line_refused bytes lines cells NotUtf8 first fit few why = absurd why
+line_refused bytes lines cells NoHeader first fit few why = absurd why
 
 -- the header and the rows
 pub header_first : (lines : List Row) → 0 < length lines → lines ≡ get_or lines 0 [] ∷ drop 1 lines

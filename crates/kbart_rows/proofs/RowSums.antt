@@ -1,8 +1,9 @@
 -- The bytes of a row's defined cells, column by column.
 use Rattle.std.proofs.Common.{◌≡◌, ℕ, ◌+◌, ◌≤◌, zero, suc, cond, Bool, true, false, List, [], ◌∷◌, length, map, drop, get_or, None, refl, sym, ap, ◌∙◌, arith}
-use Rattle.std.proofs.Common.{if◌then◌else◌}
+use Rattle.std.proofs.Common.{All, if◌then◌else◌}
 use Rattle.std.proofs.lemmas.List.{drop-drop, get_or-drop}
 use Rattle.std.proofs.lemmas.List.Sums.{sum_by-cons}
+use Rattle.std.proofs.lemmas.List.Elements.{All-head, All-tail}
 use Rattle.std.specs.List.{cons_option, filter_map, range_with_len, sum_by}
 use Rattle.text_model.specs.Texts.{Text}
 use Rattle.kbart_rows.specs.Cells.{Row, NamedCell, cell_bytes, is_first, name_cell, named_cell}
@@ -54,3 +55,13 @@ pub none_counted : (counts : List Bool) → counted_bytes counts [] ≡ 0
 none_counted [] = refl
 none_counted (true ∷ others) = omega (arith, none_counted others)
 none_counted (false ∷ others) = omega (arith, none_counted others)
+
+-- if all columns count, and there are no cells beyond them, so do all bytes of the cells
+pub all_counted : (counts : List Bool) (cells : Row) → All (λ (counts : Bool). counts ≡ true) counts → length cells ≤ length counts
+    → counted_bytes counts cells ≡ sum_by length cells
+all_counted counts [] all few = none_counted counts
+all_counted [] (cell ∷ cells) all few = absurd (omega (arith, few))
+all_counted (counts ∷ others) (cell ∷ cells) all few =
+    let here = All-head (λ (counts : Bool). counts ≡ true) counts others all in
+    let later = all_counted others cells (All-tail (λ (counts : Bool). counts ≡ true) counts others all) (omega (arith, few)) in
+    rw here (omega (arith, later, sum_by-cons length cell cells))

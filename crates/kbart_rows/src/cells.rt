@@ -1,25 +1,13 @@
 //! A row's cells as one text, in which a tab follows each.
 
-ghost use Rattle.std.specs.Prelude.{◌≡◌, ◌<◌, ◌∷◌, ◌++◌, [], OnOk, IfSome, IfNone, drop, get_or, length, string_bytes};
-ghost use Rattle.csv.specs.Records.{fields_of};
+ghost use Rattle.std.specs.Prelude.{◌≡◌, ◌==◌, ◌<◌, ◌∷◌, ◌++◌, [], IfSome, IfNone, count_by, drop, get_or, length};
+ghost use Rattle.std.specs.Prelude.{slice_index, take};
 ghost use Rattle.std.specs.Option.{option_copied};
 ghost use Rattle.kbart_rows.specs.Cells as spec;
 ghost use Rattle.kbart_rows.specs.Lines.{cells_in};
-ghost use Rattle.kbart_rows.specs.Private.Line.{IsSplit, line_of};
+ghost use Rattle.kbart_rows.specs.Private.Line.{HasNoTab, IsSplit};
 
-use csv::StringRecord;
-use std::alloc::AllocError;
-
-/// Writes the cells of a record after a text.
-pub(crate) fn write_line(cells: &StringRecord, text: &mut String) -> Result<(), AllocError>
-    ensures { OnOk result (string_bytes text.new ≡ string_bytes text.old ++ line_of (fields_of cells.now)) }
-{
-    for column in 0..cells.len() {
-        text.push_str(cells.get(column).unwrap_or(""))?;
-        text.push('\t')?;
-    }
-    Ok(())
-}
+use memchr::memchr;
 
 /// The first cell of a line, and the line of those after it.
 pub(crate) fn next_cell(line: &str) -> Option<(&str, &str)>
@@ -28,7 +16,8 @@ pub(crate) fn next_cell(line: &str) -> Option<(&str, &str)>
     ensures shorter { IfSome result (λ parts. length parts.1.now < length line.now) }
     ensures none { IfNone result (cells_in line.now ≡ []) }
 {
-    line.split_once('\t')
+    let end = first_tab(line.as_bytes())?;
+    Some((&line[..end], &line[end + 1..]))
 }
 
 /// The first cell of a line (the empty text if it has none), and the line of the cells after it.
@@ -40,8 +29,9 @@ pub(crate) fn split_cell(line: &str) -> (&str, &str)
     next_cell(line).unwrap_or(("", ""))
 }
 
-/// The cell of a line in a column; the empty text if there is none. It takes no time for columns past the line's cells.
-pub(crate) fn cell_at(line: &str, column: usize) -> &str
+/// The cell of a line in a column, counted from 0; the empty text if there is none. It takes no time for columns past
+/// the line's cells.
+pub fn cell_at(line: &str, column: usize) -> &str
     ensures { result.now ≡ get_or (cells_in line.now) column [] }
 {
     let mut rest = line;
@@ -55,15 +45,38 @@ pub(crate) fn cell_at(line: &str, column: usize) -> &str
 }
 
 /// The text of a cell if it is defined, which means not empty.
-pub(crate) fn defined(cell: &str) -> Option<&str>
+pub fn defined(cell: &str) -> Option<&str>
     ensures { option_copied result ≡ spec.defined cell.now }
 {
     if cell.is_empty() { None } else { Some(cell) }
 }
 
 /// The cell of a line in a column, if there is such a column and the cell is defined.
-pub(crate) fn cell_in(line: &str, column: Option<usize>) -> Option<&str>
+pub fn cell_in(line: &str, column: Option<usize>) -> Option<&str>
     ensures { option_copied result ≡ spec.cell_in (cells_in line.now) column }
 {
     defined(cell_at(line, column?))
+}
+
+/// How many cells a line has.
+pub(crate) fn cell_count(line: &str) -> usize
+    ensures { result ≡ length (cells_in line.now) }
+{
+    tab_count(line.as_bytes())
+}
+
+fn tab_count(bytes: &[u8]) -> usize
+    ensures { result ≡ count_by (λ b. b == spec.tab) bytes.now }
+{
+    bytes.iter().filter(|byte| **byte == b'\t').count()
+}
+
+/// The place of the first tab.
+fn first_tab(line: &[u8]) -> Option<usize>
+    ensures within { IfSome result (λ at. at < length line.now) }
+    ensures tab { IfSome result (λ at. slice_index line.now at ≡ spec.tab) }
+    ensures lacks { IfSome result (λ at. HasNoTab (take at line.now)) }
+    ensures none { IfNone result (HasNoTab line.now) }
+{
+    memchr(b'\t', line)
 }

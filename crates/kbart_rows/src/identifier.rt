@@ -1,6 +1,6 @@
 //! The normal form of an identifier.
 
-ghost use Rattle.std.specs.Prelude.{◌≡◌, ◌∷◌, false, IfOk, string_bytes};
+ghost use Rattle.std.specs.Prelude.{◌≡◌, ◌∷◌, ◌++◌, [], false, IfOk, OnOk, string_bytes};
 ghost use Rattle.std.specs.Option.{option_map_or};
 ghost use Rattle.std.specs.Str.{bytes_eq};
 ghost use Rattle.text_model.specs.Texts.{Text};
@@ -9,14 +9,37 @@ ghost use Rattle.kbart_rows.specs.Private.Normal.{normal};
 
 use std::alloc::{AllocError, Global};
 
-/// An identifier as it is compared: without hyphens and spaces, and in capital letters.
-pub(crate) fn normalised(alloc: Global, text: &str) -> Result<String, AllocError>
+/// An identifier as it is compared: without hyphens and spaces, and with ASCII letters in upper case.
+///
+/// Fails if an allocation failed.
+pub fn normalised(alloc: Global, text: &str) -> Result<String, AllocError>
     ensures { IfOk result (λ id. string_bytes id ≡ spec.normalised text.now) }
 {
     text.chars()
         .filter(|character| *character != '-' && *character != ' ')
         .map(|character| character.to_ascii_uppercase())
         .collect(alloc)
+}
+
+/// Writes the bytes of an identifier, normalised, in place of those in the vector.
+pub(crate) fn write_normal(text: &str, bytes: &mut Vec<u8>) -> Result<(), AllocError>
+    ensures { OnOk result (bytes.new.items ≡ spec.normalised text.now) }
+{
+    bytes.clear();
+    for byte in text.as_bytes() {
+        push_normal(*byte, bytes)?;
+    }
+    Ok(())
+}
+
+/// Adds a byte of an identifier in upper case, unless it is a hyphen or a space.
+fn push_normal(byte: u8, bytes: &mut Vec<u8>) -> Result<(), AllocError>
+    ensures { OnOk result (bytes.new.items ≡ bytes.old.items ++ normal (byte ∷ [])) }
+{
+    if byte != b'-' && byte != b' ' {
+        bytes.push(byte.to_ascii_uppercase())?;
+    }
+    Ok(())
 }
 
 /// Whether a cell, normalised, is the identifier, which is in normal form.

@@ -82,7 +82,7 @@ impl Ids {
         if self.keys.is_same(keys) {
             Some(id.hash)
         } else {
-            Some(keys.hash(id.text.as_str()))
+            Some(keys.hash(id.text.as_bytes()))
         }
     }
 
@@ -117,7 +117,7 @@ fn add_first(
     };
     let text = normalised(alloc, value)?;
     if !text.as_str().is_empty() {
-        let hash = keys.hash(text.as_str());
+        let hash = keys.hash(text.as_bytes());
         ids.push(Id { text, hash })?;
     }
     Ok(())

@@ -11,7 +11,7 @@ ghost use Rattle.kbart_rows.specs.declared.index.Entry.{Entry};
 ghost use Rattle.kbart_rows.specs.declared.read.TheConstants.{MAX_ROWS};
 
 use crate::cells::cell_in;
-use crate::identifier::normalised;
+use crate::identifier::write_normal;
 use crate::keys::Keys;
 use crate::records::Records;
 use std::alloc::{AllocError, Global};
@@ -148,29 +148,30 @@ fn entries_of(
     ensures small { IfOk result (λ entries. AreSmall entries.items) }
 {
     let mut entries = Vec::new(alloc);
+    let mut id = Vec::new(alloc);
     for row in 0..lines.len() - 1 {
         let line = lines.line(row + 1);
-        add_entry(alloc, line, print, row as u32, keys, &mut entries)?;
-        add_entry(alloc, line, online, row as u32, keys, &mut entries)?;
+        add_entry(line, print, row as u32, keys, &mut id, &mut entries)?;
+        add_entry(line, online, row as u32, keys, &mut id, &mut entries)?;
     }
     Ok(entries)
 }
 
-/// Adds the entry of the identifier in a column of a row's line, if there is one.
+/// Adds the entry of the identifier in a column of a row's line, if there is one. `id` has room for the identifier.
 fn add_entry(
-    alloc: Global,
     line: &str,
     column: Option<usize>,
     row: u32,
     keys: &Keys,
+    id: &mut Vec<u8>,
     entries: &mut Vec<Entry>,
 ) -> Result<(), AllocError>
     ensures { OnOk result (entries.new.items ≡ entries.old.items
         ++ option_to_list (option_map (entry_for keys.now row) (identifier_in (cells_in line.now) column))) }
 {
     if let Some(cell) = cell_in(line, column) {
-        let id = normalised(alloc, cell)?;
-        let hash = half_of(keys.hash(id.as_str()));
+        write_normal(cell, id)?;
+        let hash = half_of(keys.hash(id.as_slice()));
         entries.push(Entry { hash, row })?;
     }
     Ok(())

@@ -42,11 +42,11 @@ impl Keys {
     }
 
     /// The hash of a text's bytes.
-    pub(crate) fn hash(&self, text: &str) -> u64
+    pub(crate) fn hash(&self, text: &[u8]) -> u64
         ensures { result ≡ hash_of self.now text.now }
     {
         let mut hasher = self.hasher;
-        hasher.write(text.as_bytes());
+        hasher.write(text);
         hasher.finish()
     }
 }

@@ -1,18 +1,16 @@
 //! Records of cells, kept as lines.
 
-ghost use Rattle.std.specs.Prelude.{◌≡◌, ◌++◌, ◌∷◌, [], ◌≤◌, ◌<◌, ◌+◌, All, IfErr, IfOk, OnOk, get_or, length};
+ghost use Rattle.std.specs.Prelude.{◌≡◌, ◌++◌, ◌∷◌, [], ◌≤◌, ◌<◌, ◌+◌, IfErr, IfOk, OnOk, get_or, length};
 ghost use Rattle.std.specs.Prelude.{string_bytes};
-ghost use Rattle.csv.specs.Records.{fields_of, prev};
-ghost use Rattle.kbart_rows.specs.Cells.{row_bytes};
+ghost use Rattle.csv.specs.Records.{prev};
+ghost use Rattle.kbart_rows.specs.Cells.{row_bytes, tab};
 ghost use Rattle.kbart_rows.specs.Lines.{cells_in};
 ghost use Rattle.kbart_rows.specs.Private.Kept.{IsLineTooLong};
-ghost use Rattle.kbart_rows.specs.Private.Line.{HasNoTab, line_of};
+ghost use Rattle.kbart_rows.specs.Private.Line.{cells_of, IsClosed};
 ghost use Rattle.kbart_rows.specs.declared.read.TheConstants.{MAX_ROW_BYTES};
 
-use crate::cells::write_line;
 use crate::error::TableError;
 use crate::read::MAX_ROW_BYTES;
-use csv::StringRecord;
 use std::alloc::{AllocError, Global};
 use std::marker::Model;
 
@@ -50,15 +48,14 @@ impl Records {
         })
     }
 
-    /// Adds a record. `RowTooLong` if its line would be longer than a row may be, `NoMemory` if an allocation
-    /// failed; no record is kept then.
-    pub(crate) fn push(&mut self, cells: &StringRecord) -> Result<(), TableError>
-        requires { All HasNoTab (fields_of cells.now) }
-        ensures added { OnOk result (self.new ≡ self.old ++ fields_of cells.now ∷ []) }
-        ensures fits { OnOk result (row_bytes (fields_of cells.now) ≤ MAX_ROW_BYTES) }
-        ensures refused { IfErr result (IsLineTooLong (fields_of cells.now)) }
+    /// Adds the record of a line, whose last cell has no tab after it. `RowTooLong` if the line is longer than a row
+    /// may be, `NoMemory` if an allocation failed; no record is kept then.
+    pub(crate) fn push(&mut self, line: &str) -> Result<(), TableError>
+        ensures added { OnOk result (self.new ≡ self.old ++ cells_of line.now ∷ []) }
+        ensures fits { OnOk result (row_bytes (cells_of line.now) ≤ MAX_ROW_BYTES) }
+        ensures refused { IfErr result (IsLineTooLong (cells_of line.now)) }
     {
-        match append(&mut self.text, &mut self.ends, cells) {
+        match append(&mut self.text, &mut self.ends, line) {
             Ok(()) => Ok(()),
             Err(e) => {
                 self.text.clear();
@@ -77,6 +74,7 @@ impl Records {
     /// The line of a record; past the last one the empty line, which has no cells.
     pub(crate) fn line(&self, at: usize) -> &str
         ensures cells { cells_in result.now ≡ get_or self.now at [] }
+        ensures closed { IsClosed result.now }
         ensures short { length result.now ≤ MAX_ROW_BYTES + 1 }
     {
         if at >= self.ends.len() {
@@ -95,19 +93,18 @@ fn start_of(ends: &[usize], at: usize) -> usize
     if at == 0 { 0 } else { ends[at - 1] }
 }
 
-/// Appends the line of a record, and the place where it ends.
-fn append(text: &mut String, ends: &mut Vec<usize>, cells: &StringRecord) -> Result<(), TableError>
-    ensures text { OnOk result (string_bytes text.new ≡ string_bytes text.old ++ line_of (fields_of cells.now)) }
+/// Appends a line and the tab of its last cell, and the place where they end.
+fn append(text: &mut String, ends: &mut Vec<usize>, line: &str) -> Result<(), TableError>
+    ensures text { OnOk result (string_bytes text.new ≡ string_bytes text.old ++ (line.now ++ tab ∷ [])) }
     ensures ends { OnOk result (ends.new.items ≡ ends.old.items ++ length (string_bytes text.new) ∷ []) }
-    ensures fits { OnOk result (row_bytes (fields_of cells.now) ≤ MAX_ROW_BYTES) }
-    ensures refused { IfErr result (IsLineTooLong (fields_of cells.now)) }
+    ensures fits { OnOk result (length line.now ≤ MAX_ROW_BYTES) }
+    ensures refused { IfErr result (IsLineTooLong (cells_of line.now)) }
 {
-    let start = text.len();
-    write_line(cells, text)?;
-    // The line has a tab after its last cell too, which does not count.
-    if text.len() - start > MAX_ROW_BYTES + 1 {
+    if line.len() > MAX_ROW_BYTES {
         return Err(TableError::RowTooLong);
     }
+    text.push_str(line)?;
+    text.push('\t')?;
     if ends.push(text.len()).is_err() {
         return Err(TableError::NoMemory);
     }

@@ -18,6 +18,7 @@ use Rattle.target_vars.specs.declared.error.VarsError.TheVariants as vars_error
 use Rattle.kbart_rows.specs.Cells.{Row, Holdings, NamedCell, cell_bytes, column_of, is_first, name_cell, named_cells, row_bytes}
 use Rattle.kbart_rows.specs.Identifiers.{identifier_columns}
 use Rattle.kbart_rows.specs.Private.Index.{HasEntries}
+use Rattle.kbart_rows.specs.Private.Line.{IsClosed}
 use Rattle.kbart_rows.specs.Reading.{AllFit}
 use Rattle.kbart_rows.specs.declared.error.TableError.{TableError}
 use Rattle.kbart_rows.specs.declared.index.Entry.{Entry}
@@ -57,12 +58,13 @@ IsRead old found cells new = old.trim ≡ trim.None → Ready old → ReadRecord
 abbrev pub lines_in : List ℕ → Text → List Text
 lines_in ends text = cut_from 0 ends text
 
--- the text consists of these lines; none is longer than a row may be plus one tab, and each ends between two characters
+-- the text consists of these lines; none is longer than a row may be plus one tab, and each ends with a tab and between two characters
 pub record AreKept (ends : List ℕ) (text : Text) : Type 0 where
   pub rising : Rising 0 ends (length text)
   pub whole : last_end 0 ends ≡ length text
   pub apart : All (IsCharBoundary text) ends
   pub short : All (λ line. length line ≤ MAX_ROW_BYTES + 1) (lines_in ends text)
+  pub closed : All IsClosed (lines_in ends text)
 
 -- ---- filling
 

@@ -1,5 +1,5 @@
 -- How a line is made of cells, and read from left to right.
-use Rattle.std.specs.Prelude.{◌≡◌, ℕ, ◌≢◌, ◌≤◌, [], ◌∷◌, ◌++◌, All, length, take, drop}
+use Rattle.std.specs.Prelude.{◌≡◌, ℕ, ◌≢◌, ◌≤◌, ◌+◌, [], ◌∷◌, ◌++◌, All, length, sum_by, take, drop}
 use Rattle.std.specs.List.{flat_map}
 use Rattle.text_model.specs.Texts.{Text}
 use Rattle.kbart_rows.specs.Cells.{Row, tab}
@@ -11,6 +11,18 @@ cell_and_tab cell = cell ++ tab ∷ []
 -- the line that is made of the cells
 abbrev pub line_of : Row → Text
 line_of cells = flat_map cell_and_tab cells
+
+-- the cells of a line that has no tab after its last cell
+abbrev pub cells_of : Text → Row
+cells_of line = cells_in (line ++ tab ∷ [])
+
+-- the line has the bytes of its cells and a tab for each
+abbrev pub IsClosed : Text → Type 0
+IsClosed line = length line ≡ sum_by length (cells_in line) + length (cells_in line)
+
+-- no byte of UTF-8 text is this one
+abbrev pub no_byte : ℕ
+no_byte = 255
 
 -- no byte is a tab
 abbrev pub HasNoTab : Text → Type 0

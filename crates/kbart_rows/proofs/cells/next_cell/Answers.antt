@@ -1,31 +1,45 @@
-use Rattle.std.proofs.Common.{Bor, ◌≡◌, ◌≢◌, ◌∷◌, ◌++◌, [], Option, Some, None, IfSome, IfNone, ap, ◌∙◌, arith}
-use Rattle.std.proofs.lemmas.List.Elements.{All-from_get_or}
-use Rattle.std.proofs.lemmas.Str.Pattern.{IsSplitOnceResult, split_parts}
+use Rattle.std.proofs.Common.{◌≡◌, ℕ, ◌+◌, ◌-◌, ◌∷◌, ◌++◌, ◌<◌, [], length, take, drop, slice_index, slice_range, sym, ap, ◌∙◌, arith}
+use Rattle.std.proofs.lemmas.List.{drop_more, take-append-drop}
+use Rattle.std.proofs.lemmas.Str.{IsCharBoundary-after_ascii, IsCharBoundary-before_ascii}
 use Rattle.text_model.specs.Texts.{Text}
 use Rattle.kbart_rows.specs.Cells.{tab}
 use Rattle.kbart_rows.specs.Lines.{cells_in}
 use Rattle.kbart_rows.proofs.LineCells.{first_cell, no_cell}
 use Rattle.kbart_rows.proofs.cells.next_cell.Goals as goal
 
-cell : (line : Text) (parts : Option (Bor Text × Bor Text)) → IsSplitOnceResult tab line parts → IfSome parts (λ p. cells_in line ≡ p.0.now ∷ cells_in p.1.now)
-cell line None split = tt
-cell line (Some parts) split =
-    let cut = split_parts tab line (Some parts) split (omega arith) in
-    ap cells_in cut.0 ∙ first_cell parts.0.now parts.1.now (All-from_get_or (λ b. b ≢ tab) parts.0.now 0 cut.1)
+parted : (line : Text) (at : ℕ) → at < length line → slice_index line at ≡ tab → line ≡ take at line ++ tab ∷ drop (at + 1) line
+parted line at within is =
+    sym (take-append-drop at line) ∙ ap (λ rest. take at line ++ rest) (drop_more line at 0 within ∙ ap (λ b. b ∷ drop (at + 1) line) is)
 
-whole : (line : Text) (parts : Option (Bor Text × Bor Text)) → IsSplitOnceResult tab line parts → IfSome parts (λ p. line ≡ p.0.now ++ tab ∷ p.1.now)
-whole line None split = tt
-whole line (Some parts) split = (split_parts tab line (Some parts) split (omega arith)).0
+front_is : (line cell : Text) (at : ℕ) → cell ≡ slice_range line 0 at → cell ≡ take at line
+front_is line cell at is =
+    let same : at - 0 ≡ at = omega arith in
+    is ∙ ap (λ n. take n line) same
 
-none : (line : Text) (parts : Option (Bor Text × Bor Text)) → IsSplitOnceResult tab line parts → IfNone parts (cells_in line ≡ [])
-none line None split = no_cell line (All-from_get_or (λ b. b ≢ tab) line 0 (split_parts tab line None split (omega arith)))
-none line (Some parts) split = tt
+pub range_from-requires : goal.range_from-requires
+range_from-requires c =
+    let same = c.as_bytes.ensures.value in
+    let within = rw same at c.in_ok-end.ensures.within in
+    let is = rw same at c.in_ok-end.ensures.tab in
+    λ some. IsCharBoundary-after_ascii c.args.line.now c.in_ok-end.end c.utf8.line within (omega (arith, is))
+
+pub returns-in_err-end-clause-none : goal.returns-in_err-end-clause-none
+returns-in_err-end-clause-none c =
+    rw c.from_residual.ensures (no_cell c.args.line.now (rw c.as_bytes.ensures.value at c.in_err-end.ensures.none))
 
 pub returns-clause-cell : goal.returns-clause-cell
-returns-clause-cell c = cell c.args.line.now c.split_once.result c.split_once.ensures.cases
-
-pub returns-clause-none : goal.returns-clause-none
-returns-clause-none c = none c.args.line.now c.split_once.result c.split_once.ensures.cases
+returns-clause-cell c =
+    let line = c.args.line.now in
+    let end = c.in_ok-end.end in
+    let same = c.as_bytes.ensures.value in
+    let parts = parted line end (rw same at c.in_ok-end.ensures.within) (rw same at c.in_ok-end.ensures.tab) in
+    let lacks = rw same at c.in_ok-end.ensures.lacks in
+    rw (front_is line c.range.result.now end c.range.ensures.value, c.range_from.ensures.value) (ap cells_in parts ∙ first_cell (take end line) (drop (end + 1) line) lacks)
 
 pub returns-clause-parts : goal.returns-clause-parts
-returns-clause-parts c = whole c.args.line.now c.split_once.result c.split_once.ensures.cases
+returns-clause-parts c =
+    let line = c.args.line.now in
+    let end = c.in_ok-end.end in
+    let same = c.as_bytes.ensures.value in
+    rw (front_is line c.range.result.now end c.range.ensures.value, c.range_from.ensures.value)
+    (parted line end (rw same at c.in_ok-end.ensures.within) (rw same at c.in_ok-end.ensures.tab))

@@ -6,9 +6,10 @@ use Rattle.csv.proofs.RecordFacts.{cut-length}
 use Rattle.text_model.specs.Texts.{Text}
 use Rattle.kbart_rows.specs.Lines.{cells_in}
 use Rattle.kbart_rows.specs.Private.Kept.{lines_in}
+use Rattle.kbart_rows.specs.Private.Line.{IsClosed}
 use Rattle.kbart_rows.specs.declared.read.TheConstants.{MAX_ROW_BYTES}
 use Rattle.kbart_rows.proofs.KeptLines.{IsLineAt, line_is, line_is_at, lines_count}
-use Rattle.kbart_rows.proofs.LineCells.{cells_of_field, no_cells}
+use Rattle.kbart_rows.proofs.LineCells.{cells_of_field, no_cells, no_line_closed}
 use Rattle.kbart_rows.proofs.records.Records.line.Goals as goal
 
 pub returns-then-at-len-clause-cells : goal.returns-then-at-len-clause-cells
@@ -58,3 +59,12 @@ returns-clause-short c =
     let text = string_bytes c.self.inside.text in
     rw (found c) (All-get_or (λ (line : Text). length line ≤ MAX_ROW_BYTES + 1) (lines_in ends text) c.args.at []
     (omega (arith, inside c, cut-length 0 ends text)) c.self.invariant.short)
+
+pub returns-then-at-len-clause-closed : goal.returns-then-at-len-clause-closed
+returns-then-at-len-clause-closed c = no_line_closed
+
+pub returns-clause-closed : goal.returns-clause-closed
+returns-clause-closed c =
+    let ends = c.self.inside.ends.items in
+    let text = string_bytes c.self.inside.text in
+    rw (found c) (All-get_or IsClosed (lines_in ends text) c.args.at [] (omega (arith, inside c, cut-length 0 ends text)) c.self.invariant.closed)

@@ -38,3 +38,6 @@ returns-clause-accepted c =
       few = omega (arith, size, few);
       fit = subst AllFit parts c.in_ok-lines.ensures.fit;
     }
+
+pub read_lines-requires : goal.read_lines-requires
+read_lines-requires c = c.in_ok-check_bytes.ensures.text.1
