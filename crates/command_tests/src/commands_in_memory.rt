@@ -1,7 +1,9 @@
 //! Commands over files in memory, with each call that they make failing in turn.
 
+use crate::known_system::Outside;
 use crate::{bytes, gives, outside};
-use std::test::Fail;
+use std::alloc::{AllocError, Global};
+use std::process::Abort;
 use streams_in_memory::Peers;
 
 const RULES: &[u8] = b"rule\nlink http://e.org/{rft.issn}\n";
@@ -91,31 +93,62 @@ const COMMANDS: [(&[&str], &str, &[&str]); 9] = [
     ),
 ];
 
+/// The files of the system, of whose calls only this number succeed.
+fn outside_with(alloc: Global, calls: usize) -> Result<Outside, AllocError> {
+    let mut outside = outside(alloc, &FILES)?;
+    outside.files.fail_after(calls);
+    Ok(outside)
+}
+
+fn has_draft(outside: &Outside) -> bool {
+    bytes(outside, "new.new").is_some()
+}
+
+fn has_old_file(outside: &Outside) -> bool {
+    bytes(outside, "new") == Some(b"the old file".as_slice())
+}
+
+/// The command fails at this call, with an error that names the file, and leaves the files as they were.
+fn fails_at<R: Abort + AllocGlobal>(
+    rt: &R,
+    arguments: &[&str],
+    calls: usize,
+    path: &str,
+) -> Result<(), AllocError> {
+    let error = format!(in rt.alloc(); "device: {path}")?;
+    let mut outside = outside_with(rt.alloc(), calls)?;
+    gives(rt, &mut outside, arguments, 4, "", error.as_str())?;
+    let left = (has_old_file(&outside), has_draft(&outside));
+    assert!(rt; left == (true, false), "{arguments:?}, {calls}");
+    Ok(())
+}
+
+/// The command succeeds with this number of calls, and leaves no draft.
+fn succeeds_with<R: Abort + AllocGlobal>(
+    rt: &R,
+    arguments: &[&str],
+    calls: usize,
+    printed: &str,
+) -> Result<(), AllocError> {
+    let mut outside = outside_with(rt.alloc(), calls)?;
+    gives(rt, &mut outside, arguments, 0, printed, "")?;
+    assert!(rt; !has_draft(&outside), "{arguments:?}");
+    Ok(())
+}
+
 #[test]
-fn each_call_fails_in_turn(rt: HostRuntime) -> Result<(), Fail> {
+fn each_call_fails_in_turn(rt: HostRuntime) -> Result<(), AllocError> {
     for (arguments, printed, failing) in COMMANDS {
         for (calls, path) in failing.iter().enumerate() {
-            let mut outside = outside(rt.alloc(), &FILES)?;
-            outside.files.fail_after(calls);
-            let error = format!(in rt.alloc(); "device: {path}")?;
-            gives(&rt, &mut outside, arguments, 4, "", error.as_str())?;
-            assert_eq!(rt;
-                bytes(&outside, "new"),
-                Some(b"the old file".as_slice()),
-                "{calls}"
-            );
-            assert_eq!(rt; bytes(&outside, "new.new"), None, "{calls}");
+            fails_at(&rt, arguments, calls, path)?;
         }
-        let mut outside = outside(rt.alloc(), &FILES)?;
-        outside.files.fail_after(failing.len());
-        gives(&rt, &mut outside, arguments, 0, printed, "")?;
-        assert_eq!(rt; bytes(&outside, "new.new"), None);
+        succeeds_with(&rt, arguments, failing.len(), printed)?;
     }
     Ok(())
 }
 
 #[test]
-fn reviews_need_keys_for_the_table(rt: HostRuntime) -> Result<(), Fail> {
+fn reviews_need_keys_for_the_table(rt: HostRuntime) -> Result<(), AllocError> {
     let mut outside = outside(rt.alloc(), &FILES)?;
     outside.keys.numbers = None;
     for arguments in [INSPECT, LINT, EXPLAIN] {
@@ -124,26 +157,26 @@ fn reviews_need_keys_for_the_table(rt: HostRuntime) -> Result<(), Fail> {
     Ok(())
 }
 
+const RESOLVE: &[&str] = &["resolve", "registry", QUERY];
+
+/// How many of its calls succeed, the status, what is printed, and the error.
+const RESOLVED: [(usize, u8, &str, &str); 4] = [
+    (0, 4, "", "device: registry"),
+    (1, 4, "", "target alpha: device: a.olk"),
+    (2, 4, "", "target alpha: device: a.tsv"),
+    (3, 0, "alpha\thttp://e.org/\n", ""),
+];
+
 #[test]
-fn resolves(rt: HostRuntime) -> Result<(), Fail> {
-    let errors = [
-        "device: registry",
-        "target alpha: device: a.olk",
-        "target alpha: device: a.tsv",
-    ];
-    let resolve = ["resolve", "registry", QUERY];
-    for (calls, error) in errors.into_iter().enumerate() {
-        let mut outside = outside(rt.alloc(), &FILES)?;
-        outside.files.fail_after(calls);
-        gives(&rt, &mut outside, &resolve, 4, "", error)?;
+fn resolves(rt: HostRuntime) -> Result<(), AllocError> {
+    for (calls, status, printed, error) in RESOLVED {
+        let mut outside = outside_with(rt.alloc(), calls)?;
+        gives(&rt, &mut outside, RESOLVE, status, printed, error)?;
     }
     let mut others = outside(rt.alloc(), &FILES)?;
     gives(&rt, &mut others, &["resolve", "empty", QUERY], 1, "", "")?;
     others.keys.numbers = None;
-    gives(&rt, &mut others, &resolve, 4, "", "device: registry")?;
-    let mut outside = outside(rt.alloc(), &FILES)?;
-    outside.files.fail_after(errors.len());
-    gives(&rt, &mut outside, &resolve, 0, "alpha\thttp://e.org/\n", "")
+    gives(&rt, &mut others, RESOLVE, 4, "", "device: registry")
 }
 
 /// A query, and whether it finds the row of a print edition and that of an online edition.
@@ -159,17 +192,32 @@ const IDENTIFIERS: [(&str, bool); 9] = [
     ("rft_id=urn:ISSN:1", false),
 ];
 
+/// The query finds the target in this registry, or nothing.
+fn finds<R: Abort + AllocGlobal>(
+    rt: &R,
+    outside: &mut Outside,
+    registry: &str,
+    query: &str,
+    link: Option<&str>,
+) -> Result<(), AllocError> {
+    let (status, printed) = match link {
+        Some(link) => (0, link),
+        None => (1, ""),
+    };
+    let resolve = ["resolve", registry, query];
+    gives(rt, outside, &resolve, status, printed, "")
+}
+
 #[test]
-fn three_keys_find_rows(rt: HostRuntime) -> Result<(), Fail> {
+fn three_keys_find_rows(rt: HostRuntime) -> Result<(), AllocError> {
     let mut outside = outside(rt.alloc(), &FILES)?;
     for (query, found) in IDENTIFIERS {
         for (registry, link) in [
             ("registry", "alpha\thttp://e.org/\n"),
             ("online", "beta\thttp://e.org/\n"),
         ] {
-            let (status, printed) = if found { (0, link) } else { (1, "") };
-            let resolve = ["resolve", registry, query];
-            gives(&rt, &mut outside, &resolve, status, printed, "")?;
+            let link = if found { Some(link) } else { None };
+            finds(&rt, &mut outside, registry, query, link)?;
         }
     }
     Ok(())
@@ -197,7 +245,7 @@ const FILES_FIRST: [(&[&str], u8, &str); 5] = [
 ];
 
 #[test]
-fn files_come_before_queries_and_ports(rt: HostRuntime) -> Result<(), Fail> {
+fn files_come_before_queries_and_ports(rt: HostRuntime) -> Result<(), AllocError> {
     let mut outside = outside(rt.alloc(), &FILES)?;
     for (arguments, status, error) in FILES_FIRST {
         gives(&rt, &mut outside, arguments, status, "", error)?;
@@ -205,71 +253,74 @@ fn files_come_before_queries_and_ports(rt: HostRuntime) -> Result<(), Fail> {
     Ok(())
 }
 
-#[test]
-fn serves(rt: HostRuntime) -> Result<(), Fail> {
-    let mut outside = outside(rt.alloc(), &FILES)?;
-    for (port, count, status, printed, error) in [
-        ("0", "2", 0, "listening 127.0.0.1:4096\n", ""),
-        ("80", "2", 0, "listening 127.0.0.1:80\n", ""),
-        (
-            "080",
-            "3",
-            4,
-            "listening 127.0.0.1:80\n",
-            "device: 127.0.0.1:080",
-        ),
-    ] {
-        let mut peers = Peers::new(rt.alloc());
-        peers.add(b"GET /x HTTP/1.1\r\nHost: a\r\n\r\n")?;
-        peers.add(b"")?;
-        outside.ports.peers = Some(peers);
-        gives(
-            &rt,
-            &mut outside,
-            &["serve", "registry", port, count],
-            status,
-            printed,
-            error,
-        )?;
-        gives(
-            &rt,
-            &mut outside,
-            &["serve", "registry", port, count],
-            4,
-            "",
-            format!(in rt.alloc(); "device: 127.0.0.1:{port}")?.as_str(),
-        )?;
-    }
-    gives(
-        &rt,
-        &mut outside,
-        &["serve", "none", "0", "1"],
-        4,
-        "",
-        "device: none",
-    )
+/// Two peers, one of which sends a request.
+fn two_peers(alloc: Global) -> Result<Peers, AllocError> {
+    let mut peers = Peers::new(alloc);
+    peers.add(b"GET /x HTTP/1.1\r\nHost: a\r\n\r\n")?;
+    peers.add(b"")?;
+    Ok(peers)
 }
 
+/// Commands that serve the two peers: the status, what is printed, the error, and the error of the same command if the
+/// port is in use.
+const SERVED: [(&[&str], u8, &str, &str, &str); 3] = [
+    (
+        &["serve", "registry", "0", "2"],
+        0,
+        "listening 127.0.0.1:4096\n",
+        "",
+        "device: 127.0.0.1:0",
+    ),
+    (
+        &["serve", "registry", "80", "2"],
+        0,
+        "listening 127.0.0.1:80\n",
+        "",
+        "device: 127.0.0.1:80",
+    ),
+    (
+        &["serve", "registry", "080", "3"],
+        4,
+        "listening 127.0.0.1:80\n",
+        "device: 127.0.0.1:080",
+        "device: 127.0.0.1:080",
+    ),
+];
+
 #[test]
-fn refuses_other_arguments(rt: HostRuntime) -> Result<(), Fail> {
+fn serves(rt: HostRuntime) -> Result<(), AllocError> {
     let mut outside = outside(rt.alloc(), &FILES)?;
-    let cases: [&[&str]; 14] = [
-        &[],
-        &["expand", "{x}", "--list", "a", "x=1"],
-        &["serve", "registry", "+80", "1"],
-        &["serve", "registry", "80", "1000001"],
-        &["link", "a.rules"],
-        &["compile", "a.rules", "new", "x"],
-        &["serve", "registry", "65536", "1"],
-        &["serve", "registry", "0", "0"],
-        &["expand", "--list", "a", "b"],
-        &["expand", "--list", "x=1"],
-        &["link", "a.rules", "x=1", "y"],
-        &["--version", "1"],
-        &["help", "serve"],
-        &["serve", "registry", "80", ""],
-    ];
-    for arguments in cases {
+    for (serve, status, printed, error, in_use) in SERVED {
+        outside.ports.peers = Some(two_peers(rt.alloc())?);
+        gives(&rt, &mut outside, serve, status, printed, error)?;
+        gives(&rt, &mut outside, serve, 4, "", in_use)?;
+    }
+    let none = ["serve", "none", "0", "1"];
+    gives(&rt, &mut outside, &none, 4, "", "device: none")
+}
+
+/// Arguments of no command.
+const OTHERS: [&[&str]; 14] = [
+    &[],
+    &["expand", "{x}", "--list", "a", "x=1"],
+    &["serve", "registry", "+80", "1"],
+    &["serve", "registry", "80", "1000001"],
+    &["link", "a.rules"],
+    &["compile", "a.rules", "new", "x"],
+    &["serve", "registry", "65536", "1"],
+    &["serve", "registry", "0", "0"],
+    &["expand", "--list", "a", "b"],
+    &["expand", "--list", "x=1"],
+    &["link", "a.rules", "x=1", "y"],
+    &["--version", "1"],
+    &["help", "serve"],
+    &["serve", "registry", "80", ""],
+];
+
+#[test]
+fn refuses_other_arguments(rt: HostRuntime) -> Result<(), AllocError> {
+    let mut outside = outside(rt.alloc(), &FILES)?;
+    for arguments in OTHERS {
         gives(&rt, &mut outside, arguments, 2, "", "usage")?;
     }
     gives(&rt, &mut outside, &["--version"], 0, "openlink 0.1.0\n", "")

@@ -25,8 +25,6 @@ use known_system::{KnownKeys, OnePort, Outside};
 use std::alloc::{AllocError, Global};
 #[cfg(test)]
 use std::process::Abort;
-#[cfg(test)]
-use std::test::Fail;
 
 /// Files of these bytes, keys, and a port to which nobody connects.
 #[cfg(test)]
@@ -45,6 +43,53 @@ fn outside(alloc: Global, contents: &[(&str, &[u8])]) -> Result<Outside, AllocEr
     })
 }
 
+/// The status of a command, what it printed, and its errors.
+#[cfg(test)]
+#[derive(Drop)]
+struct Given {
+    status: u8,
+    output: Vec<u8>,
+    errors: Vec<u8>,
+}
+
+/// Runs the command. The only error is that memory runs out.
+#[cfg(test)]
+fn run(outside: &mut Outside, arguments: &[&str]) -> Result<Given, AllocError> {
+    let (mut output, mut errors) = (Vec::new(outside.alloc), Vec::new(outside.alloc));
+    let status = command(outside, arguments, &mut output, &mut errors);
+    if errors.as_slice() == b"openlink: out of memory\n".as_slice() {
+        return Err(AllocError);
+    }
+    Ok(Given {
+        status,
+        output,
+        errors,
+    })
+}
+
+/// Fails unless the command gave this status, output and line of an error.
+#[cfg(test)]
+fn same<R: Abort>(rt: &R, arguments: &[&str], given: &Given, expected: (u8, &str, &str)) {
+    let found = (
+        given.status,
+        given.output.as_slice(),
+        given.errors.as_slice(),
+    );
+    let (status, output, errors) = expected;
+    let expected = (status, output.as_bytes(), errors.as_bytes());
+    assert_eq!(rt; found, expected, "{arguments:?}");
+}
+
+/// The line of an error, with `openlink: ` before it; the empty text if there is none.
+#[cfg(test)]
+fn error_line(alloc: Global, error: &str) -> Result<String, AllocError> {
+    if error.is_empty() {
+        Ok(String::new(alloc))
+    } else {
+        format!(in alloc; "openlink: {error}\n")
+    }
+}
+
 /// Runs the command, and compares its status, what it prints and its error, without `openlink: ` before it.
 #[cfg(test)]
 fn gives<R: Abort + AllocGlobal>(
@@ -54,20 +99,10 @@ fn gives<R: Abort + AllocGlobal>(
     status: u8,
     printed: &str,
     error: &str,
-) -> Result<(), Fail> {
-    let (mut output, mut errors) = (Vec::new(rt.alloc()), Vec::new(rt.alloc()));
-    let given = command(outside, arguments, &mut output, &mut errors);
-    if errors.as_slice() == b"openlink: out of memory\n".as_slice() {
-        return Err(AllocError.into());
-    }
-    let line = if error.is_empty() {
-        String::new(rt.alloc())
-    } else {
-        format!(in rt.alloc(); "openlink: {error}\n")?
-    };
-    assert_eq!(rt; given, status, "{arguments:?}");
-    assert_eq!(rt; output.as_slice(), printed.as_bytes(), "{arguments:?}");
-    assert_eq!(rt; errors.as_slice(), line.as_bytes(), "{arguments:?}");
+) -> Result<(), AllocError> {
+    let line = error_line(rt.alloc(), error)?;
+    let given = run(outside, arguments)?;
+    same(rt, arguments, &given, (status, printed, line.as_str()));
     Ok(())
 }
 

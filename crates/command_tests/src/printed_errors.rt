@@ -9,10 +9,15 @@ use kev_read::KevError;
 use registry::AddErrorKind;
 use registry_file::{TargetError, TargetFault};
 use rule_parser::{RuleError, RuleErrorKind};
+use std::alloc::AllocError;
 use std::process::Abort;
-use std::test::Fail;
 use uri_grammar::{TemplateError, TemplateErrorKind};
 use verifier::LoadError;
+
+/// Fails unless the status and the text are these.
+fn same<R: Abort>(rt: &R, found: (u8, &str), expected: (u8, &str)) {
+    assert_eq!(rt; found, expected);
+}
 
 /// The error has this exit status and this text.
 fn prints<R: Abort + AllocGlobal>(
@@ -20,10 +25,9 @@ fn prints<R: Abort + AllocGlobal>(
     fault: Fault<'_>,
     status: u8,
     line: &str,
-) -> Result<(), Fail> {
+) -> Result<(), AllocError> {
     let printed = format!(in rt.alloc(); "{fault}")?;
-    assert_eq!(rt; printed.as_str(), line);
-    assert_eq!(rt; fault.status(), status, "of {line}");
+    same(rt, (fault.status(), printed.as_str()), (status, line));
     Ok(())
 }
 
@@ -33,7 +37,7 @@ fn refuses<R: Abort + AllocGlobal>(
     refusal: Refusal,
     status: u8,
     line: &str,
-) -> Result<(), Fail> {
+) -> Result<(), AllocError> {
     prints(rt, Fault::from(refusal), status, line)
 }
 
@@ -48,16 +52,26 @@ const TEMPLATES: [(TemplateErrorKind, &str); 7] = [
     (TemplateErrorKind::BadLiteral, "BadLiteral"),
 ];
 
+/// What was read is refused with status 3, and with the text before the word, the word and the text after it.
+fn refuses_with<R: Abort + AllocGlobal>(
+    rt: &R,
+    refusal: Refusal,
+    before: &str,
+    word: &str,
+    after: &str,
+) -> Result<(), AllocError> {
+    let line = format!(in rt.alloc(); "{before}{word}{after}")?;
+    refuses(rt, refusal, 3, line.as_str())
+}
+
 #[test]
-fn errors_of_templates(rt: HostRuntime) -> Result<(), Fail> {
+fn errors_of_templates(rt: HostRuntime) -> Result<(), AllocError> {
     for (kind, word) in TEMPLATES {
         let refusal = Refusal::Template(TemplateError { kind, at: 7 });
-        let line = format!(in rt.alloc(); "template: {word} at 7")?;
-        refuses(&rt, refusal, 3, line.as_str())?;
+        refuses_with(&rt, refusal, "template: ", word, " at 7")?;
         let kind = RuleErrorKind::Template(kind);
         let refusal = Refusal::Rules(RuleError { kind, line: 2 });
-        let line = format!(in rt.alloc(); "rules: line 2: Template {word}")?;
-        refuses(&rt, refusal, 3, line.as_str())?;
+        refuses_with(&rt, refusal, "rules: line 2: Template ", word, "")?;
     }
     Ok(())
 }
@@ -83,7 +97,7 @@ const COMPILED: [(CompileError, &str); 4] = [
 ];
 
 #[test]
-fn errors_of_rules(rt: HostRuntime) -> Result<(), Fail> {
+fn errors_of_rules(rt: HostRuntime) -> Result<(), AllocError> {
     for (kind, line) in RULES {
         refuses(&rt, Refusal::Rules(RuleError { kind, line: 0 }), 3, line)?;
     }
@@ -107,14 +121,12 @@ const CODES: [(CodeErrorKind, &str); 9] = [
 ];
 
 #[test]
-fn errors_of_code_files(rt: HostRuntime) -> Result<(), Fail> {
+fn errors_of_code_files(rt: HostRuntime) -> Result<(), AllocError> {
     for (kind, word) in CODES {
         let refusal = Refusal::Code(CodeError { kind, at: 10 });
-        let line = format!(in rt.alloc(); "code: {word} at 10")?;
-        refuses(&rt, refusal, 3, line.as_str())?;
+        refuses_with(&rt, refusal, "code: ", word, " at 10")?;
         let refusal = Refusal::Load(LoadError::Code(kind, 10));
-        let line = format!(in rt.alloc(); "load: {word} at 10")?;
-        refuses(&rt, refusal, 3, line.as_str())?;
+        refuses_with(&rt, refusal, "load: ", word, " at 10")?;
     }
     Ok(())
 }
@@ -141,7 +153,7 @@ const LOADED: [(LoadError, &str); 14] = [
 ];
 
 #[test]
-fn errors_of_code(rt: HostRuntime) -> Result<(), Fail> {
+fn errors_of_code(rt: HostRuntime) -> Result<(), AllocError> {
     for (error, line) in LOADED {
         refuses(&rt, Refusal::Load(error), 3, line)?;
     }
@@ -170,18 +182,17 @@ fn of_target<R: Abort + AllocGlobal>(
     fault: TargetFault,
     status: u8,
     line: &str,
-) -> Result<(), Fail> {
+) -> Result<(), AllocError> {
     let name = String::from_str(rt.alloc(), "a")?;
     let fault = Fault::Target(TargetError { name, fault });
     prints(rt, fault, status, line)
 }
 
 #[test]
-fn errors_of_targets(rt: HostRuntime) -> Result<(), Fail> {
+fn errors_of_targets(rt: HostRuntime) -> Result<(), AllocError> {
     for (error, line) in TABLES {
         refuses(&rt, Refusal::Table(error), 3, line)?;
-        let line = format!(in rt.alloc(); "target a: {line}")?;
-        of_target(&rt, TargetFault::Table(error), 3, line.as_str())?;
+        of_target_table(&rt, error, line)?;
     }
     for (kind, line) in ADDED {
         of_target(&rt, TargetFault::Add(kind), 3, line)?;
@@ -192,6 +203,16 @@ fn errors_of_targets(rt: HostRuntime) -> Result<(), Fail> {
     of_target(&rt, TargetFault::Device(path), 4, "target a: device: a.olk")
 }
 
+/// The error of a target's table, whose text follows that of the target.
+fn of_target_table<R: Abort + AllocGlobal>(
+    rt: &R,
+    error: TableError,
+    line: &str,
+) -> Result<(), AllocError> {
+    let line = format!(in rt.alloc(); "target a: {line}")?;
+    of_target(rt, TargetFault::Table(error), 3, line.as_str())
+}
+
 /// The same for queries.
 const QUERIES: [(KevError, &str); 3] = [
     (KevError::TooLong, "query: TooLong"),
@@ -200,7 +221,7 @@ const QUERIES: [(KevError, &str); 3] = [
 ];
 
 #[test]
-fn errors_of_all_commands(rt: HostRuntime) -> Result<(), Fail> {
+fn errors_of_all_commands(rt: HostRuntime) -> Result<(), AllocError> {
     for (error, line) in QUERIES {
         refuses(&rt, Refusal::Query(error), 3, line)?;
     }
@@ -211,12 +232,15 @@ fn errors_of_all_commands(rt: HostRuntime) -> Result<(), Fail> {
 }
 
 #[test]
-fn memory_that_ran_out_has_status_4(rt: HostRuntime) -> Result<(), Fail> {
+fn memory_that_ran_out_has_status_4(rt: HostRuntime) -> Result<(), AllocError> {
     refuses(&rt, Refusal::Memory, 4, "out of memory")
 }
 
 #[test]
 fn no_link_has_status_1(rt: HostRuntime) {
-    assert_eq!(rt; Fault::from(Refusal::NoLink).status(), 1);
-    assert_eq!(rt; Fault::Warning.status(), 1);
+    let statuses = (
+        Fault::from(Refusal::NoLink).status(),
+        Fault::Warning.status(),
+    );
+    assert_eq!(rt; statuses, (1, 1));
 }

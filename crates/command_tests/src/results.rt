@@ -1,12 +1,10 @@
 //! What commands print for files, their exit statuses, and which error is reported first.
 
 use crate::known_system::Outside;
-use crate::{bytes, gives, outside};
+use crate::{bytes, gives, outside, run};
 use commands::command;
 use files_in_memory::Content;
 use std::alloc::{AllocError, Global};
-use std::process::Abort;
-use std::test::Fail;
 use streams_in_memory::Peers;
 
 /// Rules whose list is declared.
@@ -117,7 +115,7 @@ const RESULTS: [(&[&str], u8, &str, &str); 17] = [
 ];
 
 #[test]
-fn statuses_and_lines(rt: HostRuntime) -> Result<(), Fail> {
+fn statuses_and_lines(rt: HostRuntime) -> Result<(), AllocError> {
     let mut outside = outside(rt.alloc(), &FILES)?;
     for (arguments, status, printed, error) in RESULTS {
         gives(&rt, &mut outside, arguments, status, printed, error)?;
@@ -139,26 +137,42 @@ fn twenty_texts(alloc: Global) -> Result<Vec<u8>, AllocError> {
     Ok(code)
 }
 
+fn put_twenty_texts(outside: &mut Outside) -> Result<(), AllocError> {
+    let code = twenty_texts(outside.alloc)?;
+    outside.files.put("twenty.olk", Content::File(code))
+}
+
+/// A query with 20,000 letters.
+fn long_query(alloc: Global) -> Result<String, AllocError> {
+    let letters = "a".repeat(alloc, 20_000)?;
+    format!(in alloc; "x={letters}")
+}
+
 /// Each of the 20,000 letters might be percent-encoded as three bytes.
 #[test]
-fn over_budget(rt: HostRuntime) -> Result<(), Fail> {
+fn over_budget(rt: HostRuntime) -> Result<(), AllocError> {
     let mut outside = outside(rt.alloc(), &FILES)?;
-    let code = twenty_texts(rt.alloc())?;
-    outside.files.put("twenty.olk", Content::File(code))?;
-    let letters = "a".repeat(rt.alloc(), 20_000)?;
-    let query = format!(in rt.alloc(); "x={letters}")?;
+    put_twenty_texts(&mut outside)?;
+    let query = long_query(rt.alloc())?;
     let run = ["run", "twenty.olk", query.as_str()];
     gives(&rt, &mut outside, &run, 3, "", "over budget: 1200000")
 }
 
+/// Whether the file is the loop over the members of `list`, in version 2.
+fn is_upgraded(file: Option<&[u8]>) -> bool {
+    match file {
+        Some(file) => file.starts_with(b"OLK2") && file[4..] == LIST[4..],
+        None => false,
+    }
+}
+
 #[test]
-fn an_upgraded_file_has_version_2(rt: HostRuntime) -> Result<(), Fail> {
+fn an_upgraded_file_has_version_2(rt: HostRuntime) -> Result<(), AllocError> {
     let mut outside = outside(rt.alloc(), &FILES)?;
     let upgrade = ["upgrade", "list.olk", "new"];
     gives(&rt, &mut outside, &upgrade, 0, "68 bytes\n", "")?;
-    let new = bytes(&outside, "new");
-    assert!(rt; new.is_some_and(|new| new.starts_with(b"OLK2") && new[4..] == LIST[4..]));
-    assert_eq!(rt; bytes(&outside, "list.olk"), Some(LIST));
+    assert!(rt; is_upgraded(bytes(&outside, "new")));
+    assert!(rt; bytes(&outside, "list.olk") == Some(LIST));
     Ok(())
 }
 
@@ -193,7 +207,7 @@ fn put_long(outside: &mut Outside, count: usize) -> Result<(), AllocError> {
 }
 
 #[test]
-fn files_up_to_their_limits(rt: HostRuntime) -> Result<(), Fail> {
+fn files_up_to_their_limits(rt: HostRuntime) -> Result<(), AllocError> {
     let mut outside = outside(rt.alloc(), &FILES)?;
     put_long(&mut outside, 65_536)?;
     for (arguments, error, _) in LONG {
@@ -206,37 +220,38 @@ fn files_up_to_their_limits(rt: HostRuntime) -> Result<(), Fail> {
     Ok(())
 }
 
-/// The command with an output that takes only three bytes: its status, and its error.
-fn narrow<R: Abort + AllocGlobal>(
-    rt: &R,
-    outside: &mut Outside,
-    arguments: &[&str],
-) -> Result<(), Fail> {
+/// Whether the command, with an output that takes only three bytes, ends with the status and the error of a device.
+fn is_narrow(outside: &mut Outside, arguments: &[&str]) -> bool {
     let mut room = [0; 3];
     let mut output = &mut room[..];
-    let mut errors = Vec::new(rt.alloc());
+    let mut errors = Vec::new(outside.alloc);
     let status = command(outside, arguments, &mut output, &mut errors);
-    assert_eq!(rt; status, 4, "{arguments:?}");
-    assert_eq!(rt; errors.as_slice(), b"openlink: device: -\n".as_slice());
+    (status, errors.as_slice()) == (4, b"openlink: device: -\n".as_slice())
+}
+
+#[test]
+fn an_output_that_fails_is_a_device(rt: HostRuntime) -> Result<(), AllocError> {
+    let mut outside = outside(rt.alloc(), &FILES)?;
+    outside.ports.peers = Some(Peers::new(rt.alloc()));
+    assert!(rt; is_narrow(&mut outside, &["run", "list.olk", "list=red"]));
+    assert!(rt; is_narrow(&mut outside, &["serve", "empty", "80", "1"]));
     Ok(())
 }
 
-#[test]
-fn an_output_that_fails_is_a_device(rt: HostRuntime) -> Result<(), Fail> {
-    let mut outside = outside(rt.alloc(), &FILES)?;
-    outside.ports.peers = Some(Peers::new(rt.alloc()));
-    narrow(&rt, &mut outside, &["run", "list.olk", "list=red"])?;
-    narrow(&rt, &mut outside, &["serve", "empty", "80", "1"])
+/// Whether this one argument prints the help, and no error.
+fn prints_help(outside: &mut Outside, argument: &str) -> Result<bool, AllocError> {
+    let given = run(outside, &[argument])?;
+    let begins = given
+        .output
+        .starts_with(b"openlink resolves OpenURL 1.0 requests");
+    Ok((given.status, begins, given.errors.is_empty()) == (0, true, true))
 }
 
 #[test]
-fn three_arguments_print_the_help(rt: HostRuntime) -> Result<(), Fail> {
+fn three_arguments_print_the_help(rt: HostRuntime) -> Result<(), AllocError> {
     let mut outside = outside(rt.alloc(), &FILES)?;
-    for word in ["--help", "-h", "help"] {
-        let (mut output, mut errors) = (Vec::new(rt.alloc()), Vec::new(rt.alloc()));
-        assert_eq!(rt; command(&mut outside, &[word], &mut output, &mut errors), 0);
-        assert!(rt; output.starts_with(b"openlink resolves OpenURL 1.0 requests"));
-        assert!(rt; errors.is_empty());
+    for argument in ["--help", "-h", "help"] {
+        assert!(rt; prints_help(&mut outside, argument)?, "{argument}");
     }
     Ok(())
 }

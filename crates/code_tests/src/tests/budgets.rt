@@ -1,10 +1,11 @@
 //! Budgets of any code, accepted or not, and the numbers that they give.
 
-use super::file;
 use super::tables::{LIST_CODE, RULE};
+use super::{file, same_of};
 use budget::{Budget, budget_of};
 use code_file::Code;
 use std::alloc::{AllocError, Global};
+use std::process::Abort;
 use std::test::Fail;
 
 /// Steps and bytes of output, for a number of members of all lists and a number of bytes of all texts and members.
@@ -19,9 +20,11 @@ fn bounds_of(alloc: Global, text: &str, members: u16, bytes: u16) -> Result<Stri
     Ok(bounds(alloc, budget_of(&code), members, bytes)?)
 }
 
-/// Instructions, how many members and bytes an environment has, and the bounds. The longest text that is compared has
-/// 10 bytes, so up to 30 bytes may be written for it.
-const BOUNDS: [(&str, u16, u16, &str); 7] = [
+/// Instructions, how many members and bytes an environment has, and the bounds.
+type Case = (&'static str, u16, u16, &'static str);
+
+/// The longest text that is compared has 10 bytes, so up to 30 bytes may be written for it.
+const BOUNDS: [Case; 7] = [
     (LIST_CODE, 3, 12, "12 steps, 39 bytes"),
     (LIST_CODE, 20, 20_000, "63 steps, 60020 bytes"),
     (RULE, 0, 9, "10 steps, 71 bytes"),
@@ -37,11 +40,17 @@ const UNTYPED: &str = "TEXT r2 n1, UNDEF r2 3, PUT r2 u, HALT";
 
 const COUNTED: &str = "LIST r0 n1, EACH r1 r0 5, PUT r1 u, COUNT r1 r0, NEXT, HALT";
 
+fn has_bounds<R: Abort + AllocGlobal>(rt: &R, case: &Case) -> Result<(), Fail> {
+    let (text, members, bytes, expected) = *case;
+    let result = bounds_of(rt.alloc(), text, members, bytes)?;
+    same_of(rt, text, result.as_str(), expected);
+    Ok(())
+}
+
 #[test]
 fn bounds_steps_and_bytes(rt: HostRuntime) -> Result<(), Fail> {
-    for (text, members, bytes, expected) in BOUNDS {
-        let result = bounds_of(rt.alloc(), text, members, bytes)?;
-        assert_eq!(rt; result.as_str(), expected, "{text}");
+    for case in &BOUNDS {
+        has_bounds(&rt, case)?;
     }
     Ok(())
 }

@@ -3,7 +3,7 @@
 use super::tables::{
     BRANCHES, EFFECTS, FIRST, LIST_CODE, LIST_FILE, OPTIONAL, RULE, SECOND, STUCK, TEXTS, VARIABLES,
 };
-use super::{Entry, checked, environment, file, outcome_text};
+use super::{Entry, checked, environment, file, outcome_text, same, same_of};
 use interpreter::{Run, prepare};
 use std::alloc::{AllocError, Global};
 use std::process::Abort;
@@ -28,22 +28,42 @@ fn ended(alloc: Global, code: &Verified, env: &Env, n: u64) -> Result<(String, u
     Ok((outcome_text(alloc, run.finish())?, steps))
 }
 
+/// The number of steps of a run. All runs of the code have this number and this outcome, however long their turns are.
+fn steps<R: Abort + AllocGlobal>(
+    rt: &R,
+    code: &Verified,
+    env: &Env,
+    expected: &str,
+) -> Result<u64, Fail> {
+    let most = ended(rt.alloc(), code, env, u64::MAX)?.1;
+    for n in [u64::MAX, 1, 3, 64] {
+        let (result, steps) = ended(rt.alloc(), code, env, n)?;
+        same(rt, result.as_str(), expected);
+        assert!(rt; steps == most);
+    }
+    Ok(most)
+}
+
+/// The same for the code of a file; 0 if it is not accepted.
+fn steps_of_file<R: Abort + AllocGlobal>(
+    rt: &R,
+    file: &[u8],
+    env: &Env,
+    expected: &str,
+) -> Result<u64, Fail> {
+    match load(rt.alloc(), file) {
+        Ok(code) => steps(rt, &code, env, expected),
+        Err(LoadError::NoMemory) => Err(LoadError::NoMemory.into()),
+        Err(_) => Ok(0),
+    }
+}
+
 /// The outcome of the checked machine for the code of a file. If the code is accepted, its runs have the same outcome
 /// and the same number of steps, however long their turns are. The second value is this number, and 0 for other code.
 fn result<R: Abort + AllocGlobal>(rt: &R, file: &[u8], env: &Env) -> Result<(String, u64), Fail> {
-    let expected = checked(rt.alloc(), file, env)?;
-    let code = match load(rt.alloc(), file) {
-        Ok(code) => code,
-        Err(LoadError::NoMemory) => return Err(LoadError::NoMemory.into()),
-        Err(_) => return Ok((expected, 0)),
-    };
-    let (_, most) = ended(rt.alloc(), &code, env, u64::MAX)?;
-    for n in [u64::MAX, 1, 3, 64] {
-        let (result, steps) = ended(rt.alloc(), &code, env, n)?;
-        assert_eq!(rt; result.as_str(), expected.as_str());
-        assert_eq!(rt; steps, most);
-    }
-    Ok((expected, most))
+    let outcome = checked(rt.alloc(), file, env)?;
+    let steps = steps_of_file(rt, file, env, outcome.as_str())?;
+    Ok((outcome, steps))
 }
 
 /// Versions, and codes with their outcomes.
@@ -55,30 +75,40 @@ const CASES: [(&[u8], &[(&str, &str)]); 5] = [
     (b"1", FIRST),
 ];
 
-/// The code has this outcome in the first environment; in both, it runs as the checked machine does.
+/// The code has this outcome in this environment; there and without variables, it runs as the checked machine does.
 fn has_outcome<R: Abort + AllocGlobal>(
     rt: &R,
     version: u8,
     case: (&str, &str),
-    envs: (&Env, &Env),
+    env: &Env,
 ) -> Result<(), Fail> {
     let (text, expected) = case;
     let file = file(rt.alloc(), version, text)?;
-    let (outcome, _) = result(rt, &file, envs.0)?;
-    assert_eq!(rt; outcome.as_str(), expected, "{text}");
-    result(rt, &file, envs.1)?;
+    let outcome = result(rt, &file, env)?.0;
+    same_of(rt, text, outcome.as_str(), expected);
+    result(rt, &file, &Env::new(rt.alloc()))?;
+    Ok(())
+}
+
+/// The codes of a version have their outcomes.
+fn have_outcomes<R: Abort + AllocGlobal>(
+    rt: &R,
+    version: u8,
+    cases: &[(&str, &str)],
+    env: &Env,
+) -> Result<(), Fail> {
+    for &case in cases {
+        has_outcome(rt, version, case, env)?;
+    }
     Ok(())
 }
 
 #[test]
 fn each_instruction_does_what_it_says(rt: HostRuntime) -> Result<(), Fail> {
-    let none = environment(rt.alloc(), &[])?;
-    let full = environment(rt.alloc(), VARIABLES)?;
+    let env = environment(rt.alloc(), VARIABLES)?;
     for (versions, cases) in CASES {
         for &version in versions {
-            for &case in cases {
-                has_outcome(&rt, version, case, (&full, &none))?;
-            }
+            have_outcomes(&rt, version, cases, &env)?;
         }
     }
     Ok(())
@@ -86,7 +116,9 @@ fn each_instruction_does_what_it_says(rt: HostRuntime) -> Result<(), Fail> {
 
 /// The version of a code, its instructions, an environment, the outcome, and after how many steps; 0 for code that is
 /// not accepted.
-const OTHERS: [(u8, &str, &[Entry], &str, u64); 13] = [
+type Other = (u8, &'static str, &'static [Entry], &'static str, u64);
+
+const OTHERS: [Other; 13] = [
     (b'1', LIST_CODE, VARIABLES, "link red,green,blue", 12),
     (b'2', LIST_CODE, VARIABLES, "link red,green,blue", 12),
     (b'1', LIST_CODE, &[], "link ", 3),
@@ -116,14 +148,20 @@ const COUNTED: &str =
 /// Counts of one list, compared.
 const COUNTS: &str = "LIST r0 n1, COUNT r1 r0, COUNT r63 r0, LESS r1 r63 5, HALT, FAIL";
 
+fn has_result<R: Abort + AllocGlobal>(rt: &R, other: &Other) -> Result<(), Fail> {
+    let (version, text, entries, expected, steps) = *other;
+    let file = file(rt.alloc(), version, text)?;
+    let env = environment(rt.alloc(), entries)?;
+    let (result, taken) = result(rt, &file, &env)?;
+    same_of(rt, text, result.as_str(), expected);
+    assert!(rt; taken == steps, "{text}");
+    Ok(())
+}
+
 #[test]
 fn other_environments(rt: HostRuntime) -> Result<(), Fail> {
-    for (version, text, entries, expected, steps) in OTHERS {
-        let file = file(rt.alloc(), version, text)?;
-        let env = environment(rt.alloc(), entries)?;
-        let (result, taken) = result(&rt, &file, &env)?;
-        assert_eq!(rt; result.as_str(), expected, "{text}");
-        assert_eq!(rt; taken, steps, "{text}");
+    for other in &OTHERS {
+        has_result(&rt, other)?;
     }
     Ok(())
 }
@@ -137,30 +175,46 @@ fn changed(alloc: Global, file: &[u8], place: usize, byte: u8) -> Result<Vec<u8>
     Ok(file)
 }
 
-#[test]
-fn each_file_with_one_byte_changed(rt: HostRuntime) -> Result<(), Fail> {
-    let none = environment(rt.alloc(), &[])?;
-    let full = environment(rt.alloc(), VARIABLES)?;
-    for place in 0..68 {
-        for byte in 0..=255 {
-            let file = changed(rt.alloc(), LIST_FILE, place, byte)?;
-            agrees(&rt, &file, &none)?;
-            agrees(&rt, &file, &full)?;
-        }
-    }
-    Ok(())
-}
-
-/// The file is rejected, or its code runs as the checked machine does.
+/// The file is rejected, or its code runs as the checked machine does, in this environment and without variables.
 fn agrees<R: Abort + AllocGlobal>(rt: &R, file: &[u8], env: &Env) -> Result<(), Fail> {
     match load(rt.alloc(), file) {
-        Ok(_) => {
-            result(rt, file, env)?;
-            Ok(())
+        Ok(code) => {
+            runs_agree(rt, file, &code, env)?;
+            runs_agree(rt, file, &code, &Env::new(rt.alloc()))
         }
         Err(LoadError::NoMemory) => Err(LoadError::NoMemory.into()),
         Err(_) => Ok(()),
     }
+}
+
+/// The runs of the file's code have the outcome of the checked machine.
+fn runs_agree<R: Abort + AllocGlobal>(
+    rt: &R,
+    file: &[u8],
+    code: &Verified,
+    env: &Env,
+) -> Result<(), Fail> {
+    let outcome = checked(rt.alloc(), file, env)?;
+    steps(rt, code, env, outcome.as_str())?;
+    Ok(())
+}
+
+/// So does the file with each byte at the place.
+fn each_byte_agrees<R: Abort + AllocGlobal>(rt: &R, place: usize, env: &Env) -> Result<(), Fail> {
+    for byte in 0..=255 {
+        let file = changed(rt.alloc(), LIST_FILE, place, byte)?;
+        agrees(rt, &file, env)?;
+    }
+    Ok(())
+}
+
+#[test]
+fn each_file_with_one_byte_changed(rt: HostRuntime) -> Result<(), Fail> {
+    let env = environment(rt.alloc(), VARIABLES)?;
+    for place in 0..68 {
+        each_byte_agrees(&rt, place, &env)?;
+    }
+    Ok(())
 }
 
 /// Instructions, an environment, the length of the link of the checked machine, and what the link begins with: for more
@@ -170,15 +224,25 @@ const LONG: [(&str, Entry, usize, &str); 2] = [
     (OPTIONAL, (false, "x", " ", 40_000), 120_000, "%20%20"),
 ];
 
+/// Whether the outcome is a link that has this length and begins so.
+fn is_link(outcome: &str, length: usize, start: &str) -> bool {
+    match outcome.strip_prefix("link ") {
+        Some(link) => (link.len() == length) & link.starts_with(start),
+        None => false,
+    }
+}
+
+fn result_of_one(alloc: Global, text: &str, entry: Entry) -> Result<String, Fail> {
+    let file = file(alloc, b'1', text)?;
+    let env = environment(alloc, &[entry])?;
+    checked(alloc, &file, &env)
+}
+
 #[test]
 fn long_links(rt: HostRuntime) -> Result<(), Fail> {
     for (text, entry, length, start) in LONG {
-        let file = file(rt.alloc(), b'1', text)?;
-        let env = environment(rt.alloc(), &[entry])?;
-        let result = checked(rt.alloc(), &file, &env)?;
-        let link = result.strip_prefix("link ").unwrap_or("");
-        assert_eq!(rt; link.len(), length);
-        assert!(rt; link.starts_with(start));
+        let result = result_of_one(rt.alloc(), text, entry)?;
+        assert!(rt; is_link(result.as_str(), length, start), "{start}");
     }
     Ok(())
 }

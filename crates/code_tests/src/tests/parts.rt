@@ -22,7 +22,7 @@ fn reads_an_instruction_whatever_its_unused_fields(rt: HostRuntime) {
     assert!(rt; instruction(2, instr(20, 0, 0, 0, 0)).is_none());
 }
 
-/// The error of one name, one link text, and a number of equal instructions, if there is one.
+/// The fault of one name, one link text, and a number of equal instructions, if there is one.
 fn fault(
     alloc: Global,
     letters: usize,
@@ -39,7 +39,16 @@ fn fault(
     Ok(Code::from_parts(names, literals, instrs).err())
 }
 
-/// How many letters a name has, a link text, how many instructions there are, and the error. What the instructions do
+/// Whether these parts have this fault.
+fn has_fault(
+    alloc: Global,
+    parts: (usize, &str, usize),
+    expected: Option<CodeErrorKind>,
+) -> Result<bool, AllocError> {
+    Ok(fault(alloc, parts.0, parts.1, parts.2)? == expected)
+}
+
+/// How many letters a name has, a link text, how many instructions there are, and the fault. What the instructions do
 /// is not examined.
 const FAULTS: [(usize, &str, usize, Option<CodeErrorKind>); 7] = [
     (1, ",", 1, None),
@@ -52,30 +61,47 @@ const FAULTS: [(usize, &str, usize, Option<CodeErrorKind>); 7] = [
 ];
 
 #[test]
-fn refuses_parts_that_spell_no_file(rt: HostRuntime) -> Result<(), Fail> {
+fn refuses_parts_that_spell_no_file(rt: HostRuntime) -> Result<(), AllocError> {
     for (letters, link, instrs, expected) in FAULTS {
-        let fault = fault(rt.alloc(), letters, link, instrs)?;
-        assert!(rt; fault == expected, "{letters}, {link}, {instrs}");
+        let is_so = has_fault(rt.alloc(), (letters, link, instrs), expected)?;
+        assert!(rt; is_so, "{letters}, {link}, {instrs}");
     }
     Ok(())
 }
 
-#[test]
-fn lists_are_in_table_order_and_as_often_as_there(rt: HostRuntime) -> Result<(), Fail> {
-    let mut names = Vec::new(rt.alloc());
-    for (list, text) in [
-        (true, "b"),
-        (false, "x"),
-        (true, "a"),
-        (true, "b"),
-        (false, "a"),
-    ] {
-        let text = text.repeat(rt.alloc(), 1)?;
+/// Names, and whether they are lists.
+const NAMES: [(bool, &str); 5] = [
+    (true, "b"),
+    (false, "x"),
+    (true, "a"),
+    (true, "b"),
+    (false, "a"),
+];
+
+fn push_names(alloc: Global, names: &mut Vec<Name>) -> Result<(), AllocError> {
+    for (list, text) in NAMES {
+        let text = String::from_str(alloc, text)?;
         names.push(Name { list, text })?;
     }
-    let halt = vec![in rt.alloc(); instr(1, 0, 0, 0, 0)]?;
-    let code = Code::from_parts(names, Vec::new(rt.alloc()), halt)?;
-    let lists = code.lists(rt.alloc())?;
-    assert_eq!(rt; lists.as_slice(), ["b", "a", "b"].as_slice());
+    Ok(())
+}
+
+/// Code with these names, which halts.
+fn code_with_names(alloc: Global) -> Result<Code, Fail> {
+    let mut names = Vec::new(alloc);
+    push_names(alloc, &mut names)?;
+    let halt = vec![in alloc; instr(1, 0, 0, 0, 0)]?;
+    Ok(Code::from_parts(names, Vec::new(alloc), halt)?)
+}
+
+fn has_lists(alloc: Global, code: &Code, expected: &[&str]) -> Result<bool, AllocError> {
+    let lists = code.lists(alloc)?;
+    Ok(lists.as_slice() == expected)
+}
+
+#[test]
+fn lists_are_in_table_order_and_as_often_as_there(rt: HostRuntime) -> Result<(), Fail> {
+    let code = code_with_names(rt.alloc())?;
+    assert!(rt; has_lists(rt.alloc(), &code, &["b", "a", "b"])?);
     Ok(())
 }

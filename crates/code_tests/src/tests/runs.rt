@@ -1,9 +1,10 @@
 //! The state of a run of accepted code after its turns.
 
 use super::tables::{LIST_CODE, OPTIONAL, TEXTS};
-use super::{Entry, environment, file, outcome_text};
-use interpreter::{Run, Step, prepare, step};
+use super::{Entry, environment, file, outcome_text, same};
+use interpreter::{Outcome, Run, Step, prepare, step};
 use std::alloc::{AllocError, Global};
+use std::process::Abort;
 use std::test::Fail;
 use target_vars::Env;
 use verifier::{Verified, load};
@@ -38,11 +39,22 @@ fn standing_text(alloc: Global, run: &Run<'_>, ended: bool) -> Result<String, Al
 fn standings(alloc: Global, code: &Verified, env: &Env, turns: &[u64]) -> Result<String, Fail> {
     let mut run = prepare(alloc, code, env)?;
     let mut text = String::new(alloc);
+    push_standings(alloc, &mut text, &mut run, turns)?;
+    Ok(text)
+}
+
+fn push_standings(
+    alloc: Global,
+    text: &mut String,
+    run: &mut Run<'_>,
+    turns: &[u64],
+) -> Result<(), AllocError> {
     for &n in turns {
         let ended = run.advance(n);
-        text.push_str(&standing_text(alloc, &run, ended)?)?;
+        let standing = standing_text(alloc, run, ended)?;
+        text.push_str(&standing)?;
     }
-    Ok(text)
+    Ok(())
 }
 
 const COLOURS: &[Entry] = &[
@@ -52,7 +64,9 @@ const COLOURS: &[Entry] = &[
 ];
 
 /// Instructions, an environment, how many steps each turn has, and where the run is after it.
-const TURNS: [(&str, &[Entry], &[u64], &str); 4] = [
+type Case = (&'static str, &'static [Entry], &'static [u64], &'static str);
+
+const TURNS: [Case; 4] = [
     (
         LIST_CODE,
         COLOURS,
@@ -70,12 +84,18 @@ const TURNS: [(&str, &[Entry], &[u64], &str); 4] = [
     ),
 ];
 
+fn takes<R: Abort + AllocGlobal>(rt: &R, case: &Case) -> Result<(), Fail> {
+    let (text, entries, turns, expected) = *case;
+    let (code, env) = code_and_env(rt.alloc(), text, entries)?;
+    let result = standings(rt.alloc(), &code, &env, turns)?;
+    same(rt, result.as_str(), expected);
+    Ok(())
+}
+
 #[test]
 fn takes_turns(rt: HostRuntime) -> Result<(), Fail> {
-    for (text, entries, turns, expected) in TURNS {
-        let (code, env) = code_and_env(rt.alloc(), text, entries)?;
-        let result = standings(rt.alloc(), &code, &env, turns)?;
-        assert_eq!(rt; result.as_str(), expected);
+    for case in &TURNS {
+        takes(&rt, case)?;
     }
     Ok(())
 }
@@ -104,19 +124,34 @@ fn stepped(
     Ok((answer, Some(words.place)))
 }
 
+/// Numbers of steps, what one more step returns, and the place after it.
+const STEPS: [(u64, Step, usize); 2] = [(5, Step::More, 3), (11, Step::Link, 5)];
+
+/// Whether the list's code takes the steps so.
+fn steps_so(alloc: Global, case: (u64, Step, usize)) -> Result<bool, Fail> {
+    let (n, expected, place) = case;
+    let (code, env) = code_and_env(alloc, LIST_CODE, COLOURS)?;
+    Ok(stepped(alloc, &code, &env, n)? == (expected, Some(place)))
+}
+
 #[test]
 fn steps_on_its_words(rt: HostRuntime) -> Result<(), Fail> {
-    let (code, env) = code_and_env(rt.alloc(), LIST_CODE, COLOURS)?;
-    for (n, expected) in [(5, (Step::More, Some(3))), (11, (Step::Link, Some(5)))] {
-        assert_eq!(rt; stepped(rt.alloc(), &code, &env, n)?, expected);
+    for case in STEPS {
+        assert!(rt; steps_so(rt.alloc(), case)?);
     }
     Ok(())
 }
 
-/// Whether the run has ended after a turn of `n` steps, and its steps.
-fn turn(alloc: Global, run: &mut Run<'_>, n: u64) -> Result<String, AllocError> {
+/// Appends whether the run has ended after a turn of `n` steps, and its steps.
+fn push_turn(
+    alloc: Global,
+    text: &mut String,
+    run: &mut Run<'_>,
+    n: u64,
+) -> Result<(), AllocError> {
     let ended = run.advance(n);
-    format!(in alloc; "{ended} {}, ", run.steps())
+    let turn = format!(in alloc; "{ended} {}, ", run.steps())?;
+    text.push_str(&turn)
 }
 
 /// Two runs side by side: after each turn of one of them, whether that has ended, and its steps.
@@ -125,10 +160,11 @@ fn turns_of_both(
     first: &mut Run<'_>,
     second: &mut Run<'_>,
 ) -> Result<String, AllocError> {
-    let mut text = turn(alloc, first, 1)?;
-    text.push_str(&turn(alloc, second, 5)?)?;
-    text.push_str(&turn(alloc, first, 100)?)?;
-    text.push_str(&turn(alloc, second, 100)?)?;
+    let mut text = String::new(alloc);
+    push_turn(alloc, &mut text, first, 1)?;
+    push_turn(alloc, &mut text, second, 5)?;
+    push_turn(alloc, &mut text, first, 100)?;
+    push_turn(alloc, &mut text, second, 100)?;
     Ok(text)
 }
 
@@ -136,10 +172,21 @@ fn turns_of_both(
 fn both(alloc: Global, codes: (&Verified, &Verified), envs: (&Env, &Env)) -> Result<String, Fail> {
     let mut first = prepare(alloc, codes.0, envs.0)?;
     let mut second = prepare(alloc, codes.1, envs.1)?;
-    let turns = turns_of_both(alloc, &mut first, &mut second)?;
-    let first = outcome_text(alloc, first.finish())?;
-    let second = outcome_text(alloc, second.finish())?;
-    Ok(format!(in alloc; "{turns}{first}, {second}")?)
+    let mut text = turns_of_both(alloc, &mut first, &mut second)?;
+    push_outcome(alloc, &mut text, first.finish(), ", ")?;
+    push_outcome(alloc, &mut text, second.finish(), "")?;
+    Ok(text)
+}
+
+fn push_outcome(
+    alloc: Global,
+    text: &mut String,
+    outcome: Outcome,
+    after: &str,
+) -> Result<(), AllocError> {
+    let outcome = outcome_text(alloc, outcome)?;
+    text.push_str(&outcome)?;
+    text.push_str(after)
 }
 
 #[test]
@@ -147,9 +194,10 @@ fn takes_turns_side_by_side(rt: HostRuntime) -> Result<(), Fail> {
     let (list, colours) = code_and_env(rt.alloc(), LIST_CODE, COLOURS)?;
     let (optional, letter) = code_and_env(rt.alloc(), OPTIONAL, &[(false, "x", "a", 1)])?;
     let result = both(rt.alloc(), (&list, &optional), (&colours, &letter))?;
-    assert_eq!(rt;
+    same(
+        &rt,
         result.as_str(),
-        "false 1, true 4, true 12, true 4, link red,green,blue, link a"
+        "false 1, true 4, true 12, true 4, link red,green,blue, link a",
     );
     Ok(())
 }
