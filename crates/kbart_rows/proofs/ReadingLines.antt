@@ -6,7 +6,7 @@ use Rattle.csv.specs.declared.reader.Reader.{Reader}
 use Rattle.csv.specs.declared.reader.Trim.TheVariants as trim
 use Rattle.csv.proofs.ReadFacts.{rows-end, rows-more}
 use Rattle.text_model.specs.Texts.{Text}
-use Rattle.kbart_rows.specs.Cells.{Row, tab}
+use Rattle.kbart_rows.specs.Cells.{Row}
 use Rattle.kbart_rows.specs.Private.Kept.{IsRefusedLine, rest_of}
 use Rattle.kbart_rows.specs.Reading.{tab_separated, AreLines, AreFirstLines, AllFit, IsFreshReader, IsLineFault}
 use Rattle.kbart_rows.specs.declared.error.TableError.{TableError}
@@ -22,7 +22,7 @@ pub record IsReading (bytes : Text) (lines : List Row) (reader : Reader (Bor (Li
   pub source : source_of rest_of reader ≡ Some rest
   pub reached : Reached tab_separated state.StartRecord (strip_bom bytes) lines reader.state rest
 
-pub reading_starts : (bytes : Text) (reader : Reader (Bor (List ℕ))) → IsFreshReader tab bytes reader → IsReading bytes [] reader
+pub reading_starts : (bytes : Text) (reader : Reader (Bor (List ℕ))) → IsFreshReader bytes reader → IsReading bytes [] reader
 unfolding Reached
 reading_starts bytes reader fresh = record {
   trim = fresh.trim;

@@ -16,8 +16,9 @@ use Rattle.csv.proofs.ReadFacts.{reached-more, rows-end, rows-more}
 use Rattle.text_model.specs.Texts.{Text}
 use Rattle.kbart_rows.specs.Cells.{Row}
 use Rattle.kbart_rows.specs.Private.Kept.{rest_of}
-use Rattle.kbart_rows.specs.Private.Line.{cells_of, no_byte}
-use Rattle.kbart_rows.specs.Reading.{tab_separated, AreLines, AreFirstLines, IsFreshReader}
+use Rattle.kbart_rows.specs.Private.Line.{cells_of}
+use Rattle.kbart_rows.specs.Private.WholeLines.{no_byte, IsReaderBy}
+use Rattle.kbart_rows.specs.Reading.{tab_separated, AreLines, AreFirstLines}
 use Rattle.kbart_rows.proofs.WholeLines.{AreAlike, IsBetween, IsUnseparated, lines_alike, whole_lines}
 
 -- ---- no byte of UTF-8 text separates fields of whole lines
@@ -86,7 +87,7 @@ pub record IsReadingWhole (bytes : Text) (lines : List Row) (reader : Reader (Bo
   pub source : source_of rest_of reader ≡ Some rest
   pub reached : Reached tab_separated state.StartRecord (strip_bom bytes) lines reader.state rest
 
-pub whole_starts : (bytes : Text) (reader : Reader (Bor (List ℕ))) → IsUtf8 bytes → IsFreshReader no_byte bytes reader → IsReadingWhole bytes [] reader
+pub whole_starts : (bytes : Text) (reader : Reader (Bor (List ℕ))) → IsUtf8 bytes → IsReaderBy no_byte bytes reader → IsReadingWhole bytes [] reader
 unfolding Reached
 whole_starts bytes reader utf8 fresh = record {
   trim = fresh.trim;

@@ -15,8 +15,9 @@ use Rattle.csv.specs.declared.parser.Config.{Config}
 use Rattle.text_model.specs.Texts.{Text}
 use Rattle.kbart_rows.specs.Cells.{Row, tab}
 use Rattle.kbart_rows.specs.Lines.{cells_in}
-use Rattle.kbart_rows.specs.Private.Line.{HasNoTab, cell_and_tab, cells_of, line_of, no_byte}
-use Rattle.kbart_rows.specs.Reading.{separated_by, tab_separated}
+use Rattle.kbart_rows.specs.Private.Line.{HasNoTab, cell_and_tab, cells_of, line_of}
+use Rattle.kbart_rows.specs.Private.WholeLines.{no_byte, separated_by}
+use Rattle.kbart_rows.specs.Reading.{tab_separated}
 use Rattle.kbart_rows.proofs.LineCells.{cells_of_line}
 
 abbrev pub whole_lines : Config

@@ -1,6 +1,7 @@
 -- Definitions that no contract of a public function cites.
 pub mod Kept
 pub mod Line
+pub mod WholeLines
 pub mod Hashed
 pub mod Index
 pub mod Runs

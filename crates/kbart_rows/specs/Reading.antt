@@ -14,12 +14,9 @@ use Rattle.kbart_rows.specs.declared.error.TableError.{TableError}
 use Rattle.kbart_rows.specs.declared.error.TableError.TheVariants.{TooLong, NotUtf8, NoHeader, TooManyRows, RowTooLong, NoMemory}
 use Rattle.kbart_rows.specs.declared.read.TheConstants.{MAX_TABLE_BYTES, MAX_ROWS, MAX_ROW_BYTES}
 
--- this byte separates cells, and lines end with LF, CR LF or CR; there are no quotes, escapes or comments
-abbrev pub separated_by : ℕ → Config
-separated_by byte = record { delimiter = byte; quote = 34; escape = None; double_quote = true; quoting = false; comment = None; terminator = terminator.CRLF }
-
+-- tabs separate cells, and lines end with LF, CR LF or CR; there are no quotes, escapes or comments
 abbrev pub tab_separated : Config
-tab_separated = separated_by tab
+tab_separated = record { delimiter = tab; quote = 34; escape = None; double_quote = true; quoting = false; comment = None; terminator = terminator.CRLF }
 
 -- these are the lines of the bytes without blank ones, after one byte order mark is dropped
 abbrev pub AreLines : Text → List Row → Type 0
@@ -31,9 +28,9 @@ pub record AreFirstLines (bytes : Text) (lines : List Row) : Type 0 where
   pub rest : Text
   pub reached : Reached tab_separated state.StartRecord (strip_bom bytes) lines after rest
 
--- the reader reads these bytes as cells that this byte separates, and has read none of them yet
-pub record IsFreshReader (byte : ℕ) (bytes : List ℕ) (reader : Reader (Bor (List ℕ))) : Type 0 where
-  pub config : reader.config ≡ separated_by byte
+-- the reader reads these bytes as a tab-separated table, and has read none of them yet
+pub record IsFreshReader (bytes : List ℕ) (reader : Reader (Bor (List ℕ))) : Type 0 where
+  pub config : reader.config ≡ tab_separated
   pub trim : reader.trim ≡ trim.None
   pub flexible : reader.flexible ≡ true
   pub ready : Ready reader

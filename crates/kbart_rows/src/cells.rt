@@ -31,7 +31,7 @@ pub(crate) fn split_cell(line: &str) -> (&str, &str)
 
 /// The cell of a line in a column, counted from 0; the empty text if there is none. It takes no time for columns past
 /// the line's cells.
-pub fn cell_at(line: &str, column: usize) -> &str
+pub(crate) fn cell_at(line: &str, column: usize) -> &str
     ensures { result.now ≡ get_or (cells_in line.now) column [] }
 {
     let mut rest = line;
@@ -45,14 +45,14 @@ pub fn cell_at(line: &str, column: usize) -> &str
 }
 
 /// The text of a cell if it is defined, which means not empty.
-pub fn defined(cell: &str) -> Option<&str>
+pub(crate) fn defined(cell: &str) -> Option<&str>
     ensures { option_copied result ≡ spec.defined cell.now }
 {
     if cell.is_empty() { None } else { Some(cell) }
 }
 
 /// The cell of a line in a column, if there is such a column and the cell is defined.
-pub fn cell_in(line: &str, column: Option<usize>) -> Option<&str>
+pub(crate) fn cell_in(line: &str, column: Option<usize>) -> Option<&str>
     ensures { option_copied result ≡ spec.cell_in (cells_in line.now) column }
 {
     defined(cell_at(line, column?))

@@ -26,11 +26,9 @@ mod runs;
 mod sums;
 mod table;
 
-pub use cells::{cell_at, cell_in, defined};
 pub use column_names::ColumnNames;
 pub use csv::Reader;
 pub use error::TableError;
-pub use identifier::normalised;
 pub use ids::Ids;
 pub use kev_read::Request;
 pub use key_source::{KeySource, NoKeys, SystemKeys};

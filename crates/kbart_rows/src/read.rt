@@ -2,8 +2,9 @@
 
 ghost use Rattle.std.specs.Prelude.{◌≡◌, ◌≤◌, ◌<◌, ◌+◌, ◌++◌, ◌∷◌, [], IfOk, IfErr, IsUtf8, OnOk, length};
 ghost use Rattle.csv.specs.Records.{fields_of};
-ghost use Rattle.kbart_rows.specs.Cells.{row_bytes, tab};
-ghost use Rattle.kbart_rows.specs.Private.Line.{cells_of, no_byte};
+ghost use Rattle.kbart_rows.specs.Cells.{row_bytes};
+ghost use Rattle.kbart_rows.specs.Private.Line.{cells_of};
+ghost use Rattle.kbart_rows.specs.Private.WholeLines.{IsReaderBy, no_byte};
 ghost use Rattle.kbart_rows.specs.Private.Kept.{IsRead, IsRefusedLine};
 ghost use Rattle.kbart_rows.specs.declared.error.TableError.TheVariants.{NoMemory};
 ghost use Rattle.kbart_rows.specs.Reading.{AreLines, AllFit, IsFault, IsFreshReader, IsLineFault, IsText};
@@ -73,7 +74,7 @@ fn read_line(reader: &mut Reader<&[u8]>, line: &mut StringRecord) -> Result<bool
 /// A reader of the same lines as [`tab_separated_reader`]'s, but each is one field, with its tabs: no UTF-8 text has
 /// the byte that would separate fields.
 fn whole_line_reader(alloc: Global, bytes: &[u8]) -> Reader<&[u8]>
-    ensures { IsFreshReader no_byte bytes.now result }
+    ensures { IsReaderBy no_byte bytes.now result }
 {
     reader_by(0xFF, alloc, bytes)
 }
@@ -81,13 +82,13 @@ fn whole_line_reader(alloc: Global, bytes: &[u8]) -> Reader<&[u8]>
 /// A reader of tab-separated records, as in a table: a line ends with LF, CR LF or CR; blank lines are not records;
 /// there are no quotes; and one byte order mark at the beginning is dropped.
 pub fn tab_separated_reader(alloc: Global, bytes: &[u8]) -> Reader<&[u8]>
-    ensures { IsFreshReader tab bytes.now result }
+    ensures { IsFreshReader bytes.now result }
 {
     reader_by(b'\t', alloc, bytes)
 }
 
 fn reader_by(delimiter: u8, alloc: Global, bytes: &[u8]) -> Reader<&[u8]>
-    ensures { IsFreshReader delimiter bytes.now result }
+    ensures { IsReaderBy delimiter bytes.now result }
 {
     ReaderBuilder::new()
         .delimiter(delimiter)

@@ -20,10 +20,6 @@ cells_of line = cells_in (line ++ tab ∷ [])
 abbrev pub IsClosed : Text → Type 0
 IsClosed line = length line ≡ sum_by length (cells_in line) + length (cells_in line)
 
--- no byte of UTF-8 text is this one
-abbrev pub no_byte : ℕ
-no_byte = 255
-
 -- no byte is a tab
 abbrev pub HasNoTab : Text → Type 0
 HasNoTab text = All (λ b. b ≢ tab) text
