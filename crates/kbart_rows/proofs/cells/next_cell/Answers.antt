@@ -34,7 +34,8 @@ returns-clause-cell c =
     let same = c.as_bytes.ensures.value in
     let parts = parted line end (rw same at c.in_ok-end.ensures.within) (rw same at c.in_ok-end.ensures.tab) in
     let lacks = rw same at c.in_ok-end.ensures.lacks in
-    rw (front_is line c.range.result.now end c.range.ensures.value, c.range_from.ensures.value) (ap cells_in parts ∙ first_cell (take end line) (drop (end + 1) line) lacks)
+    rw (front_is line c.range.result.now end c.range.ensures.value, c.range_from.ensures.value)
+    (ap cells_in parts ∙ first_cell (take end line) (drop (end + 1) line) lacks)
 
 pub returns-clause-parts : goal.returns-clause-parts
 returns-clause-parts c =
