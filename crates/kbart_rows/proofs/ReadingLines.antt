@@ -1,5 +1,5 @@
 -- Reading a table line by line.
-use Rattle.std.proofs.Common.{Bor, ◌≡◌, ℕ, List, [], ◌∷◌, ◌++◌, Some, All, true, false, refl, sym, ◌∙◌, inl, arith, ◌+◌, ◌≤◌, ◌<◌, length, get_or, drop}
+use Rattle.std.proofs.Common.{Bor, ◌≡◌, ℕ, List, [], ◌∷◌, ◌++◌, Some, true, false, refl, sym, ◌∙◌, inl, arith, ◌+◌, ◌≤◌, ◌<◌, length, get_or, drop}
 use Rattle.csv.specs.Reading.{Reached, Ready, ReadRecord, source_of, strip_bom}
 use Rattle.csv.specs.declared.parser.State.TheVariants as state
 use Rattle.csv.specs.declared.reader.Reader.{Reader}

@@ -1,7 +1,7 @@
 //! Records of cells, kept as lines.
 
-ghost use Rattle.std.specs.Prelude.{◌≡◌, ◌++◌, ◌∷◌, [], ◌≤◌, ◌<◌, ◌+◌, IfErr, IfOk, OnOk, get_or, length};
-ghost use Rattle.std.specs.Prelude.{string_bytes};
+ghost use Rattle.std.specs.Prelude.{◌≡◌, ◌++◌, ◌∷◌, [], ◌≤◌, ◌<◌, ◌+◌, ◌↔◌, IfErr, IfOk, IsTrue, OnOk, get_or};
+ghost use Rattle.std.specs.Prelude.{length, string_bytes};
 ghost use Rattle.csv.specs.Records.{prev};
 ghost use Rattle.kbart_rows.specs.Cells.{row_bytes, tab};
 ghost use Rattle.kbart_rows.specs.Lines.{cells_in};
@@ -93,6 +93,13 @@ fn start_of(ends: &[usize], at: usize) -> usize
     if at == 0 { 0 } else { ends[at - 1] }
 }
 
+/// Whether a line is longer than a row may be.
+fn is_too_long(line: &str) -> bool
+    ensures { IsTrue result ↔ (MAX_ROW_BYTES < length line.now) }
+{
+    line.len() > MAX_ROW_BYTES
+}
+
 /// Appends a line and the tab of its last cell, and the place where they end.
 fn append(text: &mut String, ends: &mut Vec<usize>, line: &str) -> Result<(), TableError>
     ensures text { OnOk result (string_bytes text.new ≡ string_bytes text.old ++ (line.now ++ tab ∷ [])) }
@@ -100,7 +107,7 @@ fn append(text: &mut String, ends: &mut Vec<usize>, line: &str) -> Result<(), Ta
     ensures fits { OnOk result (length line.now ≤ MAX_ROW_BYTES) }
     ensures refused { IfErr result (IsLineTooLong (cells_of line.now)) }
 {
-    if line.len() > MAX_ROW_BYTES {
+    if is_too_long(line) {
         return Err(TableError::RowTooLong);
     }
     text.push_str(line)?;

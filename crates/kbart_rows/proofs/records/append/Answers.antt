@@ -2,5 +2,7 @@ use Rattle.std.proofs.Common.{arith}
 use Rattle.kbart_rows.proofs.LineCells.{row_bytes_are}
 use Rattle.kbart_rows.proofs.records.append.Goals as goal
 
-pub returns-then-line-gt-MAX_ROW_BYTES-clause-refused : goal.returns-then-line-gt-MAX_ROW_BYTES-clause-refused
-returns-then-line-gt-MAX_ROW_BYTES-clause-refused c = omega (arith, row_bytes_are c.args.line.now, c.if-line-gt-MAX_ROW_BYTES.true)
+pub returns-then-is_too_long-clause-refused : goal.returns-then-is_too_long-clause-refused
+returns-then-is_too_long-clause-refused c =
+    let longer = c.is_too_long.ensures.0 c.if-is_too_long.true in
+    omega (arith, row_bytes_are c.args.line.now, longer)

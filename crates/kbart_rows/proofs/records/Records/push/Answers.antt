@@ -1,4 +1,4 @@
-use Rattle.std.proofs.Common.{◌≤◌, ◌+◌, ◌++◌, ◌∷◌, [], length, length-append, ap, ◌∙◌, arith, string_bytes}
+use Rattle.std.proofs.Common.{◌≤◌, ◌+◌, ◌++◌, ◌∷◌, [], length, length-append, arith, string_bytes}
 use Rattle.std.proofs.lemmas.Str.{IsUtf8-string_bytes}
 use Rattle.kbart_rows.specs.Cells.{tab}
 use Rattle.kbart_rows.specs.declared.read.TheConstants.{MAX_ROW_BYTES}
