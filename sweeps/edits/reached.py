@@ -61,9 +61,9 @@ def named_by(path, name, method, crates):
 
 @functools.lru_cache(maxsize=None)
 def definitions(path):
-    """Returns the definitions of a file by their names; those that stand together have the same text."""
+    """Returns a file's definitions by their names, without comments; those that stand together have the same text."""
     found = {}
-    lines = [line for line in text_of(path).split("\n") if not re.match(r"--|(?:pub )?(?:use|mod) ", line)]
+    lines = [line for line in text_of(path).split("\n") if not re.match(r" *--|(?:pub )?(?:use|mod) ", line)]
     for block in re.split(r"\n\n+", "\n".join(lines)):
         for name in DEFINED.findall(block):
             found[name] = found.get(name, "") + block.strip() + "\n"
