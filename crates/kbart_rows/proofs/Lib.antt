@@ -1,6 +1,6 @@
 pub mod OnLiterals
 mod IdentifierExamples
-pub mod ReadingExamples
+mod ReadingExamples
 mod CellExamples
 pub mod LineCells
 pub mod LineRests

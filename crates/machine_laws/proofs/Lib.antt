@@ -9,9 +9,7 @@ pub mod Potential
 pub mod AtHand
 pub mod Spending
 pub mod Ends
-pub mod UriOutputs
-pub mod OutputWeights
-pub mod OutputBounds
+pub mod Prints
 pub mod Courses
 pub mod Registers
 pub mod PassLemmas

@@ -1,2 +1,1 @@
 mod PrintedExamples
-pub mod Adding

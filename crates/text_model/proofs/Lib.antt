@@ -1,5 +1,3 @@
-pub mod TruthValues
-pub mod Lists
 pub mod UriTexts
 pub mod Written
 pub mod Cuts
