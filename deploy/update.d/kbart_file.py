@@ -1,12 +1,8 @@
 """One KBART file of all targets, with the columns of NISO RP-9-2014 and a last one that names the provider."""
 from embargoes import parts_of, repeats_wall
+from headers import COLUMNS
 from title_rows import lines_of
 
-COLUMNS = ("publication_title print_identifier online_identifier date_first_issue_online num_first_vol_online "
-           "num_first_issue_online date_last_issue_online num_last_vol_online num_last_issue_online title_url "
-           "first_author title_id embargo_info coverage_depth notes publisher_name publication_type "
-           "date_monograph_published_print date_monograph_published_online monograph_volume monograph_edition "
-           "first_editor parent_publication_title_id preceding_publication_title_id access_type").split()
 OLDER = {"coverage_notes": "notes"}  # the name of a column in the first edition
 PROVIDER = "provider"
 

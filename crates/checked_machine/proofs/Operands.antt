@@ -1,12 +1,13 @@
 -- What is known about operands that are right.
-use Rattle.std.proofs.Common.{◌≡◌, ℕ, List, [], ◌∷◌, Option, Some, None, Bool, true, false, ◌&&◌, not, refl, subst, ◌<◌, arith}
-use Rattle.std.specs.Prelude.{slice_get, length, ◌==◌, if◌then◌else◌}
+use Rattle.std.proofs.Common.{◌≡◌, ℕ, List, [], ◌∷◌, Option, Some, None, Bool, true, false, ◌&&◌, not, refl, subst, arith}
+use Rattle.std.specs.Prelude.{slice_get, length, ◌==◌}
 use Rattle.std.specs.List.{list_all, AllByRecursion}
 use Rattle.std.proofs.lemmas.Bool.{and_parts, ltb-true}
 use Rattle.std.proofs.lemmas.Option.{slice_get_within, get_or_from_slice_get}
 use Rattle.std.proofs.lemmas.List.Elements.{All-get_or}
 use Rattle.code_model.specs.Code.{Code, Literal}
 use Rattle.text_model.specs.UriText.{IsUriText}
+use Rattle.text_model.proofs.TruthValues.{if_below}
 use Rattle.code_model.specs.declared.code.Instruction.{Instruction}
 use Rattle.code_model.specs.Operands.{Operand, Register, TextName, ListName, LinkText, Compared, Items, Mode, operands, is_in_range}
 use Rattle.machine_model.specs.Operands.{register_count, is_register, is_in_table, has_table_kind, is_right, has_right_operands, is_link_text, literal_at}
@@ -45,13 +46,8 @@ link_text c n h e = by_entry (slice_get c.literals n) refl e
         not_compared l (subst IsLiteral (get_or_from_slice_get c.literals n l l k)
         (All-get_or IsLiteral c.literals n l (slice_get_within c.literals n l k) h.literals)) t
 
--- a register of either version is one of the machine's
-below_all : (n : ℕ) (t : Bool) → n < (if t then 64 else 16) → n < 64
-below_all n true lt = lt
-below_all n false lt = omega (arith, lt)
-
 given : (c : Code) (o : Operand) → IsCode c → is_right c o ≡ true → IsGiven c o
-given c (Register n) h e = below_all n (c.version == 2) (ltb-true n (register_count c) (as_register c (Register n) e))
+given c (Register n) h e = if_below (c.version == 2) n 64 16 (omega arith) (ltb-true n (register_count c) (as_register c (Register n) e))
 given c (TextName n) h e = ltb-true n (length c.names) (in_table c (TextName n) e)
 given c (ListName n) h e = ltb-true n (length c.names) (in_table c (ListName n) e)
 given c (LinkText n) h e = (ltb-true n (length c.literals) (in_table c (LinkText n) e), link_text c n h (of_kind c (LinkText n) e))

@@ -5,13 +5,13 @@ use Rattle.std.specs.Prelude.{Result, Ok, Err, nat_lt, ◌==◌, if◌then◌els
 use Rattle.std.proofs.lemmas.Bool.{lt-ltb, le-ltb}
 use Rattle.std.proofs.Math.Seq.{take-append_seam}
 use Rattle.text_model.specs.Texts.{Text}
+use Rattle.text_model.proofs.Lists.{same_halves}
 use Rattle.code_model.specs.Code.{Literal}
 use Rattle.code_file.specs.declared.error.CodeError.{CodeError}
 use Rattle.code_file.specs.declared.error.CodeErrorKind.TheVariants.{BadKind, BadLiteral}
 use Rattle.code_file.specs.Grammar.{kind_byte, literal_field, IsTextOf, IsLiteral}
 use Rattle.code_file.specs.Fault.{fault, cut_short, no_kind, bad_kind, in_kind, no_length, no_text, bad_text, IsLiteralFault}
 use Rattle.code_file.proofs.StageLemmas.{IsApart}
-use Rattle.code_file.proofs.NameLaws.{same_front}
 
 abbrev literal_shape_from : ℕ → ℕ → ℕ → Text → Result Literal CodeError
 literal_shape_from kind high low rest =
@@ -102,7 +102,7 @@ one_literal x y s t g h e =
     let both : literal_shape (literal_field x ++ s) ≡ literal_shape (literal_field y ++ t) = ap literal_shape e in
     let same : x ≡ y = cc in
     let following : x.bytes ++ s ≡ y.bytes ++ t = cc in
-    (same, (same_front x.bytes y.bytes s t (ap (λ (l : Literal). length l.bytes) same) following).1)
+    (same, (same_halves x.bytes y.bytes s t (ap (λ (l : Literal). length l.bytes) same) following).1)
 
 pub literals_apart : IsApart IsLiteral literal_field IsLiteralFault
 literals_apart = record {

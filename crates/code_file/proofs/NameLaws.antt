@@ -6,6 +6,7 @@ use Rattle.std.proofs.lemmas.Bool.{cases_order, cases_Bool, lt-ltb, le-ltb, le-l
 use Rattle.std.proofs.lemmas.List.{length-take-le, get_or-take}
 use Rattle.std.proofs.Math.Seq.{take-append_seam}
 use Rattle.text_model.specs.Texts.{Text}
+use Rattle.text_model.proofs.Lists.{same_halves}
 use Rattle.code_model.specs.Code.{Name}
 use Rattle.code_file.specs.declared.error.CodeError.{CodeError}
 use Rattle.code_file.specs.declared.error.CodeErrorKind.TheVariants.{BadKind, BadName}
@@ -16,17 +17,6 @@ use Rattle.code_file.specs.Fault.{no_text, bad_text}
 use Rattle.code_file.proofs.StageLemmas.{IsApart}
 
 -- ---- lists and kinds
-
--- beginnings with the same length
-pub same_front : (a b s t : Text) → length a ≡ length b → a ++ s ≡ b ++ t → (a ≡ b) × (s ≡ t)
-same_front [] [] s t n h = (refl, h)
-same_front [] (y ∷ b) s t n h = absurd (omega arith)
-same_front (x ∷ a) [] s t n h = absurd (omega arith)
-same_front (x ∷ a) (y ∷ b) s t n h =
-    let head : x ≡ y = cc in
-    let tail : a ++ s ≡ b ++ t = cc in
-    let more = same_front a b s t (omega arith) tail in
-    (ap (λ (z : ℕ). z ∷ a) head ∙ ap (λ (l : Text). y ∷ l) more.0, more.1)
 
 pub same_kind : (b d : Bool) → kind_byte b ≡ kind_byte d → b ≡ d
 same_kind true true h = refl
@@ -140,7 +130,7 @@ one_name x y s t h =
     let kind : kind_byte x.list ≡ kind_byte y.list = cc in
     let len : length x.text ≡ length y.text = cc in
     let following : x.text ++ s ≡ y.text ++ t = cc in
-    let both = same_front x.text y.text s t len following in (
+    let both = same_halves x.text y.text s t len following in (
       ap (λ (l : Bool). let n : Name = record { list = l; text = x.text } in n) (same_kind x.list y.list kind)
           ∙ ap (λ (u : Text). let n : Name = record { list = y.list; text = u } in n) both.0,
       both.1,

@@ -1,29 +1,19 @@
 -- URI text read from the left: what the loop of a reader needs to know of the set, whose texts are extended at the end.
 use Rattle.std.proofs.Common.{◌≡◌, ◌<◌, ◌≤◌, ◌⊎◌, ℕ, Bool, true, false, [], ◌∷◌, ◌++◌, length, drop, get_or, refl, ◌∙◌, subst, inl, inr, append_assoc, arith}
 use Rattle.std.proofs.Common.{cond}
-use Rattle.std.specs.Prelude.{◌&&◌, ◌==◌}
+use Rattle.std.specs.Prelude.{◌==◌}
 use Rattle.std.proofs.lemmas.List.{append-nil}
-use Rattle.std.proofs.lemmas.Bool.{eqb-true, ne_eqb}
-use Rattle.text_model.specs.Texts.{Text, begins_with_triplet, is_hexadecimal, is_triplet, is_unreserved, is_reserved}
+use Rattle.std.proofs.lemmas.Bool.{and_parts, eqb-true, ne_eqb}
+use Rattle.text_model.specs.Texts.{Text, begins_with_triplet, is_hexadecimal, is_triplet}
 use Rattle.text_model.specs.Writing.{is_unreserved_or_reserved}
 use Rattle.code_file.specs.Private.FromLeft.{is_uri_text}
 use Rattle.text_model.specs.UriText.{IsUriText, nothing, and_character, and_triplet}
-
-pub and_true : {a b : Bool} → a && b ≡ true → (a ≡ true) × (b ≡ true)
-and_true {a = true} {b = b} h = (refl, h)
-and_true {a = false} {b = b} h = cc
+use Rattle.text_model.proofs.Unchanged.{not_percent}
 
 -- the two cases of a test
 pub chosen : (q x y : Bool) → cond q x y ≡ true → ((q ≡ true) × (x ≡ true)) ⊎ ((q ≡ false) × (y ≡ true))
 chosen true x y h = inl (refl, h)
 chosen false x y h = inr (refl, h)
-
-percent_is_no_character : is_unreserved_or_reserved 37 ≡ false
-unfolding is_unreserved is_reserved
-percent_is_no_character = refl
-
-not_percent : (b : ℕ) → is_unreserved_or_reserved b ≡ true → b ≡ 37 → ⊥
-not_percent b h e = let g = subst (λ (n : ℕ). is_unreserved_or_reserved n ≡ true) e h in cc (g, percent_is_no_character)
 
 no_triplet : (b high low : ℕ) → is_unreserved_or_reserved b ≡ true → is_triplet b high low ≡ false
 no_triplet b high low h = rw (ne_eqb b 37 (not_percent b h)) refl
@@ -45,7 +35,7 @@ unfolding is_uri_text
 grows s [] h u = rw append-nil u
 grows s (b ∷ []) h u = and_character s b u h
 grows s (b ∷ c ∷ []) h u =
-    let e = and_true h in
+    let e = and_parts _ _ h in
     subst IsUriText (append_assoc s (b ∷ []) (c ∷ [])) (and_character (s ++ b ∷ []) c (and_character s b u e.0) e.1)
 grows s (b ∷ high ∷ low ∷ t) h u =
     let more : is_uri_text t ≡ true → IsUriText (s ++ 37 ∷ high ∷ low ∷ []) → IsUriText ((s ++ 37 ∷ high ∷ low ∷ []) ++ t) = λ g v. grows _ t g v in
@@ -53,12 +43,12 @@ grows s (b ∷ high ∷ low ∷ t) h u =
     v in
     elim (chosen (is_triplet b high low) _ _ h) [
       | inl p ↦
-          let e = and_true p.0 in
-          let hex = and_true e.1 in
+          let e = and_parts _ _ p.0 in
+          let hex = and_parts _ _ e.1 in
           let is_percent : b ≡ 37 = eqb-true b 37 e.0 in
           rw (is_percent, ← append_assoc s (37 ∷ high ∷ low ∷ []) t) (more p.1 (and_triplet s high low u hex.0 hex.1))
       | inr p ↦
-          let e = and_true p.1 in
+          let e = and_parts _ _ p.1 in
           subst IsUriText (append_assoc s (b ∷ []) (high ∷ low ∷ t)) (one e.1 (and_character s b u e.0))
     ]
 
@@ -70,7 +60,7 @@ unfolding is_uri_text
 joins [] t h g = g
 joins (b ∷ []) t h g = is_uri_text-character b t h ∙ g
 joins (b ∷ c ∷ []) t h g =
-    let e = and_true h in
+    let e = and_parts _ _ h in
     is_uri_text-character b (c ∷ t) e.0 ∙ (is_uri_text-character c t e.1 ∙ g)
 joins (b ∷ high ∷ low ∷ s) t h g =
     let more : is_uri_text s ≡ true → is_uri_text (s ++ t) ≡ true = λ k. joins s t k g in
@@ -78,7 +68,7 @@ joins (b ∷ high ∷ low ∷ s) t h g =
     elim (chosen (is_triplet b high low) _ _ h) [
       | inl p ↦ rw p.0 (more p.1)
       | inr p ↦
-          let e = and_true p.1 in
+          let e = and_parts _ _ p.1 in
           is_uri_text-character b ((high ∷ low ∷ s) ++ t) e.0 ∙ one e.1
     ]
 

@@ -1,5 +1,5 @@
 -- The parts of the code of rules: the size of their file, and that a code file may have them if they are within the limits.
-use Rattle.std.proofs.Common.{◌≡◌, ℕ, suc, ◌+◌, ◌*◌, ◌^◌, ◌<◌, ◌≤◌, List, [], ◌∷◌, ◌++◌, length, Bool, true, false, Some, refl, ap, inl, inr, arith}
+use Rattle.std.proofs.Common.{◌≡◌, ℕ, suc, ◌+◌, ◌^◌, ◌<◌, ◌≤◌, List, [], ◌∷◌, ◌++◌, length, Bool, true, false, Some, refl, ap, inl, inr, arith}
 use Rattle.std.proofs.Common.{length-append}
 use Rattle.std.specs.Prelude.{All, min, not, sum_by, slice_get, if◌then◌else◌}
 use Rattle.std.specs.List.{flat_map}
@@ -17,6 +17,7 @@ use Rattle.code_file.specs.Grammar.{spelled, name_field, literal_field, instr_fi
 use Rattle.code_file.specs.Grammar.{IsCodeFile, code_of as code_of_parts}
 use Rattle.code_file.specs.Fault.{IsFirstFault}
 use Rattle.code_file.specs.declared.limits.TheConstants.{MAX_BYTES, MAX_NAMES, MAX_LITERALS, MAX_INSTRS}
+use Rattle.code_file.proofs.PartsLemmas.{length-instrs}
 use Rattle.machine_model.specs.Operands.{is_link_text, text_of_literal}
 use Rattle.machine_model.specs.Safe.{IsFileCode}
 use Rattle.uri_grammar.specs.Names.{IsName}
@@ -44,10 +45,6 @@ length-literals (l ∷ literals) =
       length-append l.bytes (flat_map literal_field literals),
       sum_by-cons (λ (literal : Literal). 3 + length literal.bytes) l literals,
     )
-
-length-instrs : (instrs : List Instr) → length (flat_map instr_field instrs) ≡ 8 * length instrs
-length-instrs [] = refl
-length-instrs (i ∷ instrs) = omega (arith, length-instrs instrs)
 
 pub length-spelled : (c : Code) → length (spelled c) ≡ file_size c
 length-spelled c =

@@ -1,10 +1,10 @@
 -- The place of an entry in a table. A table that grows by the entries that are used has each of them once, in the order of first use.
-use Rattle.std.proofs.Common.{◌≡◌, ℕ, suc, ◌+◌, ◌<◌, ◌≤◌, length, drop, get_or, arith, List, [], ◌∷◌, ◌++◌, Option, Some, None, Bool, true, false, refl, sym}
+use Rattle.std.proofs.Common.{Bool, List, None, Option, Some, [], drop, false, get_or, length, refl, sym, true, ℕ, ◌++◌, ◌+◌, ◌<◌, ◌∷◌, ◌≡◌}
 use Rattle.std.proofs.Common.{ap, ◌∙◌, subst}
-use Rattle.std.specs.Prelude.{◌||◌, not, filter, if◌then◌else◌, nat_lt, unwrap_or}
-use Rattle.std.specs.List.{list_any, cons_option, position, position_or_len, filter_map, flat_map}
+use Rattle.std.specs.Prelude.{◌||◌, not, filter, if◌then◌else◌}
+use Rattle.std.specs.List.{cons_option, filter_map, flat_map, list_any}
 use Rattle.std.specs.Bool.{Decides}
-use Rattle.std.proofs.lemmas.Bool.{false≢true, ltb-false}
+use Rattle.std.proofs.lemmas.Bool.{false≢true}
 use Rattle.std.proofs.lemmas.List.{append_assoc, append-nil, drop_more}
 use Rattle.text_model.specs.Texts.{Text}
 use Rattle.rule_parser.specs.declared.rule.Rule.{Rule}
@@ -15,24 +15,7 @@ use Rattle.compiler_model.specs.declared.lines.Line.TheVariants.{Fails}
 use Rattle.compiler_model.specs.Tables.{is_same_name, is_same_literal, name_used, literal_used, firsts, names_of, literals_of}
 use Rattle.compiler_model.specs.Compiled.{rule_lines, all_lines}
 use Rattle.compiler_model.proofs.Entries.{same_names, same_literals}
-use Rattle.compiler.specs.Private.Growth.{added, with_entry, gathered}
-
--- the place of the first element that passes is at most the length
-pub first_within : {X : Type 0} (p : X → Bool) (xs : List X) → position_or_len p xs ≤ length xs
-first_within p [] = omega arith
-first_within p (x ∷ xs) = by_test (p x) (first_within p xs)
-  where
-    by_test : (b : Bool) → position_or_len p xs ≤ length xs → (if not b then (1 + position_or_len p xs) else 0) ≤ suc (length xs)
-    by_test true le = omega arith
-    by_test false le = omega (arith, le)
-
-pub index_or_len : {X : Type 0} (p : X → Bool) (xs : List X) → unwrap_or (position p xs) (length xs) ≡ position_or_len p xs
-index_or_len p xs = by_test (nat_lt (position_or_len p xs) (length xs)) refl
-  where
-    by_test : (b : Bool) → nat_lt (position_or_len p xs) (length xs) ≡ b → unwrap_or (if b then Some (position_or_len p xs) else None) (length xs)
-        ≡ position_or_len p xs
-    by_test true e = refl
-    by_test false e = omega (arith, ltb-false (position_or_len p xs) (length xs) e, first_within p xs)
+use Rattle.compiler.specs.Private.Growth.{added, gathered, with_entry}
 
 pub gathered_entry : {X : Type 0} (same : X → X → Bool) (xs : List X) (o : Option X) (ys : List X) → gathered same xs (cons_option o ys)
     ≡ gathered same (with_entry same xs o) ys

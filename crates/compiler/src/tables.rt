@@ -134,7 +134,7 @@ fn find_literal(literals: &[Literal], compared: bool, bytes: &[u8]) -> Option<us
 }
 
 /// The index of a name; the length of the table if it is not in it.
-#[tactic(auto, using(crate::proofs::TableGrowth::index_or_len, crate::proofs::TableGrowth::first_within))]
+#[tactic(auto, using(text_model::proofs::Lists::index_or_length, text_model::proofs::Lists::index_within))]
 pub(crate) fn name_index(names: &[Name], list: bool, text: &str) -> usize
     ensures index { result ≡ index_of_name names.now list text.now }
     ensures within { result ≤ length names.now }
@@ -143,7 +143,7 @@ pub(crate) fn name_index(names: &[Name], list: bool, text: &str) -> usize
 }
 
 /// The index of a literal; the length of the table if it is not in it.
-#[tactic(auto, using(crate::proofs::TableGrowth::index_or_len, crate::proofs::TableGrowth::first_within))]
+#[tactic(auto, using(text_model::proofs::Lists::index_or_length, text_model::proofs::Lists::index_within))]
 pub(crate) fn literal_index(literals: &[Literal], compared: bool, bytes: &[u8]) -> usize
     ensures index { result ≡ index_of_literal literals.now compared bytes.now }
     ensures within { result ≤ length literals.now }

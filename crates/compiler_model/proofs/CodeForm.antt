@@ -1,17 +1,19 @@
 -- The code of rules has good form, and can be that of a code file.
-use Rattle.std.proofs.Common.{◌≡◌, ℕ, zero, suc, ◌+◌, ◌≤◌, List, [], ◌∷◌, length, None, Bool, true, false, refl, ap, ◌∙◌, subst, arith, ⊎_elim}
-use Rattle.std.specs.Prelude.{slice_get, if◌then◌else◌, not, filter}
+use Rattle.std.proofs.Common.{◌≡◌, ℕ, zero, suc, ◌+◌, List, [], ◌∷◌, length, None, Bool, true, false, refl, ◌∙◌, subst, arith, ⊎_elim}
+use Rattle.std.specs.Prelude.{slice_get, not}
 use Rattle.std.specs.List.{AllByRecursion, filter_map, flat_map}
-use Rattle.std.proofs.lemmas.Bool.{cases_lt}
-use Rattle.std.proofs.lemmas.Option.{slice_get_past}
+use Rattle.std.proofs.lemmas.Bool.{cases_lt, not-true}
 use Rattle.std.proofs.lemmas.List.{length-append, length-map}
 use Rattle.text_model.specs.Texts.{Text}
 use Rattle.text_model.specs.UriText.{IsUriText}
+use Rattle.text_model.proofs.Lists.{all_filter}
 use Rattle.code_model.specs.Code.{Name, Literal, Code, spelling}
 use Rattle.code_model.specs.declared.code.Instruction.TheVariants as instruction
 use Rattle.machine_model.specs.Operands.{is_link_text, text_of_literal}
-use Rattle.machine_model.specs.Form.{body_at, fault_in, fault_at, HasGoodForm}
+use Rattle.machine_model.specs.Form.{body_at, HasGoodForm}
 use Rattle.machine_model.specs.Safe.{IsFileCode}
+use Rattle.machine_model.proofs.Bodies.{no_body_first}
+use Rattle.machine_model.proofs.Faults.{past_good}
 use Rattle.rule_parser.specs.declared.rule.Rule.{Rule}
 use Rattle.rule_parser.specs.Rules.{RuleSet, IsSound}
 use Rattle.compiler_model.specs.declared.lines.Action.TheVariants.{LoadText, LoadList, LoadConst, CountMembers, Emits, Separates, Puts, Cuts}
@@ -72,14 +74,6 @@ module _ (c : Code) (version : ℕ) (lists : List Text) where
       (clean_one c last away next (last_good c last instruction.Halt both.1.0.reads refl))
       (rules_clean rules away f.1 h.1 at_away whole))
 
-past_clean : (c : Code) (place : ℕ) → length c.instrs ≤ place → fault_at c place ≡ None
-unfolding fault_at
-past_clean c place le = ap (fault_in c place) (slice_get_past c.instrs place le)
-
-pub no_body_first : (c : Code) → body_at c 0 ≡ None
-unfolding body_at
-no_body_first c = refl
-
 -- ---- link texts
 
 -- a literal of the link is URI text
@@ -103,25 +97,13 @@ used_uri version (Turns ∷ ls) f = used_uri version ls f.1
 used_uri version (Halts ∷ ls) f = used_uri version ls f.1
 used_uri version (Fails ∷ ls) f = used_uri version ls f.1
 
-filter_keeps : {X : Type 0} (P : X → Type 0) (test : X → Bool) (xs : List X) → AllByRecursion P xs → AllByRecursion P (filter test xs)
-filter_keeps P test [] h = tt
-filter_keeps P test (x ∷ xs) h = by_test (test x) (filter_keeps P test xs h.1)
-  where
-    by_test : (b : Bool) → AllByRecursion P (filter test xs) → AllByRecursion P (if b then (x ∷ filter test xs) else filter test xs)
-    by_test true k = (h.0, k)
-    by_test false k = k
-
 pub firsts_keep : {X : Type 0} (P : X → Type 0) (same : X → X → Bool) (xs : List X) → AllByRecursion P xs → AllByRecursion P (firsts same xs)
 firsts_keep P same [] h = tt
-firsts_keep P same (x ∷ xs) h = (h.0, filter_keeps P (λ y. not (same x y)) (firsts same xs) (firsts_keep P same xs h.1))
+firsts_keep P same (x ∷ xs) h = (h.0, all_filter P (λ y. not (same x y)) (firsts same xs) (firsts_keep P same xs h.1))
 
 link_at : (ls : List Literal) → AllByRecursion LinksUri ls → (n : ℕ) → is_link_text (slice_get ls n) ≡ true → IsUriText (text_of_literal (slice_get ls n))
 link_at [] h n e = absurd (cc)
-link_at (l ∷ ls) h zero e = h.0 (is_link l.compared e)
-  where
-    is_link : (b : Bool) → not b ≡ true → b ≡ false
-    is_link true e = absurd (cc)
-    is_link false e = refl
+link_at (l ∷ ls) h zero e = h.0 (not-true l.compared e)
 link_at (l ∷ ls) h (suc n) e = link_at ls h.1 n e
 
 -- ---- the code of rules
@@ -136,7 +118,7 @@ module _ (trees : TreesAreSound) (rules : RuleSet) (sound : IsSound rules) where
       let c = code_of rules in
       let clean = rules_clean c c.version rules.lists rules.rules 0 (code_formed trees rules sound) (code_placed trees rules sound) (no_body_first c)
       (omega (arith, code_length rules)) in
-      record { at = λ place. ⊎_elim (λ lt. clean place (omega arith) lt) (past_clean c place) (cases_lt place (length c.instrs)) }
+      record { at = λ place. ⊎_elim (λ lt. clean place (omega arith) lt) (past_good c place) (cases_lt place (length c.instrs)) }
 
   pub code_is_file : IsFileCode (code_of rules)
   code_is_file =

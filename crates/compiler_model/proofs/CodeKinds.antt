@@ -5,6 +5,7 @@ use Rattle.std.specs.Prelude.{slice_get}
 use Rattle.std.specs.List.{AllByRecursion}
 use Rattle.std.proofs.lemmas.Bool.{cases_lt}
 use Rattle.std.proofs.lemmas.List.{length-append}
+use Rattle.std.proofs.lemmas.Option.{same_Some}
 use Rattle.text_model.specs.Texts.{Text}
 use Rattle.code_model.specs.Code.{Code, reading_at}
 use Rattle.code_model.specs.declared.code.Instruction.{Instruction}
@@ -16,7 +17,6 @@ use Rattle.machine_model.specs.States.{put}
 use Rattle.machine_model.specs.Form.{is_in_body, body_at}
 use Rattle.machine_model.specs.Kinds.{Kinds, any_kinds, IsBelow, edge, edges, needs, for_instruction, needs_at, edges_at}
 use Rattle.machine_model.specs.Typable.{Table, Holds, IsMet}
-use Rattle.machine_model.proofs.Moves.{some_one}
 use Rattle.machine_model.proofs.Orders.{below_trans}
 use Rattle.machine_model.proofs.Readings.{Reads-reading_at}
 use Rattle.compiler_model.specs.declared.lines.Action.{Action}
@@ -69,7 +69,7 @@ module _ (c : Code) (t : Table) where
   pub settled : (place : ℕ) (i : Instruction) (ks : Kinds) → reading_at c place ≡ Some i → t place ≡ Some ks
       → AllByRecursion (Holds t) (edges place ks (body_at c place) i) → AllByRecursion (IsMet ks) (needs i) → IsSettled place
   settled place i ks r e h n ms f =
-      let same : ks ≡ ms = some_one (sym e ∙ f) in (
+      let same : ks ≡ ms = same_Some _ _ (sym e ∙ f) in (
         subst (λ x. AllByRecursion (Holds t) (edges_at c place x)) same
             (subst (λ o. AllByRecursion (Holds t) (for_instruction o (edges place ks (body_at c place)))) (sym r) h),
         subst (λ x. AllByRecursion (IsMet x) (needs_at c place)) same (subst (λ o. AllByRecursion (IsMet ks) (for_instruction o needs)) (sym r) n),

@@ -6,6 +6,7 @@ use Rattle.std.specs.Bool.{Decides}
 use Rattle.std.proofs.lemmas.List.{append_assoc}
 use Rattle.std.proofs.lemmas.List.Elements.{filter_map-append}
 use Rattle.text_model.specs.Texts.{Text}
+use Rattle.text_model.proofs.Lists.{all_append}
 use Rattle.environment_model.specs.Environment.{Environment}
 use Rattle.code_model.specs.Code.{Name, Literal, Code, spelling}
 use Rattle.code_model.specs.declared.code.Instruction.{Instruction}
@@ -25,7 +26,7 @@ use Rattle.compiler_model.specs.Answer.{answer}
 use Rattle.compiler_model.proofs.Places.{ArePlaced, finishes_after}
 use Rattle.compiler_model.proofs.Entries.{same_names, same_literals, among_firsts, at_index, among_itself}
 use Rattle.compiler_model.proofs.Formed.{TreesAreSound, AreFormed, rules_formed}
-use Rattle.compiler_model.proofs.Placement.{IsFormedLine, HasEntries, all_append, lines_formed, placed}
+use Rattle.compiler_model.proofs.Placement.{IsFormedLine, HasEntries, lines_formed, placed}
 use Rattle.compiler_model.proofs.RuleRuns.{AreRulesPlaced, end_of, rules_finish}
 
 pub all_front : {X : Type 0} (P : X → Type 0) (a b : List X) → AllByRecursion P (a ++ b) → AllByRecursion P a

@@ -5,7 +5,7 @@ use Rattle.std.specs.List.{list_any, position_or_len}
 use Rattle.std.specs.Bool.{beq, Decides}
 use Rattle.std.specs.Cmp.{booleans_Decides}
 use Rattle.std.specs.Str.{bytes_eq}
-use Rattle.std.proofs.lemmas.Bool.{and_parts, and_from, false≢true}
+use Rattle.std.proofs.lemmas.Bool.{and_from, and_parts, false≢true, or_right}
 use Rattle.std.proofs.lemmas.Slice.Eq.{bytes_eq-Decides}
 use Rattle.text_model.specs.Texts.{Text}
 use Rattle.code_model.specs.Code.{Name, Literal}
@@ -29,10 +29,6 @@ same_names = decides_both (λ (n : Name). n.text) (λ n. n.list) (λ n m text li
 pub same_literals : (l m : Literal) → Decides (is_same_literal l m) (l ≡ m)
 same_literals = decides_both (λ (l : Literal). l.bytes) (λ l. l.compared) (λ l m bytes compared t. record { compared = compared t; bytes = bytes t })
 
-pub or_second : (b c : Bool) → c ≡ true → (b || c) ≡ true
-or_second true c h = refl
-or_second false c h = h
-
 module _ {X : Type 0} (same : X → X → Bool) (decides : (x y : X) → Decides (same x y) (x ≡ y)) where
   abbrev IsAmong : X → List X → Type 0
   IsAmong x xs = list_any (same x) xs ≡ true
@@ -48,7 +44,7 @@ module _ {X : Type 0} (same : X → X → Bool) (decides : (x y : X) → Decides
       by_test true e true f h rest = absurd (false≢true (sym d ∙ subst (λ w. same y w ≡ true) (sym ((decides x z).0 e)) f))
       by_test true e false f h rest = rw e refl
       by_test false e true f h rest = rest h
-      by_test false e false f h rest = or_second (same x z) _ (rest h)
+      by_test false e false f h rest = or_right (same x z) _ (rest h)
 
   pub among_firsts : (x : X) (xs : List X) → IsAmong x xs → IsAmong x (firsts same xs)
   among_firsts x [] h = h
@@ -57,7 +53,7 @@ module _ {X : Type 0} (same : X → X → Bool) (decides : (x y : X) → Decides
       by_test : (b : Bool) → same x y ≡ b → (b || list_any (same x) xs) ≡ true → (IsAmong x xs → IsAmong x (firsts same xs))
           → (same x y || list_any (same x) (filter (λ z. not (same y z)) (firsts same xs))) ≡ true
       by_test true e h rest = rw e refl
-      by_test false e h rest = or_second (same x y) _ (kept x y (firsts same xs) (other (same y x) refl) (rest h))
+      by_test false e h rest = or_right (same x y) _ (kept x y (firsts same xs) (other (same y x) refl) (rest h))
         where
           other : (c : Bool) → same y x ≡ c → same y x ≡ false
           other true f = absurd (false≢true (sym e ∙ (decides x y).1 (sym ((decides y x).0 f))))
@@ -77,4 +73,4 @@ module _ {X : Type 0} (same : X → X → Bool) (decides : (x y : X) → Decides
 
   pub among_itself : (pre : List X) (x : X) (post : List X) → IsAmong x (pre ++ x ∷ post)
   among_itself [] x post = rw ((decides x x).1 refl) refl
-  among_itself (y ∷ pre) x post = or_second (same x y) _ (among_itself pre x post)
+  among_itself (y ∷ pre) x post = or_right (same x y) _ (among_itself pre x post)

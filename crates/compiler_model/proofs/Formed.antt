@@ -3,7 +3,7 @@
 use Rattle.std.proofs.Common.{◌≡◌, ℕ, zero, suc, ◌≤◌, List, [], ◌∷◌, ◌++◌, Bool, true, false, refl, arith}
 use Rattle.std.specs.Prelude.{codes, if◌then◌else◌, nat_lt, nat_le, ◌&&◌, ◌||◌, All}
 use Rattle.std.specs.List.{AllByRecursion, list_any}
-use Rattle.std.proofs.lemmas.Bool.{le-leb, and_from}
+use Rattle.std.proofs.lemmas.Bool.{and_from, le-leb, or_right}
 use Rattle.std.proofs.lemmas.List.Elements.{All-head, All-tail}
 use Rattle.text_model.specs.Texts.{Text, is_unreserved, is_reserved}
 use Rattle.text_model.specs.UriText.{IsUriText, nothing}
@@ -32,7 +32,6 @@ use Rattle.compiler_model.specs.Blocks.{Block, Nothing, Does, Then, Unless, Eith
 use Rattle.compiler_model.specs.Shapes.{loading, is_missing, bound_block, bounds_block, guard_block, guards_block, lead_block, writing_action, named_block}
 use Rattle.compiler_model.specs.Shapes.{item_block, head_block, members_block, loaded_block, specs_block, part_block, parts_block, rule_block}
 use Rattle.compiler_model.specs.Compiled.{is_counts}
-use Rattle.compiler_model.proofs.Entries.{or_second}
 
 -- ---- what has to hold
 
@@ -110,7 +109,7 @@ module _ (version : ℕ) where
   guards_formed lists [] h = tt
   guards_formed lists (g ∷ gs) h = (
     guard_formed lists g (λ e. h (first_true (is_counts g) (list_any is_counts gs) e)),
-    guards_formed lists gs (λ e. h (or_second (is_counts g) (list_any is_counts gs) e)),
+    guards_formed lists gs (λ e. h (or_right (is_counts g) (list_any is_counts gs) e)),
   )
 
   -- ---- texts of the operators' table
@@ -219,5 +218,5 @@ module _ (version : ℕ) where
       let sound = All-head (IsSoundRule lists) rule rules h in (
         rule_formed lists rule (trees rule.template.text rule.template.parts sound.template)
             (λ t. e (first_true (counts_in rule) (list_any counts_in rules) t)),
-        rules_formed trees lists rules (All-tail (IsSoundRule lists) rule rules h) (λ t. e (or_second (counts_in rule) (list_any counts_in rules) t)),
+        rules_formed trees lists rules (All-tail (IsSoundRule lists) rule rules h) (λ t. e (or_right (counts_in rule) (list_any counts_in rules) t)),
       )

@@ -2,8 +2,7 @@
 
 use Rattle.std.proofs.Common.{◌≡◌, ℕ, suc, ◌+◌, ◌-◌, ◌<◌, ◌≤◌, List, [], ◌∷◌, length, Option, Some, None, true, false, refl, sym, ap, ◌∙◌, subst, arith}
 use Rattle.std.proofs.Common.{add-one}
-use Rattle.std.specs.Prelude.{nat_lt, ◌||◌, not, ◌&&◌}
-use Rattle.std.specs.List.{list_all, AllByRecursion}
+use Rattle.std.specs.List.{list_all}
 use Rattle.std.proofs.lemmas.Bool.{and_parts, and_from, lt-ltb, eq-eqb}
 use Rattle.std.proofs.lemmas.List.{length-append}
 use Rattle.code_model.specs.Code.{Code, is_same_instr, spelling, reading_at}
@@ -12,10 +11,11 @@ use Rattle.code_model.specs.declared.code.Instruction.TheVariants as instruction
 use Rattle.code_model.specs.Operands.{Operand, operands, is_in_range}
 use Rattle.machine_model.specs.declared.form.Body.{Body}
 use Rattle.machine_model.specs.Operands.{Reads, is_right, is_register, is_in_table, has_table_kind, has_right_operands}
-use Rattle.machine_model.specs.Form.{is_next, body_at, is_in_body, is_same_body, target, is_each, is_sep, ends_run, Check, checks, first_failing, fault_of}
-use Rattle.machine_model.specs.Form.{fault_in, fault_at, goes_to, ends_body}
+use Rattle.machine_model.specs.Form.{is_next, body_at, is_in_body, is_same_body, is_each, fault_of}
+use Rattle.machine_model.specs.Form.{fault_in, fault_at}
 use Rattle.machine_model.proofs.Readings.{Reads-reading_at, instr_itself}
 use Rattle.machine_model.proofs.Bodies.{body_suc, body_on, body_off, opened_none}
+use Rattle.machine_model.proofs.Checks.{IsRightlyPlaced, passes_all as none_fails}
 use Rattle.compiler_model.specs.declared.lines.Action.{Action}
 use Rattle.compiler_model.specs.declared.lines.Action.TheVariants.{LoadText, LoadList, LoadConst, CountMembers, Emits, Separates, Puts, Cuts}
 use Rattle.compiler_model.specs.declared.lines.Test.{Test}
@@ -29,10 +29,6 @@ use Rattle.compiler_model.proofs.Formed.{IsFormed}
 
 module _ (c : Code) where
   -- ---- a place at which every check passes has no error
-
-  none_fails : (ks : List Check) → AllByRecursion (λ k. k.passes ≡ true) ks → first_failing ks ≡ None
-  none_fails [] h = refl
-  none_fails (k ∷ ks) h = rw h.0 (none_fails ks h.1)
 
   -- the checks of operands, one at a time
   abbrev PassFour : List Operand → Type 0
@@ -57,14 +53,10 @@ module _ (c : Code) where
   unfolding has_right_operands
   right_four i h = four_from (operands i) h
 
-  -- what the checks require of an instruction besides its operands: of its target, of loops, and that it is not the last
+  -- what the checks require of an instruction that is read at a place
   pub record Passes (p : ℕ) (i : Instruction) : Type 0 where
     pub reads : Reads c p i
-    pub aims : (goes_to (λ d. nat_lt p d) (target i) ≡ true) × (goes_to (λ d. nat_lt d (length c.instrs)) (target i) ≡ true)
-        × ((is_each i || goes_to (λ d. is_same_body (body_at c p) (body_at c d)) (target i)) ≡ true)
-    pub loops : (not (is_each i && is_in_body (body_at c p)) ≡ true) × ((not (is_each i) || goes_to (λ d. is_next (reading_at c (d - 1))) (target i)) ≡ true)
-        × ((not (is_next (Some i)) || ends_body p (body_at c p)) ≡ true) × ((not (is_sep i) || is_in_body (body_at c p)) ≡ true)
-    pub last : (nat_lt (p + 1) (length c.instrs) || ends_run i) ≡ true
+    pub placed : IsRightlyPlaced c p i
 
   pub passes_all : (p : ℕ) (i : Instruction) → Passes p i → fault_at c p ≡ None
   unfolding fault_at
@@ -72,8 +64,13 @@ module _ (c : Code) where
       let four = right_four i k.reads.right in
       let spelled_so = and_from (is_same_instr (spelling i) (spelling i)) _ (instr_itself (spelling i)) four.0 in
       ap (fault_in c p) k.reads.spelled ∙ ap (fault_of c p (spelling i)) k.reads.known
-      ∙ none_fails (checks c p (spelling i) i)
-      (spelled_so, (four.1, (four.2, (four.3, (k.aims.0, (k.aims.1, (k.aims.2, (k.loops.0, (k.loops.1, (k.loops.2, (k.loops.3, (k.last, tt))))))))))))
+      ∙ none_fails c p (spelling i) i (record {
+        spelled = spelled_so;
+        registers = four.1;
+        in_tables = four.2;
+        table_kinds = four.3;
+        placed = k.placed;
+      })
 
   -- ---- bodies
 

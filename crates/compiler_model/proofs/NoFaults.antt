@@ -44,9 +44,16 @@ module _ (c : Code) where
   plain_good p i r e n t s lt =
       passes_all c p i (record {
         reads = r;
-        aims = (rw t refl, rw t refl, rw (e, t) refl);
-        loops = (rw e refl, rw e refl, rw n refl, s);
-        last = continues_with p i lt;
+        placed = record {
+          forward = rw t refl;
+          within = rw t refl;
+          crosses = rw (e, t) refl;
+          nested = rw e refl;
+          looped = rw e refl;
+          next_last = rw n refl;
+          sep_in = s;
+          continues = continues_with p i lt;
+        };
       })
 
   -- an instruction that may jump within its body, or outside of loops
@@ -55,9 +62,16 @@ module _ (c : Code) where
   jump_good p d i o r e n s t low high at there =
       passes_all c p i (record {
         reads = r;
-        aims = (rw t (lt-ltb p d low), rw t (lt-ltb d (length c.instrs) high), rw (e, t, at, there) (same_body c o));
-        loops = (rw e refl, rw e refl, rw n refl, rw s refl);
-        last = continues_with p i (omega (arith, low, high));
+        placed = record {
+          forward = rw t (lt-ltb p d low);
+          within = rw t (lt-ltb d (length c.instrs) high);
+          crosses = rw (e, t, at, there) (same_body c o);
+          nested = rw e refl;
+          looped = rw e refl;
+          next_last = rw n refl;
+          sep_in = rw s refl;
+          continues = continues_with p i (omega (arith, low, high));
+        };
       })
 
   each_good : (p q a b : ℕ) → Reads c p (instruction.Each a b (q + 1)) → Reads c q instruction.Next → p < q → q + 1 < length c.instrs → body_at c p ≡ None
@@ -67,18 +81,32 @@ module _ (c : Code) where
       let next : is_next (reading_at c (q + 1 - 1)) ≡ true = ap (λ x. is_next (reading_at c x)) last ∙ ap is_next (Reads-reading_at c q instruction.Next n) in
       passes_all c p (instruction.Each a b (q + 1)) (record {
         reads = r;
-        aims = (lt-ltb p (q + 1) (omega (arith, lt)), lt-ltb (q + 1) (length c.instrs) within, refl);
-        loops = (rw at refl, next, refl, refl);
-        last = continues_with p (instruction.Each a b (q + 1)) (omega (arith, lt, within));
+        placed = record {
+          forward = lt-ltb p (q + 1) (omega (arith, lt));
+          within = lt-ltb (q + 1) (length c.instrs) within;
+          crosses = refl;
+          nested = rw at refl;
+          looped = next;
+          next_last = refl;
+          sep_in = refl;
+          continues = continues_with p (instruction.Each a b (q + 1)) (omega (arith, lt, within));
+        };
       })
 
   next_good : (p q a : ℕ) → Reads c q instruction.Next → body_at c q ≡ Some (loop_body c p q a) → q + 1 < length c.instrs → fault_at c q ≡ None
   next_good p q a r at lt =
       passes_all c q instruction.Next (record {
         reads = r;
-        aims = (refl, refl, refl);
-        loops = (refl, refl, rw at (eq-eqb (q + 1) (q + 1) refl), refl);
-        last = continues_with q instruction.Next lt;
+        placed = record {
+          forward = refl;
+          within = refl;
+          crosses = refl;
+          nested = refl;
+          looped = refl;
+          next_last = rw at (eq-eqb (q + 1) (q + 1) refl);
+          sep_in = refl;
+          continues = continues_with q instruction.Next lt;
+        };
       })
 
   -- HALT and FAIL may be anywhere
@@ -91,9 +119,33 @@ module _ (c : Code) where
 
       by_end : (i : Instruction) → Reads c p i → ends_run i ≡ true → fault_at c p ≡ None
       by_end instruction.Halt r e =
-          passes_all c p instruction.Halt (record { reads = r; aims = (refl, refl, refl); loops = (refl, refl, refl, refl); last = either_end _ })
+          passes_all c p instruction.Halt (record {
+            reads = r;
+            placed = record {
+              forward = refl;
+              within = refl;
+              crosses = refl;
+              nested = refl;
+              looped = refl;
+              next_last = refl;
+              sep_in = refl;
+              continues = either_end _;
+            };
+          })
       by_end instruction.Fail r e =
-          passes_all c p instruction.Fail (record { reads = r; aims = (refl, refl, refl); loops = (refl, refl, refl, refl); last = either_end _ })
+          passes_all c p instruction.Fail (record {
+            reads = r;
+            placed = record {
+              forward = refl;
+              within = refl;
+              crosses = refl;
+              nested = refl;
+              looped = refl;
+              next_last = refl;
+              sep_in = refl;
+              continues = either_end _;
+            };
+          })
       by_end _ r e = absurd (cc)
 
   action_good : (a : Action) (version away p : ℕ) (o : Option Body) → IsFormedAction version (is_in_body o) a → body_at c p ≡ o → p + 1 < length c.instrs

@@ -1,11 +1,12 @@
 -- The code of rules: its tables have the entries of its lines, and it contains the lines.
-use Rattle.std.proofs.Common.{◌≡◌, ℕ, ◌<◌, List, [], ◌∷◌, ◌++◌, length, Some, Bool, true, false, refl, ap, arith}
+use Rattle.std.proofs.Common.{◌≡◌, ℕ, ◌<◌, List, length, Some, Bool, true, false, refl, ap, arith}
 use Rattle.std.specs.Prelude.{slice_get, if◌then◌else◌, nat_lt, nat_le, ◌==◌}
 use Rattle.std.specs.List.{AllByRecursion}
 use Rattle.std.proofs.lemmas.Bool.{lt-ltb, ltb-true, eq-eqb}
 use Rattle.std.proofs.lemmas.Option.{slice_get_within}
 use Rattle.text_model.specs.declared.writing.Writing.{Writing}
 use Rattle.text_model.specs.declared.writing.Writing.TheVariants.{U, UR}
+use Rattle.text_model.proofs.Lists.{all_append}
 use Rattle.code_model.specs.Code.{Code, spelling, reading}
 use Rattle.code_model.specs.declared.code.Instruction.{Instruction}
 use Rattle.machine_model.specs.Operands.{has_right_operands, register_count, text_of_name, text_of_literal}
@@ -28,10 +29,6 @@ IsFormedLine version (Acts action) = IsFormedAction version true action
 IsFormedLine version (Tests test target) = IsFormedTest test
 IsFormedLine version (Begins a b places) = IsRegister a × IsRegister b
 IsFormedLine version line = Unit {0}
-
-pub all_append : {X : Type 0} (P : X → Type 0) (a b : List X) → AllByRecursion P a → AllByRecursion P b → AllByRecursion P (a ++ b)
-all_append P [] b h k = k
-all_append P (x ∷ a) b h k = (h.0, all_append P a b h.1 k)
 
 anywhere : (version : ℕ) (inside : Bool) (a : Action) → IsFormedAction version inside a → IsFormedAction version true a
 anywhere version inside (Separates t) h = (refl, h.1)

@@ -1,6 +1,7 @@
 -- Lines that a code contains, and frames from which the machine reaches an end.
 use Rattle.std.proofs.Common.{◌≡◌, ℕ, suc, ◌+◌, ◌<◌, List, [], ◌∷◌, ◌++◌, length, Option, true, false, refl, sym, subst, arith}
 use Rattle.std.proofs.lemmas.Option.{slice_get_within}
+use Rattle.machine_laws.proofs.Courses.{after_suc}
 use Rattle.environment_model.specs.Environment.{Environment}
 use Rattle.code_model.specs.Code.{Code, spelling}
 use Rattle.code_model.specs.declared.code.Instruction.{Instruction}
@@ -54,14 +55,10 @@ pub finishes_within : (c : Code) (v : Environment) (e : End) (s : Frame) → Fin
 finishes_within c v e _ (ends s st) = step_within c v s _ st
 finishes_within c v e _ (moves s t st f) = step_within c v s _ st
 
-one_more : (c : Code) (v : Environment) (k : ℕ) (old new : State) → After c v k old → Step c v old new → After c v (suc k) new
-unfolding After
-one_more c v k old new h st = (old, h, st)
-
 -- a run that reaches such a frame reaches the end
 pub finishes_after : (c : Code) (v : Environment) (e : End) (s : Frame) → Finishes c v e s → (k : ℕ) → After c v k (Running s) → (j : ℕ) × After c v j (Ended e)
-finishes_after c v e _ (ends s st) k h = (suc k, one_more c v k (Running s) (Ended e) h st)
-finishes_after c v e _ (moves s t st f) k h = finishes_after c v e t f (suc k) (one_more c v k (Running s) (Running t) h st)
+finishes_after c v e _ (ends s st) k h = (suc k, after_suc c v k (Running s) (Ended e) h st)
+finishes_after c v e _ (moves s t st f) k h = finishes_after c v e t f (suc k) (after_suc c v k (Running s) (Running t) h st)
 
 -- a store at a place, in a loop or in none
 abbrev pub at_place : ℕ → Option Loop → Store → Frame

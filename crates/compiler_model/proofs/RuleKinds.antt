@@ -13,6 +13,7 @@ use Rattle.machine_model.specs.Kinds.{Kinds, any_kinds, edge}
 use Rattle.machine_model.specs.Typable.{Table, Holds, IsTypable}
 use Rattle.machine_model.proofs.Orders.{below_antisym}
 use Rattle.machine_model.proofs.Readings.{Reads-reading_at}
+use Rattle.machine_model.proofs.Bodies.{no_body_first}
 use Rattle.rule_parser.specs.declared.rule.Rule.{Rule}
 use Rattle.rule_parser.specs.Rules.{RuleSet, IsSound}
 use Rattle.compiler_model.specs.declared.lines.Line.TheVariants.{Halts}
@@ -24,7 +25,7 @@ use Rattle.compiler_model.proofs.Formed.{TreesAreSound, AreFormed}
 use Rattle.compiler_model.proofs.Forming.{body_next, body_past}
 use Rattle.compiler_model.proofs.RuleRuns.{AreRulesPlaced}
 use Rattle.compiler_model.proofs.CodePlaces.{code_formed, code_placed}
-use Rattle.compiler_model.proofs.CodeForm.{code_length, no_body_first}
+use Rattle.compiler_model.proofs.CodeForm.{code_length}
 use Rattle.compiler_model.proofs.Typed.{rows, length-rows, below_any}
 use Rattle.compiler_model.proofs.TypedExpressions.{rule_typed}
 use Rattle.compiler_model.proofs.CodeKinds.{IsSettled, AreRowsPlaced, Settled, block_fits, rows_both, rows_placed, settled, settled_both, settled_one}

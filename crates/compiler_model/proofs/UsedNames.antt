@@ -6,6 +6,7 @@ use Rattle.std.proofs.lemmas.List.{append_assoc}
 use Rattle.std.proofs.lemmas.List.Elements.{All-head, All-tail, All-from_recursion}
 use Rattle.text_model.specs.Texts.{Text}
 use Rattle.text_model.specs.declared.writing.Writing.{Writing}
+use Rattle.text_model.proofs.Lists.{all_append}
 use Rattle.environment_model.specs.Lists.{is_list}
 use Rattle.code_model.specs.Code.{Name}
 use Rattle.uri_grammar.specs.declared.parts.Spec.{Spec}
@@ -31,7 +32,6 @@ use Rattle.compiler_model.specs.Shapes.{head_block, members_block, loaded_block,
 use Rattle.compiler_model.specs.Tables.{is_same_name, name_used, names_of}
 use Rattle.compiler_model.specs.Compiled.{rule_lines}
 use Rattle.compiler_model.proofs.Formed.{TreesAreSound}
-use Rattle.compiler_model.proofs.Placement.{all_append}
 use Rattle.compiler_model.proofs.CodeForm.{firsts_keep}
 
 module _ (Right : Bool → Text → Type 0) where

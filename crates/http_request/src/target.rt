@@ -15,7 +15,7 @@ fn authority_end(bytes: &[u8]) -> Option<usize>
 }
 
 /// How many bytes the authority at the beginning has.
-#[tactic(auto, using(crate::proofs::Places::place_or_length))]
+#[tactic(auto, using(text_model::proofs::Lists::index_or_length))]
 fn authority_length(bytes: &[u8]) -> usize
     ensures length { result ≡ spec.authority_length bytes.now }
     ensures within { result ≤ length bytes.now }

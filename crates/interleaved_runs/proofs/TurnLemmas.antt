@@ -11,9 +11,10 @@ use Rattle.environment_model.specs.Environment.{Environment}
 use Rattle.code_model.specs.Code.{Code}
 use Rattle.machine_model.specs.States.{State, End, Running, Ended}
 use Rattle.machine_model.specs.Next.{state_after, course_of}
-use Rattle.machine_model.specs.Runs.{After, EndsAfter}
+use Rattle.machine_model.specs.Runs.{After}
 use Rattle.target_vars.specs.EnvValue.{EnvValue}
 use Rattle.verified_runs.specs.RunValue.{RunValue, HasEnded, all_steps}
+use Rattle.verified_runs.proofs.Ends.{ends_too}
 use Rattle.interleaved_runs.specs.Turns.{continues, is_live, IsMoved, own_turns, IsPlayed}
 
 -- the states after steps are decided
@@ -36,11 +37,6 @@ others_go_on decided r never =
 
 -- ---- one move after another
 
--- the same code on the same environment ends after the same number of steps
-pub ends_alike : (old new : RunValue) (k : ℕ) → new.code ≡ old.code → new.env ≡ old.env → EndsAfter old.code old.env.entries k
-    → EndsAfter new.code new.env.entries k
-ends_alike old new k code env h = subst (λ x. EndsAfter x new.env.entries k) (sym code) (subst (λ x. EndsAfter old.code x.entries k) (sym env) h)
-
 -- and its whole run has the same number of steps
 all_alike : (old new : RunValue) → new.code ≡ old.code → new.env ≡ old.env → all_steps new ≡ all_steps old
 all_alike old new code env = ap (λ c. (course_of c new.env.entries).steps) code ∙ ap (λ (e : EnvValue). (course_of old.code e.entries).steps) env
@@ -55,7 +51,7 @@ moves_join old mid new m n first second = record {
   moved = steps_join old.steps m n mid.steps new.steps (all_steps old) first.moved
       (second.moved ∙ ap (λ k. min (mid.steps + n) k) (all_alike old mid first.code first.env));
   in_time = first.in_time;
-  steps = λ k ends. steps_join old.steps m n mid.steps new.steps k (first.steps k ends) (second.steps k (ends_alike old mid k first.code first.env ends));
+  steps = λ k ends. steps_join old.steps m n mid.steps new.steps k (first.steps k ends) (second.steps k (ends_too old mid k first.code first.env ends));
 }
 
 sum_one : (n : ℕ) → n ≡ n + 0

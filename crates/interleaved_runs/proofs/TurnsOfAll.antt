@@ -9,6 +9,7 @@ use Rattle.code_model.specs.Code.{Code}
 use Rattle.machine_model.specs.Next.{state_after}
 use Rattle.machine_model.specs.Runs.{EndsAfter}
 use Rattle.verified_runs.specs.RunValue.{RunValue}
+use Rattle.verified_runs.proofs.Ends.{same_run}
 use Rattle.interleaved_runs.specs.Turns.{is_live, IsMoved}
 use Rattle.interleaved_runs.specs.StepLists.{steps_of, with_list, with_lists, end_of, ends_of, steps_after, HasSeenSome, step_lists_in, step_lists_to_end}
 use Rattle.interleaved_runs.specs.StepLists.{turns_left, turns_to_end}
@@ -27,9 +28,6 @@ abbrev pub one_if : Bool → ℕ
 one_if b = cond b 1 0
 
 -- ---- one run
-
-same_run : (a b : RunValue) → a.code ≡ b.code → a.env ≡ b.env → a.steps ≡ b.steps → a ≡ b
-same_run a b code env steps = λ t. record { code = code t; env = env t; steps = steps t }
 
 more_steps : (m n end to : ℕ) → to ≡ min (min m end + n) end → to ≡ min (m + n) end
 more_steps m n end to is = omega (arith, is)

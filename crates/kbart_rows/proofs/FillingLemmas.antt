@@ -6,6 +6,7 @@ use Rattle.std.proofs.lemmas.List.{get_or-drop, take-append-drop}
 use Rattle.std.proofs.lemmas.List.Elements.{filter_map-append}
 use Rattle.std.specs.List.{cons_option, filter_map, range_with_len, sum_by}
 use Rattle.text_model.specs.Texts.{Text}
+use Rattle.text_model.proofs.Lists.{range_more}
 use Rattle.environment_model.specs.Environment.{Environment, byte_count, member_count}
 use Rattle.environment_model.proofs.Environments.{member_count-with_text}
 use Rattle.environment_model.proofs.EnvironmentGrowth.{byte_count-with_text-le}
@@ -15,7 +16,7 @@ use Rattle.target_vars.specs.declared.error.VarsError.TheVariants.{TooLarge, NoM
 use Rattle.kbart_rows.specs.Cells.{Row, NamedCell, cell_bytes, column_of, is_first, name_cell, named_cell, named_cells, row_bytes}
 use Rattle.kbart_rows.specs.Private.Kept.{cell_at_first, IsRefusedCell}
 use Rattle.kbart_rows.proofs.FirstColumns.{item_at}
-use Rattle.kbart_rows.proofs.Rows.{range_more, range_parts}
+use Rattle.kbart_rows.proofs.Rows.{range_parts}
 use Rattle.kbart_rows.specs.Filling.{fill_one, filled, with_defined, StopsAtCell}
 
 -- ---- growth
@@ -72,7 +73,7 @@ only_memory old cells new (Err TooLarge) err fits =
 
 -- ---- column by column
 
-one_cell : (env : Environment) (cell : Option NamedCell) → filled env (cons_option cell []) ≡ with_defined env cell
+pub one_cell : (env : Environment) (cell : Option NamedCell) → filled env (cons_option cell []) ≡ with_defined env cell
 one_cell env None = refl
 one_cell env (Some cell) = refl
 

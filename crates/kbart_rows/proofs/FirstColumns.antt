@@ -1,13 +1,14 @@
 -- A walk over the names of a header: the first column of each.
-use Rattle.std.proofs.Common.{◌≡◌, ℕ, ◌+◌, ◌≤◌, ◌<◌, ◌||◌, Bool, true, false, zero, suc, List, [], ◌∷◌, ◌++◌, length, take, drop, get_or, Option, Some, None}
+use Rattle.std.proofs.Common.{◌≡◌, ℕ, ◌+◌, ◌<◌, ◌||◌, Bool, true, false, suc, List, [], ◌∷◌, ◌++◌, length, take, drop, get_or, Option, Some, None}
 use Rattle.std.proofs.Common.{is_some, refl, sym, ap, ◌∙◌, arith, if◌then◌else◌}
 use Rattle.std.proofs.lemmas.Iterator.Adapters.{position_from-zero}
 use Rattle.std.proofs.lemmas.List.{drop_more, length-drop, take_all, take_more, length-take-le}
-use Rattle.std.proofs.lemmas.Option.{get_or_from_slice_get, none-some, slice_get_within}
+use Rattle.std.proofs.lemmas.Option.{get_or_from_slice_get, slice_get_within}
 use Rattle.std.specs.List.{position_from, slice_get}
 use Rattle.std.specs.Option.{unwrap_or}
 use Rattle.std.specs.Str.{bytes_eq}
 use Rattle.text_model.specs.Texts.{Text}
+use Rattle.text_model.proofs.Lists.{same_parts}
 use Rattle.kbart_rows.specs.Cells.{Row, column_of}
 
 -- ---- the first of what is left
@@ -19,15 +20,12 @@ pub record IsAt {X : Type 0} (xs : List X) (place : ℕ) (x : X) (rest : List X)
   pub after : rest ≡ drop (place + 1) xs
   pub passed : take (place + 1) xs ≡ take place xs ++ x ∷ []
 
-same_front : {X : Type 0} (x y : X) (xs ys : List X) → x ∷ xs ≡ y ∷ ys → (x ≡ y) × (xs ≡ ys)
-same_front x y xs ys e = (cc e, cc e)
-
 pub item_at : {X : Type 0} (xs : List X) (place : ℕ) (x : X) (rest : List X) → x ∷ rest ≡ drop place xs → IsAt xs place x rest
 item_at xs place x rest e =
     let long : suc (length rest) ≡ length (drop place xs) = ap length e in
     let size = length-drop place xs in
     let within : place < length xs = omega (arith, long, size) in
-    let here : (d : _) → (x ≡ get_or xs place d) × (rest ≡ drop (place + 1) xs) = λ d. same_front x (get_or xs place d) rest (drop (place + 1) xs)
+    let here : (d : _) → (x ≡ get_or xs place d) × (rest ≡ drop (place + 1) xs) = λ d. same_parts x (get_or xs place d) rest (drop (place + 1) xs)
     (e ∙ drop_more xs place d within) in
     record {
       inside = within;
@@ -41,11 +39,6 @@ pub all_passed : {X : Type 0} (xs : List X) (place : ℕ) → [] ≡ drop place 
 all_passed xs place e =
     let none : 0 ≡ length (drop place xs) = ap length e in
     take_all place xs (omega (arith, none, length-drop place xs))
-
-pub past_end : {X : Type 0} (xs : List X) (place : ℕ) → slice_get xs place ≡ None → length xs ≤ place
-past_end [] place none = omega arith
-past_end (x ∷ xs) zero none = absurd (none-some x (sym none))
-past_end (x ∷ xs) (suc place) none = omega (arith, past_end xs place none)
 
 -- ---- one more name
 

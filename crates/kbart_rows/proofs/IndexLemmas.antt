@@ -110,16 +110,6 @@ pub record AreSoFar (shift : ℕ) (entries : List Entry) (starts : List ℕ) (bu
       → bucket ≤ bucket_of shift (get_or entries k d).hash
   pub within : (bucket : ℕ) → bucket < length starts → get_or starts bucket 0 ≤ length entries
 
-pub no_starts : (shift : ℕ) (entries : List Entry) → AreSoFar shift entries [] 0 0
-no_starts shift entries = record {
-  count = refl;
-  inside = omega arith;
-  passed = λ k d below within. absurd (omega (arith, below));
-  before = λ bucket k d few below within. absurd (omega (arith, few));
-  after = λ bucket k d few above within. absurd (omega (arith, few));
-  within = λ bucket few. absurd (omega (arith, few));
-}
-
 pub one_start_more : (shift : ℕ) (entries : List Entry) (starts : List ℕ) (buckets at start : ℕ) → IsOrdered entries → AreSmall entries
     → AreSoFar shift entries starts buckets at → at ≤ start → start ≤ length entries
     → ((k : ℕ) (d : Entry) → at ≤ k → k < start → bucket_of shift (get_or entries k d).hash < buckets)
@@ -200,14 +190,3 @@ one_start_more shift entries starts buckets at start order small so_far later in
     by_within bucket few false more =
         let same = (last bucket few more).1 in
         omega (arith, same, inside)
-
-pub all_starts : (shift : ℕ) (entries : List Entry) (starts : List ℕ) (buckets at : ℕ) → AreSoFar shift entries starts buckets at
-    → buckets ≡ bucket_of shift 4294967295 + 2 → AreStarts shift entries starts
-all_starts shift entries starts buckets at so_far all =
-    let count = so_far.count in
-    record {
-      all = omega (arith, count, all);
-      before = so_far.before;
-      after = so_far.after;
-      within = so_far.within;
-    }

@@ -1,13 +1,14 @@
 -- Lines that are one after another in a text.
 use Rattle.std.proofs.Common.{◌≡◌, ℕ, ◌+◌, ◌≤◌, ◌<◌, zero, suc, List, [], ◌∷◌, ◌++◌, length, map, drop, get_or, slice_range, All, IsUtf8}
 use Rattle.std.proofs.Common.{IsCharBoundary, Some, refl, sym, ap, ◌∙◌, arith, length-append, drop_at}
-use Rattle.std.proofs.lemmas.List.{take-append-le, length-map, map-append}
+use Rattle.std.proofs.lemmas.List.{length-map, map-append}
 use Rattle.std.proofs.lemmas.List.Elements.{All-get_or, All-nil, All-push, All-weaker}
 use Rattle.std.proofs.lemmas.Option.{none-some, same_Some}
-use Rattle.std.proofs.lemmas.Str.{IsUtf8-take, IsCharBoundary-end, IsCharBoundary-from_take, IsCharBoundary-start}
+use Rattle.std.proofs.lemmas.Str.{IsCharBoundary-end, IsCharBoundary-start}
 use Rattle.csv.specs.Records.{cut_from, field_at, last_end, prev, Rising}
 use Rattle.csv.proofs.RecordFacts.{cut-end, cut-length, cut-more, field-bounds, field-cut, last-append, prev-first, prev-next, rising-end, rising-more}
 use Rattle.text_model.specs.Texts.{Text}
+use Rattle.target_vars.proofs.Growth.{boundary_stays}
 use Rattle.kbart_rows.specs.Lines.{cells_in}
 use Rattle.kbart_rows.specs.Private.Kept.{AreKept, lines_in}
 use Rattle.kbart_rows.specs.Private.Line.{IsClosed}
@@ -36,12 +37,6 @@ lines_more ends text line kept =
     cut-end 0 ends (text ++ line) rising
     ∙ ap (λ (front : List Text). front ++ drop (last_end 0 ends) (text ++ line) ∷ []) (cut-more 0 ends text line kept.rising)
     ∙ ap (λ (last : Text). lines_in ends text ++ last ∷ []) (drop_at text line (last_end 0 ends) (sym kept.whole))
-
-boundary_stays : (text line : Text) (i : ℕ) → IsUtf8 text → IsUtf8 (text ++ line) → IsCharBoundary text i → IsCharBoundary (text ++ line) i
-boundary_stays text line i utf8 both at =
-    let inside = at.0 in
-    IsCharBoundary-from_take (text ++ line) i both (omega (arith, length-append text line))
-    (rw (take-append-le i text line inside) (IsUtf8-take text i utf8 at))
 
 pub one_more_kept : (ends : List ℕ) (text line : Text) → IsUtf8 text → IsUtf8 (text ++ line) → length line ≤ MAX_ROW_BYTES + 1 → IsClosed line
     → AreKept ends text → AreKept (ends ++ length (text ++ line) ∷ []) (text ++ line)

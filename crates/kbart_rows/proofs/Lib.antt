@@ -1,6 +1,6 @@
 pub mod OnLiterals
 mod IdentifierExamples
-mod ReadingExamples
+pub mod ReadingExamples
 mod CellExamples
 pub mod LineCells
 pub mod LineRests

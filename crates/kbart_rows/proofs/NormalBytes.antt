@@ -1,5 +1,5 @@
 -- An identifier is normalised byte by byte.
-use Rattle.std.proofs.Common.{◌≡◌, ℕ, ◌-◌, ◌≤◌, ◌<◌, Bool, true, false, cond, List, []}
+use Rattle.std.proofs.Common.{◌≡◌, ℕ, ◌≤◌, ◌<◌, Bool, true, false, cond, List, []}
 use Rattle.std.proofs.Common.{◌∷◌, ◌++◌, All, filter, map, refl, sym, ap, ◌∙◌, arith, nat_lt, get_or}
 use Rattle.std.proofs.lemmas.Bool.Decides.{nat_tests}
 use Rattle.std.proofs.lemmas.List.{append-nil, get_or_default, map-append}
@@ -7,6 +7,7 @@ use Rattle.std.proofs.lemmas.List.Elements.{All-head, All-tail, filter-append}
 use Rattle.std.proofs.lemmas.Str.{encode_ascii, encodes-chars, inside_one}
 use Rattle.std.specs.Char.{to_ascii_uppercase}
 use Rattle.std.specs.Str.{IsUtf8, chars, encode_utf8_all}
+use Rattle.std.proofs.lemmas.Str.Ascii.{uppercase_ascii}
 use lib.Utf8.{encode}
 use Rattle.text_model.specs.Texts.{Text}
 use Rattle.kbart_rows.specs.Identifiers as spec
@@ -20,14 +21,6 @@ high_stays b high =
     let low : nat_lt b 97 ≡ false = grind (arith, high, nat_tests) in
     let past : nat_lt b 123 ≡ false = grind (arith, high, nat_tests) in
     rw low rw past refl
-
-low_stays : (b : ℕ) → b < 128 → to_ascii_uppercase b < 128
-low_stays b low = by_test (nat_lt b 97) (nat_lt b 123)
-  where
-    by_test : (x y : Bool) → cond x b (cond y (b - 32) b) < 128
-    by_test true y = low
-    by_test false true = omega (arith, low)
-    by_test false false = low
 
 all_high : (bs : Text) → All (λ b. 128 ≤ b) bs → normal bs ≡ bs
 all_high [] high = refl
@@ -58,7 +51,7 @@ one_character c = by_test (nat_lt c 128) refl
     by_test : (x : Bool) → nat_lt c 128 ≡ x → normal (encode c) ≡ cond (spec.counts c) (encode (to_ascii_uppercase c)) []
     by_test true low =
         let small : c < 128 = grind (arith, nat_tests) in
-        rw (encode_ascii c small) rw (encode_ascii (to_ascii_uppercase c) (low_stays c small)) (by_count (spec.counts c))
+        rw (encode_ascii c small) rw (encode_ascii (to_ascii_uppercase c) (uppercase_ascii c small)) (by_count (spec.counts c))
       where
         by_count : (b : Bool) → map to_ascii_uppercase (cond b (c ∷ []) []) ≡ cond b (to_ascii_uppercase c ∷ []) []
         by_count true = refl

@@ -84,13 +84,13 @@ reached_once s s1 s2 xs ys1 ys2 (cells ∷ lines) (others ∷ rest) one end1 two
     let first : cells ≡ others = one.2 ∙ ap (λ p. p.0) same ∙ sym two.2 in
     cc
 
-lines_are_unique : (bytes : Text) (lines others : List Row) → AreLines bytes lines → AreLines bytes others → lines ≡ others
+pub lines_are_unique : (bytes : Text) (lines others : List Row) → AreLines bytes lines → AreLines bytes others → lines ≡ others
 lines_are_unique bytes lines others one two =
     reached_once state.StartRecord one.0 two.0 (strip_bom bytes) one.1 two.1 lines others one.2 one.3 two.2 two.3
 
 -- ---- tables
 
-fits : (cells : Row) (lines : List Row) → row_bytes cells ≤ 65536 → AllFit lines → AllFit (cells ∷ lines)
+pub fits : (cells : Row) (lines : List Row) → row_bytes cells ≤ 65536 → AllFit lines → AllFit (cells ∷ lines)
 fits cells lines few others = All-cons (λ line. row_bytes line ≤ 65536) cells lines few others
 
 abbrev names : Row

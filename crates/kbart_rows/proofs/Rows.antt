@@ -1,7 +1,8 @@
 -- Ranges, and the identifiers of a row.
-use Rattle.std.proofs.Common.{◌≡◌, ℕ, ◌+◌, ◌||◌, Bool, true, false, zero, suc, [], ◌∷◌, ◌++◌, Option, Some, None, refl, ap, ◌∙◌, arith}
+use Rattle.std.proofs.Common.{◌≡◌, ℕ, ◌+◌, ◌||◌, zero, suc, [], ◌∷◌, ◌++◌, Option, Some, None, refl, ap, ◌∙◌, arith}
 use Rattle.std.specs.List.{cons_option, list_any, range_with_len}
 use Rattle.std.specs.Str.{bytes_eq}
+use Rattle.std.proofs.Math.Bool.{or-false}
 use Rattle.text_model.specs.Texts.{Text}
 use Rattle.kbart_rows.specs.Private.Kept.{is_id}
 
@@ -19,18 +20,10 @@ range_parts first (suc n) m =
     ap (range_with_len first) size ∙ ap (λ rest. first ∷ rest) (range_parts (first + 1) n m)
     ∙ ap (λ at. first ∷ (range_with_len (first + 1) n ++ at ∷ range_with_len (at + 1) m)) start
 
--- one more number
-pub range_more : (first n : ℕ) → range_with_len first (n + 1) ≡ range_with_len first n ++ (first + n) ∷ []
-range_more first n = range_parts first n 0
-
 -- ---- two identifiers
-
-or_false : (x : Bool) → (x || false) ≡ x
-or_false true = refl
-or_false false = refl
 
 pub one_of_two : (text : Text) (a b : Option Text) → list_any (bytes_eq text) (cons_option a (cons_option b [])) ≡ (is_id text a || is_id text b)
 one_of_two text None None = refl
-one_of_two text None (Some b) = or_false (bytes_eq text b)
+one_of_two text None (Some b) = or-false (bytes_eq text b)
 one_of_two text (Some a) None = refl
-one_of_two text (Some a) (Some b) = ap (λ later. bytes_eq text a || later) (or_false (bytes_eq text b))
+one_of_two text (Some a) (Some b) = ap (λ later. bytes_eq text a || later) (or-false (bytes_eq text b))

@@ -4,6 +4,7 @@ use Rattle.std.proofs.Common.{sym, ap, ◌∙◌, arith}
 use Rattle.std.specs.Prelude.{if◌then◌else◌}
 use Rattle.std.specs.List.{list_any}
 use Rattle.std.proofs.lemmas.Slice.Eq.{bytes_eq-Decides}
+use Rattle.std.proofs.Math.Bool.{or-false, or-true, or_assoc}
 use Rattle.text_model.specs.Texts.{Text}
 use Rattle.environment_model.specs.Environment.{Environment, Single, is_there, text_in, text_of, byte_count, member_count, with_text, with_member}
 use Rattle.environment_model.specs.Lists.{is_list}
@@ -14,18 +15,6 @@ use Rattle.kev_read.specs.Pairs.{KeyValue, has_key}
 use Rattle.kev_read.specs.Filling.{fill_one, filled}
 use Rattle.kev_read.proofs.FillingLemmas.{filled_more}
 use Rattle.kev_read.proofs.GatheredValues.{with_member-own, same_text}
-
-or_false : (b : Bool) → (b || false) ≡ b
-or_false true = refl
-or_false false = refl
-
-or_true : (b : Bool) → (b || true) ≡ true
-or_true true = refl
-or_true false = refl
-
-or_assoc : (a b c : Bool) → ((a || b) || c) ≡ (a || (b || c))
-or_assoc true b c = refl
-or_assoc false b c = refl
 
 -- ---- which names are defined after a pair
 
@@ -47,16 +36,16 @@ added_there list env pair key = by_key (bytes_eq pair.key key) refl list
         → is_there (cond list (with_member env pair.key pair.value) (with_text env pair.key pair.value)) key ≡ (is_there env key || b)
     by_key true same true =
         ap (is_there (with_member env pair.key pair.value)) (sym ((bytes_eq-Decides pair.key key).0 same))
-        ∙ ap is_some (with_member-own env pair.key pair.value) ∙ sym (or_true (is_there env key))
+        ∙ ap is_some (with_member-own env pair.key pair.value) ∙ sym (or-true (is_there env key))
     by_key true same false =
         ap (is_there (with_text env pair.key pair.value)) (sym ((bytes_eq-Decides pair.key key).0 same))
-        ∙ text_there env pair.key pair.value ∙ sym (or_true (is_there env key))
-    by_key false differs true = ap is_some (with_member-differs env pair.key pair.value key differs) ∙ sym (or_false (is_there env key))
-    by_key false differs false = ap is_some (with_text-differs env pair.key pair.value key differs) ∙ sym (or_false (is_there env key))
+        ∙ text_there env pair.key pair.value ∙ sym (or-true (is_there env key))
+    by_key false differs true = ap is_some (with_member-differs env pair.key pair.value key differs) ∙ sym (or-false (is_there env key))
+    by_key false differs false = ap is_some (with_text-differs env pair.key pair.value key differs) ∙ sym (or-false (is_there env key))
 
 filled_there : (lists : List Text) (env : Environment) (pairs : List KeyValue) (key : Text)
     → is_there (filled lists env pairs) key ≡ (is_there env key || list_any (has_key key) pairs)
-filled_there lists env [] key = sym (or_false (is_there env key))
+filled_there lists env [] key = sym (or-false (is_there env key))
 filled_there lists env (pair ∷ pairs) key =
     filled_there lists (fill_one lists env pair) pairs key
     ∙ ap (λ b. b || list_any (has_key key) pairs) (added_there (is_list lists pair.key) env pair key)

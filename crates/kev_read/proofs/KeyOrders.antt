@@ -1,12 +1,12 @@
 -- The order of pairs by their keys, and which of them have a key.
-use Rattle.std.proofs.Common.{◌≡◌, ℕ, ◌+◌, ◌-◌, ◌≤◌, ◌<◌, ◌==◌, Bool, true, false, List, [], ◌∷◌, ◌++◌, All, append-nil, filter, length, take, drop, get_or}
+use Rattle.std.proofs.Common.{◌≡◌, ℕ, ◌+◌, ◌-◌, ◌≤◌, ◌<◌, ◌==◌, Bool, true, false, List, [], ◌++◌, append-nil, filter, length, take, drop, get_or}
 use Rattle.std.proofs.Common.{Option, Some, None, refl, sym, ap}
 use Rattle.std.proofs.Common.{◌∙◌, subst, arith, length-drop}
 use Rattle.std.proofs.Math.Logic.{⊎_elim}
 use Rattle.std.proofs.lemmas.Bool.{cases_lt, eqb-true, eq-eqb}
 use Rattle.std.proofs.lemmas.Cmp.{nat_list_eq_equiv}
 use Rattle.std.proofs.lemmas.List.{get_or_default, get_or-drop, get_or-take, length-take-le, length-map, take-append-drop}
-use Rattle.std.proofs.lemmas.List.Elements.{All-from_get_or, All-head, All-tail, filter-append}
+use Rattle.std.proofs.lemmas.List.Elements.{All-from_get_or, filter-append}
 use Rattle.std.proofs.lemmas.List.Folds.{Any-from_list_any, list_any_at}
 use Rattle.std.proofs.lemmas.List.FromFn.{length-range_with_len, get_or-range_with_len}
 use Rattle.std.proofs.lemmas.List.Sorted.{All-permutation, list_any-IsPermutation, searchable_from_sorted, sum_by-IsPermutation}
@@ -21,6 +21,7 @@ use Rattle.std.specs.Str.{bytes_eq}
 use Rattle.std.specs.declared.cmp.Ordering.{Ordering}
 use Rattle.std.specs.declared.cmp.Ordering.TheVariants.{Less, Equal, Greater}
 use Rattle.text_model.specs.Texts.{Text}
+use Rattle.text_model.proofs.Lists.{filter_all, filter_none}
 use Rattle.kev_read.specs.Pairs.{KeyValue}
 use Rattle.kev_read.specs.Private.KeyOrder.{key_at, passes_at, compared, has_index, has_key_at, IsKeyOrder}
 use Rattle.kev_read.proofs.KeyMarks.{is_eq-compared_keys, keys_total}
@@ -128,18 +129,6 @@ within_pairs pairs key index equal =
     (λ past. let none : key_at pairs index ≡ None = slice_get_past _ index (rw length-map past) in
     absurd (let e = ap (λ k. is_eq (compared k (Some key))) none in cc))
     (cases_lt index (length pairs))
-
-filter_none : {X : Type 0} (p : X → Bool) (xs : List X) → All (λ x. p x ≡ false) xs → filter p xs ≡ []
-filter_none p [] none = refl
-filter_none p (x ∷ xs) none =
-    let here : p x ≡ false = All-head (λ y. p y ≡ false) x xs none in
-    rw here (filter_none p xs (All-tail (λ y. p y ≡ false) x xs none))
-
-filter_all : {X : Type 0} (p : X → Bool) (xs : List X) → All (λ x. p x ≡ true) xs → filter p xs ≡ xs
-filter_all p [] all = refl
-filter_all p (x ∷ xs) all =
-    let here : p x ≡ true = All-head (λ y. p y ≡ true) x xs all in
-    rw here (ap (λ ys. x ∷ ys) (filter_all p xs (All-tail (λ y. p y ≡ true) x xs all)))
 
 pub has_key_equal : (pairs : List KeyValue) (key : Text) (index : ℕ) → has_key_at key pairs index ≡ is_eq (compared_at pairs key index)
 has_key_equal pairs key index = by_key (key_at pairs index)

@@ -3,14 +3,15 @@ use Rattle.std.proofs.Common.{◌≡◌, ℕ, ◌+◌, ◌≤◌, ◌<◌, Bool,
 use Rattle.std.proofs.Common.{ap, ◌∙◌, append_assoc, arith}
 use Rattle.std.proofs.Common.{length-append}
 use Rattle.std.proofs.lemmas.List.{get_or-append-add, length-map, take_all}
-use Rattle.std.proofs.lemmas.List.Elements.{All-from_get_or, All-head, All-tail}
-use Rattle.std.proofs.lemmas.List.FromFn.{get_or-range_with_len, length-range_with_len}
+use Rattle.std.proofs.lemmas.List.Elements.{All-head, All-tail}
+use Rattle.std.proofs.lemmas.List.FromFn.{length-range_with_len}
 use Rattle.std.proofs.lemmas.List.Sums.{sum_by-cons}
 use Rattle.std.proofs.lemmas.Option.{get_or_from_slice_get, slice_get-get_or, slice_get-map}
 use Rattle.std.specs.List.{range_with_len, sum_by}
 use Rattle.std.specs.Option.{option_map}
 use Rattle.std.specs.Str.{bytes_eq}
 use Rattle.text_model.specs.Texts.{Text}
+use Rattle.text_model.proofs.Lists.{range_below, sum_by-map}
 use Rattle.kev_read.specs.Pairs.{KeyValue, all_of, has_key, value_bytes}
 use Rattle.kev_read.specs.Private.KeyOrder.{IsKeyOrder, has_key_at, pair_at, pairs_at}
 use Rattle.kev_read.proofs.FillingLemmas.{passes_there}
@@ -50,10 +51,6 @@ filter-agree {X} P p q agree (x ∷ xs) all =
     by_test true passes same rest = let passes_too : p x ≡ true = same ∙ passes in rw (passes, passes_too) (ap (λ ys. x ∷ ys) rest)
     by_test false fails same rest = let fails_too : p x ≡ false = same ∙ fails in rw (fails, fails_too) rest
 
-sum_by-map : {X Y : Type 0} (weight : Y → ℕ) (f : X → Y) (xs : List X) → sum_by weight (map f xs) ≡ sum_by (λ x. weight (f x)) xs
-sum_by-map weight f [] = refl
-sum_by-map weight f (x ∷ xs) = omega (arith, sum_by-map weight f xs, sum_by-cons weight (f x) (map f xs), sum_by-cons (λ x. weight (f x)) x xs)
-
 sum_of_ones : (xs : List ℕ) → sum_by (λ x. 1) xs ≡ length xs
 sum_of_ones [] = refl
 sum_of_ones (x ∷ xs) = omega (arith, sum_of_ones xs, sum_by-cons (λ (x : ℕ). 1) x xs)
@@ -76,11 +73,6 @@ pairs_from front (pair ∷ pairs) =
 pub in_query_order : (pairs : List KeyValue) → pairs_at pairs (range_with_len 0 (length pairs)) ≡ pairs
 in_query_order pairs = pairs_from [] pairs
 
-all_within : (n : ℕ) → All (λ index. index < n) (range_with_len 0 n)
-all_within n =
-    All-from_get_or (λ index. index < n) (range_with_len 0 n) 0
-    (λ index below. let l = length-range_with_len 0 n in let is = get_or-range_with_len 0 n index 0 (omega arith) in omega arith)
-
 -- ---- all indices in the order of the keys
 
 pub same_test : (pairs : List KeyValue) (key : Text) (index : ℕ) → index < length pairs → has_key key (pair_at pairs index) ≡ has_key_at key pairs index
@@ -99,7 +91,7 @@ same_values pairs order key ordered =
     let all = range_with_len 0 (length pairs) in
     values_at pairs key order ordered.within
     ∙ ap (λ kept. map (λ (pair : KeyValue). pair.value) (map (pair_at pairs) kept)) (ordered.stable key)
-    ∙ sym (values_at pairs key all (all_within (length pairs)))
+    ∙ sym (values_at pairs key all (range_below (length pairs)))
     ∙ ap (λ ps. all_of ps key) (in_query_order pairs)
 
 pub same_bytes : (pairs : List KeyValue) (order : List ℕ) → IsKeyOrder pairs order → value_bytes (pairs_at pairs order) ≡ value_bytes pairs

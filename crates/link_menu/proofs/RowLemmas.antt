@@ -1,26 +1,20 @@
 -- The rows of a target that are still to be tried, one after another.
-use Rattle.std.proofs.Common.{◌≡◌, ℕ, ◌+◌, ◌<◌, List, [], ◌∷◌, Option, Some, None, refl, sym, ap, ◌∙◌, subst, arith, length, get_or}
+use Rattle.std.proofs.Common.{◌≡◌, ℕ, ◌+◌, ◌<◌, List, [], ◌∷◌, Option, Some, None, refl, sym, ap, ◌∙◌, subst, length, get_or}
 use Rattle.std.proofs.Common.{All, drop, filter, nat_le}
 use Rattle.std.specs.Prelude.{Bool, true, false, if◌then◌else◌, IfSome, slice_get}
 use Rattle.std.specs.List.{range_with_len}
 use Rattle.std.proofs.lemmas.List.Elements.{All-filter, All-head}
-use Rattle.std.proofs.lemmas.List.FromFn.{length-range_with_len, get_or-range_with_len}
+use Rattle.text_model.proofs.Lists.{range_below}
 use Rattle.kev_read.specs.Pairs.{KeyValue}
 use Rattle.kbart_rows.specs.Identifiers.{first_from, identifier_columns, ids_of, is_match}
 use Rattle.row_scope.specs.RowValue.{TargetRequestValue}
 use Rattle.registry.specs.Targets.{TargetValue}
 use Rattle.registry.specs.Entries.{matching_rows_of}
 use Rattle.link_menu.specs.Private.Searches.{IsReady}
-use Rattle.link_menu.proofs.RoundLemmas.{AllFromStart, FirstAndRest, NoneFrom}
+use Rattle.link_menu.proofs.RoundLemmas.{FirstAndRest, NoneFrom}
 
 abbrev pub rows_from : ℕ → TargetValue → List KeyValue → List ℕ
 rows_from from target pairs = filter (nat_le from) (matching_rows_of target pairs)
-
-range_within : (n : ℕ) → All (λ row. row < n) (range_with_len 0 n)
-range_within n k d inside =
-    let long = length-range_with_len 0 n in
-    let at_k = get_or-range_with_len 0 n k d (omega (arith, inside, long)) in
-    omega (arith, inside, long, at_k)
 
 -- the table has each of them
 rows_within : (from : ℕ) (target : TargetValue) (pairs : List KeyValue) → All (λ row. row < length target.table.rows) (rows_from from target pairs)
@@ -28,7 +22,7 @@ rows_within from target pairs =
     let n = length target.table.rows in
     All-filter (nat_le from) (λ row. row < n) (matching_rows_of target pairs)
     (All-filter (λ row. is_match (identifier_columns target.table.header) (ids_of pairs) (get_or target.table.rows row [])) (λ row. row < n)
-    (range_with_len 0 n) (range_within n))
+    (range_with_len 0 n) (range_below n))
 
 first_within : (P : ℕ → Type 0) (rows : List ℕ) → All P rows → IfSome (slice_get rows 0) P
 first_within P [] all = tt

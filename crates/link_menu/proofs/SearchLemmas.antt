@@ -1,9 +1,10 @@
 -- Searches of targets, from the first row to the last.
-use Rattle.std.proofs.Common.{◌≡◌, ℕ, ◌+◌, List, [], ◌∷◌, ◌++◌, Option, Some, None, Bool, true, false, refl, sym, ap, ◌∙◌, arith, length, map, append-nil, take}
+use Rattle.std.proofs.Common.{◌≡◌, ℕ, ◌+◌, List, [], ◌∷◌, ◌++◌, Option, Some, None, Bool, true, false, refl, sym, ap, ◌∙◌, arith, length, map, take}
 use Rattle.std.proofs.Common.{drop}
 use Rattle.std.specs.Prelude.{◌||◌, is_some, if◌then◌else◌}
 use Rattle.std.specs.List.{list_any}
-use Rattle.std.proofs.lemmas.List.{drop_all, length-map, take_all}
+use Rattle.std.proofs.lemmas.List.{length-map}
+use Rattle.text_model.proofs.Lists.{written_back}
 use Rattle.kev_read.specs.Pairs.{KeyValue}
 use Rattle.kbart_rows.specs.Identifiers.{first_from}
 use Rattle.menu.specs.Links.{is_link}
@@ -110,11 +111,6 @@ menu_at_end (s ∷ searches) none = by_next s.next (menu_at_end searches) none
     by_next (Some row) rest none = absurd (grind (arith, none))
 
 -- ---- the searches after a round
-
-written_back : {X : Type 0} (new old : List X) (len : ℕ) → length old ≡ len → length new ≡ length old → take len (new ++ drop (length new) old) ≡ new
-written_back new old len long same =
-    ap (λ rest. take len (new ++ rest)) (drop_all (length new) old (omega (arith, same))) ∙ ap (take len) (append-nil new)
-    ∙ take_all len new (omega (arith, same, long))
 
 pub all_written_back : (old slice new : List SearchValue) (len : ℕ) → slice ≡ old → length slice ≡ len
     → new ≡ map after_next_row slice → take len (new ++ drop (length new) old) ≡ map after_next_row old

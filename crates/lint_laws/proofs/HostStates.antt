@@ -90,9 +90,6 @@ covered_text c a t h = elim h [
   ]
 ]
 
-past_covered : (b : HostState) → IsCovered Past b
-past_covered b = inl refl
-
 lost_covers : (b : HostState) → IsCovered Lost b → b ≡ Lost
 lost_covers Lost h = refl
 lost_covers Outside h = elim h [ inl e ↦ absurd (cc) | inr other ↦ elim other [ inl e ↦ absurd (cc) | inr e ↦ e ] ]

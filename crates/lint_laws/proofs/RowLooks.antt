@@ -2,11 +2,12 @@
 use Rattle.std.proofs.Common.{◌≡◌, ℕ, ◌<◌, Bool, true, false, not, ◌&&◌, List, [], ◌∷◌, length, get_or, Option, Some, None, is_some, refl, sym, ap, ◌∙◌, ◌⊎◌}
 use Rattle.std.proofs.Common.{inl, inr, subst, if◌then◌else◌}
 use Rattle.std.specs.List.{list_all}
-use Rattle.std.proofs.lemmas.Bool.{and_parts, both_ways, true_from_ne_false}
+use Rattle.std.proofs.lemmas.Bool.{and_parts, both_ways, not-true, true_from_ne_false}
 use Rattle.std.proofs.lemmas.List.Folds.{list_all_at}
 use Rattle.text_model.specs.Texts.{Text}
 use Rattle.environment_model.specs.Environment.{Environment, LookUp, Meaning, Single, Several, is_there, look_up, only_list, only_text, text_in, text_of}
 use Rattle.environment_model.specs.Lists.{is_list}
+use Rattle.environment_model.proofs.NameTests.{undefined}
 use Rattle.kev_read.specs.Pairs.{KeyValue}
 use Rattle.kev_read.specs.Filling.{filled}
 use Rattle.kbart_rows.specs.Cells.{Holdings, NamedCell, Row, cell_in, cell_of, column_of, defined, named_cells}
@@ -65,14 +66,6 @@ single None text e = absurd (cc)
 single (Some (Single t)) text e = let same : t ≡ text = cc in ap (λ u. Some (Single u)) same
 single (Some (Several ts)) text e = absurd (cc)
 
-undefined : (m : Option Meaning) → is_some m ≡ false → m ≡ None
-undefined None e = refl
-undefined (Some m) e = absurd (both_ways true e refl)
-
-not_true : (b : Bool) → not b ≡ true → b ≡ false
-not_true true e = absurd (both_ways false refl e)
-not_true false e = refl
-
 module _ (laws : RowLaws) (rules : RuleSet) (table : Holdings) (cells : Row) where
   abbrev entries : Environment
   entries = row_of (named_cells table.header cells)
@@ -121,7 +114,7 @@ module _ (laws : RowLaws) (rules : RuleSet) (table : Holdings) (cells : Row) whe
   own_cell name row within here e =
       let parts = and_parts (is_column table name) (not (is_list rules.lists name) && list_all (has_cell table name) table.rows) e in
       let both = and_parts (not (is_list rules.lists name)) (list_all (has_cell table name) table.rows) parts.1 in
-      means_cell name (not_true (is_list rules.lists name) both.0)
+      means_cell name (not-true (is_list rules.lists name) both.0)
       (ap (has_cell table name) here ∙ at_row (has_cell table name) table.rows row [] within both.1)
 
 pub row_looks : RowLaws → (rules : RuleSet) (table : Holdings) (row : ℕ) (pairs : List KeyValue) → row < length table.rows

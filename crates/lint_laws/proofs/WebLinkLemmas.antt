@@ -1,9 +1,10 @@
 -- A text that is not the beginning of a web link, and is not continued to one, is never a web link.
-use Rattle.std.proofs.Common.{◌≡◌, ℕ, ◌+◌, ◌==◌, Bool, true, false, not, ◌||◌, ◌&&◌, cond, List, [], ◌∷◌, ◌++◌, Some, None, ◌⊎◌, inl, inr, refl, sym, ap, ◌∙◌}
+use Rattle.std.proofs.Common.{◌≡◌, ℕ, ◌+◌, ◌==◌, Bool, true, false, ◌||◌, ◌&&◌, cond, List, [], ◌∷◌, ◌++◌, Some, None, ◌⊎◌, inl, inr, refl, sym, ap, ◌∙◌}
 use Rattle.std.proofs.Common.{arith, codes, append_assoc}
 use Rattle.std.specs.Prelude.{nat_lt}
 use Rattle.std.specs.Char.{to_ascii_lowercase}
 use Rattle.std.proofs.lemmas.Bool.{false≢true, and_from, and_parts, and_right, eqb-true, eq-eqb, ltb-false, or_cases}
+use Rattle.std.proofs.lemmas.Bool.{or_parts, not-true, both_ways, or_from, false_from_ne_true, or_left, or_right}
 use Rattle.text_model.specs.Texts.{Text}
 use Rattle.environment_model.specs.Environment.{LookUp}
 use Rattle.uri_text.specs.AnyCase.{begins_in_any_case}
@@ -48,32 +49,11 @@ begins_across [] r (c ∷ s) e = inr (refl, λ none. false≢true (ap (λ (x : T
 begins_across (b ∷ t) r (c ∷ s) e =
     let parts = and_parts (to_ascii_lowercase b == to_ascii_lowercase c) (begins_in_any_case (t ++ r) s) e in
     elim (begins_across t r s parts.1) [
-      | inl h ↦ inl (both _ _ parts.0 h)
-      | inr h ↦ inr (both _ _ (turned (to_ascii_lowercase b) (to_ascii_lowercase c) parts.0) h.0, h.1)
+      | inl h ↦ inl (and_from _ _ parts.0 h)
+      | inr h ↦ inr (and_from _ _ (turned (to_ascii_lowercase b) (to_ascii_lowercase c) parts.0) h.0, h.1)
     ]
-  where
-    both : (a b : Bool) → a ≡ true → b ≡ true → (a && b) ≡ true
-    both a b e f = ap (λ x. x && b) e ∙ f
 
 -- ---- links
-
--- neither disjunct is true
-neither : (a b : Bool) → not (a || b) ≡ true → (a ≡ false) × (b ≡ false)
-neither true b e = absurd (false≢true e)
-neither false true e = absurd (false≢true e)
-neither false false e = (refl, refl)
-
-or_absurd : (a b : Bool) → (a ≡ true → ⊥) → (b ≡ true → ⊥) → (a || b) ≡ false
-or_absurd true b f g = absurd (f refl)
-or_absurd false true f g = absurd (g refl)
-or_absurd false false f g = refl
-
-in_or_left : (a b : Bool) → (a || b) ≡ false → a ≡ true → ⊥
-in_or_left a b e f = false≢true (sym e ∙ ap (λ x. x || b) f)
-
-in_or_right : (a b : Bool) → (a || b) ≡ false → b ≡ true → ⊥
-in_or_right true b e f = false≢true (sym e)
-in_or_right false b e f = false≢true (sym e ∙ f)
 
 has_rest : (look : LookUp) (parts : List Part) (b : Bool) → has_expression parts ≡ b → (rest_text look parts ≡ [] → ⊥) → b ≡ true
 has_rest look parts true e f = refl
@@ -88,9 +68,6 @@ not_so look parts s f g e =
       | inr h ↦ g (has_rest look parts (has_expression parts) refl h.1) h.0
     ]
 
-and_true : (a b : Bool) → (a && b) ≡ false → a ≡ true → b ≡ true → ⊥
-and_true a b e f g = false≢true (sym e ∙ ap (λ x. x && b) f ∙ g)
-
 pub never_a_web_link : (look : LookUp) (parts : List Part) → is_never_web_link parts ≡ true → is_web_link (expansion look parts) ≡ false
 never_a_web_link look parts e =
     let t = first_text parts in
@@ -98,16 +75,13 @@ never_a_web_link look parts e =
     let secure = begins_in_any_case t (codes "https://") in
     let plain_on = begins_in_any_case (codes "http://") t in
     let secure_on = begins_in_any_case (codes "https://") t in
-    let none = neither (plain || secure) (has_expression parts && (plain_on || secure_on)) e in
-    or_absurd _ _
-    (not_so look parts (codes "http://") (in_or_left plain secure none.0)
-    (λ h k. and_true (has_expression parts) (plain_on || secure_on) none.1 h (ap (λ x. x || secure_on) k)))
-    (not_so look parts (codes "https://") (in_or_right plain secure none.0)
-    (λ h k. and_true (has_expression parts) (plain_on || secure_on) none.1 h (or_second plain_on secure_on k)))
-  where
-    or_second : (a b : Bool) → b ≡ true → (a || b) ≡ true
-    or_second true b k = refl
-    or_second false b k = k
+    let none = or_parts (plain || secure) (has_expression parts && (plain_on || secure_on)) (not-true _ e) in
+    let fronts = or_parts plain secure none.0 in
+    let continues : has_expression parts ≡ true → (plain_on || secure_on) ≡ true → ⊥ =
+    λ h k. both_ways _ none.1 (and_from (has_expression parts) (plain_on || secure_on) h k) in
+    or_from _ _
+    (false_from_ne_true _ (not_so look parts (codes "http://") (both_ways plain fronts.0) (λ h k. continues h (or_left plain_on secure_on k))))
+    (false_from_ne_true _ (not_so look parts (codes "https://") (both_ways secure fronts.1) (λ h k. continues h (or_right plain_on secure_on k))))
 
 -- ---- the slashes of a web link
 

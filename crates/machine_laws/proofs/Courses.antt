@@ -12,7 +12,7 @@ use Rattle.machine_model.proofs.Decides.{after_one, Step-next_state, next_state-
 use Rattle.machine_laws.proofs.Limit.{within_limit}
 
 module _ (c : Code) (v : Environment) where
-  after_suc : (k : ℕ) (old new : State) → After c v k old → Step c v old new → After c v (suc k) new
+  pub after_suc : (k : ℕ) (old new : State) → After c v k old → Step c v old new → After c v (suc k) new
   unfolding After
   after_suc k old new h st = (old, h, st)
 

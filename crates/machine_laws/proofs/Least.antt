@@ -4,13 +4,12 @@ use Rattle.std.specs.Prelude.{◌↔◌, if◌then◌else◌, option_and_then}
 use Rattle.std.specs.List.{AllByRecursion}
 use Rattle.std.proofs.Math.Path.{fun_ext}
 use Rattle.std.proofs.lemmas.Bool.{cases_lt}
-use Rattle.std.proofs.lemmas.Option.{slice_get_past}
+use Rattle.std.proofs.lemmas.Option.{same_Some, slice_get_past}
 use Rattle.code_model.specs.Code.{Code, reading}
 use Rattle.machine_model.specs.First.{Located}
 use Rattle.machine_model.specs.Kinds.{kind_le, Kinds, IsBelow, Need, for_instruction, needs, needs_at}
 use Rattle.machine_model.specs.Typable.{Table, IsMet, MeetsNeeds, IsTypable, TableBelow, IsLeast}
 use Rattle.machine_model.specs.Mismatch.{first_unmet, unmet_in, mismatch_at, first_mismatch, IsFirstMismatch}
-use Rattle.machine_model.proofs.Moves.{some_one}
 use Rattle.machine_model.proofs.Faults.{none_below, first_none}
 use Rattle.machine_model.proofs.Orders.{kind_le_trans, below_antisym}
 
@@ -25,7 +24,7 @@ same_row p t u b d = by_kinds (t p) refl (u p) refl
     by_kinds (Some ks) e o' e' =
         let k = b p ks e in
         let m = d p k.0 k.1 in
-        let back : m.0 ≡ ks = some_one (sym m.1 ∙ e) in
+        let back : m.0 ≡ ks = same_Some _ _ (sym m.1 ∙ e) in
         let same : ks ≡ k.0 = below_antisym ks k.0 k.2 (subst (IsBelow k.0) back m.2) in
         ap Some same ∙ sym k.1 ∙ e'
 
@@ -86,7 +85,7 @@ mismatch_decides c t = (
 
 -- a code has at most one first mismatch, and a code that has one is not typable
 pub one_first_mismatch : (c : Code) (m n : Located ℕ) → IsFirstMismatch c m → IsFirstMismatch c n → m ≡ n
-one_first_mismatch c m n h g = some_one (sym h.2 ∙ ap (first_mismatch c) (least_once c h.0 g.0 h.1 g.1) ∙ g.2)
+one_first_mismatch c m n h g = same_Some _ _ (sym h.2 ∙ ap (first_mismatch c) (least_once c h.0 g.0 h.1 g.1) ∙ g.2)
 
 pub mismatch_untypable : (c : Code) (m : Located ℕ) → IsFirstMismatch c m → IsTypable c → ⊥
 mismatch_untypable c m h y = let none = (mismatch_decides c h.0).0 ((least_decides c h.0 h.1).1 y) in absurd (cc (h.2, none))

@@ -9,7 +9,9 @@ pub mod Potential
 pub mod AtHand
 pub mod Spending
 pub mod Ends
-pub mod Prints
+pub mod UriOutputs
+pub mod OutputWeights
+pub mod OutputBounds
 pub mod Courses
 pub mod Registers
 pub mod PassLemmas

@@ -4,7 +4,7 @@ use Rattle.std.specs.Prelude.{option_map, option_and_then}
 use Rattle.std.specs.List.{list_all, AllByRecursion}
 use Rattle.std.proofs.Math.Path.{fun_ext}
 use Rattle.std.proofs.lemmas.Bool.{and_parts, cases_lt}
-use Rattle.std.proofs.lemmas.Option.{slice_get_past}
+use Rattle.std.proofs.lemmas.Option.{same_Some, slice_get_past}
 use Rattle.code_model.specs.Code.{Code, reading, reading_at}
 use Rattle.code_model.specs.declared.code.Instruction.{Instruction}
 use Rattle.machine_model.specs.declared.kind.Kind.{Kind}
@@ -15,7 +15,6 @@ use Rattle.machine_model.specs.Kinds.{kind_le, kind_join, Kinds, any_kinds, IsBe
 use Rattle.machine_model.specs.Typable.{Table, Holds, IsClosed, TableBelow, IsLeast}
 use Rattle.machine_model.specs.Passes.{Row, kinds_in, listed, joined, is_within, Rows, row_at, table_in, arrived, carried, carried_all, edges_from, followed}
 use Rattle.machine_model.specs.Passes.{pass, none_reached, first_rows, passes, is_covered, is_reached, is_closed}
-use Rattle.machine_model.proofs.Moves.{some_one}
 use Rattle.machine_model.proofs.Orders.{kind_join-least, below_trans, EdgesBelow, edges_below}
 use Rattle.machine_laws.proofs.Registers.{IsAnyFrom, EdgeAny, edges_at_any}
 
@@ -56,7 +55,7 @@ Arrives P n to ks = (o : Option Row) → ((row : Row) → o ≡ Some row → P t
 carried_keeps : (P : ℕ → Row → Type 0) (n to : ℕ) (ks : Kinds) (rows : Rows) → AllRows P rows → Arrives P n to ks → AllRows P (carried n to ks rows)
 unfolding carried
 carried_keeps P n to ks [] all a p row e = all p row e
-carried_keeps P n zero ks (o ∷ rows) all a zero row e = subst (P 0) (some_one e) (a o (all 0))
+carried_keeps P n zero ks (o ∷ rows) all a zero row e = subst (P 0) (same_Some _ _ e) (a o (all 0))
 carried_keeps P n zero ks (o ∷ rows) all a (suc p) row e = all (suc p) row e
 carried_keeps P n (suc to) ks (o ∷ rows) all a zero row e = all 0 row e
 carried_keeps P n (suc to) ks (o ∷ rows) all a (suc p) row e = carried_keeps (λ q. P (suc q)) n to ks rows (λ q x h. all (suc q) x h) a p row e
@@ -94,7 +93,7 @@ module _ (c : Code) (form : HasGoodForm c) (u : Table) (closed : IsClosed c u) w
       )
   arrives e h any (Some row) before =
       let l = before row refl in
-      let there : l.1.0 ≡ h.0 = some_one (sym l.1.1 ∙ h.1) in
+      let there : l.1.0 ≡ h.0 = same_Some _ _ (sym l.1.1 ∙ h.1) in
       let below : IsBelow (kinds_in row) h.0 = subst (IsBelow (kinds_in row)) there l.1.2 in (
         record { at = λ r le. joined_kinds row e.kinds r ∙ ap (λ k. kind_join k (e.kinds r)) (l.0.at r le) ∙ join_any (e.kinds r) },
         (h.0, h.1, record { at = λ r. rw (joined_kinds row e.kinds r) (kind_join-least (kinds_in row r) (e.kinds r) (h.0 r) (below.at r) (h.2.at r)) }),
@@ -130,7 +129,7 @@ module _ (c : Code) (form : HasGoodForm c) (u : Table) (closed : IsClosed c u) w
   first_below : AllRows IsBelowAt (first_rows c)
   first_below zero row e =
       let any : IsAnyFrom (register_count c) any_kinds = record { at = λ r le. refl } in
-      let same : listed (register_count c) any_kinds ≡ row = some_one e in
+      let same : listed (register_count c) any_kinds ≡ row = same_Some _ _ e in
       subst (IsBelowAt 0) same (record { at = λ r le. listed_kinds (register_count c) any_kinds r any }, (any_kinds, closed.first, record { at = λ r. refl }))
   first_below (suc p) row e = absurd (none_there (length c.instrs - 1) p row e)
 
@@ -146,7 +145,7 @@ module _ (c : Code) (form : HasGoodForm c) (u : Table) (closed : IsClosed c u) w
       by_row : (o : Option Row) → ((row : Row) → o ≡ Some row → IsBelowAt p row) → option_map kinds_in o ≡ Some ks → (ms : Kinds) × (u p ≡ Some ms)
           × IsBelow ks ms
       by_row None l e = absurd (cc)
-      by_row (Some row) l e = let here = l row refl in subst (λ k. (ms : Kinds) × (u p ≡ Some ms) × IsBelow k ms) (some_one e) here.1
+      by_row (Some row) l e = let here = l row refl in subst (λ k. (ms : Kinds) × (u p ≡ Some ms) × IsBelow k ms) (same_Some _ _ e) here.1
 
 -- ---- closed
 
@@ -192,7 +191,8 @@ module _ (c : Code) (rows : Rows) where
           by_row : (o : Option Row) → option_map kinds_in o ≡ Some ks → list_all (is_reached rows) (edges_from c p o) ≡ true
               → AllByRecursion (Holds (table_in rows)) (edges_at c p ks)
           by_row None e k = absurd (cc)
-          by_row (Some row) e k = subst (λ x. AllByRecursion (Holds (table_in rows)) (edges_at c p x)) (some_one e) (all_hold (edges_at c p (kinds_in row)) k)
+          by_row (Some row) e k =
+              subst (λ x. AllByRecursion (Holds (table_in rows)) (edges_at c p x)) (same_Some _ _ e) (all_hold (edges_at c p (kinds_in row)) k)
 
           within : p < length c.instrs → AllByRecursion (Holds (table_in rows)) (edges_at c p ks)
           within lt = by_row (row_at rows p) known (closed_at (length c.instrs) p h lt)

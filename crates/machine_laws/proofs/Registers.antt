@@ -3,7 +3,7 @@ use Rattle.std.proofs.Common.{◌≡◌, ℕ, ◌<◌, ◌≤◌, ◌∷◌, Lis
 use Rattle.std.specs.Prelude.{if◌then◌else◌, option_and_then}
 use Rattle.std.specs.List.{list_all, AllByRecursion}
 use Rattle.std.proofs.lemmas.Bool.{ne_eqb, ltb-true, and_parts, cases_lt}
-use Rattle.std.proofs.lemmas.Option.{slice_get_past}
+use Rattle.std.proofs.lemmas.Option.{same_Some, slice_get_past}
 use Rattle.code_model.specs.Code.{Code, reading, reading_at}
 use Rattle.code_model.specs.Operands.{Operand, Register, operands, is_in_range}
 use Rattle.code_model.specs.declared.code.Instruction.{Instruction}
@@ -16,7 +16,6 @@ use Rattle.machine_model.specs.Operands.{is_right, is_register, has_right_operan
 use Rattle.machine_model.specs.States.{put}
 use Rattle.machine_model.specs.Form.{body_at, HasGoodForm}
 use Rattle.machine_model.specs.Kinds.{Kinds, Edge, edges, for_instruction, edges_at}
-use Rattle.machine_model.proofs.Moves.{some_one}
 use Rattle.machine_model.proofs.Bodies.{is_in}
 use Rattle.machine_model.proofs.GoodPlaces.{good_at}
 
@@ -78,7 +77,7 @@ module _ (c : Code) where
         let begins = origin.1 in
         let lt : origin.0 < length c.instrs = omega (arith, begins.continues, begins.fits_in) in
         let g = good_at c form origin.0 lt in
-        let same : g.0 ≡ Each b.element begins.each.0 b.end = some_one (sym g.1.read ∙ begins.each.1) in
+        let same : g.0 ≡ Each b.element begins.each.0 b.end = same_Some _ _ (sym g.1.read ∙ begins.each.1) in
         first_register c (Each b.element begins.each.0 b.end) b.element _ refl (subst (λ i. has_right_operands c i ≡ true) same g.1.reads.right)
 
     -- nothing is known about such a register after an edge

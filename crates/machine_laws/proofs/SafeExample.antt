@@ -22,7 +22,7 @@ use Rattle.machine_model.proofs.Decides.{Step-next_state}
 use Rattle.machine_model.proofs.Faults.{form_decided}
 use Rattle.machine_laws.proofs.Least.{least_decides, mismatch_decides}
 use Rattle.machine_laws.proofs.PassLemmas.{passes_least}
-use Rattle.machine_laws.proofs.Prints.{safe}
+use Rattle.machine_laws.proofs.OutputBounds.{safe}
 
 list_is_file : IsFileCode list_code
 unfolding is_unreserved is_reserved

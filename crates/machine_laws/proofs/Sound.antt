@@ -6,6 +6,7 @@ use Rattle.std.specs.Prelude.{nat_lt, ◌||◌, not, option_map, bytes_eq}
 use Rattle.std.specs.List.{AllByRecursion}
 use Rattle.std.proofs.lemmas.Bool.{eqb-true, ltb-true, or_cases, false≢true, cases_lt}
 use Rattle.std.proofs.lemmas.Slice.Eq.{bytes_eq-Decides}
+use Rattle.std.proofs.lemmas.Option.{same_Some}
 use Rattle.text_model.specs.Texts.{Text}
 use Rattle.text_model.specs.Number.{leading_number}
 use Rattle.environment_model.specs.Environment.{Environment, text_of, members_of}
@@ -24,7 +25,6 @@ use Rattle.machine_model.specs.Step.{next_member, leave, count, IsInside, Leads}
 use Rattle.machine_model.specs.Form.{is_next, body_at, is_in_body, is_same_body, ends_body, target, goes_to, is_each, ends_run}
 use Rattle.machine_model.specs.Kinds.{kind_le, Kinds, needs, Edge, edge, edges}
 use Rattle.machine_model.specs.Typable.{Table, Holds, IsMet}
-use Rattle.machine_model.proofs.Moves.{some_one}
 use Rattle.machine_model.proofs.Bodies.{is_in, body_off, end_out, body_suc, same_bodies}
 use Rattle.machine_model.proofs.GoodPlaces.{IsGood, body_same}
 use Rattle.machine_model.specs.Fitting.{kind_of, Fits, body_of, Conforms}
@@ -65,17 +65,17 @@ module _ (c : Code) (t : Table) where
     fall op ks regs out g nl ne nn d h f =
         let more : s.place + 1 < length c.instrs =
         ltb-true (s.place + 1) (length c.instrs)
-        (⊎_elim (λ e. e) (λ e. absurd (cc)) (or_cases (nat_lt (s.place + 1) (length c.instrs)) (ends_run op) g.continues)) in
+        (⊎_elim (λ e. e) (λ e. absurd (cc)) (or_cases (nat_lt (s.place + 1) (length c.instrs)) (ends_run op) g.placed.continues)) in
         along v s op (edge (s.place + 1) ks) regs s.loop out d h f (omega arith) more (k.body ∙ sym (body_same c s.place op g ne nn))
 
     -- to the target of a jump
     jumps : (op : Instruction) (to : ℕ) (ks : Kinds) → IsGood c s.place op → target op ≡ Some to → is_each op ≡ false → Does c v s op (MovesTo (at to s))
         → Holds t (edge to ks) → Fits ks s.registers → Continues v s op
     jumps op to ks g e ne d h f =
-        let lt : goes_to (λ d. nat_lt s.place d) (Some to) ≡ true = rw e at g.forward in
-        let within : goes_to (λ d. nat_lt d (length c.instrs)) (Some to) ≡ true = rw e at g.within in
+        let lt : goes_to (λ d. nat_lt s.place d) (Some to) ≡ true = rw e at g.placed.forward in
+        let within : goes_to (λ d. nat_lt d (length c.instrs)) (Some to) ≡ true = rw e at g.placed.within in
         let cross : (is_each op || goes_to (λ d. is_same_body (body_at c s.place) (body_at c d)) (Some to)) ≡ true =
-        subst (λ o. (is_each op || goes_to (λ d. is_same_body (body_at c s.place) (body_at c d)) o) ≡ true) e g.crosses in
+        subst (λ o. (is_each op || goes_to (λ d. is_same_body (body_at c s.place) (body_at c d)) o) ≡ true) e g.placed.crosses in
         let cross' : (false || is_same_body (body_at c s.place) (body_at c to)) ≡ true =
         subst (λ b. (b || is_same_body (body_at c s.place) (body_at c to)) ≡ true) ne cross in
         along v s op (edge to ks) s.registers s.loop s.output d h f (ltb-true s.place to lt) (ltb-true to (length c.instrs) within)
@@ -143,13 +143,13 @@ module _ (c : Code) (t : Table) where
         fall (Cut a i m) _ _ _ g refl refl refl (cut_text a i m x.0 x.1) h.0 k.fits
     moves (Each a b d) g n h =
         let x = is_list (s.registers b) (fits_need k.kinds s.registers b ListKind k.fits n.0) in
-        by_turn s.loop refl (body_at c s.place) refl k.body g.nested x.0 x.1
+        by_turn s.loop refl (body_at c s.place) refl k.body g.placed.nested x.0 x.1
       where
         lt : s.place < d
-        lt = ltb-true s.place d g.forward
+        lt = ltb-true s.place d g.placed.forward
 
         within : d < length c.instrs
-        within = ltb-true d (length c.instrs) g.within
+        within = ltb-true d (length c.instrs) g.placed.within
 
         further : s.place + 1 < d
         further =
@@ -157,12 +157,12 @@ module _ (c : Code) (t : Table) where
             (λ l. l)
             (λ le. absurd (
             let e : d - 1 ≡ s.place = omega (arith, lt, le) in
-            let f : is_next (Some (Each a b d)) ≡ true = rw (ap (λ m. is_next (reading_at c m)) e, ap is_next g.read) at g.looped in
+            let f : is_next (Some (Each a b d)) ≡ true = rw (ap (λ m. is_next (reading_at c m)) e, ap is_next g.read) at g.placed.looped in
             false≢true f))
             (cases_lt (s.place + 1) d)
 
         opened : body_at c s.place ≡ None → body_at c (s.place + 1) ≡ Some (record { start = s.place + 1; end = d; element = a })
-        opened e = rw add-one (rw (body_suc c s.place, e, g.read, g.forward, g.within, g.looped) refl)
+        opened e = rw add-one (rw (body_suc c s.place, e, g.read, g.placed.forward, g.placed.within, g.placed.looped) refl)
 
         by_turn : (l : Option Loop) → s.loop ≡ l → (o : Option Body) → body_at c s.place ≡ o → option_map body_of l ≡ o → not (is_in_body o) ≡ true
             → (ts : List Text) → s.registers b ≡ ListValue ts → Continues v s (Each a b d)
@@ -174,7 +174,7 @@ module _ (c : Code) (t : Table) where
             along v s (Each a b d) (edge (s.place + 1) (put k.kinds a TextKind)) _ _ _ (enter a b d y ts e further hr) h.0
             (fits_put k.kinds s.registers a TextKind (TextValue y) k.fits refl) (omega arith) (omega (arith, within, further)) (sym (opened eo))
         by_turn _ e _ eo same out ts hr = absurd (cc)
-    moves (Sep b) g n h = by_turn s.loop refl (body_at c s.place) k.body g.sep_in
+    moves (Sep b) g n h = by_turn s.loop refl (body_at c s.place) k.body g.placed.sep_in
       where
         by_first : (l : Loop) → s.loop ≡ Some l → (f : Bool) → l.first ≡ f → Continues v s (Sep b)
         by_first l e true f = fall (Sep b) _ _ _ g refl refl refl (first_turn b l e f) h.0 k.fits
@@ -184,11 +184,12 @@ module _ (c : Code) (t : Table) where
         by_turn None e None same i = absurd (cc)
         by_turn None e (Some o) same i = absurd (cc)
         by_turn (Some l) e o same i = by_first l e l.first refl
-    moves Next g n h = by_turn s.loop refl (body_at c s.place) refl k.body g.next_last
+    moves Next g n h = by_turn s.loop refl (body_at c s.place) refl k.body g.placed.next_last
       where
         more : s.place + 1 < length c.instrs
         more =
-            ltb-true (s.place + 1) (length c.instrs) (⊎_elim (λ e. e) (λ e. absurd (cc)) (or_cases (nat_lt (s.place + 1) (length c.instrs)) false g.continues))
+            ltb-true (s.place + 1) (length c.instrs)
+            (⊎_elim (λ e. e) (λ e. absurd (cc)) (or_cases (nat_lt (s.place + 1) (length c.instrs)) false g.placed.continues))
 
         by_left : (l : Loop) → s.loop ≡ Some l → body_at c s.place ≡ Some (body_of l) → s.place + 1 ≡ l.end → (ts : List Text) → l.left ≡ ts
             → Continues v s Next
@@ -218,7 +219,7 @@ module _ (c : Code) (t : Table) where
         by_turn None e (Some o) eo same i = absurd (cc)
         by_turn (Some l) e None eo same i = absurd (cc)
         by_turn (Some l) e (Some o) eo same i =
-            let same' : body_of l ≡ o = some_one same in
+            let same' : body_of l ≡ o = same_Some _ _ same in
             by_left l e (eo ∙ ap Some (sym same')) (eqb-true (s.place + 1) o.end i ∙ ap (λ (x : Body). x.end) (sym same')) l.left refl
     moves (Count a b) g n h = let x = is_list (s.registers b) (fits_need k.kinds s.registers b ListKind k.fits n.0) in
         fall (Count a b) _ _ _ g refl refl refl (count a b x.0 x.1) h.0 (fits_put k.kinds s.registers a NumberKind (NumberValue (length x.0)) k.fits refl)

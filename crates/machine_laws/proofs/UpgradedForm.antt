@@ -1,6 +1,6 @@
 -- An upgrade keeps good form, kinds and the budget.
 
-use Rattle.std.proofs.Common.{◌≡◌, ℕ, zero, suc, ◌+◌, ◌-◌, ◌<◌, ◌≤◌, List, [], ◌∷◌, length, Option, Some, None, Bool, true, refl, sym, ap, ◌∙◌, subst, ◌⊎◌}
+use Rattle.std.proofs.Common.{◌≡◌, ℕ, zero, suc, ◌+◌, ◌-◌, ◌<◌, ◌≤◌, List, [], ◌∷◌, length, Option, Some, None, Bool, true, refl, sym, ap, ◌∙◌, subst}
 use Rattle.std.proofs.Common.{⊎_elim}
 use Rattle.std.specs.Prelude.{◌↔◌, slice_get, option_and_then, ◌&&◌, ◌||◌, not}
 use Rattle.std.specs.List.{list_all, AllByRecursion}
@@ -14,13 +14,14 @@ use Rattle.code_model.specs.declared.code.Instruction.{Instruction}
 use Rattle.code_model.specs.declared.code.Instruction.TheVariants.{Emit, Put, Cut, Each, Sep}
 use Rattle.machine_model.specs.declared.form.Body.{Body}
 use Rattle.machine_model.specs.Operands.{is_register, is_in_table, has_table_kind}
-use Rattle.machine_model.specs.Form.{is_next, opened, body_after, body_at, is_in_body, is_same_body, ends_body, target, goes_to, is_each, is_sep, Check, checks}
+use Rattle.machine_model.specs.Form.{is_next, opened, body_after, body_at, is_in_body, is_same_body, ends_body, target, goes_to, is_each, is_sep, checks}
 use Rattle.machine_model.specs.Form.{first_failing, fault_of, fault_in, fault_at, HasGoodForm}
 use Rattle.machine_model.specs.Kinds.{Kinds, needs, edges, for_instruction, needs_at, edges_at}
 use Rattle.machine_model.specs.Typable.{Holds, IsMet, IsTypable}
 use Rattle.machine_model.specs.Budget.{fixed_bytes, separator_bytes, written_bytes, fixed_at, separator_at, written_at, is_kept, prints_element, is_of_element}
 use Rattle.machine_model.specs.Budget.{of_element, of_others, where_outside, where_inside, outside, inside, sums_of}
-use Rattle.machine_model.proofs.GoodPlaces.{all_pass, good_at}
+use Rattle.machine_model.proofs.Checks.{passes_all, passes_from}
+use Rattle.machine_model.proofs.GoodPlaces.{good_at}
 use Rattle.machine_laws.proofs.Sums.{total_same}
 use Rattle.machine_laws.proofs.Upgrades.{read_at, reading_more, register_more}
 
@@ -49,10 +50,6 @@ module _ (c : Code) where
 
   -- ---- form
 
-  none_fails : (ks : List Check) → AllByRecursion (λ k. k.passes ≡ true) ks → first_failing ks ≡ None
-  none_fails [] h = refl
-  none_fails (k ∷ ks) h = rw h.0 (none_fails ks h.1)
-
   all_registers : (os : List Operand) → list_all (is_register c) os ≡ true → list_all (is_register (upgraded c)) os ≡ true
   all_registers [] k = refl
   all_registers (o ∷ os) k =
@@ -61,43 +58,26 @@ module _ (c : Code) where
 
   passes_more : (p : ℕ) (f : Instr) (i : Instruction) → first_failing (checks c p f i) ≡ None → first_failing (checks (upgraded c) p f i) ≡ None
   passes_more p f i h =
-      let a = all_pass c (checks c p f i) h in
+      let a = passes_from c p f i h in
+      let at = a.placed in
       let bodies = sym bodies_same in
       let nexts = sym (fun_ext is_next_same) in
-      none_fails (checks (upgraded c) p f i) (
-        a.0,
-        (
-          all_registers (operands i) a.1.0,
-          (
-            tables_same (operands i) a.1.1.0,
-            (
-              kinds_same (operands i) a.1.1.1.0,
-              (
-                a.1.1.1.1.0,
-                (
-                  a.1.1.1.1.1.0,
-                  (
-                    subst (λ (b : ℕ → Option Body). (is_each i || goes_to (λ d. is_same_body (b p) (b d)) (target i)) ≡ true) bodies a.1.1.1.1.1.1.0,
-                    (
-                      subst (λ (b : ℕ → Option Body). not (is_each i && is_in_body (b p)) ≡ true) bodies a.1.1.1.1.1.1.1.0,
-                      (
-                        subst (λ (n : ℕ → Bool). (not (is_each i) || goes_to (λ d. n (d - 1)) (target i)) ≡ true) nexts a.1.1.1.1.1.1.1.1.0,
-                        (
-                          subst (λ (b : ℕ → Option Body). (not (is_next (Some i)) || ends_body p (b p)) ≡ true) bodies a.1.1.1.1.1.1.1.1.1.0,
-                          (
-                            subst (λ (b : ℕ → Option Body). (not (is_sep i) || is_in_body (b p)) ≡ true) bodies a.1.1.1.1.1.1.1.1.1.1.0,
-                            (a.1.1.1.1.1.1.1.1.1.1.1.0, tt),
-                          ),
-                        ),
-                      ),
-                    ),
-                  ),
-                ),
-              ),
-            ),
-          ),
-        ),
-      )
+      passes_all (upgraded c) p f i (record {
+        spelled = a.spelled;
+        registers = all_registers (operands i) a.registers;
+        in_tables = tables_same (operands i) a.in_tables;
+        table_kinds = kinds_same (operands i) a.table_kinds;
+        placed = record {
+          forward = at.forward;
+          within = at.within;
+          crosses = subst (λ (b : ℕ → Option Body). (is_each i || goes_to (λ d. is_same_body (b p) (b d)) (target i)) ≡ true) bodies at.crosses;
+          nested = subst (λ (b : ℕ → Option Body). not (is_each i && is_in_body (b p)) ≡ true) bodies at.nested;
+          looped = subst (λ (n : ℕ → Bool). (not (is_each i) || goes_to (λ d. n (d - 1)) (target i)) ≡ true) nexts at.looped;
+          next_last = subst (λ (b : ℕ → Option Body). (not (is_next (Some i)) || ends_body p (b p)) ≡ true) bodies at.next_last;
+          sep_in = subst (λ (b : ℕ → Option Body). (not (is_sep i) || is_in_body (b p)) ≡ true) bodies at.sep_in;
+          continues = at.continues;
+        };
+      })
     where
       tables_same : (os : List Operand) → list_all (is_in_table c) os ≡ true → list_all (is_in_table (upgraded c)) os ≡ true
       tables_same [] k = refl

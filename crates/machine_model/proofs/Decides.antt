@@ -2,6 +2,7 @@
 use Rattle.std.proofs.Common.{◌≡◌, ℕ, zero, suc, length, Option, Some, None, Bool, true, false, refl, sym, ap, ◌∙◌}
 use Rattle.std.specs.Prelude.{◌↔◌, option_and_then, nat_lt, nat_le, if◌then◌else◌}
 use Rattle.std.proofs.lemmas.Bool.{lt-ltb, le-leb, ltb-true, leb-true, and_parts, and_from}
+use Rattle.std.proofs.lemmas.Option.{same_Some}
 use Rattle.environment_model.specs.Environment.{Environment}
 use Rattle.code_model.specs.Code.{Code}
 use Rattle.code_model.specs.declared.code.Instruction.{Instruction}
@@ -10,7 +11,7 @@ use Rattle.machine_model.specs.States.{Loop, Frame, State, Running, Ended}
 use Rattle.machine_model.specs.Step.{Move, Ends, MovesTo, Returns, IsInside, IsOnward, Leads, Step}
 use Rattle.machine_model.specs.Runs.{After}
 use Rattle.machine_model.specs.Next.{instruction_at, move_of, is_inside, is_onward, judged, next_state, state_after}
-use Rattle.machine_model.proofs.Moves.{some_one, move_of-does, does-move_of}
+use Rattle.machine_model.proofs.Moves.{move_of-does, does-move_of}
 use Rattle.machine_model.proofs.Readings.{Reads-instruction_at, instruction_at-Reads}
 
 inside_test : (l : Option Loop) (p : ℕ) → IsInside l p → is_inside l p ≡ true
@@ -37,13 +38,13 @@ module _ (c : Code) (from : ℕ) where
   Leads-judged (Returns s) new h = ap Some (sym h)
 
   judged-Leads : (m : Move) (new : State) → judged c from m ≡ Some new → Leads c from m new
-  judged-Leads (Ends e) new h = sym (some_one h)
+  judged-Leads (Ends e) new h = sym (same_Some _ _ h)
   judged-Leads (MovesTo s) new h = by_test (is_onward c from s) refl h
     where
       by_test : (t : Bool) → is_onward c from s ≡ t → (if t then Some (Running s) else None) ≡ Some new → Leads c from (MovesTo s) new
-      by_test true e h = (onward_from s e, sym (some_one h))
+      by_test true e h = (onward_from s e, sym (same_Some _ _ h))
       by_test false e h = absurd (cc)
-  judged-Leads (Returns s) new h = sym (some_one h)
+  judged-Leads (Returns s) new h = sym (same_Some _ _ h)
 
 module _ (c : Code) (v : Environment) where
   pub Step-next_state : (old new : State) → Step c v old new → next_state c v old ≡ Some new
@@ -70,7 +71,7 @@ module _ (c : Code) (v : Environment) where
 
   -- no state has two next states
   pub step_one : (s new other : State) → Step c v s new → Step c v s other → new ≡ other
-  step_one s new other h g = some_one (sym (Step-next_state s new h) ∙ Step-next_state s other g)
+  step_one s new other h g = same_Some _ _ (sym (Step-next_state s new h) ∙ Step-next_state s other g)
 
   pub After-state_after : (k : ℕ) (s : State) → After c v k s → state_after c v k ≡ Some s
   unfolding After state_after
@@ -79,7 +80,7 @@ module _ (c : Code) (v : Environment) where
 
   state_after-After : (k : ℕ) (s : State) → state_after c v k ≡ Some s → After c v k s
   unfolding After state_after
-  state_after-After zero s h = sym (some_one h)
+  state_after-After zero s h = sym (same_Some _ _ h)
   state_after-After (suc k) s h = by_state (state_after-After k) (state_after c v k) refl h
     where
       by_state : ((old : State) → state_after c v k ≡ Some old → After c v k old) → (o : Option State) → state_after c v k ≡ o
@@ -93,4 +94,4 @@ module _ (c : Code) (v : Environment) where
 
   -- there is at most one state after k steps
   pub after_one : (k : ℕ) (s t : State) → After c v k s → After c v k t → s ≡ t
-  after_one k s t h g = some_one (sym (After-state_after k s h) ∙ After-state_after k t g)
+  after_one k s t h g = same_Some _ _ (sym (After-state_after k s h) ∙ After-state_after k t g)

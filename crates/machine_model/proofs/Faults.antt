@@ -31,7 +31,7 @@ first_none f (suc n) h = rw (first_none f n (λ p lt. h p (omega arith)), h n (o
 
 -- ---- form
 
-past_good : (c : Code) (p : ℕ) → length c.instrs ≤ p → fault_at c p ≡ None
+pub past_good : (c : Code) (p : ℕ) → length c.instrs ≤ p → fault_at c p ≡ None
 unfolding fault_at
 past_good c p le = ap (fault_in c p) (slice_get_past c.instrs p le)
 

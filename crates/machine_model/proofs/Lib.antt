@@ -2,6 +2,7 @@ pub mod Moves
 pub mod Readings
 pub mod Decides
 pub mod Bodies
+pub mod Checks
 pub mod GoodPlaces
 pub mod Faults
 pub mod Orders

@@ -1,9 +1,8 @@
 -- A link and a name cannot break out of their places.
 use Rattle.std.proofs.Common.{◌≡◌, ◌≢◌, ℕ, Bool, true, false, [], ◌∷◌, ◌++◌, ◌⊎◌, inl, inr, refl, ap, subst, arith}
 use Rattle.std.specs.Prelude.{◌==◌, ◌||◌, if◌then◌else◌, All}
-use Rattle.std.specs.List.{list_all}
 use Rattle.std.proofs.lemmas.Bool.{eqb-false}
-use Rattle.std.proofs.lemmas.Bool.Decides.{nat_tests, Decides-by_and}
+use Rattle.std.proofs.lemmas.Bool.Decides.{nat_tests}
 use Rattle.std.proofs.lemmas.List.Elements.{All-nil, All-cons, All-head, All-tail, All-append, All-push, All-weaker}
 use Rattle.text_model.specs.Texts.{Text, percent, is_unreserved, is_reserved, is_hexadecimal}
 use Rattle.text_model.specs.Writing.{is_unreserved_or_reserved}
@@ -11,10 +10,6 @@ use Rattle.text_model.specs.UriText.{IsUriText, nothing, and_character, and_trip
 use Rattle.menu.specs.Contained.{is_delimiter, is_markup, BeginsWith, IsContained, is_name_character, IsTargetName}
 use Rattle.menu.specs.Escaping.{ampersand, apostrophe, ampersand_reference, apostrophe_reference, escaped_byte, escaped}
 use Rattle.menu.proofs.ReadingLemmas.{head_of, rest_of}
-
--- each element passes a test
-pub All-from_test : (test : ℕ → Bool) (t : Text) → list_all test t ≡ true → All (λ b. test b ≡ true) t
-All-from_test test t e = (Decides-by_and test (λ b. test b ≡ true) (list_all test) (λ _. (λ x. x, λ x. x)) refl (λ _ _. refl) t).0 e
 
 -- ---- delimiters
 

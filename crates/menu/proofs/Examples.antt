@@ -5,6 +5,7 @@ use Rattle.std.specs.List.{filter, range_with_len}
 use Rattle.std.specs.Str.{bytes_eq}
 use Rattle.std.specs.Fmt.{digits}
 use Rattle.text_model.specs.Texts.{Text}
+use Rattle.text_model.proofs.Lists.{All-from_list_all}
 use Rattle.menu.specs.Entries.{MenuEntry}
 use Rattle.menu.specs.declared.entry.Resolution.{Resolution}
 use Rattle.menu.specs.declared.entry.Resolution.TheVariants as resolution
@@ -13,7 +14,6 @@ use Rattle.menu.specs.Escaping.{escaped}
 use Rattle.menu.specs.Printed.{text, report, html}
 use Rattle.menu.specs.WebLink.{is_web_link}
 use Rattle.menu.specs.Contained.{is_name_character, is_markup, IsTargetName}
-use Rattle.menu.proofs.ContainedLemmas.{All-from_test}
 
 -- ---- menus
 
@@ -137,10 +137,10 @@ markup : filter is_markup all_bytes ≡ codes "\"&'<>"
 markup = refl
 
 one_character : IsTargetName (codes "a")
-one_character = record { some = lit≤ tt; few = lit≤ tt; characters = All-from_test is_name_character (codes "a") refl }
+one_character = record { some = lit≤ tt; few = lit≤ tt; characters = All-from_list_all is_name_character (codes "a") refl }
 
 longest_name : IsTargetName (replicate 64 0x61)
-longest_name = record { some = lit≤ tt; few = lit≤ tt; characters = All-from_test is_name_character (replicate 64 0x61) refl }
+longest_name = record { some = lit≤ tt; few = lit≤ tt; characters = All-from_list_all is_name_character (replicate 64 0x61) refl }
 
 too_long_name : IsTargetName (replicate 65 0x61) → ⊥
 too_long_name h = omega (arith, h.few)

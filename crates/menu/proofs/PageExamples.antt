@@ -5,13 +5,13 @@ use Rattle.std.proofs.lemmas.List.Elements.{All-nil, All-cons}
 use Rattle.text_model.specs.Texts.{is_unreserved, is_reserved}
 use Rattle.text_model.specs.Writing.{written_ur}
 use Rattle.text_model.proofs.UriTexts.{written_ur-uri}
+use Rattle.text_model.proofs.Lists.{All-from_list_all}
 use Rattle.menu.specs.Printed.{html}
 use Rattle.menu.specs.Escaping.{read_nothing, read_ampersand, read_character}
 use Rattle.menu.specs.Contained.{is_name_character}
 use Rattle.menu.specs.PageReading.{is_in_text, is_in_value, doctype, list_start, list_end, item_start, item_end, paragraph_start, paragraph_end, link_end}
 use Rattle.menu.specs.PageReading.{Token, tag, title, link, text, with_tag, with_link, with_text, IsReadAsTokens, read_end, read_token, links_in, IsSoundLink}
 use Rattle.menu.specs.PageReading.{HasSoundLinks, page_tokens}
-use Rattle.menu.proofs.ContainedLemmas.{All-from_test}
 use Rattle.menu.proofs.Examples.{one_link, no_link}
 use Rattle.menu.proofs.OneReading.{front, none_at_unknown, after_value, one_reading_of_page}
 use Rattle.menu.proofs.PageLemmas.{page-tokens}
@@ -32,7 +32,7 @@ alpha_is_sound : HasSoundLinks one_link
 unfolding written_ur is_unreserved is_reserved
 alpha_is_sound =
     All-cons IsSoundLink (record { name = codes "alpha"; link = codes "http://e.org/b" }) [] (record {
-      name = record { some = lit≤ tt; few = lit≤ tt; characters = All-from_test is_name_character (codes "alpha") refl };
+      name = record { some = lit≤ tt; few = lit≤ tt; characters = All-from_list_all is_name_character (codes "alpha") refl };
       uri = written_ur-uri (codes "http://e.org/b");
     }) (All-nil IsSoundLink)
 
@@ -64,12 +64,12 @@ link_in_link = refl
 
 reference_in_text : IsReadAsTokens (codes "R&amp;D") (text (codes "R&D") ∷ [])
 reference_in_text =
-    read_token _ _ _ _ (with_text (codes "R&amp;D") (codes "R&D") [] (λ e. absurd (cc)) (All-from_test is_in_text (codes "R&amp;D") refl) refl
+    read_token _ _ _ _ (with_text (codes "R&amp;D") (codes "R&D") [] (λ e. absurd (cc)) (All-from_list_all is_in_text (codes "R&amp;D") refl) refl
     (read_character _ _ _ (λ e. omega (arith, e)) (read_ampersand _ _ (read_character _ _ _ (λ e. omega (arith, e)) read_nothing)))) read_end
 
 reference_in_link : IsReadAsTokens (codes "<a href=\"a&amp;b\">") (link (codes "a&b") ∷ [])
 reference_in_link =
-    read_token _ _ _ _ (with_link (codes "a&amp;b") (codes "a&b") [] (All-from_test is_in_value (codes "a&amp;b") refl)
+    read_token _ _ _ _ (with_link (codes "a&amp;b") (codes "a&b") [] (All-from_list_all is_in_value (codes "a&amp;b") refl)
     (read_character _ _ _ (λ e. omega (arith, e)) (read_ampersand _ _ (read_character _ _ _ (λ e. omega (arith, e)) read_nothing)))) read_end
 
 -- ---- pages that are not read
@@ -81,7 +81,7 @@ script tokens h = none_at_unknown _ tokens refl h
 second_attribute : (tokens : List Token) → IsReadAsTokens (codes "<a href=\"x\" onclick=\"y\">z</a>") tokens → ⊥
 unfolding head_of
 second_attribute tokens h =
-    let after = after_value (codes "x") (codes " onclick=\"y\">z</a>") tokens (All-from_test is_in_value (codes "x") refl) h in
+    let after = after_value (codes "x") (codes " onclick=\"y\">z</a>") tokens (All-from_list_all is_in_value (codes "x") refl) h in
     omega (arith, ap head_of after.1)
 
 -- a link that is written with its quotation mark, `x"><p>`, is read as the link `x`, a tag and a text
@@ -89,7 +89,7 @@ quotation_mark_in_link : (tokens : List Token) → IsReadAsTokens (codes "<a hre
     → tokens ≡ link (codes "x") ∷ tag paragraph_start ∷ text (codes "\">") ∷ []
 quotation_mark_in_link tokens h = one_reading_of_page _ tokens _ h (
     read_token _ _ _ _
-    (with_link (codes "x") (codes "x") _ (All-from_test is_in_value (codes "x") refl) (read_character _ _ _ (λ e. omega (arith, e)) read_nothing))
+    (with_link (codes "x") (codes "x") _ (All-from_list_all is_in_value (codes "x") refl) (read_character _ _ _ (λ e. omega (arith, e)) read_nothing))
     (read_token _ _ _ _ (with_tag paragraph_start _)
-    (read_token _ _ _ _ (with_text (codes "\">") (codes "\">") [] (λ e. absurd (cc)) (All-from_test is_in_text (codes "\">") refl) refl
+    (read_token _ _ _ _ (with_text (codes "\">") (codes "\">") [] (λ e. absurd (cc)) (All-from_list_all is_in_text (codes "\">") refl) refl
     (read_character _ _ _ (λ e. omega (arith, e)) (read_character _ _ _ (λ e. omega (arith, e)) read_nothing))) read_end)))

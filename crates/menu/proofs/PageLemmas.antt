@@ -8,6 +8,7 @@ use Rattle.std.proofs.lemmas.List.{append-nil, nil_from_length}
 use Rattle.std.proofs.lemmas.Bool.Decides.{nat_tests}
 use Rattle.std.proofs.lemmas.List.Elements.{All-head, All-tail, All-weaker}
 use Rattle.text_model.specs.Texts.{Text, is_unreserved, is_reserved}
+use Rattle.text_model.proofs.Lists.{All-from_list_all}
 use Rattle.menu.specs.Entries.{MenuEntry}
 use Rattle.menu.specs.Contained.{is_name_character, IsTargetName}
 use Rattle.menu.specs.Escaping.{ampersand, apostrophe, ampersand_reference, apostrophe_reference, escaped, IsReadAs, read_nothing, read_character}
@@ -16,7 +17,7 @@ use Rattle.menu.specs.Printed.{html_item, html_list, html}
 use Rattle.menu.specs.PageReading.{is_in_text, is_in_value, ends_text, Tag, doctype, list_start, list_end, item_start, item_end, paragraph_start, paragraph_end}
 use Rattle.menu.specs.PageReading.{link_end, written_tag, Token, tag, title, link, text, with_tag, with_title, with_link, with_text, IsReadAsTokens, read_end}
 use Rattle.menu.specs.PageReading.{read_token, links_in, IsSoundLink, HasSoundLinks, item_tokens, page_tokens}
-use Rattle.menu.proofs.ContainedLemmas.{is_uri_byte, All-escaped, All-from_test}
+use Rattle.menu.proofs.ContainedLemmas.{is_uri_byte, All-escaped}
 use Rattle.menu.proofs.ReadingLemmas.{escaped-read_back}
 use Rattle.menu.proofs.OneReading.{one_reading_of_page}
 
@@ -43,7 +44,7 @@ reads_as_itself (b ∷ t) all =
 all_in_text : (t : Text) → All simple t → All (λ b. is_in_text b ≡ true) t
 all_in_text t all = All-weaker simple (λ b. is_in_text b ≡ true) simple_in_text t all
 
-tag_first : (t : Tag) (rest : Text) (tokens : List Token) → IsReadAsTokens rest tokens → IsReadAsTokens (written_tag t ++ rest) (tag t ∷ tokens)
+pub tag_first : (t : Tag) (rest : Text) (tokens : List Token) → IsReadAsTokens rest tokens → IsReadAsTokens (written_tag t ++ rest) (tag t ∷ tokens)
 tag_first t rest tokens h = read_token _ rest (tag t) tokens (with_tag t rest) h
 
 text_first : (t rest : Text) (tokens : List Token) → t ≢ [] → All simple t → ends_text rest ≡ true → IsReadAsTokens rest tokens
@@ -51,9 +52,9 @@ text_first : (t rest : Text) (tokens : List Token) → t ≢ [] → All simple t
 text_first t rest tokens some all stop h =
     read_token _ rest (text t) tokens (with_text t t rest some (all_in_text t all) stop (reads_as_itself t all)) h
 
-line_end_first : (rest : Text) (tokens : List Token) → ends_text rest ≡ true → IsReadAsTokens rest tokens
+pub line_end_first : (rest : Text) (tokens : List Token) → ends_text rest ≡ true → IsReadAsTokens rest tokens
     → IsReadAsTokens (codes "\n" ++ rest) (text (codes "\n") ∷ tokens)
-line_end_first rest tokens stop h = text_first (codes "\n") rest tokens (λ e. absurd (cc)) (All-from_test is_simple (codes "\n") refl) stop h
+line_end_first rest tokens stop h = text_first (codes "\n") rest tokens (λ e. absurd (cc)) (All-from_list_all is_simple (codes "\n") refl) stop h
 
 -- ---- items
 
@@ -63,8 +64,8 @@ value_byte b e n = grind (arith, nat_tests)
 
 all_in_value : (l : NamedLink) → IsSoundLink l → All (λ b. is_in_value b ≡ true) (escaped l.link)
 all_in_value l h =
-    All-escaped (λ b. is_in_value b ≡ true) (All-from_test is_in_value ampersand_reference refl)
-    (All-from_test is_in_value apostrophe_reference refl) value_byte l.link h.uri
+    All-escaped (λ b. is_in_value b ≡ true) (All-from_list_all is_in_value ampersand_reference refl)
+    (All-from_list_all is_in_value apostrophe_reference refl) value_byte l.link h.uri
 
 name_byte : (b : ℕ) → is_name_character b ≡ true → is_simple b ≡ true
 name_byte b e = grind (arith, nat_tests)
@@ -110,7 +111,7 @@ page_read menu sound =
     (line_end_first _ _ (list_first (is_empty menu)) (list_read (is_empty menu)))))
   where
     simple_title : All simple (codes "Links")
-    simple_title = All-from_test is_simple (codes "Links") refl
+    simple_title = All-from_list_all is_simple (codes "Links") refl
 
     list_first : (x : Bool) → ends_text (if x then codes "<p>No links</p>\n" else html_list menu) ≡ true
     list_first true = refl
@@ -120,7 +121,7 @@ page_read menu sound =
         (if x then (tag paragraph_start ∷ text (codes "No links") ∷ tag paragraph_end ∷ text (codes "\n") ∷ [])
         else (tag list_start ∷ text (codes "\n") ∷ (flat_map item_tokens (links menu) ++ tag list_end ∷ text (codes "\n") ∷ [])))
     list_read true =
-        tag_first paragraph_start _ _ (text_first (codes "No links") _ _ (λ e. absurd (cc)) (All-from_test is_simple (codes "No links") refl) refl
+        tag_first paragraph_start _ _ (text_first (codes "No links") _ _ (λ e. absurd (cc)) (All-from_list_all is_simple (codes "No links") refl) refl
         (tag_first paragraph_end _ _ (line_end_first [] [] refl read_end)))
     list_read false = tag_first list_start _ _ (line_end_first _ _ (items_end (links menu)) (items_read (links menu) sound))
 

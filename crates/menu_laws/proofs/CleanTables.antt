@@ -4,7 +4,7 @@ use Rattle.std.proofs.Common.{refl, sym, ap, ◌∙◌, subst, arith}
 use Rattle.std.specs.Prelude.{◌==◌, All, filter, option_map}
 use Rattle.std.specs.List.{Contains, cons_option, filter_map, flat_map, list_any, range_with_len}
 use Rattle.std.specs.Str.{bytes_eq}
-use Rattle.std.proofs.lemmas.Bool.{false≢true}
+use Rattle.std.proofs.lemmas.Bool.{false≢true, or_parts}
 use Rattle.std.proofs.lemmas.List.Elements.{All-cons, All-nil}
 use Rattle.std.proofs.lemmas.List.Folds.{list_any-append}
 use Rattle.std.proofs.lemmas.List.FromFn.{get_or-range_with_len, length-range_with_len}
@@ -21,10 +21,6 @@ use Rattle.menu_laws.specs.OneKey.{by_issn}
 use Rattle.menu_laws.proofs.NormalNumbers.{id_of_number}
 
 -- ---- lists without elements
-
-or_false : (a b : Bool) → (a || b) ≡ false → (a ≡ false) × (b ≡ false)
-or_false true b h = absurd (false≢true (sym h))
-or_false false b h = (refl, h)
 
 nothing_kept : {X : Type 0} (test : X → Bool) (xs : List X) → filter test xs ≡ [] → All (λ x. test x ≡ false) xs
 nothing_kept test [] none = All-nil (λ x. test x ≡ false)
@@ -62,8 +58,8 @@ unfolding have_warning findings_in_identifiers unidentified bad_numbers
 is_clean table none =
     let first = unidentified table in
     let others = bad_numbers table ++ most_rows table in
-    let parts = or_false (list_any is_warning first) (list_any is_warning others) (sym (list_any-append is_warning first others) ∙ none) in
-    let more = or_false (list_any is_warning (bad_numbers table)) (list_any is_warning (most_rows table))
+    let parts = or_parts (list_any is_warning first) (list_any is_warning others) (sym (list_any-append is_warning first others) ∙ none) in
+    let more = or_parts (list_any is_warning (bad_numbers table)) (list_any is_warning (most_rows table))
     (sym (list_any-append is_warning (bad_numbers table) (most_rows table)) ∙ parts.1) in
     record {
       rows = no_rows (row_faults (has_no_identifier table.header) table) parts.0;

@@ -1,23 +1,22 @@
 -- A target that meets the premises of `no_open_redirect`, its link for a request that has an address of its own, and targets about which `lint` warns.
-use Rattle.std.proofs.Common.{◌≡◌, ◌≢◌, ℕ, ◌==◌, Bool, true, false, not, List, [], ◌∷◌, ◌++◌, map, refl, ap, sym, ◌∙◌, subst, arith}
-use Rattle.std.proofs.Common.{codes, append_assoc, append-nil}
+use Rattle.std.proofs.Common.{◌≡◌, Bool, true, false, List, [], ◌∷◌, ◌++◌, map, refl, arith}
+use Rattle.std.proofs.Common.{codes}
 use Rattle.std.specs.Char.{encode_utf8}
-use Rattle.std.specs.List.{list_all}
 use Rattle.std.specs.Str.{chars}
-use Rattle.std.proofs.lemmas.Bool.{and_parts, eq-eqb, false≢true}
 use Rattle.std.proofs.lemmas.List.Elements.{All-cons, All-nil}
 use Rattle.environment_model.specs.Environment.{look_up, with_member}
 use Rattle.kev_read.specs.Pairs.{KeyValue}
 use Rattle.kbart_rows.specs.Cells.{Row}
 use Rattle.kbart_rows.proofs.OnLiterals.{kbart_rows_on_literals}
 use Rattle.uri_grammar.specs.Characters.{close_brace, comma}
-use Rattle.uri_grammar.specs.Names.{is_name_character, IsVarname, first_varchar, next_varchar, character_varchar}
-use Rattle.uri_grammar.specs.Specs.{no_modifier, Lacks, SpellsSpecs}
+use Rattle.uri_grammar.specs.Names.{IsVarname, first_varchar, character_varchar}
+use Rattle.uri_grammar.specs.Specs.{no_modifier, SpellsSpecs}
 use Rattle.uri_grammar.specs.Texts.{IsTemplate}
 use Rattle.uri_grammar.specs.declared.parts.Op.TheVariants as operator
 use Rattle.uri_grammar.specs.declared.parts.Part.{Part}
 use Rattle.uri_grammar.specs.declared.parts.Part.TheVariants.{Expression}
 use Rattle.uri_grammar.specs.declared.parts.Spec.{Spec}
+use Rattle.uri_grammar.proofs.Examples.{lacks, word_more}
 use Rattle.rule_parser.specs.Rules.{IsSound, IsSoundGuard, IsSoundRule, RuleSet}
 use Rattle.menu.specs.Links.{links}
 use Rattle.verified_runs.specs.Fates.{fate_in}
@@ -35,20 +34,8 @@ url_spec = record { name = codes "title_url"; cut = 0; explode = false }
 abbrev url_parts : List Part
 url_parts = Expression operator.Plus (url_spec ∷ []) ∷ []
 
-lacks : (c : ℕ) (cs : List ℕ) → list_all (λ x. not (x == c)) cs ≡ true → Lacks c cs
-lacks c [] t = All-nil (λ x. x ≢ c)
-lacks c (x ∷ xs) t =
-    let tests = and_parts (not (x == c)) (list_all (λ y. not (y == c)) xs) t in
-    All-cons (λ y. y ≢ c) x xs (λ e. false≢true (sym (ap not (eq-eqb x c e)) ∙ tests.0)) (lacks c xs tests.1)
-
-longer_name : (name cs : List ℕ) → IsVarname name → list_all is_name_character cs ≡ true → IsVarname (name ++ cs)
-longer_name name [] h t = subst IsVarname (sym (append-nil name)) h
-longer_name name (c ∷ cs) h t =
-    let tests = and_parts (is_name_character c) (list_all is_name_character cs) t in
-    subst IsVarname (append_assoc name (c ∷ []) cs) (longer_name (name ++ c ∷ []) cs (next_varchar name (c ∷ []) h (character_varchar c tests.0)) tests.1)
-
 url_name : IsVarname (codes "title_url")
-url_name = longer_name (codes "t") (codes "itle_url") (first_varchar (codes "t") (character_varchar 0x74 refl)) refl
+url_name = word_more (codes "t") (codes "itle_url") (first_varchar (codes "t") (character_varchar 0x74 refl)) refl
 
 url_template : IsTemplate (codes "{+title_url}") url_parts
 unfolding encode_utf8

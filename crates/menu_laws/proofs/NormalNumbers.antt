@@ -8,12 +8,13 @@ use Rattle.std.specs.Str.{IsAscii, bytes_eq, encode_utf8_all}
 use Rattle.std.proofs.lemmas.Bool.{and_parts, cases_lt, eqb-true}
 use Rattle.std.proofs.lemmas.Bool.Decides.{nat_tests, Decides-by_and}
 use Rattle.std.proofs.lemmas.List.{get_or-take, get_or_default, get_or_past, length-take-le}
-use Rattle.std.proofs.lemmas.List.Elements.{All-head, All-tail, All-weaker}
+use Rattle.std.proofs.lemmas.List.Elements.{All-weaker}
 use Rattle.std.proofs.lemmas.List.Folds.{map_fixed}
 use Rattle.std.proofs.lemmas.Slice.Eq.{bytes_eq-Decides}
 use Rattle.std.proofs.lemmas.Str.{chars-IsAscii}
 use Rattle.std.proofs.lemmas.Str.Ascii.{encodes-IsAscii}
 use Rattle.text_model.specs.Texts.{Text}
+use Rattle.text_model.proofs.Lists.{filter_all}
 use Rattle.kbart_rows.specs.Identifiers.{counts, ids_of, normalised}
 use Rattle.table_inspection.specs.Identifiers.{is_check, is_checked, is_long_isbn, is_number}
 use Rattle.menu_laws.specs.OneKey.{by_issn}
@@ -87,16 +88,11 @@ plain_counts b e = grind (arith, nat_tests)
 plain_upper : (b : ℕ) → plain b → to_ascii_uppercase b ≡ b
 plain_upper b e = grind (arith, nat_tests)
 
-all_kept : (test : ℕ → Bool) (t : Text) → All (λ b. test b ≡ true) t → filter test t ≡ t
-all_kept test [] all = refl
-all_kept test (b ∷ t) all =
-    rw (All-head (λ b. test b ≡ true) b t all) (ap (λ (rest : Text). b ∷ rest) (all_kept test t (All-tail (λ b. test b ≡ true) b t all)))
-
 plain_normal : (id : Text) → All plain id → normalised id ≡ id
 plain_normal id all =
     let ascii = plain_ascii id all in
     ap (λ (t : Text). encode_utf8_all (map to_ascii_uppercase (filter counts t))) (chars-IsAscii id ascii)
-    ∙ ap (λ (t : Text). encode_utf8_all (map to_ascii_uppercase t)) (all_kept counts id (All-weaker plain (λ b. counts b ≡ true) plain_counts id all))
+    ∙ ap (λ (t : Text). encode_utf8_all (map to_ascii_uppercase t)) (filter_all counts id (All-weaker plain (λ b. counts b ≡ true) plain_counts id all))
     ∙ ap encode_utf8_all (map_fixed to_ascii_uppercase id (All-weaker plain (λ b. to_ascii_uppercase b ≡ b) plain_upper id all))
     ∙ encodes-IsAscii id ascii
 

@@ -1,14 +1,14 @@
 -- The pages of the two small registries, read token by token: what `targets_are_independent` says of their links, computed.
 use Rattle.std.proofs.Common.{◌≡◌, ◌≢◌, ℕ, ◌==◌, Bool, true, not, List, [], ◌∷◌, ◌++◌, refl, sym, ap, ◌∙◌, codes, length, arith}
-use Rattle.std.specs.Prelude.{All}
 use Rattle.std.specs.List.{list_all}
 use Rattle.std.proofs.lemmas.Bool.{and_parts, eq-eqb, false≢true}
-use Rattle.std.proofs.lemmas.List.Elements.{All-cons, All-nil}
 use Rattle.text_model.specs.Texts.{Text}
+use Rattle.text_model.proofs.Lists.{All-from_list_all}
 use Rattle.kbart_rows.proofs.OnLiterals.{kbart_rows_on_literals}
 use Rattle.menu.specs.Escaping.{IsReadAs, ampersand, read_character, read_nothing}
-use Rattle.menu.specs.PageReading.{IsReadAsTokens, Tag, Token, doctype, ends_text, is_in_text, is_in_value, item_end, item_start, link, link_end, links_in}
-use Rattle.menu.specs.PageReading.{list_end, list_start, read_end, read_token, tag, text, title, with_link, with_tag, with_text, with_title, written_tag}
+use Rattle.menu.specs.PageReading.{IsReadAsTokens, Token, doctype, ends_text, is_in_text, is_in_value, item_end, item_start, link, link_end, links_in}
+use Rattle.menu.specs.PageReading.{list_end, list_start, read_end, read_token, tag, text, title, with_link, with_text, with_title}
+use Rattle.menu.proofs.PageLemmas.{line_end_first, tag_first}
 use Rattle.verified_runs.specs.Fates.{fate_in}
 use Rattle.registry.specs.Entries.{menu_of}
 use Rattle.http_request.specs.declared.route.Page.TheVariants as page
@@ -28,34 +28,20 @@ as_it_is (b ∷ t) h =
     let tests = and_parts (is_other b) (list_all is_other t) h in
     read_character b t t (λ same. false≢true (sym (ap not (eq-eqb b ampersand same)) ∙ tests.0)) (as_it_is t tests.1)
 
-each : (test : ℕ → Bool) (t : Text) → list_all test t ≡ true → All (λ b. test b ≡ true) t
-each test [] h = All-nil (λ b. test b ≡ true)
-each test (b ∷ t) h =
-    let tests = and_parts (test b) (list_all test t) h in
-    All-cons (λ b. test b ≡ true) b t tests.0 (each test t tests.1)
-
-a_tag : (t : Tag) (rest : Text) (others : List Token) → IsReadAsTokens rest others → IsReadAsTokens (written_tag t ++ rest) (tag t ∷ others)
-a_tag t rest others h = read_token (written_tag t ++ rest) rest (tag t) others (with_tag t rest) h
-
 a_title : (t rest : Text) (others : List Token) → list_all is_in_text t ≡ true → list_all is_other t ≡ true → IsReadAsTokens rest others
     → IsReadAsTokens (codes "<title>" ++ (t ++ (codes "</title>" ++ rest))) (title t ∷ others)
-a_title t rest others within plain h = read_token _ rest (title t) others (with_title t t rest (each is_in_text t within) (as_it_is t plain)) h
+a_title t rest others within plain h = read_token _ rest (title t) others (with_title t t rest (All-from_list_all is_in_text t within) (as_it_is t plain)) h
 
 a_link : (t rest : Text) (others : List Token) → list_all is_in_value t ≡ true → list_all is_other t ≡ true → IsReadAsTokens rest others
     → IsReadAsTokens (codes "<a href=\"" ++ (t ++ (codes "\">" ++ rest))) (link t ∷ others)
-a_link t rest others within plain h = read_token _ rest (link t) others (with_link t t rest (each is_in_value t within) (as_it_is t plain)) h
+a_link t rest others within plain h = read_token _ rest (link t) others (with_link t t rest (All-from_list_all is_in_value t within) (as_it_is t plain)) h
 
 a_text : (b : ℕ) (t rest : Text) (others : List Token) → list_all is_in_text (b ∷ t) ≡ true → list_all is_other (b ∷ t) ≡ true → ends_text rest ≡ true
     → IsReadAsTokens rest others
     → IsReadAsTokens ((b ∷ t) ++ rest) (text (b ∷ t) ∷ others)
 a_text b t rest others within plain ends h =
     let some : (b ∷ t) ≢ [] = λ none. absurd (omega (arith, ap length none)) in
-    read_token _ rest (text (b ∷ t)) others (with_text (b ∷ t) (b ∷ t) rest some (each is_in_text (b ∷ t) within) ends (as_it_is (b ∷ t) plain)) h
-
-a_line_end : (rest : Text) (others : List Token) → ends_text rest ≡ true → IsReadAsTokens rest others
-    → IsReadAsTokens (codes "\n" ++ rest) (text (codes "\n") ∷ others)
-unfolding is_other
-a_line_end rest others ends h = a_text 10 [] rest others refl refl ends h
+    read_token _ rest (text (b ∷ t)) others (with_text (b ∷ t) (b ∷ t) rest some (All-from_list_all is_in_text (b ∷ t) within) ends (as_it_is (b ∷ t) plain)) h
 
 -- ---- pages
 
@@ -74,23 +60,23 @@ abbrev beta_item : List Token
 beta_item = item (codes "beta") (codes "http://e.org/b") page_end
 
 end_is_read : IsReadAsTokens (codes "</ul>\n") page_end
-end_is_read = a_tag list_end _ _ (a_line_end [] [] refl read_end)
+end_is_read = tag_first list_end _ _ (line_end_first [] [] refl read_end)
 
 beta_is_read : IsReadAsTokens (codes "<li><a href=\"http://e.org/b\">beta</a></li>\n</ul>\n") beta_item
 unfolding is_other
 beta_is_read =
-    a_tag item_start _ _
+    tag_first item_start _ _
     (a_link (codes "http://e.org/b") _ _ refl refl
-    (a_text 0x62 (codes "eta") _ _ refl refl refl (a_tag link_end _ _ (a_tag item_end _ _ (a_line_end _ _ refl end_is_read)))))
+    (a_text 0x62 (codes "eta") _ _ refl refl refl (tag_first link_end _ _ (tag_first item_end _ _ (line_end_first _ _ refl end_is_read)))))
 
 alpha_is_read : IsReadAsTokens
     (codes "<li><a href=\"http://e.org/a\">alpha</a></li>\n<li><a href=\"http://e.org/b\">beta</a></li>\n</ul>\n")
     (item (codes "alpha") (codes "http://e.org/a") beta_item)
 unfolding is_other
 alpha_is_read =
-    a_tag item_start _ _
+    tag_first item_start _ _
     (a_link (codes "http://e.org/a") _ _ refl refl
-    (a_text 0x61 (codes "lpha") _ _ refl refl refl (a_tag link_end _ _ (a_tag item_end _ _ (a_line_end _ _ refl beta_is_read)))))
+    (a_text 0x61 (codes "lpha") _ _ refl refl refl (tag_first link_end _ _ (tag_first item_end _ _ (line_end_first _ _ refl beta_is_read)))))
 
 abbrev begun : Text → Text
 begun items = codes "<!DOCTYPE html>\n<title>Links</title>\n<ul>\n" ++ items
@@ -99,8 +85,8 @@ begin_is_read : (items : Text) (tokens : List Token) → ends_text items ≡ tru
     → IsReadAsTokens (begun items) (page_with tokens)
 unfolding is_other
 begin_is_read items tokens ends h =
-    let list = a_tag list_start _ _ (a_line_end items tokens ends h) in
-    a_tag doctype _ _ (a_line_end _ _ refl (a_title (codes "Links") _ _ refl refl (a_line_end _ _ refl list)))
+    let list = tag_first list_start _ _ (line_end_first items tokens ends h) in
+    tag_first doctype _ _ (line_end_first _ _ refl (a_title (codes "Links") _ _ refl refl (line_end_first _ _ refl list)))
 
 page_with_alpha : IsReadAsTokens (menu_reply (menu_of registry) page.Html request).body (page_with (item (codes "alpha") (codes "http://e.org/a") beta_item))
 unfolding kbart_rows_on_literals run_on_literals fate_in

@@ -6,6 +6,7 @@ use Rattle.std.specs.List.{cons_option, sum, sum_by}
 use Rattle.std.proofs.lemmas.List.{length-append}
 use Rattle.std.proofs.lemmas.List.Elements.{All-cons, All-head, All-nil, All-tail}
 use Rattle.std.proofs.lemmas.List.Sums.{sum_by-append, sum_by-cons}
+use Rattle.text_model.proofs.Lists.{sum_by-same}
 use Rattle.machine_model.specs.Safe.{IsSafe}
 use Rattle.kev_read.specs.Pairs.{KeyValue}
 use Rattle.registry.specs.Targets.{TargetValue}
@@ -33,15 +34,6 @@ sum_within f g (x ∷ xs) all =
     let two = sum_by-cons g x xs in
     let here : f x ≤ g x = All-head (λ x. f x ≤ g x) x xs all in
     let rest = sum_within f g xs (All-tail (λ x. f x ≤ g x) x xs all) in
-    omega (arith, one, two, here, rest)
-
-same_sum : {X : Type 0} (f g : X → ℕ) (xs : List X) → ((x : X) → f x ≡ g x) → sum_by f xs ≡ sum_by g xs
-same_sum f g [] same = refl
-same_sum f g (x ∷ xs) same =
-    let one = sum_by-cons f x xs in
-    let two = sum_by-cons g x xs in
-    let here = same x in
-    let rest = same_sum f g xs same in
     omega (arith, one, two, here, rest)
 
 with_option : (o : Option ℕ) (xs : List ℕ) → sum (cons_option o xs) ≡ weight o + sum xs
@@ -80,14 +72,14 @@ module _ (pairs : List KeyValue) where
 
   pub sum_of_rounds : (k : ℕ) (targets : List TargetValue) → sum (runs_in_rounds k targets pairs) ≡ sum_by (in_rounds k) targets
   unfolding runs_in_rounds
-  sum_of_rounds zero targets = sym (same_sum (in_rounds 0) (λ target. 0) targets no_rounds ∙ none_by targets)
+  sum_of_rounds zero targets = sym (sum_by-same (in_rounds 0) (λ target. 0) no_rounds targets ∙ none_by targets)
   sum_of_rounds (suc k) targets =
       sum_by-append (λ x. x) (runs_in_rounds k targets pairs) (ends_in_round k targets pairs)
       ∙ ap (λ n. n + sum (ends_in_round k targets pairs)) (sum_of_rounds k targets)
       ∙ ap (λ n. sum_by (in_rounds k) targets + n) (sum_of_round k targets)
       ∙ sum_both (in_rounds k) (in_round k) targets
-      ∙ sym (same_sum (in_rounds (suc k)) (λ target. in_rounds k target + in_round k target) targets
-      (λ target. one_more (steps_of_row target pairs) (tried_rows target pairs) k))
+      ∙ sym (sum_by-same (in_rounds (suc k)) (λ target. in_rounds k target + in_round k target)
+      (λ target. one_more (steps_of_row target pairs) (tried_rows target pairs) k) targets)
 
   module _ (laws : LawsOfEnds) where
     target_within : (k : ℕ) (target : TargetValue) → IsSafe target.code → in_rounds k target ≤ most_steps_of_target pairs target

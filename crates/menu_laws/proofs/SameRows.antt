@@ -1,8 +1,9 @@
 -- Requests with the same values under the names of a code have the same entry at its target.
-use Rattle.std.proofs.Common.{◌≡◌, ◌≤◌, ℕ, List, [], ◌∷◌, Option, None, Bool, true, false, get_or, map, refl, sym, ap, ◌∙◌, subst, slice_get}
+use Rattle.std.proofs.Common.{◌≡◌, ◌≤◌, ℕ, List, [], Option, None, Bool, true, false, get_or, map, refl, sym, ap, ◌∙◌, subst, slice_get}
 use Rattle.std.specs.Prelude.{All, ◌↔◌, if◌then◌else◌}
-use Rattle.std.proofs.lemmas.List.Elements.{All-head, All-tail, All-weaker}
+use Rattle.std.proofs.lemmas.List.Elements.{All-weaker}
 use Rattle.text_model.specs.Texts.{Text}
+use Rattle.text_model.proofs.Lists.{map-same}
 use Rattle.environment_model.specs.Environment.{Environment, Meaning, look_up, is_there, text_in, members_in, text_of, members_of}
 use Rattle.environment_model.specs.Lists.{is_list}
 use Rattle.code_model.specs.Code.{Code, Name}
@@ -37,13 +38,6 @@ pub record LawsOfRuns : Type 0 where
   pub decided : (c : Code) (v : Environment) (o : Outcome) → HasOutcome c v o ↔ (outcome_of c v ≡ o)
   pub ran : (code : Code) (env : Environment) (outcome : Outcome) → most_bytes_in code env ≤ MAX_LINK_BYTES → HasOutcome code env outcome
       → fate_in code env ≡ ended outcome
-
-same_map : {X Y : Type 0} (f g : X → Y) (xs : List X) → All (λ x. f x ≡ g x) xs → map f xs ≡ map g xs
-same_map f g [] same = refl
-same_map f g (x ∷ xs) same =
-    let first = All-head (λ x. f x ≡ g x) x xs same in
-    let others = same_map f g xs (All-tail (λ x. f x ≡ g x) x xs same) in
-    cc
 
 module _ (laws : LawsOfRuns) where
   -- ---- look-ups
@@ -101,6 +95,6 @@ module _ (laws : LawsOfRuns) where
         subst (λ (rows : List ℕ). All (λ row. most_bytes_in target.code (row_environment target others row) ≤ MAX_LINK_BYTES) rows) (sym moved) there in
         let each : All (λ row. resolution_of_row target pairs row ≡ resolution_of_row target others row) rows =
         λ k d below. same_row (get_or rows k d) (here k d below) (within k d below) in
-        let chosen_same = ap (chosen NoRow) (same_map (resolution_of_row target pairs) (resolution_of_row target others) rows each)
+        let chosen_same = ap (chosen NoRow) (map-same (resolution_of_row target pairs) (resolution_of_row target others) rows each)
         ∙ ap (λ (rows : List ℕ). chosen NoRow (map (resolution_of_row target others) rows)) moved in
         ap (λ (r : Resolution). record { name = target.name; resolution = r }) chosen_same

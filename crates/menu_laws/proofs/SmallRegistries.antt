@@ -21,7 +21,7 @@ use Rattle.machine_model.specs.Safe.{IsFileCode, IsSafe}
 use Rattle.machine_model.proofs.Faults.{form_decided}
 use Rattle.machine_laws.proofs.Least.{least_decides, mismatch_decides}
 use Rattle.machine_laws.proofs.PassLemmas.{passes_least}
-use Rattle.machine_laws.proofs.Prints.{safe}
+use Rattle.machine_laws.proofs.OutputBounds.{safe}
 use Rattle.kev_read.specs.Pairs.{KeyValue, pairs_of}
 use Rattle.kbart_rows.specs.Cells.{Holdings, Row}
 use Rattle.menu.specs.Contained.{IsTargetName, is_name_character}

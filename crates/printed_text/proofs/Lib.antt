@@ -1,1 +1,2 @@
 mod PrintedExamples
+pub mod Adding

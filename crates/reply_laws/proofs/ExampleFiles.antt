@@ -1,5 +1,5 @@
 -- A rule text, its code file and a table, whose facts are computed.
-use Rattle.std.proofs.Common.{◌≡◌, ◌≤◌, ℕ, inl, Bool, true, false, ◌&&◌, List, [], ◌∷◌, ◌++◌, length, refl, arith, codes}
+use Rattle.std.proofs.Common.{◌≡◌, ℕ, inl, Bool, true, false, ◌&&◌, List, [], ◌∷◌, ◌++◌, length, refl, arith, codes}
 use Rattle.std.specs.Prelude.{All, IsUtf8, nat_le, nat_lt}
 use Rattle.std.specs.Char.{encode_utf8}
 use Rattle.kbart_rows.specs.Hashing.{keys_of}
@@ -13,12 +13,13 @@ use Rattle.text_model.specs.Writing.{written_ur}
 use Rattle.code_model.specs.Code as code
 use Rattle.code_model.specs.declared.code.Instr.{Instr}
 use Rattle.machine_model.specs.Safe.{IsSafe}
-use Rattle.machine_laws.proofs.Prints.{safe}
+use Rattle.machine_laws.proofs.OutputBounds.{safe}
 use Rattle.code_file.specs.Grammar.{IsCode, IsCodeFile, IsInstr, IsLiteral, IsName, IsNameByte, IsTextOf, spelled}
-use Rattle.kbart_rows.specs.Cells.{Holdings, Row, row_bytes}
-use Rattle.kbart_rows.specs.Reading.{AllFit, IsTable}
+use Rattle.kbart_rows.specs.Cells.{Holdings, Row}
+use Rattle.kbart_rows.specs.Reading.{IsTable}
 use Rattle.kbart_rows.specs.declared.keys.Keys.{Keys}
 use Rattle.kbart_rows.proofs.OnLiterals.{kbart_rows_on_literals}
+use Rattle.kbart_rows.proofs.ReadingExamples.{fits}
 use Rattle.uri_grammar.specs.Characters.{close_brace, comma}
 use Rattle.uri_grammar.specs.Literals.{is_literal_character}
 use Rattle.uri_grammar.specs.Specs.{SpellsSpecs, no_modifier}
@@ -196,9 +197,6 @@ table = record { header = header; rows = rows; keys = keys }
 
 abbrev pub table_text : Text
 table_text = codes "print_identifier\ttitle_id\n2\ta\n1\tb\n"
-
-fits : (cells : Row) (lines : List Row) → row_bytes cells ≤ 65536 → AllFit lines → AllFit (cells ∷ lines)
-fits cells lines few others = All-cons (λ line. row_bytes line ≤ 65536) cells lines few others
 
 pub is_table : IsTable table_text table
 unfolding kbart_rows_on_literals Reached

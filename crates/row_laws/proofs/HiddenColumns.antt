@@ -3,6 +3,7 @@ use Rattle.std.proofs.Common.{◌≡◌, ℕ, Bool, true, false, ◌&&◌, List,
 use Rattle.std.specs.Prelude.{sum_by, if◌then◌else◌}
 use Rattle.std.specs.List.{range_with_len}
 use Rattle.text_model.specs.Texts.{Text}
+use Rattle.text_model.proofs.Lists.{sum_by-same}
 use Rattle.environment_model.specs.Environment.{Environment, Entry, Meaning, look_up, byte_count, member_count, meaning_bytes, meaning_members}
 use Rattle.target_vars.specs.EnvValue.{EachNameOnce}
 use Rattle.kev_read.specs.Pairs.{KeyValue}
@@ -11,7 +12,7 @@ use Rattle.row_laws.specs.Shadowing.{requested, row_of, hidden, found_in, has_ce
 use Rattle.row_laws.proofs.RequestedEntries.{bytes_requested, members_counted}
 use Rattle.row_laws.proofs.HiddenSums.{hidden_sum}
 use Rattle.row_laws.proofs.NamesOnce.{row_once, requested_once}
-use Rattle.row_laws.proofs.RowSums.{same_sums, of_cell, by_columns}
+use Rattle.row_laws.proofs.RowSums.{of_cell, by_columns}
 
 -- the number that is under each key
 abbrev IsUnder : (Meaning → ℕ) → Environment → (Text → ℕ) → Type 0
@@ -37,7 +38,7 @@ module _ (f : Meaning → ℕ) (env : Environment) (once : EachNameOnce env) (un
   hidden_columns header cells =
       hidden_sum f (row_of (named_cells header cells)) env (row_once (named_cells header cells)) once
       ∙ by_columns weigh header cells
-      ∙ same_sums (λ n. of_cell weigh header cells (named_cell header cells n)) (λ n. if has_cell header cells n then under (get_or header n []) else 0)
+      ∙ sum_by-same (λ n. of_cell weigh header cells (named_cell header cells n)) (λ n. if has_cell header cells n then under (get_or header n []) else 0)
       (of_column header cells) (range_with_len 0 (length header))
 
 pub bytes_by_columns : (header cells : Row) (lists : List Text) (pairs : List KeyValue)

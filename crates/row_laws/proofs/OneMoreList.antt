@@ -7,6 +7,7 @@ use Rattle.std.proofs.lemmas.List.Elements.{filter-append}
 use Rattle.std.proofs.lemmas.List.Folds.{list_any-append}
 use Rattle.std.proofs.lemmas.List.Sums.{fold_push, sum_by_push}
 use Rattle.std.proofs.lemmas.Slice.Eq.{bytes_eq-Decides}
+use Rattle.std.proofs.Math.Bool.{or-false, or-true}
 use Rattle.text_model.specs.Texts.{Text}
 use Rattle.environment_model.specs.Environment.{Environment, is_there, text_of, is_among, byte_count, member_count}
 use Rattle.environment_model.specs.Lists.{is_list, standard_lists}
@@ -32,14 +33,6 @@ one_more l lists key =
     list_any-append (λ n. bytes_eq n key) standard_lists (l ∷ lists)
     ∙ or_last (is_among key standard_lists) (bytes_eq l key) (is_among key lists)
     ∙ ap (λ b. b || bytes_eq l key) (sym (list_any-append (λ n. bytes_eq n key) standard_lists lists))
-
-or_true : (b : Bool) → (b || true) ≡ true
-or_true true = refl
-or_true false = refl
-
-or_false : (b : Bool) → (b || false) ≡ b
-or_false true = refl
-or_false false = refl
 
 -- ---- one more pair
 
@@ -127,13 +120,13 @@ module _ (l : Text) (lists : List Text) (new : is_list lists l ≡ false) where
 
   own_list : (key : Text) → bytes_eq key l ≡ true → is_list (l ∷ lists) key ≡ true
   own_list key same =
-      one_more l lists key ∙ ap (λ b. is_list lists key || b) ((bytes_eq-Decides l key).1 (sym ((bytes_eq-Decides key l).0 same))) ∙ or_true (is_list lists key)
+      one_more l lists key ∙ ap (λ b. is_list lists key || b) ((bytes_eq-Decides l key).1 (sym ((bytes_eq-Decides key l).0 same))) ∙ or-true (is_list lists key)
 
   own_new : (key : Text) → bytes_eq key l ≡ true → is_list lists key ≡ false
   own_new key same = ap (is_list lists) ((bytes_eq-Decides key l).0 same) ∙ new
 
   other_list : (key : Text) → bytes_eq key l ≡ false → is_list (l ∷ lists) key ≡ is_list lists key
-  other_list key differs = one_more l lists key ∙ ap (λ b. is_list lists key || b) (differs_back key l differs) ∙ or_false (is_list lists key)
+  other_list key differs = one_more l lists key ∙ ap (λ b. is_list lists key || b) (differs_back key l differs) ∙ or-false (is_list lists key)
 
   -- the claim for the values of the list, given the bytes with it and without it
   abbrev Gain : ℕ → ℕ → List Text → Type 0
@@ -221,7 +214,7 @@ module _ (l : Text) (lists : List Text) (new : is_list lists l ≡ false) where
 
 -- ---- lists that make the same keys lists
 
-same_filled : (lists others : List Text) (env : Environment) (pairs : List KeyValue) → ((key : Text) → is_list lists key ≡ is_list others key)
+pub same_filled : (lists others : List Text) (env : Environment) (pairs : List KeyValue) → ((key : Text) → is_list lists key ≡ is_list others key)
     → filled lists env pairs ≡ filled others env pairs
 same_filled lists others env [] same = refl
 same_filled lists others env (pair ∷ pairs) same =
@@ -238,5 +231,5 @@ known_list l lists pairs known = same_requested (l ∷ lists) lists pairs (λ ke
     by_key : (key : Text) (b : Bool) → bytes_eq l key ≡ b → (is_list lists key || b) ≡ is_list lists key
     by_key key true same =
         let is : is_list lists key ≡ true = ap (is_list lists) (sym ((bytes_eq-Decides l key).0 same)) ∙ known in
-        or_true (is_list lists key) ∙ sym is
-    by_key key false differs = or_false (is_list lists key)
+        or-true (is_list lists key) ∙ sym is
+    by_key key false differs = or-false (is_list lists key)

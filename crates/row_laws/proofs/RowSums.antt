@@ -1,25 +1,22 @@
 -- Sums over the entries of a row, column by column.
 use Rattle.std.proofs.Common.{◌≡◌, ℕ, ◌+◌, ◌≤◌, ◌==◌, zero, suc, Bool, true, false, List, [], ◌∷◌, length, get_or, Option, Some, None, is_some, refl, sym, ap}
-use Rattle.std.proofs.Common.{◌∙◌, arith}
+use Rattle.std.proofs.Common.{add-one, arith, ◌∙◌}
 use Rattle.std.specs.Prelude.{sum_by, if◌then◌else◌}
 use Rattle.std.proofs.lemmas.Bool.{eqb-true}
 use Rattle.std.proofs.lemmas.List.Sums.{sum_by-cons, sum_by_push}
 use Rattle.std.specs.List.{filter_map, range_with_len}
 use Rattle.std.specs.Option.{option_map_or}
 use Rattle.text_model.specs.Texts.{Text}
+use Rattle.text_model.proofs.Lists.{range_more, sum_by-same}
 use Rattle.environment_model.specs.Environment.{Entry, Single, is_there, byte_count, meaning_bytes}
 use Rattle.environment_model.proofs.Environments.{with_text-new}
 use Rattle.kbart_rows.specs.Cells.{NamedCell, Row, cell_bytes, column_of, is_first, name_cell, named_cell, named_cells}
 use Rattle.kbart_rows.specs.Filling.{with_defined}
 use Rattle.row_laws.specs.Shadowing.{row_of}
-use Rattle.row_laws.proofs.Columns.{entries_of, entries_more, range_more}
+use Rattle.row_laws.proofs.Columns.{entries_of, entries_more}
 use Rattle.row_laws.proofs.CellsByName.{before, nothing_before, up_to}
 
 -- ---- sums
-
-pub same_sums : {X : Type 0} (f g : X → ℕ) → ((x : X) → f x ≡ g x) → (xs : List X) → sum_by f xs ≡ sum_by g xs
-same_sums f g same [] = refl
-same_sums f g same (x ∷ xs) = omega (arith, same x, same_sums f g same xs, sum_by-cons f x xs, sum_by-cons g x xs)
 
 sum_by-filter_map : {X Y : Type 0} (f : Y → ℕ) (h : X → Option Y) (xs : List X) → sum_by f (filter_map h xs) ≡ sum_by (λ x. option_map_or f (h x) 0) xs
 sum_by-filter_map f h [] = refl
@@ -76,7 +73,8 @@ module _ (weigh : Entry → ℕ) (header cells : Row) where
       let here : 0 + n ≡ n = omega arith in
       let more = ap (sum_by weigh) (entries_more header cells n) in
       let last =
-      ap (sum_by at) (range_more 0 n) ∙ sum_by_push at (range_with_len 0 n) (0 + n) ∙ ap (λ column. sum_by at (range_with_len 0 n) + at column) here in
+      ap (sum_by at) (ap (range_with_len 0) (sym (add-one n)) ∙ range_more 0 n)
+      ∙ sum_by_push at (range_with_len 0 n) (0 + n) ∙ ap (λ column. sum_by at (range_with_len 0 n) + at column) here in
       omega (arith, more, last, one_column n (omega arith), columns_up_to n (omega arith))
 
   pub by_columns : sum_by weigh (row_of (named_cells header cells))
@@ -89,7 +87,7 @@ pub row_bytes : (header cells : Row) → byte_count (row_of (named_cells header 
 row_bytes header cells =
     let weigh : Entry → ℕ = λ e. meaning_bytes e.meaning in
     by_columns weigh header cells
-    ∙ same_sums (λ column. of_cell weigh header cells (named_cell header cells column))
+    ∙ sum_by-same (λ column. of_cell weigh header cells (named_cell header cells column))
     (λ column. option_map_or (λ (cell : NamedCell). length cell.text) (named_cell header cells column) 0)
     (λ column. of_text (named_cell header cells column)) (range_with_len 0 (length header))
     ∙ sym (sum_by-filter_map (λ (cell : NamedCell). length cell.text) (named_cell header cells) (range_with_len 0 (length header)))

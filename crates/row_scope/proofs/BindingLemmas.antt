@@ -5,11 +5,12 @@ use Rattle.std.proofs.lemmas.List.Elements.{All-weaker, All-take, All-drop}
 use Rattle.text_model.specs.Texts.{Text}
 use Rattle.environment_model.specs.Environment.{Environment, Meaning, Single, Several, look_up, is_there, text_in, text_of, members_in}
 use Rattle.target_vars.specs.EnvValue.{EnvValue, IsWithin, piece_at}
+use Rattle.target_vars.proofs.Growth.{front_piece}
 use Rattle.kbart_rows.specs.Cells.{Row, cell_of, defined}
 use Rattle.row_scope.specs.Bindings.{IsBound, laid_in, laid_over}
 use Rattle.row_scope.specs.declared.binding.Binding.{Binding}
 use Rattle.row_scope.specs.declared.binding.Binding.TheVariants as binding
-use Rattle.row_scope.proofs.Pieces.{piece_length, front_piece, line_piece, front_pieces}
+use Rattle.row_scope.proofs.Pieces.{piece_length, line_piece, front_pieces}
 
 pub defined_text : (t : Text) → 0 < length t → defined t ≡ Some t
 defined_text [] some = absurd (omega (arith, some))

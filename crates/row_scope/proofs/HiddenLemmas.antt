@@ -10,6 +10,7 @@ use Rattle.std.proofs.lemmas.List.Elements.{filter_map-append, All-weaker, All-g
 use Rattle.std.proofs.lemmas.List.Sums.{sum_by-cons}
 use Rattle.std.proofs.lemmas.Option.{cond_some}
 use Rattle.text_model.specs.Texts.{Text}
+use Rattle.text_model.proofs.Lists.{range_more}
 use Rattle.environment_model.specs.Lists.{is_list}
 use Rattle.kev_read.specs.Pairs.{KeyValue, all_of}
 use Rattle.kbart_rows.specs.Cells.{Row, defined, is_first}
@@ -19,16 +20,10 @@ use Rattle.row_scope.specs.declared.hidden.HiddenKey.{HiddenKey}
 
 -- ---- one more column
 
-counting_more : (a n j : ℕ) → a + n ≡ j → range_with_len a (n + 1) ≡ range_with_len a n ++ j ∷ []
-counting_more a n j e = let on : n + 1 ≡ suc n = omega arith in ap (range_with_len a) on ∙ last a n j e
-  where
-    last : (a n j : ℕ) → a + n ≡ j → range_with_len a (suc n) ≡ range_with_len a n ++ j ∷ []
-    last a zero j e = let same : a ≡ j = omega arith in ap (λ k. k ∷ []) same
-    last a (suc n) j e = ap (λ l. a ∷ l) (last (a + 1) n j (omega arith))
-
 pub one_column_more : {Y : Type 0} (f : ℕ → Option Y) (n : ℕ) → filter_map f (range_with_len 0 (n + 1)) ≡ filter_map f (range_with_len 0 n)
     ++ cons_option (f n) []
-one_column_more f n = ap (filter_map f) (counting_more 0 n n (omega arith)) ∙ filter_map-append f (range_with_len 0 n) (n ∷ [])
+one_column_more f n =
+    ap (filter_map f) (range_more 0 n ∙ ap (λ last. range_with_len 0 n ++ last ∷ []) (omega arith)) ∙ filter_map-append f (range_with_len 0 n) (n ∷ [])
 
 -- ---- the columns of the keys rise
 

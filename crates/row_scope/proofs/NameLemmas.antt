@@ -10,6 +10,7 @@ use Rattle.std.proofs.lemmas.List.Elements.{filter-append}
 use Rattle.std.proofs.lemmas.List.Folds.{list_any-append}
 use Rattle.std.proofs.lemmas.Option.{slice_get_within, get_or_from_slice_get}
 use Rattle.std.proofs.lemmas.Slice.Eq.{bytes_eq-Decides}
+use Rattle.std.proofs.Math.Bool.{or-false}
 use Rattle.text_model.specs.Texts.{Text}
 use Rattle.environment_model.specs.Environment.{is_among}
 use Rattle.environment_model.specs.Lists.{is_list, standard_lists}
@@ -20,10 +21,6 @@ use Rattle.row_scope.specs.NameColumns.{names_at}
 -- the lists among the first names
 abbrev pub lists_before : Code → ℕ → List Text
 lists_before code n = map (λ name. name.text) (filter (λ name. name.list) (take n code.names))
-
-or_false : (b : Bool) → (b || false) ≡ b
-or_false true = refl
-or_false false = refl
 
 -- the text of a name of the table
 pub named : (code : Code) (n : ℕ) (name : Name) → slice_get code.names n ≡ Some name → name_at code n ≡ name.text
@@ -38,7 +35,7 @@ listed_among names name = list_any-append (λ n. bytes_eq n name) standard_lists
 -- one more list
 pub listed_push : (names : List Text) (last name : Text) → is_list (names ++ last ∷ []) name ≡ (is_list names name || bytes_eq last name)
 listed_push names last name =
-    list_any-append (λ n. bytes_eq n name) (standard_lists ++ names) (last ∷ []) ∙ ap (λ b. is_list names name || b) (or_false (bytes_eq last name))
+    list_any-append (λ n. bytes_eq n name) (standard_lists ++ names) (last ∷ []) ∙ ap (λ b. is_list names name || b) (or-false (bytes_eq last name))
 
 -- names by their numbers
 pub among_numbers : (code : Code) (numbers : List ℕ) (name : Text)
@@ -76,7 +73,7 @@ listed_more lists name true is q = ap (λ b. is_list (lists ++ map (λ n. n.text
 listed_more lists name false is q =
     ap (λ b. is_list (lists ++ map (λ n. n.text) (if b then (name ∷ []) else [])) q) is
     ∙ ap (λ ls. is_list ls q) (append-nil lists)
-    ∙ sym (or_false (is_list lists q))
+    ∙ sym (or-false (is_list lists q))
 
 pub before_more : (code : Code) (n : ℕ) (name : Name) (b : Bool) → slice_get code.names n ≡ Some name → name.list ≡ b → (q : Text)
     → is_list (lists_before code (n + 1)) q ≡ (is_list (lists_before code n) q || (b && bytes_eq name.text q))
@@ -89,7 +86,7 @@ known_adds_nothing lists name q known = by_test (bytes_eq name q) refl where
   by_test true same =
       let among : is_list lists q ≡ true = sym (ap (is_list lists) ((bytes_eq-Decides name q).0 same)) ∙ known in
       ap (λ b. b || true) among ∙ sym among
-  by_test false other = or_false (is_list lists q)
+  by_test false other = or-false (is_list lists q)
 
 -- ---- numbers of lists, each of which is not among those before it
 
@@ -133,4 +130,4 @@ module _ (code : Code) (numbers : List ℕ) (n : ℕ) (name : Name) (there : sli
       ∙ sym (before_more code n name true there is q)
 
   pub same_unlisted : name.list ≡ false → AreSame code numbers (n + 1)
-  same_unlisted is q = same q ∙ sym (or_false (is_list (lists_before code n) q)) ∙ sym (before_more code n name false there is q)
+  same_unlisted is q = same q ∙ sym (or-false (is_list (lists_before code n) q)) ∙ sym (before_more code n name false there is q)

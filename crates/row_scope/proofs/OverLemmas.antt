@@ -1,5 +1,5 @@
 -- Bindings of the names of a code by their numbers, while the columns of a row are read.
-use Rattle.std.proofs.Common.{◌≡◌, ◌≢◌, ◌⊎◌, ℕ, ◌+◌, ◌<◌, zero, suc, List, [], ◌∷◌, ◌++◌, All, length, get_or, set, Option, Some, None, is_some, slice_get, inl}
+use Rattle.std.proofs.Common.{◌≡◌, ◌≢◌, ◌⊎◌, ℕ, ◌+◌, ◌<◌, zero, suc, List, [], ◌∷◌, All, length, get_or, set, Option, Some, None, is_some, slice_get, inl}
 use Rattle.std.proofs.Common.{inr, refl, sym, ap, ◌∙◌, subst, arith, if◌then◌else◌}
 use Rattle.std.proofs.Math.Logic.{⊎_elim}
 use Rattle.std.proofs.lemmas.Bool.{cases_lt}
@@ -26,13 +26,6 @@ use Rattle.row_scope.proofs.BindingLemmas.{bound_by_row, bound_by_request}
 use Rattle.row_scope.proofs.CellLemmas.{cell_missing}
 
 -- ---- elements of a list that grows or changes
-
-pub slice_get-push : {X : Type 0} (xs : List X) (y : X) (i : ℕ) (x : X) → slice_get (xs ++ y ∷ []) i ≡ Some x → (slice_get xs i ≡ Some x)
-    ⊎ ((i ≡ length xs) × (y ≡ x))
-slice_get-push [] y zero x is = inr (refl, (cc))
-slice_get-push [] y (suc i) x is = absurd (cc)
-slice_get-push (z ∷ xs) y zero x is = inl is
-slice_get-push (z ∷ xs) y (suc i) x is = ⊎_elim (λ old. inl old) (λ new. inr (ap suc new.0, new.1)) (slice_get-push xs y i x is)
 
 pub slice_get-set : {X : Type 0} (xs : List X) (n : ℕ) (y : X) (i : ℕ) (x : X) → slice_get (set xs n y) i ≡ Some x
     → ((slice_get xs i ≡ Some x) × (n ≢ i)) ⊎ ((n ≡ i) × (y ≡ x))

@@ -1,20 +1,15 @@
 -- Pieces of a request's values, and of a row's line after them.
 use Rattle.std.proofs.Common.{◌≡◌, ℕ, ◌+◌, ◌≤◌, List, [], ◌∷◌, ◌++◌, All, length, map, take, drop, sum_by, refl, sym, ap, ◌∙◌, arith, length-drop}
 use Rattle.std.proofs.Math.Seq.{drop-append-add}
-use Rattle.std.proofs.lemmas.List.{length-take-le, drop-append-le, take-append-le}
+use Rattle.std.proofs.lemmas.List.{length-take-le}
 use Rattle.std.proofs.lemmas.List.Elements.{All-head, All-tail}
 use Rattle.std.proofs.lemmas.List.Sums.{sum_by-cons}
 use Rattle.text_model.specs.Texts.{Text}
 use Rattle.target_vars.specs.EnvValue.{piece_at}
+use Rattle.target_vars.proofs.Growth.{front_piece}
 
 pub piece_length : (text : Text) (at : ℕ × ℕ) → at.0 + at.1 ≤ length text → length (piece_at text at) ≡ at.1
 piece_length text at within = length-take-le at.1 (drop at.0 text) (omega (arith, length-drop at.0 text, within))
-
--- a piece of the values stays the same if a line comes after them
-pub front_piece : (values line : Text) (at : ℕ × ℕ) → at.0 + at.1 ≤ length values → piece_at (values ++ line) at ≡ piece_at values at
-front_piece values line at within =
-    ap (take at.1) (drop-append-le at.0 values line (omega (arith, within)))
-    ∙ take-append-le at.1 (drop at.0 values) line (omega (arith, length-drop at.0 values, within))
 
 -- a piece of the line is after the values
 pub line_piece : (values line : Text) (start len : ℕ) → piece_at (values ++ line) (length values + start, len) ≡ piece_at line (start, len)

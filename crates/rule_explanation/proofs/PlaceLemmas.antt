@@ -2,10 +2,10 @@
 use Rattle.std.proofs.Common.{◌≡◌, ◌<◌, ◌≤◌, ◌+◌, ℕ, zero, suc, List, [], ◌∷◌, ◌++◌, Bool, true, false, not, cond, Some, None, length, take, get_or}
 use Rattle.std.proofs.Common.{refl, ap, sym, ◌∙◌, arith, add-zero, nat_lt}
 use Rattle.std.specs.List.{before_first, enumerate_from, find, flat_map, position, position_or_len}
-use Rattle.std.proofs.lemmas.Bool.{ltb-false}
-use Rattle.std.proofs.lemmas.List.{flat_map_more, length-take-le, take_all, take_more}
+use Rattle.std.proofs.lemmas.List.{flat_map_more, length-take-le, take_more}
 use Rattle.std.proofs.lemmas.List.Quantifiers.{position-Some}
 use Rattle.std.proofs.lemmas.Option.{none-some, same_Some}
+use Rattle.text_model.proofs.Lists.{before_first-none, position-none}
 
 -- a numbered item passes if the item does
 abbrev pub passes : {A : Type 0} → (A → Bool) → ℕ × A → Bool
@@ -53,14 +53,6 @@ found_first test xs i x found is = found_numbered test 1 xs i x found is ∙ ap 
 
 -- ---- none passes
 
-none_long : {A : Type 0} (test : A → Bool) (xs : List A) → position test xs ≡ None → length xs ≤ position_or_len test xs
-none_long test xs none = by_test (nat_lt (position_or_len test xs) (length xs)) refl none
-  where
-    by_test : (b : Bool) → nat_lt (position_or_len test xs) (length xs) ≡ b → cond b (Some (position_or_len test xs)) None ≡ None
-        → length xs ≤ position_or_len test xs
-    by_test true short found = absurd (none-some _ (sym found))
-    by_test false long found = ltb-false _ _ long
-
 none_found : {A : Type 0} (test : A → Bool) (first : ℕ) (xs : List A) → length xs ≤ position_or_len test xs
     → (find (passes test) (enumerate_from first xs) ≡ None) × (find test xs ≡ None)
 none_found test first [] long = (refl, refl)
@@ -73,10 +65,10 @@ none_found test first (x ∷ xs) long = by_test (test x) (none_found test (first
     by_test false rest none = rest (omega (arith, none))
 
 pub none_numbered : {A : Type 0} (test : A → Bool) (first : ℕ) (xs : List A) → position test xs ≡ None → find (passes test) (enumerate_from first xs) ≡ None
-none_numbered test first xs none = (none_found test first xs (none_long test xs none)).0
+none_numbered test first xs none = (none_found test first xs (position-none test xs none)).0
 
 pub none_plain : {A : Type 0} (test : A → Bool) (xs : List A) → position test xs ≡ None → find test xs ≡ None
-none_plain test xs none = (none_found test 0 xs (none_long test xs none)).1
+none_plain test xs none = (none_found test 0 xs (position-none test xs none)).1
 
 -- ---- those before the first that passes
 
@@ -101,16 +93,13 @@ before_found test xs i found = by_test (nat_lt (position_or_len test xs) (length
     by_test true same = ap (λ n. take n xs) (same_Some _ _ same)
     by_test false none = absurd (none-some i none)
 
-pub before_none : {A : Type 0} (test : A → Bool) (xs : List A) → position test xs ≡ None → before_first test xs ≡ xs
-before_none test xs none = take_all (position_or_len test xs) xs (none_long test xs none)
-
 pub failing_found : {A : Type 0} (test : A → Bool) (xs : List A) (i : ℕ) → position test xs ≡ Some i
     → before_first (passes test) (enumerate_from 1 xs) ≡ enumerate_from 1 (take i xs)
 failing_found test xs i found = before_numbered test 1 xs ∙ ap (enumerate_from 1) (before_found test xs i found)
 
 pub failing_none : {A : Type 0} (test : A → Bool) (xs : List A) → position test xs ≡ None
     → before_first (passes test) (enumerate_from 1 xs) ≡ enumerate_from 1 xs
-failing_none test xs none = before_numbered test 1 xs ∙ ap (enumerate_from 1) (before_none test xs none)
+failing_none test xs none = before_numbered test 1 xs ∙ ap (enumerate_from 1) (before_first-none test xs none)
 
 -- ---- one more
 

@@ -1,12 +1,13 @@
 -- A row's text from its pieces, and its environment with the names that the rules return as lists.
-use Rattle.std.proofs.Common.{◌≡◌, ◌++◌, ℕ, List, [], ◌∷◌, Bool, true, false, ◌||◌, refl, ap, ◌∙◌, codes, append_assoc}
+use Rattle.std.proofs.Common.{◌≡◌, ◌++◌, ℕ, List, Bool, true, false, ◌||◌, refl, ap, ◌∙◌, codes, append_assoc}
 use Rattle.std.specs.Fmt.{decimal}
 use Rattle.std.specs.Str.{bytes_eq}
 use Rattle.text_model.specs.Texts.{Text}
+use Rattle.row_laws.proofs.OneMoreList.{same_filled}
 use Rattle.environment_model.specs.Environment.{Environment, is_among}
 use Rattle.environment_model.specs.Lists.{is_list, list_names}
 use Rattle.kev_read.specs.Pairs.{KeyValue}
-use Rattle.kev_read.specs.Filling.{added, filled}
+use Rattle.kev_read.specs.Filling.{filled}
 use Rattle.kbart_rows.specs.Cells.{Holdings}
 use Rattle.rule_parser.specs.Names.{each_once}
 use Rattle.rule_parser.specs.Rules.{RuleSet}
@@ -31,16 +32,10 @@ same_list lists key =
     ap (λ b. bytes_eq (codes "rft.au") key || (bytes_eq (codes "rft_id") key || b)) (among_each_once key (list_names lists))
     ∙ absorbed (bytes_eq (codes "rft.au") key) (bytes_eq (codes "rft_id") key) (is_among key lists)
 
-same_filled : (names lists : List Text) → ((key : Text) → is_list names key ≡ is_list lists key) → (env : Environment) (pairs : List KeyValue)
-    → filled names env pairs ≡ filled lists env pairs
-same_filled names lists same env [] = refl
-same_filled names lists same env (pair ∷ pairs) =
-    ap (λ b. filled names (added b env pair) pairs) (same pair.key) ∙ same_filled names lists same (added (is_list lists pair.key) env pair) pairs
-
 pub same_environment : (names lists : List Text) (env : Environment) (pairs : List KeyValue) → names ≡ each_once (list_names lists)
     → filled names env pairs ≡ filled lists env pairs
 same_environment names lists env pairs is =
-    ap (λ ns. filled ns env pairs) is ∙ same_filled (each_once (list_names lists)) lists (same_list lists) env pairs
+    ap (λ ns. filled ns env pairs) is ∙ same_filled (each_once (list_names lists)) lists env pairs (same_list lists)
 
 -- ---- a row of a request at a target
 

@@ -1,14 +1,11 @@
 -- Findings that are added one after another.
 use Rattle.std.proofs.Common.{◌≡◌, ℕ, ◌+◌, ◌<◌, Bool, true, false, ◌||◌, ◌==◌, cond, map, Bor, List, [], ◌∷◌, ◌++◌, length, take, get_or, refl, sym, ap, ◌∙◌}
-use Rattle.std.proofs.Common.{subst, string_bytes, append_assoc}
+use Rattle.std.proofs.Common.{subst, string_bytes}
 use Rattle.std.specs.List.{flat_map, list_any}
-use Rattle.std.proofs.lemmas.Grind.{flat_map-append}
-use Rattle.std.proofs.lemmas.List.{append-nil}
-use Rattle.std.proofs.lemmas.List.Folds.{list_any-append}
-use Rattle.std.specs.Result.{OnOk}
-use Rattle.std.specs.Prelude.{Result, Ok, Err}
+use Rattle.std.proofs.Math.Bool.{or-true}
 use Rattle.text_model.specs.Texts.{Text, texts_of}
 use Rattle.printed_text.specs.declared.findings.Findings.{Findings}
+use Rattle.printed_text.proofs.Adding.{adds_line, adds_both}
 use Rattle.kbart_rows.specs.Cells.{Holdings}
 use Rattle.rule_parser.specs.Rules.{RuleSet}
 use Rattle.rule_lint.specs.declared.place.Place.{Place}
@@ -21,58 +18,20 @@ use Rattle.rule_lint.specs.Findings.{in_rules, is_warning, lint_text, misspellin
 use Rattle.rule_lint.specs.Private.Adds.{Adds}
 use Rattle.rule_lint.proofs.ListSteps.{flat_map_more}
 
-or_false : (b : Bool) → b ≡ (b || false)
-or_false true = refl
-or_false false = refl
-
-or_assoc : (a b c : Bool) → ((a || b) || c) ≡ (a || (b || c))
-or_assoc true b c = refl
-or_assoc false b c = refl
-
--- nothing, one finding, and more after these
-pub adds_none : (a : Findings) → Adds a a []
-adds_none a = record { text = sym (append-nil (string_bytes a.text)); warned = or_false a.warned }
-
-pub adds_one : (a b : Findings) (f : Finding) → string_bytes b.text ≡ string_bytes a.text ++ finding_text f → b.warned ≡ (a.warned || is_warning f)
-    → Adds a b (f ∷ [])
-adds_one a b f t w = record {
-  text = t ∙ ap (λ (u : Text). string_bytes a.text ++ u) (sym (append-nil (finding_text f)));
-  warned = w ∙ ap (λ (u : Bool). a.warned || u) (or_false (is_warning f));
-}
-
 -- one finding that is a warning
-or_true : (b : Bool) → true ≡ (b || true)
-or_true true = refl
-or_true false = refl
-
 pub warns_one : (a b : Findings) (f : Finding) → is_warning f ≡ true → string_bytes b.text ≡ string_bytes a.text ++ finding_text f → b.warned ≡ true
     → Adds a b (f ∷ [])
-warns_one a b f e t w = adds_one a b f t (w ∙ or_true a.warned ∙ ap (λ (u : Bool). a.warned || u) (sym e))
-
-pub adds_more : (a b c : Findings) (xs ys : List Finding) → Adds a b xs → Adds b c ys → Adds a c (xs ++ ys)
-adds_more a b c xs ys h k = record {
-  text =
-      k.text ∙ (ap (λ (t : Text). t ++ findings_text ys) h.text ∙ (append_assoc (string_bytes a.text) (findings_text xs) (findings_text ys)
-      ∙ ap (λ (t : Text). string_bytes a.text ++ t) (sym (flat_map-append finding_text xs ys))));
-  warned =
-      k.warned ∙ (ap (λ (w : Bool). w || list_any is_warning ys) h.warned ∙ (or_assoc a.warned (list_any is_warning xs) (list_any is_warning ys)
-      ∙ ap (λ (w : Bool). a.warned || w) (sym (list_any-append is_warning xs ys))));
-}
+warns_one a b f e t w = adds_line a b f t (w ∙ sym (or-true a.warned) ∙ ap (λ (u : Bool). a.warned || u) (sym e))
 
 -- the findings in one more element of a list
 pub adds_step : {X : Type 0} (f : X → List Finding) (xs : List X) (i : ℕ) (d : X) (a b c : Findings) → i < length xs
     → Adds a b (flat_map f (take i xs)) → Adds b c (f (get_or xs i d)) → Adds a c (flat_map f (take (i + 1) xs))
 adds_step f xs i d a b c h before at =
-    subst (λ (l : List Finding). Adds a c l) (sym (flat_map_more f xs i d h)) (adds_more a b c (flat_map f (take i xs)) (f (get_or xs i d)) before at)
+    subst (λ (l : List Finding). Adds a c l) (sym (flat_map_more f xs i d h)) (adds_both a b c (flat_map f (take i xs)) (f (get_or xs i d)) before at)
 
 -- the same under another name of the list
 pub adds_as : (a b : Findings) (xs ys : List Finding) → xs ≡ ys → Adds a b xs → Adds a b ys
 adds_as a b xs ys e h = subst (λ (l : List Finding). Adds a b l) e h
-
--- a fact under a success
-pub on_ok : {A E : Type 0} (r : Result A E) (P Q : Type 0) → (P → Q) → OnOk r P → OnOk r Q
-on_ok (Ok x) P Q f p = f p
-on_ok (Err e) P Q f p = p
 
 -- ---- names
 

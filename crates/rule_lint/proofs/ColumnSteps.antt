@@ -1,10 +1,10 @@
 -- What is kept of a column, one row after another.
-use Rattle.std.proofs.Common.{◌≡◌, ℕ, ◌+◌, ◌<◌, ◌≤◌, ◌==◌, Bool, true, false, ◌&&◌, cond, List, [], ◌∷◌, ◌++◌, length, get_or, take, drop, All, Option}
+use Rattle.std.proofs.Common.{◌≡◌, ℕ, ◌+◌, ◌<◌, ◌≤◌, ◌==◌, Bool, true, false, ◌&&◌, cond, List, [], ◌∷◌, ◌++◌, length, get_or, take, All, Option}
 use Rattle.std.proofs.Common.{Some, None, is_some}
 use Rattle.std.proofs.Common.{refl, sym, ap, ◌∙◌, arith, subst, append-nil, set, ◌≢◌, inl, inr, get_or-set_other, get_or-set_same}
 use Rattle.std.specs.List.{cons_option, list_all, filter_map}
 use Rattle.std.proofs.lemmas.Bool.{both_ways, cases_lt, eq-eqb, ne_eqb, and_right}
-use Rattle.std.proofs.lemmas.List.{take_more, length-take-le, take_all, drop_all, get_or_default, get_or_past}
+use Rattle.std.proofs.lemmas.List.{take_more, length-take-le, get_or_default, get_or_past}
 use Rattle.std.proofs.lemmas.List.Elements.{filter_map-append}
 use Rattle.std.proofs.lemmas.List.Folds.{list_all_more}
 use Rattle.text_model.specs.Texts.{Text}
@@ -135,13 +135,6 @@ columns_more header rows row columns new cells within are same here added = reco
       (column_more k row rows (get_or columns k d) within (are.each k d inside) (get_or cells k [])
       (ap (λ (c : Row). get_or c k []) (sym here)));
 }
-
--- the vector after a call that was lent its slice
-pub whole_again : {X : Type 0} (items new : List X) (len : ℕ) → len ≡ length items → length new ≡ length items
-    → take len (new ++ drop (length new) items) ≡ new
-whole_again items new len l e =
-    ap (λ (rest : List _). take len (new ++ rest)) (drop_all (length new) items (omega (arith, e)))
-    ∙ (ap (take len) (append-nil new) ∙ take_all len new (omega (arith, l, e)))
 
 -- ---- what is kept, by the name of the column
 

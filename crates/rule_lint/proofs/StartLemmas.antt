@@ -5,7 +5,7 @@ use Rattle.std.proofs.Common.{inl, inr, refl, sym, ap, ◌∙◌, arith, codes}
 use Rattle.std.specs.Prelude.{◌⊎◌}
 use Rattle.std.specs.List.{find}
 use Rattle.std.specs.Str.{str_eq_ignore_ascii_case}
-use Rattle.std.proofs.lemmas.Bool.{eqb-true, ltb-false, ltb-true}
+use Rattle.std.proofs.lemmas.Bool.{and_parts, eqb-true, ltb-false, ltb-true, or_cases}
 use Rattle.std.proofs.lemmas.Slice.Eq.{bytes_eq-Decides}
 use Rattle.std.proofs.lemmas.List.{drop-map, length-drop, take_all}
 use Rattle.text_model.specs.Texts.{Text, texts_of}
@@ -50,14 +50,6 @@ further b c t u equal (is_shorter t' u' i l e) = is_shorter (b ∷ t) (c ∷ u) 
 further b c t u equal (both t' u' i j l m e) =
     both (b ∷ t) (c ∷ u) (suc i) (suc j) (omega (arith, l)) (omega (arith, m)) (cc (equal, e, without_next b t i, without_next c u j))
 
-any_of : (a b : Bool) → (a || b) ≡ true → (a ≡ true) ⊎ (b ≡ true)
-any_of true b e = inl refl
-any_of false b e = inr e
-
-both_of : (a b : Bool) → (a && b) ≡ true → (a ≡ true) × (b ≡ true)
-both_of true b e = (refl, e)
-both_of false b e = absurd (cc (e))
-
 same : (t u : Text) → bytes_eq t u ≡ true → t ≡ u
 same t u e = (bytes_eq-Decides t u).0 e
 
@@ -76,8 +68,8 @@ replaced (b ∷ t) (c ∷ u) e = both (b ∷ t) (c ∷ u) 0 0 (omega arith) (ome
 
 exchanged : (t u : Text) → has_two_exchanged t u ≡ true → IsNear t u
 exchanged (a ∷ b ∷ t) (c ∷ d ∷ u) e =
-    let parts = both_of ((a == d) && (b == c)) (bytes_eq t u) e in
-    let equal : b ≡ c = eqb-true b c (both_of (a == d) (b == c) parts.0).1 in
+    let parts = and_parts ((a == d) && (b == c)) (bytes_eq t u) e in
+    let equal : b ≡ c = eqb-true b c (and_parts (a == d) (b == c) parts.0).1 in
     both (a ∷ b ∷ t) (c ∷ d ∷ u) 0 1 (omega arith) (omega arith) (cc (equal, same t u parts.1))
 exchanged (a ∷ b ∷ t) (c ∷ []) e = absurd (cc (e))
 exchanged (a ∷ b ∷ t) [] e = absurd (cc (e))
@@ -85,7 +77,7 @@ exchanged (a ∷ []) u e = absurd (cc (e))
 exchanged [] u e = absurd (cc (e))
 
 edited_first : (t u : Text) → is_edited_first t u ≡ true → IsNear t u
-edited_first t u e = by_side (any_of (has_one_before t u || has_one_before u t) (has_one_replaced t u || has_two_exchanged t u) e)
+edited_first t u e = by_side (or_cases (has_one_before t u || has_one_before u t) (has_one_replaced t u || has_two_exchanged t u) e)
   where
     by_length : (has_one_before t u ≡ true) ⊎ (has_one_before u t ≡ true) → IsNear t u
     by_length (inl more) = before t u more
@@ -96,19 +88,19 @@ edited_first t u e = by_side (any_of (has_one_before t u || has_one_before u t) 
     by_kind (inr two) = exchanged t u two
 
     by_side : (has_one_before t u || has_one_before u t ≡ true) ⊎ (has_one_replaced t u || has_two_exchanged t u ≡ true) → IsNear t u
-    by_side (inl length) = by_length (any_of (has_one_before t u) (has_one_before u t) length)
-    by_side (inr kind) = by_kind (any_of (has_one_replaced t u) (has_two_exchanged t u) kind)
+    by_side (inl length) = by_length (or_cases (has_one_before t u) (has_one_before u t) length)
+    by_side (inr kind) = by_kind (or_cases (has_one_replaced t u) (has_two_exchanged t u) kind)
 
 one_edit : (t u : Text) → is_one_edit t u ≡ true → IsNear t u
 one_edit [] u e = edited_first [] u e
 one_edit (b ∷ t) [] e = edited_first (b ∷ t) [] e
-one_edit (b ∷ t) (c ∷ u) e = by_place (one_edit t u) (any_of (is_edited_first (b ∷ t) (c ∷ u)) (b == c && is_one_edit t u) e)
+one_edit (b ∷ t) (c ∷ u) e = by_place (one_edit t u) (or_cases (is_edited_first (b ∷ t) (c ∷ u)) (b == c && is_one_edit t u) e)
   where
     by_place : (is_one_edit t u ≡ true → IsNear t u) → (is_edited_first (b ∷ t) (c ∷ u) ≡ true) ⊎ ((b == c && is_one_edit t u) ≡ true)
         → IsNear (b ∷ t) (c ∷ u)
     by_place rest (inl first) = edited_first (b ∷ t) (c ∷ u) first
     by_place rest (inr later) =
-        let parts = both_of (b == c) (is_one_edit t u) later in
+        let parts = and_parts (b == c) (is_one_edit t u) later in
         further b c t u (eqb-true b c parts.0) (rest parts.1)
 
 -- ---- no name before the start
@@ -125,7 +117,7 @@ prefixed : (t u : Text) → u ≡ codes "rft." ++ t → t ≡ drop 4 u
 prefixed t u e = sym (ap (drop 4) e)
 
 alike : (firsts : List ℕ) (t u : Text) (k start : ℕ) → resembles t u ≡ true → IsStart firsts t start → IsMarked firsts k u → start ≤ k
-alike firsts t u k start e from marked = by_case (any_of (str_eq_ignore_ascii_case t u) (adds_prefix t u || is_one_edit t u) e)
+alike firsts t u k start e from marked = by_case (or_cases (str_eq_ignore_ascii_case t u) (adds_prefix t u || is_one_edit t u) e)
   where
     by_edit : (adds_prefix t u ≡ true) ⊎ (is_one_edit t u ≡ true) → start ≤ k
     by_edit (inl prefix) =
@@ -135,7 +127,7 @@ alike firsts t u k start e from marked = by_case (any_of (str_eq_ignore_ascii_ca
     by_case : (str_eq_ignore_ascii_case t u ≡ true) ⊎ ((adds_prefix t u || is_one_edit t u) ≡ true) → start ≤ k
     by_case (inl case) =
         omega (arith, from.lowered, marked.lowered, ap (λ text. first_with firsts (hash_of text)) (same (lower_case t) (lower_case u) case))
-    by_case (inr other) = by_edit (any_of (adds_prefix t u) (is_one_edit t u) other)
+    by_case (inr other) = by_edit (or_cases (adds_prefix t u) (is_one_edit t u) other)
 
 not_before : (firsts : List ℕ) (names : List Text) (name : Text) (start k : ℕ) → AreStarts firsts names → IsStart firsts name start → k < length names
     → k < start → resembles name (get_or names k []) ≡ false

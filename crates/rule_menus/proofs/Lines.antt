@@ -1,7 +1,7 @@
 -- The lines of texts that are joined, and the last of them.
-use Rattle.std.proofs.Common.{◌≡◌, ℕ, List, [], ◌∷◌, ◌++◌, Bool, true, false, not, ◌==◌, Option, Some, None, filter, refl, ap, sym, ◌∙◌, append_assoc, codes}
+use Rattle.std.proofs.Common.{◌≡◌, ℕ, List, [], ◌∷◌, ◌++◌, Bool, true, not, ◌==◌, Option, Some, None, filter, refl, ap, sym, ◌∙◌, append_assoc, codes}
 use Rattle.std.specs.List.{AllByRecursion, flat_map, last_or, list_all}
-use Rattle.std.proofs.lemmas.Bool.{and_parts}
+use Rattle.std.proofs.lemmas.Bool.{and_parts, not-true}
 use Rattle.std.proofs.lemmas.List.{append-nil}
 use Rattle.std.proofs.lemmas.List.Elements.{filter-append}
 use Rattle.std.proofs.lemmas.Option.{none-some}
@@ -28,13 +28,6 @@ no_lines = record { before = λ rest. refl }
 pub line_end : (text : Text) (lines : List Text) → HasLines text lines → HasLines (codes "\n" ++ text) ([] ∷ lines)
 line_end text lines h = record { before = λ rest. ap (λ (ls : List Text). [] ∷ ls) (h.before rest) }
 
-no_line_feed : (b : ℕ) → not (b == line_feed) ≡ true → (b == line_feed) ≡ false
-no_line_feed b e = by_test (b == line_feed) e
-  where
-    by_test : (x : Bool) → not x ≡ true → x ≡ false
-    by_test true h = absurd (cc)
-    by_test false h = refl
-
 -- a text without LF makes the first line longer
 pub longer_line : (front text line : Text) (lines : List Text) → is_one_line front ≡ true → HasLines text (line ∷ lines)
     → HasLines (front ++ text) ((front ++ line) ∷ lines)
@@ -42,7 +35,7 @@ longer_line [] text line lines one h = h
 longer_line (b ∷ front) text line lines one h =
     let parts = and_parts (not (b == line_feed)) (is_one_line front) one in
     let inner = longer_line front text line lines parts.1 h in
-    record { before = λ rest. rw (no_line_feed b parts.0) (ap (after_byte b) (inner.before rest)) }
+    record { before = λ rest. rw (not-true (b == line_feed) parts.0) (ap (after_byte b) (inner.before rest)) }
 
 pub lines_joined : (a b : Text) (xs ys : List Text) → HasLines a xs → HasLines b ys → HasLines (a ++ b) (xs ++ ys)
 lines_joined a b xs ys h k =

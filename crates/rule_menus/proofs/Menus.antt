@@ -3,6 +3,7 @@ use Rattle.std.proofs.Common.{◌≡◌, ℕ, List, [], ◌∷◌, Option, Some,
 use Rattle.std.specs.Prelude.{◌↔◌, All, if◌then◌else◌}
 use Rattle.std.proofs.lemmas.List.Elements.{All-head, All-tail}
 use Rattle.text_model.specs.Texts.{Text}
+use Rattle.text_model.proofs.Lists.{map-same}
 use Rattle.environment_model.specs.Environment.{Environment}
 use Rattle.code_model.specs.Code.{Code}
 use Rattle.machine_model.specs.Next.{outcome_of}
@@ -24,13 +25,6 @@ use Rattle.rule_menus.proofs.SameMeaning.{CodeMeansRules}
 -- the outcome of a run is the one that is computed
 abbrev pub OutcomesAreDecided : Type 0
 OutcomesAreDecided = (c : Code) (v : Environment) (o : Outcome) → HasOutcome c v o ↔ (outcome_of c v ≡ o)
-
-same_map : {X Y : Type 0} (f g : X → Y) (xs : List X) → ((x : X) → f x ≡ g x) → map f xs ≡ map g xs
-same_map f g [] same = refl
-same_map f g (x ∷ xs) same =
-    let first = same x in
-    let others = same_map f g xs same in
-    cc
 
 answer_ends : (m : Option Text) → ended (answer m) ≡ fate_of_meaning m
 answer_ends None = refl
@@ -63,8 +57,8 @@ module _ (means : CodeMeansRules) (decided : OutcomesAreDecided) (unused : Unuse
       → resolution_of (coded target) pairs ≡ resolution_by_rules target pairs
   same_resolution target pairs sound =
       ap (chosen NoRow)
-      (same_map (resolution_of_row (coded target) pairs) (resolution_of_row_by_rules target pairs) (matching_rows target.table (ids_of pairs))
-      (λ row. ap (resolution_by row) (same_fate target pairs row sound)))
+      (map-same (resolution_of_row (coded target) pairs) (resolution_of_row_by_rules target pairs) (matching_rows target.table (ids_of pairs))
+      (λ k row within. ap (resolution_by _) (same_fate target pairs _ sound)))
 
 -- ---- all targets, if each has one resolution
 

@@ -1,5 +1,5 @@
 -- The lines of a row's text: the one that names the row, indented ones, and those of the rule that holds.
-use Rattle.std.proofs.Common.{◌≡◌, ℕ, zero, suc, ◌+◌, List, [], ◌∷◌, ◌++◌, Bool, true, false, not, cond, Option, Some, None, IfSome, All, filter}
+use Rattle.std.proofs.Common.{◌≡◌, ℕ, zero, suc, ◌+◌, List, [], ◌∷◌, Bool, true, false, not, cond, Option, Some, None, IfSome, All}
 use Rattle.std.proofs.Common.{take}
 use Rattle.std.proofs.Common.{option_map, refl, codes}
 use Rattle.std.specs.Prelude.{if◌then◌else◌}
@@ -9,6 +9,7 @@ use Rattle.std.specs.Str.{bytes_eq}
 use Rattle.std.proofs.lemmas.List.Elements.{recursion_from_All}
 use Rattle.text_model.specs.Texts.{Text}
 use Rattle.text_model.specs.UriText.{IsUriText}
+use Rattle.text_model.proofs.Lists.{all_append, all_filter}
 use Rattle.environment_model.specs.Environment.{Environment, LookUp}
 use Rattle.uri_grammar.specs.declared.parts.Part.{Part}
 use Rattle.uri_grammar.specs.Promises.{IsSoundPart}
@@ -37,21 +38,9 @@ all_mapped : {A : Type 0} (P Q : A → Type 0) (xs : List A) → ((x : A) → P 
 all_mapped P Q [] from all = tt
 all_mapped P Q (x ∷ xs) from all = (from x all.0, all_mapped P Q xs from all.1)
 
-all_joined : {A : Type 0} (P : A → Type 0) (xs ys : List A) → AllByRecursion P xs → AllByRecursion P ys → AllByRecursion P (xs ++ ys)
-all_joined P [] ys all others = others
-all_joined P (x ∷ xs) ys all others = (all.0, all_joined P xs ys all.1 others)
-
-all_kept : {A : Type 0} (P : A → Type 0) (test : A → Bool) (xs : List A) → AllByRecursion P xs → AllByRecursion P (filter test xs)
-all_kept P test [] all = tt
-all_kept P test (x ∷ xs) all = by_test (test x) (all_kept P test xs all.1)
-  where
-    by_test : (b : Bool) → AllByRecursion P (filter test xs) → AllByRecursion P (cond b (x ∷ filter test xs) (filter test xs))
-    by_test true rest = (all.0, rest)
-    by_test false rest = rest
-
 all_once : (P : Text → Type 0) (xs : List Text) → AllByRecursion P xs → AllByRecursion P (each_once xs)
 all_once P [] all = tt
-all_once P (x ∷ xs) all = (all.0, all_kept P (λ other. not (bytes_eq x other)) (each_once xs) (all_once P xs all.1))
+all_once P (x ∷ xs) all = (all.0, all_filter P (λ other. not (bytes_eq x other)) (each_once xs) (all_once P xs all.1))
 
 all_numbered : {A : Type 0} (P : A → Type 0) (first : ℕ) (xs : List A) → AllByRecursion P xs → AllByRecursion (λ (p : ℕ × A). P p.1) (enumerate_from first xs)
 all_numbered P first [] all = tt
@@ -87,9 +76,9 @@ names_one (guard.Given name) is = (name_one name is.0, tt)
 names_one (guard.Same name text) is = (name_one name is.0, tt)
 names_one (guard.Holds name text) is = (name_one name is.0, tt)
 names_one (guard.Between name low high) is =
-    (name_one name is.0.0, all_joined IsOne (bound_names low) (bound_names high) (bound_one low is.1.0) (bound_one high is.1.1))
+    (name_one name is.0.0, all_append IsOne (bound_names low) (bound_names high) (bound_one low is.1.0) (bound_one high is.1.1))
 names_one (guard.Counts name low high) is =
-    (name_one name is.0.0, all_joined IsOne (bound_names low) (bound_names high) (bound_one low is.1.0) (bound_one high is.1.1))
+    (name_one name is.0.0, all_append IsOne (bound_names low) (bound_names high) (bound_one low is.1.0) (bound_one high is.1.1))
 
 -- ---- the rules that fail
 

@@ -1,17 +1,14 @@
 -- Targets with the same bytes have the same entry.
-use Rattle.std.proofs.Common.{◌≡◌, ℕ, List, [], ◌∷◌, Some, None, refl, sym, ap, ◌∙◌, subst}
+use Rattle.std.proofs.Common.{◌≡◌, List, [], ◌∷◌, refl, sym, ap, ◌∙◌}
 use Rattle.std.specs.Prelude.{All}
 use Rattle.std.proofs.lemmas.List.Elements.{All-cons, All-nil}
-use Rattle.csv.specs.Machine.{Read, next_record}
-use Rattle.csv.specs.Reading.{Reached, AreRecords, strip_bom}
-use Rattle.csv.specs.declared.parser.Config.{Config}
-use Rattle.csv.specs.declared.parser.State.{State}
 use Rattle.csv.specs.declared.parser.State.TheVariants as state
 use Rattle.text_model.specs.Texts.{Text}
 use Rattle.kev_read.specs.Pairs.{KeyValue}
 use Rattle.kbart_rows.specs.Cells.{Row, Holdings}
 use Rattle.kbart_rows.specs.declared.keys.Keys.{Keys}
-use Rattle.kbart_rows.specs.Reading.{tab_separated, IsTable}
+use Rattle.kbart_rows.specs.Reading.{IsTable}
+use Rattle.kbart_rows.proofs.ReadingExamples.{lines_are_unique}
 use Rattle.rule_parser.specs.Grammar.{IsRuleText}
 use Rattle.rule_parser.specs.Rules.{RuleSet}
 use Rattle.menu.specs.Entries.{MenuEntry}
@@ -23,28 +20,11 @@ HasOneRuleSet = (bytes : Text) (rules others : RuleSet) → IsRuleText bytes rul
 
 -- ---- lines
 
-no_more : (cfg : Config) (s s2 : State) (xs ys : List ℕ) (p : Read) → s ≡ s2 → xs ≡ ys
-    → next_record cfg s2 [] [] ys ≡ None → next_record cfg s [] [] xs ≡ Some p → ⊥
-no_more cfg s s2 xs ys p same bytes none some = cc
-
--- a text has at most one list of records
-one_list : (cfg : Config) (s : State) (xs : List ℕ) (rows others : List Row) → AreRecords cfg s xs rows → AreRecords cfg s xs others → rows ≡ others
-unfolding Reached
-one_list cfg s xs [] [] a b = refl
-one_list cfg s xs [] (o ∷ others) a b = absurd (no_more cfg s a.0 xs a.1 b.2.0 a.2.0 a.2.1 a.3 b.2.1)
-one_list cfg s xs (r ∷ rows) [] a b = absurd (no_more cfg s b.0 xs b.1 a.2.0 b.2.0 b.2.1 b.3 a.2.1)
-one_list cfg s xs (r ∷ rows) (o ∷ others) a b =
-    let same : a.2.0 ≡ b.2.0 = cc (a.2.1, b.2.1) in
-    let first : r ≡ o = a.2.2 ∙ ap (λ (p : Read). p.0) same ∙ sym b.2.2 in
-    let after : AreRecords cfg a.2.0.1 a.2.0.2 others = subst (λ (p : Read). AreRecords cfg p.1 p.2 others) (sym same) (b.0, b.1, b.2.3, b.3) in
-    let rest = one_list cfg a.2.0.1 a.2.0.2 rows others (a.0, a.1, a.2.3, a.3) after in
-    cc
-
 -- bytes are at most one table, apart from the keys of its look-ups
 one_table : (bytes : Text) (table other : Holdings) → IsTable bytes table → IsTable bytes other → (table.header ≡ other.header) × (table.rows ≡ other.rows)
 one_table bytes table other a b =
     let same : table.header ∷ table.rows ≡ other.header ∷ other.rows =
-    one_list tab_separated state.StartRecord (strip_bom bytes) (table.header ∷ table.rows) (other.header ∷ other.rows) a.lines b.lines in
+    lines_are_unique bytes (table.header ∷ table.rows) (other.header ∷ other.rows) a.lines b.lines in
     (cc, cc)
 
 -- ---- targets

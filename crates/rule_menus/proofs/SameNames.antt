@@ -3,10 +3,11 @@ use Rattle.std.proofs.Common.{◌≡◌, ℕ, zero, suc, List, [], ◌∷◌, So
 use Rattle.std.specs.Prelude.{◌||◌, filter, map, if◌then◌else◌}
 use Rattle.std.specs.List.{AllByRecursion}
 use Rattle.std.specs.Str.{bytes_eq}
-use Rattle.std.proofs.lemmas.Bool.{false≢true}
+use Rattle.std.proofs.lemmas.Bool.{false≢true, or_right}
 use Rattle.std.proofs.lemmas.List.Folds.{list_any-append}
 use Rattle.std.proofs.lemmas.Slice.Eq.{bytes_eq-Decides}
 use Rattle.text_model.specs.Texts.{Text}
+use Rattle.text_model.proofs.TruthValues.{or_other}
 use Rattle.environment_model.specs.Environment.{is_among}
 use Rattle.environment_model.specs.Lists.{is_list, standard_lists}
 use Rattle.code_model.specs.Code.{Name}
@@ -18,14 +19,6 @@ IsDeclared lists name = is_list lists name.text ≡ name.list
 -- the names of lists in a table
 abbrev list_texts : List Name → List Text
 list_texts names = map (λ name. name.text) (filter (λ name. name.list) names)
-
-or_true : (a b : Bool) → b ≡ true → (a || b) ≡ true
-or_true true b h = refl
-or_true false b h = h
-
-or_cases : (a b : Bool) → (a || b) ≡ true → a ≡ false → b ≡ true
-or_cases true b h is = absurd (cc)
-or_cases false b h is = h
 
 first_false : (a b : Bool) → (a || b) ≡ false → a ≡ false
 first_false true b h = h
@@ -50,7 +43,7 @@ among_lists (n ∷ names) (suc k) name at list = by_kind n.list (among_lists nam
   where
     by_kind : (b : Bool) → is_among name.text (list_texts names) ≡ true
         → is_among name.text (map (λ m. m.text) (if b then (n ∷ filter (λ m. m.list) names) else filter (λ m. m.list) names)) ≡ true
-    by_kind true rest = or_true (bytes_eq n.text name.text) (is_among name.text (list_texts names)) rest
+    by_kind true rest = or_right (bytes_eq n.text name.text) (is_among name.text (list_texts names)) rest
     by_kind false rest = rest
 
 -- what is among the lists of the table is declared as a list
@@ -79,7 +72,7 @@ same_kind lists names k name all at = by_kind name.list refl (declared_at lists 
 
     by_kind : (b : Bool) → name.list ≡ b → is_list lists name.text ≡ b → is_list (list_texts names) name.text ≡ is_list lists name.text
     by_kind true list is =
-        parts ∙ or_true (is_among name.text standard_lists) (is_among name.text (list_texts names)) (among_lists names k name at list) ∙ sym is
+        parts ∙ or_right (is_among name.text standard_lists) (is_among name.text (list_texts names)) (among_lists names k name at list) ∙ sym is
     by_kind false list is = by_test (is_list (list_texts names) name.text) refl
       where
         not_standard : is_among name.text standard_lists ≡ false
@@ -89,6 +82,6 @@ same_kind lists names k name all at = by_kind name.list refl (declared_at lists 
 
         by_test : (b : Bool) → is_list (list_texts names) name.text ≡ b → is_list (list_texts names) name.text ≡ is_list lists name.text
         by_test true among =
-            let own = or_cases (is_among name.text standard_lists) (is_among name.text (list_texts names)) (sym parts ∙ among) not_standard in
+            let own = or_other (is_among name.text standard_lists) (is_among name.text (list_texts names)) (sym parts ∙ among) not_standard in
             absurd (false≢true (sym is ∙ lists_declared lists names name.text all own))
         by_test false among = among ∙ sym is

@@ -8,8 +8,8 @@ use Rattle.std.proofs.lemmas.List.{append-nil, append_assoc}
 use Rattle.std.proofs.lemmas.List.Elements.{recursion_from_All, All-from_get_or}
 use Rattle.std.proofs.lemmas.Str.{encode_ascii, inside_one, length-le-encodes}
 use Rattle.text_model.specs.Texts.{Text}
+use Rattle.text_model.proofs.Lists.{same_parts}
 use Rattle.rule_parser.specs.Statements.{escaped, is_special}
-use Rattle.rule_parser.proofs.TokenLemmas.{same_parts}
 
 -- the text that is left, with the backslash before it if one was read and its character was not
 abbrev pub waiting : Bool → Text → Text

@@ -4,6 +4,7 @@ use Rattle.std.proofs.Common.{◌≡◌, ℕ, List, [], ◌∷◌, ◌++◌, Som
 use Rattle.std.specs.Str.Lines.{lines}
 use Rattle.std.proofs.lemmas.List.{append-nil}
 use Rattle.text_model.specs.Texts.{Text}
+use Rattle.text_model.proofs.Lists.{same_parts}
 use Rattle.rule_parser.specs.declared.error.RuleErrorKind.{RuleErrorKind}
 use Rattle.rule_parser.specs.declared.error.RuleErrorKind.TheVariants as kind
 use Rattle.rule_parser.specs.declared.rule.Guard.{Guard}
@@ -13,7 +14,6 @@ use Rattle.rule_parser.specs.Grammar.{significant, IsRuleText}
 use Rattle.rule_parser.specs.Faults.{RulesSoFar, AreSoundSoFar, statements_so_far, IsLineFault, EndsRule, IsRefused}
 use Rattle.rule_parser.proofs.LineNumbers.{line_number, IsNumberedFault, line_fault, open_rule as open_fault, numbered_fault}
 use Rattle.rule_parser.proofs.LawLemmas.{OneTree, Follows, so_far_same, continues}
-use Rattle.rule_parser.proofs.TokenLemmas.{same_parts}
 use Rattle.rule_parser.proofs.LineLaws.{statement_same, HasNext, compare}
 use Rattle.rule_parser.proofs.FaultLaws.{IsBadText, NoFault, OneFault, bad_text, bad_text_same, begin_is_not_faulty, complete, complete_is_sound}
 use Rattle.rule_parser.proofs.FaultLaws.{faulty_is_no_next, so_far_are_statements}

@@ -6,6 +6,7 @@ use Rattle.std.specs.Char.{is_ascii_digit}
 use Rattle.std.proofs.lemmas.Bool.{both_ways, eqb-false}
 use Rattle.std.proofs.lemmas.List.{append_cancel_left, append_cancel_right}
 use Rattle.text_model.specs.Texts.{Text}
+use Rattle.text_model.proofs.Lists.{same_parts}
 use Rattle.uri_grammar.specs.Names.{IsName}
 use Rattle.rule_parser.specs.declared.rule.Bound.{Bound}
 use Rattle.rule_parser.specs.declared.rule.Bound.TheVariants as bound
@@ -13,7 +14,7 @@ use Rattle.rule_parser.specs.declared.rule.Guard.{Guard}
 use Rattle.rule_parser.specs.declared.rule.Guard.TheVariants as guard
 use Rattle.rule_parser.specs.Rules.{IsBound, AreBounds, IsGuard}
 use Rattle.rule_parser.specs.Statements.{Statement, Declare, Begin, When, Link, IsStatement, line_of, quoted, escaped, bound_text, bounds_text, guard_text}
-use Rattle.rule_parser.proofs.TokenLemmas.{same_parts, same_tails, other_heads, token_split, name_is_token, bound_is_token, star_is_no_name}
+use Rattle.rule_parser.proofs.TokenLemmas.{same_tails, other_heads, token_split, name_is_token, bound_is_token, star_is_no_name}
 use Rattle.rule_parser.proofs.EscapeLemmas.{escaped_same}
 use Rattle.rule_parser.proofs.GuardLemmas.{IsDefined, defined_tokens, IsCompared, compared_tokens}
 

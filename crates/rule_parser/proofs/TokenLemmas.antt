@@ -5,6 +5,7 @@ use Rattle.std.specs.Char.{is_ascii_digit}
 use Rattle.std.proofs.lemmas.Bool.{and_parts, eqb-false}
 use Rattle.std.proofs.lemmas.List.Elements.{recursion_from_All, All-from_get_or}
 use Rattle.text_model.specs.Texts.{is_hexadecimal}
+use Rattle.text_model.proofs.Lists.{same_parts}
 use Rattle.uri_grammar.specs.Names.{IsVarchar, IsVarname, IsName, is_name_character, character_varchar, triplet_varchar, first_varchar, next_varchar}
 use Rattle.uri_grammar.specs.Names.{dotted_varchar}
 use Rattle.rule_parser.specs.declared.rule.Bound.{Bound}
@@ -17,9 +18,6 @@ pub token_from_index : (t : List ℕ) → ((i : ℕ) → i < length t → get_or
 token_from_index t h = recursion_from_All (λ b. b ≢ 32) t (All-from_get_or (λ b. b ≢ 32) t 0 h)
 
 -- ---- the first bytes of two texts, and the first elements of two lists
-
-pub same_parts : {X : Type 0} (x y : X) (s t : List X) → x ∷ s ≡ y ∷ t → (x ≡ y) × (s ≡ t)
-same_parts x y s t e = (cc, cc)
 
 pub same_tails : (x y : ℕ) (s t : List ℕ) → x ∷ s ≡ y ∷ t → s ≡ t
 same_tails x y s t e = (same_parts x y s t e).1

@@ -1,15 +1,16 @@
 -- The cells of a line, from left to right.
 use Rattle.std.proofs.Common.{◌≡◌, ℕ, ◌+◌, ◌-◌, ◌&&◌, ◌||◌, ◌==◌, ◌≤◌, Bool, true, false, not, cond, count_by, zero, suc, List, [], ◌∷◌, length}
-use Rattle.std.proofs.Common.{drop, Some, None, refl, sym, ap, ◌∙◌, arith}
+use Rattle.std.proofs.Common.{None, Some, add-one, ap, arith, drop, drop_of_length-le, refl, sym, ◌∙◌}
 use Rattle.std.proofs.Common.{Bor, Option, get_or, if◌then◌else◌}
 use Rattle.std.specs.Option.{option_copied, unwrap_or}
-use Rattle.std.proofs.lemmas.Option.{get_or_from_slice_get, none-some, same_Some}
+use Rattle.std.proofs.lemmas.Option.{get_or_from_slice_get, none-some}
 use Rattle.std.proofs.lemmas.Bool.{false≢true}
 use Rattle.std.proofs.lemmas.List.Sums.{sum_by-cons}
 use Rattle.std.specs.List.{list_any, slice_get}
 use Rattle.table_inspection.specs.Columns.{is_empty}
 use Rattle.table_inspection.proofs.Ranges.{not_none}
 use Rattle.text_model.specs.Texts.{Text}
+use Rattle.text_model.proofs.Lists.{drop_from, past_end as past_the_last}
 use Rattle.kbart_rows.specs.Cells.{Row, tab}
 use Rattle.kbart_rows.specs.Lines.{prepended, cells_in}
 use Rattle.kbart_rows.proofs.LineCells.{prepended_cells}
@@ -47,25 +48,14 @@ past_continues (suc left) cell rest is =
 
 -- the item at a place is the first of what is left
 pub left_at : {X : Type 0} (xs : List X) (place : ℕ) (x : X) → slice_get xs place ≡ Some x → drop place xs ≡ x ∷ drop (place + 1) xs
-left_at [] place x is = absurd (none-some x is)
-left_at (y ∷ xs) zero x is = ap (λ z. z ∷ xs) (same_Some y x is)
-left_at (y ∷ xs) (suc place) x is =
-    let next : suc place + 1 ≡ suc (place + 1) = omega arith in
-    left_at xs place x is ∙ ap (λ n. x ∷ drop n (y ∷ xs)) (sym next)
+left_at xs place x is = drop_from xs place x is ∙ ap (λ n. x ∷ drop n xs) (sym (add-one place))
 
 -- past the last there is nothing left
 pub none_left : {X : Type 0} (xs : List X) (place : ℕ) → slice_get xs place ≡ None → drop place xs ≡ []
-none_left [] zero is = refl
-none_left [] (suc place) is = refl
-none_left (y ∷ xs) zero is = absurd (none-some y (sym is))
-none_left (y ∷ xs) (suc place) is = none_left xs place is
+none_left xs place is = drop_of_length-le xs (past_the_last xs place is)
 
 pub header_end : {X : Type 0} (xs : List X) (place : ℕ) → place ≤ length xs → slice_get xs place ≡ None → place ≡ length xs
-header_end [] place within is = omega (arith, within)
-header_end (y ∷ xs) zero within is = absurd (none-some y (sym is))
-header_end (y ∷ xs) (suc place) within is =
-    let last : place ≡ length xs = header_end xs place (omega (arith, within)) is in
-    ap suc last
+header_end xs place within is = omega (arith, within, past_the_last xs place is)
 
 -- ---- the cell of a column
 

@@ -10,6 +10,7 @@ use Rattle.std.proofs.lemmas.List.{take-append-drop}
 use Rattle.std.proofs.lemmas.List.Elements.{filter-append}
 use Rattle.std.proofs.lemmas.List.Folds.{list_any-append}
 use Rattle.std.proofs.lemmas.List.Sums.{count_by-le-length, sum_by-append, sum_by-cons}
+use Rattle.std.proofs.Math.Bool.{or-false}
 use Rattle.text_model.specs.Texts.{Text}
 use Rattle.kbart_rows.specs.Cells.{Row, cell_in, defined}
 use Rattle.kbart_rows.specs.Identifiers.{identifier_in, normalised}
@@ -51,13 +52,9 @@ new_among_same f g same (Some id) = ap (λ b. if b then 0 else 1) (same id)
 
 -- ---- the identifiers of a row
 
-or_false : (x : Bool) → (x || false) ≡ x
-or_false true = refl
-or_false false = refl
-
 pub is_in_option : (id : Text) (o : Option Text) → list_any (bytes_eq id) (option_to_list o) ≡ is_id id o
 is_in_option id None = refl
-is_in_option id (Some x) = or_false (bytes_eq id x)
+is_in_option id (Some x) = or-false (bytes_eq id x)
 
 abbrev two : Option Text → Option Text → List Text
 two first second = option_to_list (option_and_then defined first) ++ option_to_list (option_and_then defined second)

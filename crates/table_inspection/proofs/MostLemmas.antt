@@ -9,6 +9,7 @@ use Rattle.std.proofs.lemmas.List.Elements.{All-nil, All-cons, All-head, All-tai
 use Rattle.std.proofs.lemmas.List.Folds.{list_all-append}
 use Rattle.std.specs.List.{find, list_all}
 use Rattle.std.specs.Option.{option_map_or, option_to_list}
+use Rattle.std.proofs.Math.Bool.{and-false}
 use Rattle.kbart_rows.specs.Cells.{defined}
 use Rattle.table_inspection.specs.Columns.{is_empty}
 use Rattle.table_inspection.proofs.Ranges.{not_none}
@@ -23,9 +24,6 @@ pub most_of_none : (number : Text → ℕ) (texts : List Text) (second : Option 
 most_of_none number texts None (none empty) = none (append-nil texts ∙ empty)
 most_of_none number texts (Some text) (none empty) =
     some [] text [] (ap (λ texts. texts ++ text ∷ []) empty) (All-nil (λ other. number other < number text)) (All-nil (λ other. number other ≤ number text))
-
-pub most_and_none : (number : Text → ℕ) (texts : List Text) (first : Option Text) → IsMost number texts first → IsMost number (texts ++ []) first
-most_and_none number texts first most = rw append-nil most
 
 pub most_is_later : (number : Text → ℕ) (texts : List Text) (first second : Text) → number first < number second → IsMost number texts (Some first)
     → IsMost number (texts ++ second ∷ []) (Some second)
@@ -51,17 +49,13 @@ all_from number n (text ∷ texts) all =
     let yes : nat_le (number text) n ≡ true = grind (arith, nat_tests) in
     rw yes (all_from number n texts (All-tail (λ other. number other ≤ n) text texts all))
 
-and_false : (x : Bool) → (x && false) ≡ false
-and_false true = refl
-and_false false = refl
-
 not_all : (number : Text → ℕ) (n : ℕ) (front : List Text) (text : Text) (back : List Text) → n < number text
     → list_all (λ other. nat_le (number other) n) (front ++ text ∷ back) ≡ false
 not_all number n front text back less =
     let no : nat_le (number text) n ≡ false = grind (arith, nat_tests) in
     list_all-append (λ other. nat_le (number other) n) front (text ∷ back)
     ∙ ap (λ b. list_all (λ other. nat_le (number other) n) front && (b && list_all (λ other. nat_le (number other) n) back)) no
-    ∙ and_false (list_all (λ other. nat_le (number other) n) front)
+    ∙ and-false (list_all (λ other. nat_le (number other) n) front)
 
 find_at : (test : Text → Bool) (front : List Text) (text : Text) (back : List Text) → All (λ other. test other ≡ false) front → test text ≡ true
     → find test (front ++ text ∷ back) ≡ Some text

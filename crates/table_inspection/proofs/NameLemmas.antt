@@ -1,39 +1,14 @@
 -- A walk over the names of the standard.
-use Rattle.std.proofs.Common.{Bor, ◌≡◌, ℕ, ◌+◌, ◌<◌, ◌&&◌, ◌||◌, Bool, true, false, zero, suc, List, [], ◌∷◌, length, take, get_or, Some, None, refl}
-use Rattle.std.proofs.Common.{sym, ap, ◌∙◌, arith}
-use Rattle.std.proofs.Common.{cond}
-use Rattle.std.proofs.lemmas.Option.{none-some}
+use Rattle.std.proofs.Common.{Bor, ◌≡◌, ℕ, ◌+◌, ◌<◌, ◌&&◌, ◌||◌, Bool, true, false, zero, suc, List, [], ◌∷◌, length, take, get_or, refl}
+use Rattle.std.proofs.Common.{ap, ◌∙◌, arith}
 use Rattle.std.specs.List.{find, list_any}
 use Rattle.std.specs.Str.{bytes_eq}
+use Rattle.std.proofs.Math.Bool.{or-true}
 use Rattle.text_model.specs.Texts.{Text, texts_of}
 use Rattle.kbart_rows.specs.Cells.{Row}
 use Rattle.standard_names.specs.Columns.{known_columns}
 use Rattle.table_inspection.specs.Columns.{is_missing, meant, spelling}
 use Rattle.table_inspection.proofs.OnLiterals.{on_literals}
-
-pub find_step : (test : Text → Bool) (xs : List (Bor Text)) (i : ℕ) (d : Bor Text) → i < length xs → find test (texts_of (take i xs)) ≡ None
-    → test (get_or xs i d).now ≡ false → find test (texts_of (take (i + 1) xs)) ≡ None
-find_step test [] i d inside none fails = absurd (omega (arith, inside))
-find_step test (x ∷ xs) zero d inside none fails = ap (λ b. cond b (Some x.now) None) fails
-find_step test (x ∷ xs) (suc i) d inside none fails =
-    let next : suc i + 1 ≡ suc (i + 1) = omega arith in
-    ap (λ n. find test (texts_of (take n (x ∷ xs)))) next ∙ here (test x.now) (λ is. find_step test xs i d (omega (arith, inside)) is fails) none
-  where
-    here : (b : Bool) → (find test (texts_of (take i xs)) ≡ None → find test (texts_of (take (i + 1) xs)) ≡ None)
-        → cond b (Some x.now) (find test (texts_of (take i xs))) ≡ None → cond b (Some x.now) (find test (texts_of (take (i + 1) xs))) ≡ None
-    here true later is = is
-    here false later is = later is
-
-pub find_here : (test : Text → Bool) (xs : List (Bor Text)) (i : ℕ) (d : Bor Text) → i < length xs → find test (texts_of (take i xs)) ≡ None
-    → test (get_or xs i d).now ≡ true → find test (texts_of xs) ≡ Some (get_or xs i d).now
-find_here test [] i d inside none passes = absurd (omega (arith, inside))
-find_here test (x ∷ xs) zero d inside none passes = ap (λ b. cond b (Some x.now) (find test (texts_of xs))) passes
-find_here test (x ∷ xs) (suc i) d inside none passes = here (test x.now) (λ is. find_here test xs i d (omega (arith, inside)) is passes) none
-  where
-    here : (b : Bool) → (find test (texts_of (take i xs)) ≡ None → find test (texts_of xs) ≡ Some (get_or xs i d).now)
-        → cond b (Some x.now) (find test (texts_of (take i xs))) ≡ None → cond b (Some x.now) (find test (texts_of xs)) ≡ Some (get_or xs i d).now
-    here true later is = absurd (none-some x.now (sym is))
-    here false later is = later is
 
 -- the standard's names do not change when they are spelled
 pub meant_is : (header : Row) (text : Text) → meant header text ≡ find (λ name. is_missing header name && bytes_eq (spelling text) name) known_columns
@@ -57,8 +32,4 @@ pub any_here : (test : Text → Bool) (xs : List (Bor Text)) (i : ℕ) (d : Bor 
     → list_any test (texts_of xs) ≡ true
 any_here test [] i d inside passes = absurd (omega (arith, inside))
 any_here test (x ∷ xs) zero d inside passes = ap (λ b. b || list_any test (texts_of xs)) passes
-any_here test (x ∷ xs) (suc i) d inside passes = ap (λ later. test x.now || later) (any_here test xs i d (omega (arith, inside)) passes) ∙ or_true (test x.now)
-  where
-    or_true : (b : Bool) → (b || true) ≡ true
-    or_true true = refl
-    or_true false = refl
+any_here test (x ∷ xs) (suc i) d inside passes = ap (λ later. test x.now || later) (any_here test xs i d (omega (arith, inside)) passes) ∙ or-true (test x.now)

@@ -1,24 +1,15 @@
 -- Results that are gathered from rows or columns one after another.
-use Rattle.std.proofs.Common.{◌≡◌, ℕ, ◌+◌, ◌&&◌, ◌==◌, ◌≤◌, zero, suc, Bool, true, false, List, [], ◌∷◌, ◌++◌, length, get_or, filter}
+use Rattle.std.proofs.Common.{◌≡◌, ℕ, ◌+◌, ◌&&◌, ◌==◌, ◌≤◌, suc, Bool, true, false, List, [], ◌∷◌, ◌++◌, length, get_or, filter}
 use Rattle.std.proofs.Common.{refl, sym, ap, ◌∙◌, arith}
 use Rattle.std.proofs.Common.{if◌then◌else◌, append-nil, length-append}
 use Rattle.std.proofs.lemmas.Bool.Decides.{nat_tests}
 use Rattle.std.proofs.lemmas.Grind.{flat_map-append}
 use Rattle.std.proofs.lemmas.List.Elements.{filter-append}
 use Rattle.std.specs.List.{flat_map, range_with_len}
+use Rattle.text_model.proofs.Lists.{range_more}
 use Rattle.table_inspection.specs.Private.Gathering.{AreRows, AreCells}
 use Rattle.table_inspection.specs.Cells.{CellAt, of_cells, of_rows}
 use Rattle.table_inspection.specs.Findings.{Finding}
-
-pub range_more : (first n : ℕ) → range_with_len first (n + 1) ≡ range_with_len first n ++ (first + n) ∷ []
-range_more first zero =
-    let start : first ≡ first + zero = omega arith in
-    ap (λ at. at ∷ []) start
-range_more first (suc n) =
-    let size : suc n + 1 ≡ suc (n + 1) = omega arith in
-    let start : first + 1 + n ≡ first + suc n = omega arith in
-    ap (range_with_len first) size ∙ ap (λ rest. first ∷ rest) (range_more (first + 1) n)
-    ∙ ap (λ at. first ∷ (range_with_len (first + 1) n ++ at ∷ [])) start
 
 -- one more row
 pub filter_more : (test : ℕ → Bool) (n : ℕ) → filter test (range_with_len 0 (n + 1)) ≡ filter test (range_with_len 0 n) ++ (if test n then n ∷ [] else [])

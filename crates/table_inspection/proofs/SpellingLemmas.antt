@@ -4,6 +4,7 @@ use Rattle.std.proofs.Common.{refl, sym, ap, ◌∙◌, arith}
 use Rattle.std.proofs.Common.{if◌then◌else◌, append-nil, append_assoc}
 use Rattle.std.proofs.lemmas.Bool.Decides.{nat_tests}
 use Rattle.std.specs.Char.{is_ascii_alphabetic, to_ascii_lowercase}
+use Rattle.std.proofs.lemmas.List.{drop_more}
 use Rattle.text_model.specs.Texts.{Text}
 use Rattle.table_inspection.specs.Columns.{is_empty, spelled, spelling, underscore, underscored, without_first_underscore}
 use Rattle.table_inspection.specs.Private.Spelling.{continued, next_name}
@@ -90,13 +91,6 @@ spelled_end (n ∷ name) false =
     let some = not_none (length name) in
     rw some (append-nil (n ∷ name))
 
-drop_at : (text : Text) (i : ℕ) → i < length text → drop i text ≡ get_or text i 0 ∷ drop (i + 1) text
-drop_at [] i inside = absurd (omega (arith, inside))
-drop_at (b ∷ text) zero inside = refl
-drop_at (b ∷ text) (suc i) inside =
-    let next : suc i + 1 ≡ suc (i + 1) = omega arith in
-    drop_at text i (omega (arith, inside)) ∙ ap (λ n. get_or text i 0 ∷ drop n (b ∷ text)) (sym next)
-
 pub spelled_next : (text : Text) (i : ℕ) (name new : Text) (after new_after : Bool) (b : ℕ) → i < length text → b ≡ get_or text i 0
     → name ++ continued name after (spelled (drop i text)) ≡ spelling text → new ≡ next_name name after b → new_after ≡ not (is_ascii_alphabetic b)
     → new ++ continued new new_after (spelled (drop (i + 1) text)) ≡ spelling text
@@ -104,7 +98,7 @@ spelled_next text i name new after new_after b inside b_is old new_is after_is =
     let rest = spelled (drop (i + 1) text) in
     ap (λ name. name ++ continued name new_after rest) new_is ∙ ap (λ last. next_name name after b ++ continued (next_name name after b) last rest) after_is
     ∙ sym (spelled_step name after b (drop (i + 1) text)) ∙ ap (λ b. name ++ continued name after (spelled (b ∷ drop (i + 1) text))) b_is
-    ∙ ap (λ left. name ++ continued name after (spelled left)) (sym (drop_at text i inside)) ∙ old
+    ∙ ap (λ left. name ++ continued name after (spelled left)) (sym (drop_more text i 0 inside)) ∙ old
 
 pub spelled_all : (text : Text) (i : ℕ) (name : Text) (after : Bool) → length text ≤ i → name ++ continued name after (spelled (drop i text)) ≡ spelling text
     → name ≡ spelling text

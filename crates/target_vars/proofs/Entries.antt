@@ -1,9 +1,11 @@
 -- The entries of names and places.
-use Rattle.std.proofs.Common.{◌≡◌, ℕ, zero, suc, ◌+◌, ◌≤◌, List, [], ◌∷◌, ◌++◌, Bool, true, false, length, slice_get, Some, is_some, bytes_eq, All, unwrap_or}
+use Rattle.std.proofs.Common.{◌≡◌, ℕ, zero, suc, ◌+◌, ◌≤◌, List, [], ◌∷◌, ◌++◌, Bool, true, false, length, slice_get, Some, is_some, bytes_eq, All}
 use Rattle.std.proofs.Common.{refl, sym, ap, ◌∙◌, subst, arith, add-zero}
 use Rattle.std.specs.Prelude.{◌==◌}
 use Rattle.std.proofs.lemmas.List.Elements.{All-head, All-tail}
 use Rattle.std.proofs.lemmas.Slice.Eq.{bytes_eq-Decides}
+use Rattle.std.proofs.lemmas.Bool.{ne_eqb}
+use Rattle.std.proofs.lemmas.Option.{same_Some}
 use Rattle.text_model.specs.Texts.{Text}
 use Rattle.environment_model.specs.Environment.{Environment, Entry, Single, look_up, is_there, is_among, more, with_member}
 use Rattle.environment_model.proofs.Environments.{look_up-empty, look_up-same, look_up-other, with_member-same, with_member-other}
@@ -13,7 +15,6 @@ use Rattle.target_vars.specs.Layout.{meaning_in, entries_from, IsPlace}
 use Rattle.target_vars.specs.declared.place.Place.{Place}
 use Rattle.target_vars.specs.declared.place.Place.TheVariants.{One, Many}
 use Rattle.target_vars.proofs.Growth.{same_part}
-use Rattle.target_vars.proofs.Spans.{is_not}
 
 -- the members of the list of each number
 abbrev Lists : Type 0
@@ -34,9 +35,6 @@ entries_from-cons b m i n ns p ps = refl
 entries_from-short : (b : Text) (m : Lists) (i : ℕ) (n : Text) (ns : List Text) → entries_from b m i (n ∷ ns) [] ≡ []
 unfolding entries_from
 entries_from-short b m i n ns = refl
-
-some_injective : {A : Type 0} {x y : A} → Some x ≡ Some y → x ≡ y
-some_injective {x = x} same = ap (λ o. unwrap_or o x) same
 
 pub entries_from-push : (b : Text) (m : Lists) (i : ℕ) (ns : List Text) (ps : List Place) (n : Text) (p : Place) → length ps ≡ length ns
     → entries_from b m i (ns ++ n ∷ []) (ps ++ p ∷ []) ≡ entries_from b m i ns ps ++ entry b (m (i + length ns)) n p ∷ []
@@ -109,8 +107,8 @@ pub look_up-at : (b : Text) (m : Lists) (i : ℕ) (ns : List Text) (ps : List Pl
 look_up-at b m i [] ps name k p once named placed = absurd (cc)
 look_up-at b m i (n ∷ ns) [] name k p once named placed = absurd (cc)
 look_up-at b m i (n ∷ ns) (q ∷ ps) name zero p once named placed =
-    let own : n ≡ name = some_injective named in
-    let its : q ≡ p = some_injective placed in
+    let own : n ≡ name = same_Some _ _ named in
+    let its : q ≡ p = same_Some _ _ placed in
     ap (λ es. look_up es name) (entries_from-cons b m i n ns q ps)
     ∙ look_up-same (entry b (m i) n q) (entries_from b m (suc i) ns ps) name (ap (λ x. bytes_eq x name) own ∙ itself name)
     ∙ ap (λ x. Some (meaning_in b (m i) x)) its
@@ -135,13 +133,13 @@ pub with_member-at : (b t : Text) (m m' : Lists) (i : ℕ) (ns : List Text) (ps 
 with_member-at b t m m' i [] ps name k once named placed own others = absurd (cc)
 with_member-at b t m m' i (n ∷ ns) [] name k once named placed own others = absurd (cc)
 with_member-at b t m m' i (n ∷ ns) (q ∷ ps) name zero once named placed own others =
-    let same : n ≡ name = some_injective named in
-    let its : q ≡ Many = some_injective placed in
+    let same : n ≡ name = same_Some _ _ named in
+    let its : q ≡ Many = same_Some _ _ placed in
     let e = entry b (m i) n q in
     let env = entries_from b m (suc i) ns ps in
     let here : m' i ≡ m i ++ t ∷ [] = subst (λ j. m' j ≡ m j ++ t ∷ []) (add-zero i) own in
     entries_from-cons b m' i n ns q ps
-    ∙ ap (λ es. entry b (m' i) n q ∷ es) (entries_same b m m' (suc i) ns ps (λ j from. others j (is_not (i + 0) j (λ at. omega arith))))
+    ∙ ap (λ es. entry b (m' i) n q ∷ es) (entries_same b m m' (suc i) ns ps (λ j from. others j (ne_eqb (i + 0) j (λ at. omega arith))))
     ∙ ap (λ ms. entry b ms n q ∷ env) here
     ∙ ap (λ x. record { name = n; meaning = x } ∷ env) (ap (meaning_in b (m i ++ t ∷ [])) its ∙ ap (λ x. more (meaning_in b (m i) x) t) (sym its))
     ∙ sym (with_member-same e env name t (ap (λ x. bytes_eq x name) same ∙ itself name))
@@ -153,7 +151,7 @@ with_member-at b t m m' i (n ∷ ns) (q ∷ ps) name (suc k) once named placed o
     let there = ap is_some (look_up-at b m (suc i) ns ps name k Many once'.1 named placed) in
     let next : i + suc k ≡ suc i + k = omega arith in
     entries_from-cons b m' i n ns q ps
-    ∙ ap (λ ms. entry b ms n q ∷ entries_from b m' (suc i) ns ps) (others i (is_not (i + suc k) i (λ at. omega arith)))
+    ∙ ap (λ ms. entry b ms n q ∷ entries_from b m' (suc i) ns ps) (others i (ne_eqb (i + suc k) i (λ at. omega arith)))
     ∙ ap (λ es. e ∷ es) (with_member-at b t m m' (suc i) ns ps name k once'.1 named placed (subst (λ j. m' j ≡ m j ++ t ∷ []) next own)
     (λ j differs. others j (ap (λ x. x == j) next ∙ differs)))
     ∙ sym (with_member-other e env name t (not_in_front e env name once' there))

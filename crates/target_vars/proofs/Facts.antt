@@ -1,13 +1,12 @@
 -- What the fields of an `Env` say about its value in contracts.
 use Rattle.std.proofs.Common.{◌≡◌, ℕ, ◌+◌, ◌<◌, ◌≤◌, List, ◌∷◌, ◌++◌, take, drop, insert, IsTrue, Bool, true, false, length, slice_get, get_or, Some, is_some}
-use Rattle.std.proofs.Common.{Result, Ok, Err, string_bytes, refl, sym, ap, ◌∙◌, subst, arith}
-use Rattle.std.specs.Prelude.{MatchResult}
+use Rattle.std.proofs.Common.{Result, Ok, Err, string_bytes, sym, ap, ◌∙◌, subst, arith}
 use Rattle.std.proofs.lemmas.Option.{slice_get-get_or, slice_get_within}
 use Rattle.text_model.specs.Texts.{Text}
 use Rattle.environment_model.specs.Environment.{is_there, is_among, text_in, byte_count, member_count}
 use Rattle.target_vars.specs.EnvValue.{EnvValue, denotes_text}
-use Rattle.target_vars.specs.Private.NamesValue.{IsGap}
-use Rattle.target_vars.specs.Layout.{at, is_one, laid_spans, meaning_in, members_in, IsLaid, IsPutLast}
+use Rattle.target_vars.specs.Private.ListPlaces.{HasText, IsListPlace}
+use Rattle.target_vars.specs.Layout.{at, laid_spans, IsLaid, IsPutLast}
 use Rattle.target_vars.specs.declared.env.Env.TheInside.{Inside}
 use Rattle.target_vars.specs.declared.env.TheConstants.{MAX_BYTES, MAX_MEMBERS}
 use Rattle.target_vars.specs.declared.place.Span.{Span}
@@ -45,43 +44,22 @@ known r v name k laid is named =
 
 -- ---- what it denotes
 
--- whether the place that was found is that of a text
-abbrev pub Says : List Place → Result ℕ ℕ → Bool → Type 0
-Says places found text = MatchResult found (λ k. (p : Place) → slice_get places k ≡ Some p → text ≡ is_one p) (λ _. text ≡ false)
-
--- the result of the search for a name
-abbrev pub IsFound : Inside → Text → Result ℕ ℕ → Type 0
-IsFound r name found = MatchResult found (λ k. slice_get r.names.listed k ≡ Some name) (IsGap r.names name)
-
-pub decided : (r : Inside) (v : EnvValue) (name : Text) (found : Result ℕ ℕ) (text : Bool) → IsHeld r → held r ≡ v → IsFound r name found
-    → Says r.places.items found text → denotes_text v.entries name ≡ text
-decided r v name (Ok k) text laid is named says =
-    let p = found_place r name k laid named in
+pub text_there : (r : Inside) (v : EnvValue) (name : Text) (places : List Place) → IsHeld r → held r ≡ v → places ≡ r.places.items
+    → HasText r.names places name → denotes_text v.entries name ≡ true
+text_there r v name places laid is same (number, part, named, placed) =
     ap (λ (x : EnvValue). denotes_text x.entries name) (sym is)
-    ∙ ap (λ o. is_some (text_in o)) (look_up-laid (string_bytes r.buffer) r.spans.items r.names.listed r.places.items name k p.0 laid named p.1)
-    ∙ by_place p.0
-    ∙ sym (says p.0 p.1)
-  where
-    by_place : (p : Place) → is_some (text_in (Some (meaning_in (string_bytes r.buffer) (members_in (string_bytes r.buffer) r.spans.items k) p))) ≡ is_one p
-    by_place (One part) = refl
-    by_place Many = refl
-decided r v name (Err gap) text laid is named says =
-    ap (λ (x : EnvValue). denotes_text x.entries name) (sym is)
-    ∙ ap (λ o. is_some (text_in o)) (look_up-lacking (string_bytes r.buffer) r.spans.items r.names.listed r.places.items name laid named.lacks)
-    ∙ sym says
+    ∙ ap (λ o. is_some (text_in o)) (look_up-laid (string_bytes r.buffer) r.spans.items r.names.listed r.places.items name number (One part) laid named
+    (subst (λ ps. slice_get ps number ≡ Some (One part)) same placed))
 
--- the list of the name that was found, if it does not denote a text
-pub found_list : (r : Inside) (name : Text) (found : Result ℕ ℕ) (text : Bool) → IsHeld r → IsFound r name found
-    → Says r.places.items found text → text ≡ false
-    → MatchResult found (λ k. (slice_get r.names.listed k ≡ Some name) × (slice_get r.places.items k ≡ Some Many)) (IsGap r.names name)
-found_list r name (Ok k) text laid named says none =
-    let p = found_place r name k laid named in
-    (named, p.1 ∙ ap Some (by_place p.0 (sym (says p.0 p.1) ∙ none)))
-  where
-    by_place : (p : Place) → is_one p ≡ false → p ≡ Many
-    by_place (One part) one = absurd (cc)
-    by_place Many one = refl
-found_list r name (Err gap) text laid named says none = named
+pub no_text : (r : Inside) (v : EnvValue) (name : Text) (places : List Place) (found : Result ℕ ℕ) → IsHeld r → held r ≡ v → places ≡ r.places.items
+    → IsListPlace r.names places name found → denotes_text v.entries name ≡ false
+no_text r v name places (Ok number) laid is same at =
+    ap (λ (x : EnvValue). denotes_text x.entries name) (sym is)
+    ∙ ap (λ o. is_some (text_in o)) (look_up-laid (string_bytes r.buffer) r.spans.items r.names.listed r.places.items name number Many laid at.0
+    (subst (λ ps. slice_get ps number ≡ Some Many) same at.1))
+no_text r v name places (Err gap) laid is same at =
+    ap (λ (x : EnvValue). denotes_text x.entries name) (sym is)
+    ∙ ap (λ o. is_some (text_in o)) (look_up-lacking (string_bytes r.buffer) r.spans.items r.names.listed r.places.items name laid at.lacks)
 
 -- ---- the limits
 

@@ -1,6 +1,6 @@
 -- Everything in the buffer keeps its place when a text is appended to it.
 use Rattle.std.proofs.Common.{◌≡◌, ℕ, ◌+◌, List, [], ◌∷◌, ◌++◌, map, length, take, drop, All, IsUtf8, IsCharBoundary, refl, sym, ap, ◌∙◌, subst, arith}
-use Rattle.std.proofs.Common.{length-append, length-drop, take_all, drop_at}
+use Rattle.std.proofs.Common.{drop_at, length-append, length-drop, take_all, ◌≤◌}
 use Rattle.std.proofs.lemmas.List.{take-append-le, drop-append-le}
 use Rattle.std.proofs.lemmas.List.Elements.{All-head, All-tail, All-weaker}
 use Rattle.std.proofs.lemmas.Str.{IsUtf8-append, IsUtf8-take, IsCharBoundary-from_take, IsCharBoundary-at_seam, IsCharBoundary-end}
@@ -10,14 +10,17 @@ use Rattle.target_vars.specs.declared.place.Part.{Part}
 use Rattle.target_vars.specs.declared.place.Span.{Span}
 use Rattle.target_vars.specs.declared.place.Place.{Place}
 use Rattle.target_vars.specs.declared.place.Place.TheVariants.{One, Many}
+use Rattle.target_vars.specs.EnvValue.{piece_at}
 
-boundary_stays : (b t : Text) (i : ℕ) → IsUtf8 b → IsUtf8 t → IsCharBoundary b i → IsCharBoundary (b ++ t) i
-boundary_stays b t i ub ut at =
+pub boundary_stays : (b t : Text) (i : ℕ) → IsUtf8 b → IsUtf8 (b ++ t) → IsCharBoundary b i → IsCharBoundary (b ++ t) i
+boundary_stays b t i utf8 both at =
     let longer = length-append b t in
-    IsCharBoundary-from_take (b ++ t) i (IsUtf8-append b t ub ut) (omega arith) (subst IsUtf8 (sym (take-append-le i b t at.0)) (IsUtf8-take b i ub at))
+    IsCharBoundary-from_take (b ++ t) i both (omega (arith, at.0)) (rw (take-append-le i b t at.0) (IsUtf8-take b i utf8 at))
 
 part_stays : (b t : Text) (p : Part) → IsUtf8 b → IsUtf8 t → IsPart b p → IsPart (b ++ t) p
-part_stays b t p ub ut is = record { begins = boundary_stays b t p.start ub ut is.begins; ends = boundary_stays b t (p.start + p.len) ub ut is.ends }
+part_stays b t p ub ut is =
+    let both = IsUtf8-append b t ub ut in
+    record { begins = boundary_stays b t p.start ub both is.begins; ends = boundary_stays b t (p.start + p.len) ub both is.ends }
 
 place_stays : (b t : Text) (p : Place) → IsUtf8 b → IsUtf8 t → IsPlace b p → IsPlace (b ++ t) p
 place_stays b t (One p) ub ut is = part_stays b t p ub ut is
@@ -29,12 +32,14 @@ pieces_stay b t spans ub ut = All-weaker (IsPiece b) (IsPiece (b ++ t)) (λ s. p
 pub places_stay : (b t : Text) (places : List Place) → IsUtf8 b → IsUtf8 t → All (IsPlace b) places → All (IsPlace (b ++ t)) places
 places_stay b t places ub ut = All-weaker (IsPlace b) (IsPlace (b ++ t)) (λ p. place_stays b t p ub ut) places
 
+-- a piece of a text stays the same if another text comes after it
+pub front_piece : (b t : Text) (at : ℕ × ℕ) → at.0 + at.1 ≤ length b → piece_at (b ++ t) at ≡ piece_at b at
+front_piece b t at within =
+    ap (take at.1) (drop-append-le at.0 b t (omega (arith, within)))
+    ∙ take-append-le at.1 (drop at.0 b) t (omega (arith, length-drop at.0 b, within))
+
 pub same_part : (b t : Text) (p : Part) → IsPart b p → part_text (b ++ t) p ≡ part_text b p
-same_part b t p is =
-    let begins = is.begins.0 in
-    let ends = is.ends.0 in
-    let left = length-drop p.start b in
-    ap (take p.len) (drop-append-le p.start b t begins) ∙ take-append-le p.len (drop p.start b) t (omega arith)
+same_part b t p is = front_piece b t (p.start, p.len) is.ends.0
 
 pub same_pieces : (b t : Text) (spans : List Span) → All (IsPiece b) spans → map (piece (b ++ t)) spans ≡ map (piece b) spans
 same_pieces b t [] are = refl

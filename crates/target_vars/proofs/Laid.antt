@@ -1,14 +1,15 @@
 -- What a name denotes, given its number.
-use Rattle.std.proofs.Common.{◌≡◌, ℕ, ◌+◌, ◌-◌, ◌<◌, List, [], ◌∷◌, false, map, length, take, drop, slice_get, get_or, Option, Some, None}
-use Rattle.std.proofs.Common.{is_some, All, refl, sym, ap, ◌∙◌, subst, arith, zero-add, inr}
+use Rattle.std.proofs.Common.{◌≡◌, ℕ, ◌+◌, ◌-◌, ◌<◌, List, [], ◌∷◌, false, map, length, take, drop, slice_get, get_or, Some, None}
+use Rattle.std.proofs.Common.{All, refl, sym, ap, ◌∙◌, subst, arith, zero-add, inr}
 use Rattle.std.specs.Prelude.{slice_range}
 use Rattle.std.proofs.lemmas.List.{length-map, take-map, drop-map}
 use Rattle.std.proofs.lemmas.List.Elements.{All-tail, All-nil, All-map, All-get_or, All-weaker}
 use Rattle.std.proofs.lemmas.List.Sorted.{IsNonDecreasingBy-short}
 use Rattle.std.proofs.lemmas.Option.{slice_get-get_or, slice_get_within}
 use Rattle.text_model.specs.Texts.{Text}
-use Rattle.environment_model.specs.Environment.{Meaning, look_up, is_there, is_among, text_in, text_of, members_in as members_meant, members_of, byte_count}
+use Rattle.environment_model.specs.Environment.{look_up, is_there, is_among, text_in, text_of, members_in as members_meant, members_of, byte_count}
 use Rattle.environment_model.specs.Environment.{member_count}
+use Rattle.environment_model.proofs.NameTests.{undefined}
 use Rattle.target_vars.specs.EnvValue.{EnvValue, EachNameOnce, piece_at, IsWithin, AreMembersAt, IsInOrder}
 use Rattle.target_vars.specs.Layout.{at, piece, members_in, meaning_in, laid_entries, laid_spans, IsPart, IsPiece, IsPieces, IsPlace, IsRun, IsTextPart, IsLaid}
 use Rattle.target_vars.specs.declared.place.Part.{Part}
@@ -40,10 +41,6 @@ laid_empty = record {
 
 -- ---- look-ups
 
-absent : (o : Option Meaning) → is_some o ≡ false → o ≡ None
-absent None h = refl
-absent (Some m) h = absurd (cc)
-
 pub is_there-laid : (b : Text) (spans : List Span) (names : List Text) (places : List Place) (name : Text) → IsLaid b spans names places
     → is_there (laid_entries b spans names places) name ≡ is_among name names
 is_there-laid b spans names places name laid = is_there-entries b (members_in b spans) 0 names places name laid.one_each
@@ -51,7 +48,7 @@ is_there-laid b spans names places name laid = is_there-entries b (members_in b 
 pub look_up-lacking : (b : Text) (spans : List Span) (names : List Text) (places : List Place) (name : Text) → IsLaid b spans names places
     → is_among name names ≡ false → look_up (laid_entries b spans names places) name ≡ None
 look_up-lacking b spans names places name laid lacks =
-    absent (look_up (laid_entries b spans names places) name) (is_there-laid b spans names places name laid ∙ lacks)
+    undefined (look_up (laid_entries b spans names places) name) (is_there-laid b spans names places name laid ∙ lacks)
 
 pub look_up-laid : (b : Text) (spans : List Span) (names : List Text) (places : List Place) (name : Text) (k : ℕ) (p : Place) → IsLaid b spans names places
     → slice_get names k ≡ Some name → slice_get places k ≡ Some p

@@ -1,11 +1,10 @@
 -- The search for a name along forks.
 
-use Rattle.std.proofs.Common.{◌≡◌, ℕ, suc, zero, ◌+◌, ◌-◌, ◌<◌, ◌≤◌, ◌⊎◌, inl, inr, List, [], ◌∷◌, ◌++◌, Bool, true, false, length, get_or, set, slice_get}
+use Rattle.std.proofs.Common.{◌≡◌, ℕ, suc, zero, ◌+◌, ◌<◌, ◌≤◌, ◌⊎◌, inl, inr, List, [], ◌∷◌, ◌++◌, Bool, true, false, length, get_or, set, slice_get}
 use Rattle.std.proofs.Common.{Some, bytes_eq, refl, sym, ap, ◌∙◌, subst, arith, length-append, ⊎_elim}
-use Rattle.std.specs.Prelude.{◌==◌, slice_range}
+use Rattle.std.specs.Prelude.{slice_range}
 use Rattle.std.specs.Option.{option_map}
-use Rattle.std.proofs.lemmas.Bool.{cases_lt}
-use Rattle.std.proofs.lemmas.Bool.Decides.{Decides-eqb}
+use Rattle.std.proofs.lemmas.Bool.{cases_eq, cases_lt}
 use Rattle.std.proofs.lemmas.List.{length-map, length-set}
 use Rattle.std.proofs.lemmas.List.Elements.{All-from_get_or}
 use Rattle.std.proofs.lemmas.List.Folds.{list_any_none}
@@ -119,13 +118,6 @@ get-set_other (y ∷ xs) zero (suc j) x differs = refl
 get-set_other (y ∷ xs) (suc i) zero x differs = refl
 get-set_other (y ∷ xs) (suc i) (suc j) x differs = get-set_other xs i j x (λ same. differs (ap suc same))
 
-same_or : (m n : ℕ) → (m ≡ n) ⊎ (m ≡ n → ⊥)
-same_or m n = by_cases (m == n) refl
-  where
-    by_cases : (r : Bool) → (m == n) ≡ r → (m ≡ n) ⊎ (m ≡ n → ⊥)
-    by_cases true same = inl ((Decides-eqb m n).0 same)
-    by_cases false other = inr (λ is. let yes : (m == n) ≡ true = (Decides-eqb m n).1 is in absurd (cc))
-
 -- ---- one more fork
 
 -- the fork of the first name
@@ -167,7 +159,7 @@ forked_by forks changed name gap fork last turn is turns long kept own of_text =
   longer = length-append changed (fork ∷ []) ∙ ap (λ n. n + 1) long;
   last = λ text. ap (option_map (λ (f : Fork). branch_of f text)) (subst (λ n. slice_get (changed ++ fork ∷ []) n ≡ Some fork) long (get-last changed fork));
   own = λ below. here name below ∙ ap Some own;
-  others = λ text at below. by_cases text at below (same_or gap at);
+  others = λ text at below. by_cases text at below (cases_eq gap at);
 }
   where
     before : (text : Text) (at : ℕ) → at < length forks → branch_at (changed ++ fork ∷ []) text at ≡ branch_at changed text at

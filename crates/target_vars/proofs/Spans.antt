@@ -4,23 +4,16 @@ use Rattle.std.proofs.Common.{ap, ◌∙◌, subst, arith, length-drop, length-t
 use Rattle.std.specs.Prelude.{◌==◌}
 use Rattle.std.specs.List.{AllWithin, filter}
 use Rattle.std.specs.List.Sorted.{IsNonDecreasingBy, IsPartitionPoint}
-use Rattle.std.proofs.lemmas.Bool.{leb-false}
+use Rattle.std.proofs.lemmas.Bool.{leb-false, ne_eqb}
 use Rattle.std.proofs.lemmas.Bool.Decides.{Decides-eqb}
 use Rattle.std.proofs.lemmas.List.{get_or-take, get_or-drop}
-use Rattle.std.proofs.lemmas.List.Elements.{All-head, All-tail, All-weaker, filter-append}
+use Rattle.std.proofs.lemmas.List.Elements.{All-weaker, filter-append}
 use Rattle.std.proofs.lemmas.List.Sorted.{IsNonDecreasingBy-insert}
+use Rattle.text_model.proofs.Lists.{filter_all, filter_none}
 use Rattle.target_vars.specs.Layout.{spans_of, IsRun, IsPutLast}
 use Rattle.target_vars.specs.declared.place.Span.{Span}
 
 -- ---- filters
-
-keeps_none : {X : Type 0} (p : X → Bool) (xs : List X) → All (λ x. p x ≡ false) xs → filter p xs ≡ []
-keeps_none p [] none = refl
-keeps_none p (x ∷ xs) none = rw (All-head (λ y. p y ≡ false) x xs none) (keeps_none p xs (All-tail (λ y. p y ≡ false) x xs none))
-
-keeps_all : {X : Type 0} (p : X → Bool) (xs : List X) → All (λ x. p x ≡ true) xs → filter p xs ≡ xs
-keeps_all p [] all = refl
-keeps_all p (x ∷ xs) all = rw (All-head (λ y. p y ≡ true) x xs all) (ap (λ ys. x ∷ ys) (keeps_all p xs (All-tail (λ y. p y ≡ true) x xs all)))
 
 -- the elements before a place, and those from it on
 before : {X : Type 0} (P : X → Type 0) (xs : List X) (i : ℕ) → i ≤ length xs → AllWithin P xs 0 i → All P (take i xs)
@@ -38,18 +31,11 @@ following P xs i all k d below =
 is : (s : Span) (n : ℕ) → s.list ≡ n → (s.list == n) ≡ true
 is s n same = (Decides-eqb s.list n).1 same
 
-pub is_not : (m n : ℕ) → (m ≡ n → ⊥) → (m == n) ≡ false
-is_not m n differs = by_cases (m == n) refl
-  where
-    by_cases : (r : Bool) → (m == n) ≡ r → r ≡ false
-    by_cases true same = absurd (differs ((Decides-eqb m n).0 same))
-    by_cases false other = refl
-
 lower : (s : Span) (n : ℕ) → s.list < n → (s.list == n) ≡ false
-lower s n below = is_not s.list n (λ same. omega arith)
+lower s n below = ne_eqb s.list n (λ same. omega arith)
 
 higher : (s : Span) (n : ℕ) → n < s.list → (s.list == n) ≡ false
-higher s n above = is_not s.list n (λ same. omega arith)
+higher s n above = ne_eqb s.list n (λ same. omega arith)
 
 both : (s : Span) (n : ℕ) → ltb s.list n ≡ false → leb s.list n ≡ true → (s.list == n) ≡ true
 both s n from upto = let ge = ltb-false s.list n from in let le = leb-true s.list n upto in is s n (omega arith)
@@ -76,10 +62,10 @@ run_is xs n first count in_first order firsts in_count counts =
     record {
       within = omega arith;
       is = sym (ap (filter p) (sym (take-append-drop first xs)) ∙ filter-append p (take first xs) ys
-          ∙ ap (λ zs. zs ++ filter p ys) (keeps_none p (take first xs) below)
+          ∙ ap (λ zs. zs ++ filter p ys) (filter_none p (take first xs) below)
           ∙ ap (filter p) (sym (take-append-drop count ys)) ∙ filter-append p (take count ys) (drop count ys)
-          ∙ ap (λ zs. zs ++ filter p (drop count ys)) (keeps_all p (take count ys) own)
-          ∙ ap (λ zs. take count ys ++ zs) (keeps_none p (drop count ys) above) ∙ append-nil (take count ys));
+          ∙ ap (λ zs. zs ++ filter p (drop count ys)) (filter_all p (take count ys) own)
+          ∙ ap (λ zs. take count ys ++ zs) (filter_none p (drop count ys) above) ∙ append-nil (take count ys));
     }
 
 pub put_last_is : (xs : List Span) (s : Span) (place : ℕ) → place ≤ length xs → IsNonDecreasingBy (λ x. x.list) xs
@@ -102,8 +88,8 @@ put_last_is xs s place within order parted =
           (λ k d from below. let gt = leb-false (get_or xs k d).list n (parted.1 k d from below) in omega arith);
       own = filter-append (λ (x : Span). x.list == n) front (s ∷ back)
           ∙ ap (λ ys. spans_of front n ++ ys) (ap (λ v. cond v (s ∷ spans_of back n) (spans_of back n)) (is s n refl)
-          ∙ ap (λ ys. s ∷ ys) (keeps_none (λ x. x.list == n) back above))
-          ∙ ap (λ ys. ys ++ s ∷ []) (sym (append-nil (spans_of front n)) ∙ ap (λ ys. spans_of front n ++ ys) (sym (keeps_none (λ x. x.list == n) back above))
+          ∙ ap (λ ys. s ∷ ys) (filter_none (λ x. x.list == n) back above))
+          ∙ ap (λ ys. ys ++ s ∷ []) (sym (append-nil (spans_of front n)) ∙ ap (λ ys. spans_of front n ++ ys) (sym (filter_none (λ x. x.list == n) back above))
           ∙ whole n);
       others = λ m differs. filter-append (λ (x : Span). x.list == m) front (s ∷ back)
           ∙ ap (λ v. spans_of front m ++ cond v (s ∷ spans_of back m) (spans_of back m)) differs
@@ -112,4 +98,4 @@ put_last_is xs s place within order parted =
 
 -- a list whose number is greater than those of all spans has no spans
 pub none_of : (xs : List Span) (n : ℕ) → All (λ s. s.list < n) xs → spans_of xs n ≡ []
-none_of xs n below = keeps_none (λ s. s.list == n) xs (All-weaker (λ s. s.list < n) (λ s. (s.list == n) ≡ false) (λ s. lower s n) xs below)
+none_of xs n below = filter_none (λ s. s.list == n) xs (All-weaker (λ s. s.list < n) (λ s. (s.list == n) ≡ false) (λ s. lower s n) xs below)

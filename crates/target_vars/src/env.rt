@@ -13,7 +13,7 @@ ghost use Rattle.target_vars.specs.Members.{members_left};
 use crate::error::VarsError;
 use crate::members::Members;
 use crate::names::Names;
-use crate::place::{Part, Place, Span, enter, is_text, list_of, put_last, run_of};
+use crate::place::{Part, Place, Span, enter, find_list, list_of, put_last, run_of};
 use crate::room::reserve;
 use std::alloc::Global;
 use std::marker::Model;
@@ -126,10 +126,9 @@ impl Env {
         ensures unmoved { OnErr result ((self.new.buffer ≡ self.old.buffer) × (self.new.spans ≡ self.old.spans)) }
         ensures kept { result ≡ Ok false → self.new.spans ≡ self.old.spans }
     {
-        let found = self.names.find(name);
-        if is_text(&self.places, found) {
+        let Some(found) = find_list(&self.names, &self.places, name) else {
             return Ok(false);
-        }
+        };
         if self.is_too_long(text) || self.is_full() {
             return Err(VarsError::TooLarge);
         }

@@ -1,12 +1,11 @@
 //! Where texts and members are in the environment's buffer.
 
-ghost use Rattle.std.specs.Prelude.{◌≡◌, false, ◌<◌, ◌≤◌, ◌+◌, [], ◌∷◌, ◌++◌, length, vec_len, vec_capacity, slice_get};
-ghost use Rattle.std.specs.Prelude.{MatchResult, IfOk, OnOk, OnErr};
+ghost use Rattle.std.specs.Prelude.{◌≡◌, ◌<◌, ◌≤◌, ◌+◌, [], ◌∷◌, ◌++◌, length, vec_len, vec_capacity};
+ghost use Rattle.std.specs.Prelude.{MatchOption, IfOk, OnOk, OnErr};
 ghost use Rattle.std.specs.List.Sorted.{IsNonDecreasingBy};
-ghost use Rattle.target_vars.specs.Layout.{part_text, is_one, HasList, IsPart, IsPutLast, IsRun};
+ghost use Rattle.target_vars.specs.Layout.{part_text, HasList, IsPart, IsPutLast, IsRun};
+ghost use Rattle.target_vars.specs.Private.ListPlaces.{HasText, IsListPlace};
 ghost use Rattle.target_vars.specs.Private.NamesValue.{IsGap};
-ghost use Rattle.target_vars.specs.declared.place.Place.TheVariants.{Many};
-ghost use Rattle.target_vars.specs.declared.place.Place.{Place as PlaceValue};
 
 use crate::env::MAX_BYTES;
 use crate::names::Names;
@@ -75,15 +74,18 @@ pub(crate) fn enter(
     Ok(())
 }
 
-/// Whether the name that was found denotes a text.
-pub(crate) fn is_text(places: &[Place], found: Result<usize, usize>) -> bool
-    requires { IfOk found (λ number. number < length places.now) }
-    ensures { MatchResult found (λ number. (place : PlaceValue) → slice_get places.now number ≡ Some place
-        → result ≡ is_one place) (λ _. result ≡ false) }
+/// The number of the name's list, or the gap for an undefined name. `None` if the name denotes a text.
+pub(crate) fn find_list(names: &Names, places: &[Place], name: &str) -> Option<Result<usize, usize>>
+    requires { length places.now ≡ length names.now.listed }
+    ensures { MatchOption result (HasText names.now places.now name.now)
+        (IsListPlace names.now places.now name.now) }
 {
-    match found {
-        Ok(number) => matches!(places[number], Place::One(_)),
-        Err(_) => false,
+    match names.find(name) {
+        Err(gap) => Some(Err(gap)),
+        Ok(number) => match places[number] {
+            Place::One(_) => None,
+            Place::Many => Some(Ok(number)),
+        },
     }
 }
 
@@ -94,8 +96,7 @@ pub(crate) fn list_of(
     name: &str,
     found: Result<usize, usize>,
 ) -> Result<usize, AllocError>
-    requires found { MatchResult found (λ number. (slice_get names.old.listed number ≡ Some name.now)
-        × (slice_get places.old.items number ≡ Some Many)) (IsGap names.old name.now) }
+    requires found { IsListPlace names.old places.old.items name.now found }
     requires one_each { length places.old.items ≡ length names.old.listed }
     ensures ok { IfOk result (HasList names.old.listed places.old.items name.now names.new.listed places.new.items) }
     ensures err { OnErr result ((names.new.listed ≡ names.old.listed) × (places.new.items ≡ places.old.items)) }

@@ -1,3 +1,5 @@
+pub mod TruthValues
+pub mod Lists
 pub mod UriTexts
 pub mod Written
 pub mod Cuts

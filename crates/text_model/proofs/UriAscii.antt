@@ -12,7 +12,7 @@ pub character_below : (b : ℕ) → is_unreserved_or_reserved b ≡ true → b <
 unfolding is_unreserved is_reserved
 character_below b e = grind (arith, nat_tests)
 
-hexadecimal_below : (b : ℕ) → is_hexadecimal b ≡ true → b < 128
+pub hexadecimal_below : (b : ℕ) → is_hexadecimal b ≡ true → b < 128
 hexadecimal_below b e = grind (arith, nat_tests)
 
 pub IsUriText-ascii : (t : Text) → IsUriText t → IsAscii t

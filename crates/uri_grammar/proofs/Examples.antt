@@ -33,7 +33,7 @@ lacks c (x ∷ xs) t =
     let tests = and_parts (not (x == c)) (list_all (λ y. not (y == c)) xs) t in
     All-cons (λ y. y ≢ c) x xs (λ e. false≢true (sym (ap not (eq-eqb x c e)) ∙ tests.0)) (lacks c xs tests.1)
 
-word_more : (name cs : List ℕ) → IsVarname name → list_all is_name_character cs ≡ true → IsVarname (name ++ cs)
+pub word_more : (name cs : List ℕ) → IsVarname name → list_all is_name_character cs ≡ true → IsVarname (name ++ cs)
 word_more name [] h t = subst IsVarname (sym (append-nil name)) h
 word_more name (c ∷ cs) h t =
     let tests = and_parts (is_name_character c) (list_all is_name_character cs) t in

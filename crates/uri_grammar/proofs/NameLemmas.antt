@@ -1,6 +1,6 @@
 -- Names as a run of items, how a name grows, and that a name is ASCII and URI text.
-use Rattle.std.proofs.Common.{◌≡◌, ℕ, ◌+◌, ◌<◌, ◌≤◌, Bool, true, false, ⊎_elim, suc, List, [], ◌∷◌, ◌++◌, length, drop, take, refl, ap, ◌∙◌, sym, subst, arith}
-use Rattle.std.proofs.Common.{append_assoc, append-nil, length-append, ◌==◌, ◌||◌, ◌&&◌, encode_utf8_all}
+use Rattle.std.proofs.Common.{◌≡◌, ℕ, ◌+◌, ◌<◌, ◌≤◌, true, false, ⊎_elim, suc, List, [], ◌∷◌, ◌++◌, length, drop, take, refl, ap, ◌∙◌, sym, subst, arith}
+use Rattle.std.proofs.Common.{append_assoc, append-nil, length-append, ◌==◌, ◌&&◌, encode_utf8_all}
 use Rattle.std.specs.Char.{is_ascii_alphanumeric}
 use Rattle.std.proofs.Math.Seq.{take-add, take-length}
 use Rattle.std.proofs.lemmas.Bool.{cases_Bool, cond-true, cond-false, eqb-true, ne_eqb, both_ways, false_from_ne_true, and_parts, or_left}
@@ -11,10 +11,13 @@ use Rattle.text_model.specs.Texts.{begins_with_triplet, is_hexadecimal, is_unres
 use Rattle.text_model.specs.Writing.{is_unreserved_or_reserved}
 use Rattle.text_model.specs.UriText.{IsUriText}
 use Rattle.text_model.proofs.UriTexts.{IsUriText-append, IsUriText-character, IsUriText-triplet}
+use Rattle.text_model.proofs.Lists.{same_halves}
+use Rattle.text_model.proofs.UriAscii.{hexadecimal_below}
+use Rattle.text_model.proofs.TruthValues.{or_other}
 use Rattle.uri_grammar.specs.Private.Lengths.{varchar_len, next_len}
 use Rattle.uri_grammar.specs.Names.{is_name_character, IsVarchar, character_varchar, triplet_varchar, IsVarname, first_varchar, next_varchar, dotted_varchar}
 use Rattle.uri_grammar.specs.Names.{BeginsWithVarname}
-use Rattle.uri_grammar.proofs.RunLemmas.{Run, run-append, run_one, run_longest, append_same}
+use Rattle.uri_grammar.proofs.RunLemmas.{Run, run-append, run_one, run_longest}
 use Rattle.uri_grammar.proofs.LiteralLemmas.{percent_first}
 
 -- ---- varchars
@@ -91,7 +94,7 @@ pub longest_same : (cs name after other following : List ℕ) → BeginsWithVarn
     → (name ≡ other) × (after ≡ following)
 longest_same cs name after other following h k =
     let size : length name ≡ length other = omega (arith, h.longest other following k.whole k.is_varname, k.longest name after h.whole h.is_varname) in
-    append_same name other after following size (sym h.whole ∙ k.whole)
+    same_halves name other after following size (sym h.whole ∙ k.whole)
 
 -- a name that cannot continue is the longest
 pub ended_varname : (cs name after : List ℕ) → cs ≡ name ++ after → IsVarname name → next_len after ≡ 0 → BeginsWithVarname cs name after
@@ -133,9 +136,6 @@ IsVarname-more cs len n h e l = rw (e, take-add) (IsVarname-next (take len cs) (
 character_ascii : (c : ℕ) → is_name_character c ≡ true → c < 128
 character_ascii c w = grind (arith, nat_tests, w)
 
-hexadecimal_ascii : (c : ℕ) → is_hexadecimal c ≡ true → c < 128
-hexadecimal_ascii c h = grind (arith, nat_tests, h)
-
 pub encodes_ascii : (c : ℕ) (cs : List ℕ) → c < 128 → encode_utf8_all cs ≡ cs → encode_utf8_all (c ∷ cs) ≡ c ∷ cs
 encodes_ascii c cs l e = ap (λ (t : List ℕ). t ++ encode_utf8_all cs) (encode_ascii c l) ∙ ap (λ (t : List ℕ). c ∷ t) e
 
@@ -144,7 +144,7 @@ encodes-varchar v (character_varchar c w) = encodes_ascii c [] (character_ascii 
 encodes-varchar v (triplet_varchar c d e t) =
     let digits = and_parts (is_hexadecimal d) (is_hexadecimal e) (and_parts (c == 37) (is_hexadecimal d && is_hexadecimal e) t).1 in
     let percent : c < 128 = omega (arith, percent_first c d e t) in
-    encodes_ascii c (d ∷ e ∷ []) percent (encodes_ascii d (e ∷ []) (hexadecimal_ascii d digits.0) (encodes_ascii e [] (hexadecimal_ascii e digits.1) refl))
+    encodes_ascii c (d ∷ e ∷ []) percent (encodes_ascii d (e ∷ []) (hexadecimal_below d digits.0) (encodes_ascii e [] (hexadecimal_below e digits.1) refl))
 
 -- a name is ASCII, so its characters are its bytes
 pub encodes-varname : (name : List ℕ) → IsVarname name → encode_utf8_all name ≡ name
@@ -163,12 +163,8 @@ unfolding is_unreserved
 uri_character c w =
     or_left (is_unreserved c) (is_reserved c) (⊎_elim
     (λ a. or_left (is_ascii_alphanumeric c) _ a)
-    (λ a. subst (λ (k : ℕ). is_unreserved k ≡ true) (sym (eqb-true c 95 (other (is_ascii_alphanumeric c) (c == 95) a w))) refl)
+    (λ a. subst (λ (k : ℕ). is_unreserved k ≡ true) (sym (eqb-true c 95 (or_other (is_ascii_alphanumeric c) (c == 95) w a))) refl)
     (cases_Bool (is_ascii_alphanumeric c)))
-  where
-    other : (x y : Bool) → x ≡ false → (x || y) ≡ true → y ≡ true
-    other true y e h = cc
-    other false y e h = h
 
 IsUriText-varchar : (v : List ℕ) → IsVarchar v → IsUriText v
 IsUriText-varchar v (character_varchar c w) = IsUriText-character c (uri_character c w)

@@ -7,6 +7,7 @@ use Rattle.std.specs.Char.{is_ascii_digit}
 use Rattle.std.proofs.Math.ListN.{drop_of_length-le}
 use Rattle.std.proofs.lemmas.Bool.{and_parts, and_from, leb-true, le-leb, lt-leb, cond-true, cond-false, eqb-false, not-true}
 use Rattle.std.proofs.lemmas.List.{drop_more}
+use Rattle.std.proofs.Math.Bool.{and-false}
 use Rattle.text_model.specs.Number.{value_from}
 use Rattle.uri_grammar.specs.declared.variables.TheConstants.{MAX_PREFIX}
 use Rattle.uri_grammar.specs.Specs.{is_max_length}
@@ -77,16 +78,12 @@ never : (x y z : Bool) → (y && z) ≡ false → (x && (y && z)) ≡ false
 never true y z e = e
 never false y z e = refl
 
-second_false : (y : Bool) → (y && false) ≡ false
-second_false true = refl
-second_false false = refl
-
 pub too_large : (ds : List ℕ) (i n d : ℕ) → HasRead ds i n → i < length ds → d ≡ get_or ds i d → MAX_PREFIX < 10 * n + (d - 48) → number_of ds ≡ None
 unfolding tests
 too_large ds i n d h inside is l =
     let large : MAX_PREFIX < value_from 0 ds = omega (arith, value_of_next ds i n d h inside is, value_from-least (drop (i + 1) ds) (10 * n + (d - 48)), l) in
     none_by ds _ false refl (lt-leb (value_from 0 ds) MAX_PREFIX large)
-    (never (begins_above_zero ds) (list_all is_ascii_digit ds) false (second_false (list_all is_ascii_digit ds)))
+    (never (begins_above_zero ds) (list_all is_ascii_digit ds) false (and-false (list_all is_ascii_digit ds)))
 
 pub all_read : (ds : List ℕ) (i n : ℕ) → HasRead ds i n → length ds ≤ i → begins_above_zero ds ≡ true → number_of ds ≡ Some n
 unfolding tests value_from

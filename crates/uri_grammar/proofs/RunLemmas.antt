@@ -1,19 +1,8 @@
 -- Texts that are split in only one way: at the first place of a character, and after a run of items.
 use Rattle.std.proofs.Common.{◌≡◌, ◌≢◌, ℕ, ◌<◌, ◌≤◌, List, [], ◌∷◌, ◌++◌, length, refl, ap, ◌∙◌, sym, subst, arith, append_assoc, append-nil, length-append}
 use Rattle.std.proofs.lemmas.List.Elements.{All-head, All-tail}
+use Rattle.text_model.proofs.Lists.{same_halves}
 use Rattle.uri_grammar.specs.Specs.{Lacks}
-
--- equal texts are equal on both sides of a length
-pub append_same : (f g x y : List ℕ) → length f ≡ length g → f ++ x ≡ g ++ y → (f ≡ g) × (x ≡ y)
-append_same [] [] x y l e = (refl, e)
-append_same [] (b ∷ g) x y l e = absurd (omega arith)
-append_same (a ∷ f) [] x y l e = absurd (omega arith)
-append_same (a ∷ f) (b ∷ g) x y l e =
-    let head : a ≡ b = cc in
-    let tail : f ++ x ≡ g ++ y = cc in
-    let size : length f ≡ length g = omega arith in
-    let rest = append_same f g x y size tail in
-    (let same : f ≡ g = rest.0 in cc, rest.1)
 
 -- a text is split at the first place of a character in only one way
 pub split_same : (c : ℕ) (xs ys a b : List ℕ) → Lacks c xs → Lacks c ys → xs ++ c ∷ a ≡ ys ++ c ∷ b → (xs ≡ ys) × (a ≡ b)
@@ -54,7 +43,7 @@ run_same item xs ys a b (next_item f r l i more) no_item e p q =
 run_same item xs ys a b (next_item f r l i more) (next_item g s k j rest) e p q =
     let whole : f ++ (r ++ a) ≡ g ++ (s ++ b) = sym (append_assoc f r a) ∙ (e ∙ append_assoc g s b) in
     let size : length f ≡ length g = sym (i (r ++ a)) ∙ (ap item whole ∙ j (s ++ b)) in
-    let fronts = append_same f g (r ++ a) (s ++ b) size whole in
+    let fronts = same_halves f g (r ++ a) (s ++ b) size whole in
     let rests = run_same item r s a b more rest fronts.1 p q in
     (let here : f ≡ g = fronts.0 in let there : r ≡ s = rests.0 in cc, rests.1)
 
@@ -66,7 +55,7 @@ run_longest item xs ys a b no_item (next_item g s k j rest) e p =
 run_longest item xs ys a b (next_item f r l i more) (next_item g s k j rest) e p =
     let whole : f ++ (r ++ a) ≡ g ++ (s ++ b) = sym (append_assoc f r a) ∙ (e ∙ append_assoc g s b) in
     let size : length f ≡ length g = sym (i (r ++ a)) ∙ (ap item whole ∙ j (s ++ b)) in
-    let rests = run_longest item r s a b more rest (append_same f g (r ++ a) (s ++ b) size whole).1 p in
+    let rests = run_longest item r s a b more rest (same_halves f g (r ++ a) (s ++ b) size whole).1 p in
     omega (arith, size, rests, length-append f r, length-append g s)
 
 pub run-append : (item : List ℕ → ℕ) (xs ys : List ℕ) → Run item xs → Run item ys → Run item (xs ++ ys)

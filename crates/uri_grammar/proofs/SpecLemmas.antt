@@ -4,6 +4,7 @@ use Rattle.std.proofs.Common.{sym, subst, arith, append_assoc, take-append-drop,
 use Rattle.std.proofs.Math.Seq.{take-add, take-append-add}
 use Rattle.std.proofs.lemmas.Bool.{cases_Bool, cond-true, cond-false, eqb-true, and_parts, false≢true}
 use Rattle.std.proofs.lemmas.List.{drop_more, length-take-le, drop-append-le}
+use Rattle.std.proofs.lemmas.Option.{same_Some}
 use Rattle.text_model.specs.Number.{value_from}
 use Rattle.uri_grammar.specs.Characters.{comma}
 use Rattle.uri_grammar.specs.declared.error.TemplateError.{TemplateError}
@@ -83,25 +84,22 @@ prefix_here c cs p e t q =
     subst (λ (m : ℕ × Bool). IsModifier (c ∷ cs) m.0 m.1) (sym q)
     (subst (λ (x : ℕ). IsModifier (x ∷ cs) (value_from 0 cs) false) (sym e) (prefix_modifier cs t))
 
-some_same : (p q : ℕ × Bool) → Some p ≡ Some q → p ≡ q
-some_same p q e = cc
-
 some_none : (p : ℕ × Bool) → Some p ≡ None → ⊥
 some_none p e = cc
 
 pub modifier_of-some : (cs : List ℕ) (p : ℕ × Bool) → Some p ≡ modifier_of cs → IsModifier cs p.0 p.1
-modifier_of-some [] p e = subst (λ (t : ℕ × Bool). IsModifier [] t.0 t.1) (sym (some_same p (0, false) e)) no_modifier
+modifier_of-some [] p e = subst (λ (t : ℕ × Bool). IsModifier [] t.0 t.1) (sym (same_Some p (0, false) e)) no_modifier
 modifier_of-some (c ∷ cs) p e =
     ⊎_elim
     (λ t.
     let parts = and_parts (c == 42) (nat_eq (length cs) 0) t in
     explode_here c cs p (eqb-true c 42 parts.0) (eqb-true (length cs) 0 parts.1)
-    (some_same p (0, true) (e ∙ cond-true (c == 42 && nat_eq (length cs) 0) _ _ t)))
+    (same_Some p (0, true) (e ∙ cond-true (c == 42 && nat_eq (length cs) 0) _ _ t)))
     (λ f. ⊎_elim
     (λ t.
     let parts = and_parts (c == 58) (is_max_length cs) t in
     prefix_here c cs p (eqb-true c 58 parts.0) parts.1
-    (some_same p (value_from 0 cs, false) (e ∙ (cond-false (c == 42 && nat_eq (length cs) 0) _ _ f ∙ cond-true (c == 58 && is_max_length cs) _ _ t))))
+    (same_Some p (value_from 0 cs, false) (e ∙ (cond-false (c == 42 && nat_eq (length cs) 0) _ _ f ∙ cond-true (c == 58 && is_max_length cs) _ _ t))))
     (λ g. absurd (some_none p (e ∙ (cond-false (c == 42 && nat_eq (length cs) 0) _ _ f ∙ cond-false (c == 58 && is_max_length cs) _ _ g))))
     (cases_Bool (c == 58 && is_max_length cs)))
     (cases_Bool (c == 42 && nat_eq (length cs) 0))

@@ -3,6 +3,7 @@ use Rattle.std.proofs.Common.{◌≡◌, ℕ, ◌<◌, [], ◌∷◌, ◌++◌, 
 use Rattle.std.specs.Prelude.{if◌then◌else◌}
 use Rattle.std.proofs.lemmas.Bool.{and_parts, ne_eqb}
 use Rattle.std.proofs.lemmas.Bool.Decides.{nat_tests}
+use Rattle.std.proofs.Math.Bool.{or-false, or-true}
 use Rattle.text_model.specs.Texts.{Text, begins_with_triplet, is_unreserved, is_hexadecimal, is_triplet}
 use Rattle.text_model.specs.Writing.{written, written_byte, written_u, written_ur, is_unreserved_or_reserved}
 use Rattle.text_model.specs.declared.writing.Writing.{Writing}
@@ -38,21 +39,13 @@ digit_copied b t h =
     let stays = hexadecimal_stays b h in
     written_ur-byte (b ∷ t) (no_triplet b t stays) (omega arith) ∙ ap (λ x. written_byte x b ++ written_ur t) stays
 
-or_false : (x : Bool) → (x || false) ≡ x
-or_false true = refl
-or_false false = refl
-
-or_true : (x : Bool) → (x || true) ≡ true
-or_true true = refl
-or_true false = refl
-
 -- the first byte is copied if it may stay, or if a triplet begins with it
 written_ur-first : (t : Text) → 0 < length t
     → written_ur t ≡ written_byte (is_unreserved_or_reserved (get_or t 0 0) || begins_with_triplet t) (get_or t 0 0) ++ written_ur (drop 1 t)
 unfolding written_ur
 written_ur-first [] some = absurd (omega arith)
-written_ur-first (b ∷ []) some = ap (λ x. written_byte x b) (sym (or_false (is_unreserved_or_reserved b))) ∙ sym (append-nil _)
-written_ur-first (b ∷ c ∷ []) some = ap (λ x. written_byte x b ++ written_byte (is_unreserved_or_reserved c) c) (sym (or_false (is_unreserved_or_reserved b)))
+written_ur-first (b ∷ []) some = ap (λ x. written_byte x b) (sym (or-false (is_unreserved_or_reserved b))) ∙ sym (append-nil _)
+written_ur-first (b ∷ c ∷ []) some = ap (λ x. written_byte x b ++ written_byte (is_unreserved_or_reserved c) c) (sym (or-false (is_unreserved_or_reserved b)))
 written_ur-first (b ∷ high ∷ low ∷ t) some = by_test (is_triplet b high low) refl
   where
     by_test : (x : Bool) → is_triplet b high low ≡ x
@@ -62,8 +55,8 @@ written_ur-first (b ∷ high ∷ low ∷ t) some = by_test (is_triplet b high lo
         let digits = and_parts (is_hexadecimal high) (is_hexadecimal low) ((and_parts (b == 37) (is_hexadecimal high && is_hexadecimal low) e).1) in
         let rest : written_ur (high ∷ low ∷ t) ≡ high ∷ low ∷ written_ur t =
         digit_copied high (low ∷ t) digits.0 ∙ ap (λ x. high ∷ x) (digit_copied low t digits.1) in
-        ap (λ x. b ∷ x) (sym rest) ∙ ap (λ x. written_byte x b ++ written_ur (high ∷ low ∷ t)) (sym (or_true (is_unreserved_or_reserved b)))
-    by_test false e = ap (λ x. written_byte x b ++ written_ur (high ∷ low ∷ t)) (sym (or_false (is_unreserved_or_reserved b)))
+        ap (λ x. b ∷ x) (sym rest) ∙ ap (λ x. written_byte x b ++ written_ur (high ∷ low ∷ t)) (sym (or-true (is_unreserved_or_reserved b)))
+    by_test false e = ap (λ x. written_byte x b ++ written_ur (high ∷ low ∷ t)) (sym (or-false (is_unreserved_or_reserved b)))
 
 -- ---- both
 

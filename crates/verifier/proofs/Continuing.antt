@@ -3,13 +3,13 @@ use Rattle.std.proofs.Common.{◌≡◌, ℕ, ◌+◌, ◌<◌, ◌≤◌, List,
 use Rattle.std.specs.Prelude.{nat_lt}
 use Rattle.std.specs.List.{AllByRecursion}
 use Rattle.std.proofs.lemmas.Bool.{ltb-true}
+use Rattle.std.proofs.lemmas.Option.{same_Some}
 use Rattle.code_model.specs.Code.{Code, reading_at}
 use Rattle.code_model.specs.declared.code.Instruction.{Instruction}
 use Rattle.code_model.specs.declared.code.Instruction.TheVariants.{Halt, Fail, Jump, Number, Undef, Empty, NoList, Differ, Less, Each, Next}
 use Rattle.machine_model.specs.declared.form.Body.{Body}
 use Rattle.machine_model.specs.Form.{body_at, HasGoodForm, goes_to, target}
 use Rattle.machine_model.specs.Kinds.{Kinds, Edge, edges}
-use Rattle.machine_model.proofs.Moves.{some_one}
 use Rattle.machine_model.proofs.GoodPlaces.{good_at}
 use Rattle.verifier.specs.Private.Walks.{ContinuesAt, IsReturn}
 
@@ -57,7 +57,7 @@ module _ (c : Code) (form : HasGoodForm c) where
       → AllByRecursion (LeadsOnOrBack c p) (edges p ks o i)
   lead p ks o i lt eo r =
       let g = good_at c form p lt in
-      by_op i r (subst (λ j. goes_to (λ d. nat_lt p d) (target j) ≡ true) (some_one (sym g.1.read ∙ r)) g.1.forward)
+      by_op i r (subst (λ j. goes_to (λ d. nat_lt p d) (target j) ≡ true) (same_Some _ _ (sym g.1.read ∙ r)) g.1.placed.forward)
     where
       on : p < p + 1
       on = omega arith

@@ -5,7 +5,7 @@ use Rattle.std.specs.Prelude.{option_and_then}
 use Rattle.std.specs.List.{AllByRecursion}
 use Rattle.std.proofs.Math.Path.{fun_ext}
 use Rattle.std.proofs.lemmas.Bool.{cases_lt}
-use Rattle.std.proofs.lemmas.Option.{slice_get_past}
+use Rattle.std.proofs.lemmas.Option.{same_Some, slice_get_past}
 use Rattle.code_model.specs.Code.{Code, reading, reading_at}
 use Rattle.code_model.specs.declared.code.Instruction.{Instruction}
 use Rattle.machine_model.specs.declared.kind.Kind.{Kind}
@@ -14,7 +14,6 @@ use Rattle.machine_model.specs.declared.form.Body.{Body}
 use Rattle.machine_model.specs.Form.{body_at}
 use Rattle.machine_model.specs.Kinds.{kind_le, Kinds, any_kinds, IsBelow, Edge, edge, edges, for_instruction, edges_at}
 use Rattle.machine_model.specs.Typable.{Table, Holds, IsClosed, IsLeast}
-use Rattle.machine_model.proofs.Moves.{some_one}
 use Rattle.machine_model.proofs.Orders.{below_trans, EdgesBelow, edges_below}
 use Rattle.verifier.specs.Private.Walks.{Follows, IsSameBefore, IsClosedBefore, IsBelowClosed}
 
@@ -82,7 +81,7 @@ module _ (c : Code) where
     where
       by_place : (q : ℕ) (ms : Kinds) → q ≡ p → t q ≡ Some ms → AllByRecursion (Holds new) (edges_at c q ms)
       by_place q ms e was =
-          let is : ks ≡ ms = some_one (sym known ∙ ap t (sym e) ∙ was) in
+          let is : ks ≡ ms = same_Some _ _ (sym known ∙ ap t (sym e) ∙ was) in
           subst (λ x. AllByRecursion (Holds new) (edges_at c x ms)) (sym e) (subst (λ x. AllByRecursion (Holds new) (edges_at c p x)) is f.held)
 
   -- a place without kinds has no edges

@@ -1,7 +1,7 @@
 -- From errors of reading, and from errors of a code, to errors of loading.
 use Rattle.std.proofs.Common.{◌≡◌, ℕ, Option, Some, None, Bool, true, false, refl, sym, ap, ◌∙◌, subst, inl, inr}
 use Rattle.std.specs.Prelude.{slice_get, if◌then◌else◌, not}
-use Rattle.std.proofs.lemmas.Option.{get_or_from_slice_get, slice_get_within}
+use Rattle.std.proofs.lemmas.Option.{get_or_from_slice_get, same_Some, slice_get_within}
 use Rattle.std.proofs.lemmas.List.Elements.{All-get_or}
 use Rattle.text_model.specs.Texts.{Text}
 use Rattle.text_model.specs.UriText.{IsUriText}
@@ -21,7 +21,6 @@ use Rattle.machine_model.specs.Form.{HasGoodForm, first_form_fault}
 use Rattle.machine_model.specs.Typable.{Table, IsTypable, IsLeast}
 use Rattle.machine_model.specs.Mismatch.{first_mismatch, IsFirstMismatch}
 use Rattle.machine_model.specs.Safe.{IsFileCode}
-use Rattle.machine_model.proofs.Moves.{some_one}
 use Rattle.verifier.specs.declared.error.LoadError.{LoadError}
 use Rattle.verifier.specs.declared.error.LoadError.TheVariants as load
 use Rattle.verifier.specs.Private.Checks.{located_of}
@@ -48,11 +47,12 @@ in_table IsGood field IsFault count bytes e never t k = never t.rest t.here t.fa
 
 in_counts : (a b d z : Bool) (e : CodeError) → (if a then Some (fault TooMany 4) else if b then Some (fault TooMany 6) else if d then Some (fault TooMany 8)
     else if z then Some (fault NoCode 8) else None) ≡ Some e → e.kind ≡ NoMemory → ⊥
-in_counts true b d z e h k = let s : fault TooMany 4 ≡ e = some_one h in let t : TooMany ≡ NoMemory = ap (λ (f : CodeError). f.kind) s ∙ k in absurd (cc)
-in_counts false true d z e h k = let s : fault TooMany 6 ≡ e = some_one h in let t : TooMany ≡ NoMemory = ap (λ (f : CodeError). f.kind) s ∙ k in absurd (cc)
-in_counts false false true z e h k = let s : fault TooMany 8 ≡ e = some_one h in let t : TooMany ≡ NoMemory = ap (λ (f : CodeError). f.kind) s ∙ k in
+in_counts true b d z e h k = let s : fault TooMany 4 ≡ e = same_Some _ _ h in let t : TooMany ≡ NoMemory = ap (λ (f : CodeError). f.kind) s ∙ k in absurd (cc)
+in_counts false true d z e h k =
+    let s : fault TooMany 6 ≡ e = same_Some _ _ h in let t : TooMany ≡ NoMemory = ap (λ (f : CodeError). f.kind) s ∙ k in absurd (cc)
+in_counts false false true z e h k = let s : fault TooMany 8 ≡ e = same_Some _ _ h in let t : TooMany ≡ NoMemory = ap (λ (f : CodeError). f.kind) s ∙ k in
     absurd (cc)
-in_counts false false false true e h k = let s : fault NoCode 8 ≡ e = some_one h in let t : NoCode ≡ NoMemory = ap (λ (f : CodeError). f.kind) s ∙ k in
+in_counts false false false true e h k = let s : fault NoCode 8 ≡ e = same_Some _ _ h in let t : NoCode ≡ NoMemory = ap (λ (f : CodeError). f.kind) s ∙ k in
     absurd (cc)
 in_counts false false false false e h k = absurd (cc)
 

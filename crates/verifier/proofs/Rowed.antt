@@ -4,9 +4,9 @@ use Rattle.std.proofs.Common.{get_or-set_same}
 use Rattle.std.specs.Prelude.{◌==◌}
 use Rattle.std.specs.List.{AllByRecursion}
 use Rattle.std.proofs.lemmas.Bool.{eqb-true, eq-eqb, false≢true}
+use Rattle.std.proofs.lemmas.Option.{same_Some}
 use Rattle.machine_model.specs.Kinds.{Kinds, kind_le, kind_join, IsBelow, Edge}
 use Rattle.machine_model.specs.Typable.{Table, Holds, TableBelow}
-use Rattle.machine_model.proofs.Moves.{some_one}
 use Rattle.machine_model.proofs.Orders.{kind_le_refl, below_trans, kind_le-join_left, kind_le-join_right, kind_join-least}
 use Rattle.verifier.specs.declared.row.Row.{Row}
 use Rattle.verifier.specs.Private.Rows.{kinds_of, table_of}
@@ -38,11 +38,11 @@ follows_one t u e ks a here other =
         → (ns : Kinds) × (v p ≡ Some ns) × IsBelow ms ns
     below v holds b p ms known true s =
         let same = eqb-true p e.to s in
-        let is : ks ≡ ms = some_one (sym here ∙ ap u (sym same) ∙ known) in
+        let is : ks ≡ ms = same_Some _ _ (sym here ∙ ap u (sym same) ∙ known) in
         let h = holds.0 in (
           h.0,
           ap v same ∙ h.1,
-          subst (λ x. IsBelow x h.0) is (a.least h.0 (λ xs was. let d = b e.to xs was in subst (IsBelow xs) (some_one (sym d.1 ∙ h.1)) d.2) h.2),
+          subst (λ x. IsBelow x h.0) is (a.least h.0 (λ xs was. let d = b e.to xs was in subst (IsBelow xs) (same_Some _ _ (sym d.1 ∙ h.1)) d.2) h.2),
         )
     below v holds b p ms known false s = b p ms (sym (other p (λ same. false≢true (sym s ∙ eq-eqb p e.to same))) ∙ known)
 
@@ -53,7 +53,7 @@ pub arrives_joined : (ms ks ns : Kinds) → ((r : ℕ) → ns r ≡ kind_join (m
 arrives_joined ms ks ns j =
     record {
       above = record { at = λ r. subst (λ x. kind_le (ks r) x ≡ true) (sym (j r)) (kind_le-join_right (ms r) (ks r)) };
-      kept = λ xs e. subst (λ y. IsBelow y ns) (some_one e)
+      kept = λ xs e. subst (λ y. IsBelow y ns) (same_Some _ _ e)
           (record { at = λ r. subst (λ x. kind_le (ms r) x ≡ true) (sym (j r)) (kind_le-join_left (ms r) (ks r)) });
       least = λ xs f b.
           record { at = λ r. subst (λ x. kind_le x (xs r) ≡ true) (sym (j r)) (kind_join-least (ms r) (ks r) (xs r) ((f ms refl).at r) (b.at r)) };

@@ -1,8 +1,9 @@
 -- Lines that are added to findings.
 use Rattle.std.specs.Prelude.{◌≡◌, ◌||◌, ◌++◌, Bool, List, string_bytes}
 use Rattle.text_model.specs.Texts.{Text}
+use Rattle.printed_text.specs.Adding.{AddsLines}
 use Rattle.printed_text.specs.declared.findings.Findings.{Findings}
-use Rattle.table_inspection.specs.Findings.{Finding, lines_of, have_warning, line_feed}
+use Rattle.table_inspection.specs.Findings.{Finding, is_warning, line_feed, line_of}
 
 -- a line was added, and whether it is a warning
 pub record AddsLine (old new : Findings) (line : Text) (warns : Bool) : Type 0 where
@@ -10,6 +11,5 @@ pub record AddsLine (old new : Findings) (line : Text) (warns : Bool) : Type 0 w
   pub warned : new.warned ≡ (old.warned || warns)
 
 -- the lines of these findings were added
-pub record Adds (old new : Findings) (findings : List Finding) : Type 0 where
-  pub text : string_bytes new.text ≡ string_bytes old.text ++ lines_of findings
-  pub warned : new.warned ≡ (old.warned || have_warning findings)
+abbrev pub Adds : Findings → Findings → List Finding → Type 0
+Adds = AddsLines line_of is_warning

@@ -5,10 +5,9 @@ use Rattle.std.proofs.lemmas.Option.{get_or_from_slice_get, slice_get_within}
 use Rattle.std.specs.List.{range_with_len, slice_get}
 use Rattle.std.specs.Option.{option_map_or}
 use Rattle.text_model.specs.Texts.{Text}
+use Rattle.text_model.proofs.Lists.{past_end, range_more}
 use Rattle.kbart_rows.specs.Cells.{column_of, is_first}
 use Rattle.kbart_rows.specs.Lines.{cells_in}
-use Rattle.kbart_rows.proofs.FirstColumns.{past_end}
-use Rattle.kbart_rows.proofs.Rows.{range_more}
 use Rattle.kbart_rows.proofs.columns.firsts_of.Goals as goal
 
 pub loop-name-preserved : goal.loop-name-preserved

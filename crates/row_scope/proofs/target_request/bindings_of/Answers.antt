@@ -4,6 +4,7 @@ use Rattle.std.proofs.lemmas.List.{length-map}
 use Rattle.std.proofs.lemmas.Option.{slice_get_read, slice_get_within}
 use Rattle.std.proofs.lemmas.Slice.Zip.{zip_turn, zip_end}
 use Rattle.text_model.specs.Texts.{Text}
+use Rattle.text_model.proofs.Lists.{slice_get-push}
 use Rattle.environment_model.specs.Lists.{is_list}
 use Rattle.code_model.specs.Code.{Name}
 use Rattle.machine_model.specs.Operands.{name_at, text_of_name}
@@ -11,7 +12,7 @@ use Rattle.row_laws.specs.Shadowing.{requested}
 use Rattle.row_scope.specs.Bindings.{IsBound, laid_in}
 use Rattle.row_scope.specs.RequestValues.{RequestValue}
 use Rattle.row_scope.specs.RowEnvironments.{lists_of}
-use Rattle.row_scope.proofs.OverLemmas.{name_at_is, slice_get-push}
+use Rattle.row_scope.proofs.OverLemmas.{name_at_is}
 use Rattle.row_scope.proofs.target_request.bindings_of.Goals as goal
 
 pub loop-name-init : goal.loop-name-init

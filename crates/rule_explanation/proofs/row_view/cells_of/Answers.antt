@@ -4,8 +4,8 @@ use Rattle.std.proofs.lemmas.List.{map-append, take_all, take_more}
 use Rattle.std.proofs.lemmas.Option.{get_or_from_slice_get, slice_get_within}
 use Rattle.std.specs.List.{slice_get}
 use Rattle.text_model.specs.Texts.{Text, texts_of}
+use Rattle.text_model.proofs.Lists.{past_end}
 use Rattle.kbart_rows.specs.Lines.{cells_in}
-use Rattle.kbart_rows.proofs.FirstColumns.{past_end}
 use Rattle.rule_explanation.proofs.row_view.cells_of.Goals as goal
 
 pub loop-cell-preserved : goal.loop-cell-preserved

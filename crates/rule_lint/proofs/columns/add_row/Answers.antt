@@ -2,8 +2,8 @@ use Rattle.std.proofs.Common.{◌≡◌, ◌<◌, [], None, Some, length, refl, 
 use Rattle.std.specs.List.{slice_get}
 use Rattle.std.proofs.lemmas.Option.{get_or_from_slice_get}
 use Rattle.text_model.specs.Texts.{Text}
+use Rattle.text_model.proofs.Lists.{past_end}
 use Rattle.kbart_rows.specs.Lines.{cells_in, CursorValue}
-use Rattle.kbart_rows.proofs.FirstColumns.{past_end}
 use Rattle.rule_lint.proofs.ColumnSteps.{next_added, next_kept, rest_unchanged}
 use Rattle.rule_lint.proofs.columns.add_row.Goals as goal
 

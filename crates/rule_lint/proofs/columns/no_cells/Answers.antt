@@ -3,8 +3,8 @@ use Rattle.std.specs.List.{slice_get}
 use Rattle.std.proofs.lemmas.List.Elements.{All-push}
 use Rattle.std.proofs.lemmas.Option.{slice_get_within}
 use Rattle.text_model.specs.Texts.{Text}
+use Rattle.text_model.proofs.Lists.{past_end}
 use Rattle.kbart_rows.specs.Lines.{cells_in}
-use Rattle.kbart_rows.proofs.FirstColumns.{past_end}
 use Rattle.rule_lint.specs.declared.columns.Column.{Column}
 use Rattle.rule_lint.specs.Private.Columns.{no_cells as no_column}
 use Rattle.rule_lint.proofs.ColumnSteps.{none_yet}

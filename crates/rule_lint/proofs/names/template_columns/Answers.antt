@@ -5,9 +5,9 @@ use Rattle.std.proofs.lemmas.List.{take_all, take_more}
 use Rattle.std.proofs.lemmas.List.Elements.{filter-append}
 use Rattle.std.proofs.lemmas.Option.{get_or_from_slice_get, slice_get_within}
 use Rattle.text_model.specs.Texts.{Text}
+use Rattle.text_model.proofs.Lists.{past_end}
 use Rattle.kbart_rows.specs.Cells.{Row}
 use Rattle.kbart_rows.specs.Lines.{cells_in}
-use Rattle.kbart_rows.proofs.FirstColumns.{past_end}
 use Rattle.rule_lint.specs.Names.{is_name}
 use Rattle.rule_lint.proofs.names.template_columns.Goals as goal
 

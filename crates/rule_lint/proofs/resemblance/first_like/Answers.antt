@@ -1,6 +1,6 @@
 use Rattle.std.proofs.Common.{sym, ◌∙◌}
+use Rattle.text_model.proofs.Lists.{find_here, find_later}
 use Rattle.rule_lint.specs.Names.{resembles}
-use Rattle.rule_lint.proofs.ListSteps.{find_here, find_later}
 use Rattle.rule_lint.proofs.resemblance.first_like.Goals as goal
 
 pub returns-then-resembles : goal.returns-then-resembles

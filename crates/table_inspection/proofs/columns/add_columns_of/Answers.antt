@@ -1,10 +1,10 @@
 use Rattle.std.proofs.Common.{◌≡◌, Some, None, length, sym, ap, ◌∙◌, arith}
 use Rattle.std.proofs.lemmas.Option.{get_or_from_slice_get, slice_get_within}
 use Rattle.std.specs.List.{slice_get}
+use Rattle.printed_text.proofs.Adding.{adds_both, adds_none}
 use Rattle.kbart_rows.specs.Cells.{Row}
 use Rattle.kbart_rows.specs.Lines.{cells_in, CursorValue}
 use Rattle.table_inspection.specs.Private.Headers.{findings_of}
-use Rattle.table_inspection.proofs.AddingLemmas.{adds_both, adds_none}
 use Rattle.kbart_rows.proofs.LineCells.{few_cells}
 use Rattle.table_inspection.proofs.CellLemmas.{header_end}
 use Rattle.table_inspection.proofs.Ranges.{flat_more}

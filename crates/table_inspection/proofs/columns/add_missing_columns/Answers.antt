@@ -1,6 +1,6 @@
 use Rattle.std.proofs.Common.{[]}
+use Rattle.printed_text.proofs.Adding.{adds_both, adds_none}
 use Rattle.table_inspection.specs.Columns.{missing_columns}
-use Rattle.table_inspection.proofs.AddingLemmas.{adds_both, adds_none}
 use Rattle.table_inspection.proofs.columns.add_missing_columns.Goals as goal
 
 pub returns : goal.returns

@@ -1,9 +1,10 @@
 use Rattle.std.proofs.Common.{[], ◌∷◌, length}
+use Rattle.printed_text.proofs.Adding.{adds_both}
 use Rattle.kbart_rows.specs.Identifiers.{identifier_columns}
 use Rattle.table_inspection.specs.Findings.{RowCount, IdentifierCount}
 use Rattle.table_inspection.specs.Identifiers.{identifiers_of, distinct}
 use Rattle.table_inspection.specs.Inspection.{counts}
-use Rattle.table_inspection.proofs.AddingLemmas.{adds_both, adds_one}
+use Rattle.table_inspection.proofs.AddingLemmas.{adds_one}
 use Rattle.table_inspection.proofs.inspection.add_counts.Goals as goal
 
 pub returns : goal.returns

@@ -1,8 +1,8 @@
 use Rattle.std.proofs.Common.{refl}
+use Rattle.printed_text.proofs.Adding.{adds_both}
 use Rattle.table_inspection.specs.Cells.{bad_numbers, unidentified}
 use Rattle.table_inspection.specs.Findings.{NotNumbers, RowsWithoutIdentifier}
 use Rattle.table_inspection.specs.Inspection.{findings_in_identifiers}
-use Rattle.table_inspection.proofs.AddingLemmas.{adds_both}
 use Rattle.table_inspection.proofs.inspection.add_identifiers.Goals as goal
 
 pub returns : goal.returns

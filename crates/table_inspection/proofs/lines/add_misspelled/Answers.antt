@@ -1,11 +1,8 @@
-use Rattle.std.proofs.Common.{◌≡◌, ◌||◌, ◌++◌, Bool, true, false, codes, string_bytes, refl, sym, ap, ◌∙◌, append_assoc}
+use Rattle.std.proofs.Common.{◌++◌, codes, string_bytes, sym, ap, ◌∙◌, append_assoc}
+use Rattle.std.proofs.Math.Bool.{or-true}
 use Rattle.text_model.specs.Texts.{Text}
 use Rattle.table_inspection.specs.Findings.{line_feed, named_text}
 use Rattle.table_inspection.proofs.lines.add_misspelled.Goals as goal
-
-or_true : (x : Bool) → true ≡ (x || true)
-or_true true = refl
-or_true false = refl
 
 pub returns : goal.returns
 returns c =
@@ -17,5 +14,5 @@ returns c =
           ∙ ap (λ (text : Text). text ++ (codes ", did you mean " ++ (name ++ line_feed))) c.in_ok-push_named.ensures
           ∙ append_assoc old named (codes ", did you mean " ++ (name ++ line_feed))
           ∙ ap (λ (text : Text). old ++ text) (sym (append_assoc named (codes ", did you mean " ++ name) line_feed));
-      warned = or_true c.args.findings.now.warned;
+      warned = sym (or-true c.args.findings.now.warned);
     }

@@ -1,11 +1,12 @@
 use Rattle.std.proofs.Common.{◌==◌, length, None, Some, string_bytes, sym, ap, ◌∙◌}
 use Rattle.std.specs.Option.{option_map_or}
+use Rattle.printed_text.proofs.Adding.{adds_none}
 use Rattle.kbart_rows.specs.Cells.{defined}
 use Rattle.kbart_rows.specs.Identifiers.{identifier_columns}
 use Rattle.table_inspection.specs.Findings.{RowsOfOneIdentifier}
 use Rattle.table_inspection.specs.Identifiers.{identifiers_of, most_rows, rows_having}
 use Rattle.table_inspection.specs.Private.Counting.{number_in}
-use Rattle.table_inspection.proofs.AddingLemmas.{adds_none, adds_one}
+use Rattle.table_inspection.proofs.AddingLemmas.{adds_one}
 use Rattle.table_inspection.proofs.MostLemmas.{defined_is, empty_is, finding_is}
 use Rattle.table_inspection.proofs.most_rows.add_most.Goals as goal
 

@@ -1,8 +1,8 @@
 use Rattle.std.proofs.Common.{codes, refl}
+use Rattle.printed_text.proofs.Adding.{adds_both}
 use Rattle.table_inspection.specs.Cells.{bad_dates, bad_links, long_rows}
 use Rattle.table_inspection.specs.Findings.{NotDates, NotWebLinks, LongRows}
 use Rattle.table_inspection.specs.Inspection.{findings_in_values}
-use Rattle.table_inspection.proofs.AddingLemmas.{adds_both}
 use Rattle.table_inspection.proofs.values.add_values.Goals as goal
 
 pub returns : goal.returns

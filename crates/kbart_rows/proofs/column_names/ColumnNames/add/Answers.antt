@@ -1,17 +1,15 @@
-use Rattle.std.proofs.Common.{◌≡◌, ◌||◌, Bool, true, false, Some, None, is_some, take, refl, sym, ap, ◌∙◌, arith}
+use Rattle.std.proofs.Common.{◌≡◌, ◌||◌, Bool, Some, None, is_some, take, sym, ap, ◌∙◌, arith}
 use Rattle.std.proofs.lemmas.List.{take_all}
 use Rattle.std.proofs.lemmas.Option.{slice_get_within}
 use Rattle.std.specs.List.{slice_get}
 use Rattle.std.specs.Str.{bytes_eq}
+use Rattle.std.proofs.Math.Bool.{or_assoc}
+use Rattle.text_model.proofs.Lists.{past_end}
 use Rattle.kbart_rows.specs.Cells.{Row, column_of}
 use Rattle.kbart_rows.specs.ColumnNames.{has}
 use Rattle.kbart_rows.specs.Lines.{cells_in}
-use Rattle.kbart_rows.proofs.FirstColumns.{name_known, past_end}
+use Rattle.kbart_rows.proofs.FirstColumns.{name_known}
 use Rattle.kbart_rows.proofs.column_names.ColumnNames.add.Goals as goal
-
-one_of_three : (a b c : Bool) → ((a || b) || c) ≡ (a || (b || c))
-one_of_three true b c = refl
-one_of_three false b c = refl
 
 pub loop-name-preserved : goal.loop-name-preserved
 loop-name-preserved c =
@@ -28,7 +26,7 @@ loop-name-preserved c =
           let old = has c.args.self.now other in
           c.in_ok-add_name.ensures.added other
           ∙ ap (λ (known : Bool). known || bytes_eq other name) (inv.added other)
-          ∙ one_of_three old (is_some (column_of (take column header) other)) (bytes_eq other name)
+          ∙ or_assoc old (is_some (column_of (take column header) other)) (bytes_eq other name)
           ∙ ap (λ (known : Bool). old || known) (sym (name_known header column name other at))
           ∙ ap (λ (place : _). old || is_some (column_of (take place header) other)) (sym next);
     }

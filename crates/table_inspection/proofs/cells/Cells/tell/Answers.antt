@@ -1,6 +1,7 @@
-use Rattle.table_inspection.proofs.AddingLemmas.{adds_none, adds_one}
+use Rattle.table_inspection.proofs.AddingLemmas.{adds_one}
 use Rattle.table_inspection.proofs.Ranges.{nothing_of_cells, finding_of_cells}
 use Rattle.table_inspection.proofs.cells.Cells.tell.Goals as goal
+use Rattle.printed_text.proofs.Adding.{adds_none}
 
 pub returns-then-self-eq0 : goal.returns-then-self-eq0
 returns-then-self-eq0 c = λ finding cells are text warns.

@@ -2,57 +2,40 @@ use Rattle.std.proofs.Common.{rules, ◌≡◌, ◌++◌, true, false, not, leng
 use Rattle.std.proofs.lemmas.Str.{IsUtf8-string_bytes}
 use Rattle.environment_model.specs.Environment.{with_member}
 use Rattle.environment_model.proofs.Environments.{with_member-text}
-use Rattle.target_vars.specs.EnvValue.{EnvValue, denotes_text}
+use Rattle.target_vars.specs.EnvValue.{EnvValue}
 use Rattle.target_vars.specs.Layout.{IsPutLast}
 use Rattle.target_vars.specs.declared.place.Span.{Span}
 use Rattle.target_vars.proofs.Additions.{add_is, laid_add}
-use Rattle.target_vars.proofs.Facts.{Says, decided, found_list, fits, few, span_put}
+use Rattle.target_vars.proofs.Facts.{text_there, no_text, fits, few, span_put}
 use Rattle.target_vars.proofs.env.Env.add_member.Goals as goal
 use Rattle.target_vars.proofs.env.Env.add_member.Goals.{then-is_too_long-via-then-is_too_long, then-is_too_long-via-else-is_too_long+then-is_full}
+use Rattle.target_vars.specs.Private.ListPlaces.{IsListPlace}
 
-pub returns-then-is_text-clause-answer : goal.returns-then-is_text-clause-answer
-returns-then-is_text-clause-answer c =
-    let says : Says c.self.inside.places.items c.find-found.result c.is_text.result =
-    subst (λ ps. Says ps c.find-found.result c.is_text.result) c.deref.ensures.value c.is_text.ensures in
-    let text : denotes_text c.args.self.now.entries c.args.name.now ≡ true =
-    decided c.self.inside c.args.self.now c.args.name.now c.find-found.result c.is_text.result c.self.invariant c.self.view_is c.find-found.ensures says
-    ∙ c.if-is_text.true in
+pub returns-in_default-clause-answer : goal.returns-in_default-clause-answer
+returns-in_default-clause-answer c =
+    let text = text_there c.self.inside c.args.self.now c.args.name.now _ c.self.invariant c.self.view_is c.deref.ensures.value c.in_default.ensures in
     ap not (sym text)
 
-pub returns-then-is_text-clause-ok : goal.returns-then-is_text-clause-ok
-returns-then-is_text-clause-ok c =
-    let says : Says c.self.inside.places.items c.find-found.result c.is_text.result =
-    subst (λ ps. Says ps c.find-found.result c.is_text.result) c.deref.ensures.value c.is_text.ensures in
-    let text : denotes_text c.args.self.now.entries c.args.name.now ≡ true =
-    decided c.self.inside c.args.self.now c.args.name.now c.find-found.result c.is_text.result c.self.invariant c.self.view_is c.find-found.ensures says
-    ∙ c.if-is_text.true in
+pub returns-in_default-clause-ok : goal.returns-in_default-clause-ok
+returns-in_default-clause-ok c =
+    let text = text_there c.self.inside c.args.self.now c.args.name.now _ c.self.invariant c.self.view_is c.deref.ensures.value c.in_default.ensures in
     sym (with_member-text c.args.self.now.entries c.args.name.now c.args.text.now text)
 
-pub returns-then-is_text-clause-too_large : goal.returns-then-is_text-clause-too_large
-returns-then-is_text-clause-too_large c =
-    let says : Says c.self.inside.places.items c.find-found.result c.is_text.result =
-    subst (λ ps. Says ps c.find-found.result c.is_text.result) c.deref.ensures.value c.is_text.ensures in
-    let text : denotes_text c.args.self.now.entries c.args.name.now ≡ true =
-    decided c.self.inside c.args.self.now c.args.name.now c.find-found.result c.is_text.result c.self.invariant c.self.view_is c.find-found.ensures says
-    ∙ c.if-is_text.true in
+pub returns-in_default-clause-too_large : goal.returns-in_default-clause-too_large
+returns-in_default-clause-too_large c =
+    let text = text_there c.self.inside c.args.self.now c.args.name.now _ c.self.invariant c.self.view_is c.deref.ensures.value c.in_default.ensures in
     (λ is. absurd (cc), λ h. (let none = h.0 in absurd (cc)))
 
 pub returns-then-is_too_long-clause-known : goal.returns-then-is_too_long-clause-known
 returns-then-is_too_long-clause-known c =
-    let says : Says c.self.inside.places.items c.find-found.result c.is_text.result =
-    subst (λ ps. Says ps c.find-found.result c.is_text.result) c.deref.ensures.value c.is_text.ensures in
-    let text : denotes_text c.args.self.now.entries c.args.name.now ≡ false =
-    decided c.self.inside c.args.self.now c.args.name.now c.find-found.result c.is_text.result c.self.invariant c.self.view_is c.find-found.ensures says
-    ∙ c.if-is_text.false in
+    let text =
+    no_text c.self.inside c.args.self.now c.args.name.now _ c.in-Some.found c.self.invariant c.self.view_is c.deref.ensures.value c.in-Some.ensures in
     λ there. absurd (cc)
 
 pub returns-then-is_too_long-clause-too_large : goal.returns-then-is_too_long-clause-too_large
 returns-then-is_too_long-clause-too_large c =
-    let says : Says c.self.inside.places.items c.find-found.result c.is_text.result =
-    subst (λ ps. Says ps c.find-found.result c.is_text.result) c.deref.ensures.value c.is_text.ensures in
-    let text : denotes_text c.args.self.now.entries c.args.name.now ≡ false =
-    decided c.self.inside c.args.self.now c.args.name.now c.find-found.result c.is_text.result c.self.invariant c.self.view_is c.find-found.ensures says
-    ∙ c.if-is_text.false in (
+    let text =
+    no_text c.self.inside c.args.self.now c.args.name.now _ c.in-Some.found c.self.invariant c.self.view_is c.deref.ensures.value c.in-Some.ensures in (
       λ is. (
         text,
         elim c.then-is_too_long.branch [
@@ -65,38 +48,24 @@ returns-then-is_too_long-clause-too_large c =
 
 pub returns-in_err-reserve-clause-known : goal.returns-in_err-reserve-clause-known
 returns-in_err-reserve-clause-known c =
-    let says : Says c.self.inside.places.items c.find-found.result c.is_text.result =
-    subst (λ ps. Says ps c.find-found.result c.is_text.result) c.deref.ensures.value c.is_text.ensures in
-    let text : denotes_text c.args.self.now.entries c.args.name.now ≡ false =
-    decided c.self.inside c.args.self.now c.args.name.now c.find-found.result c.is_text.result c.self.invariant c.self.view_is c.find-found.ensures says
-    ∙ c.if-is_text.false in
+    let text =
+    no_text c.self.inside c.args.self.now c.args.name.now _ c.in-Some.found c.self.invariant c.self.view_is c.deref.ensures.value c.in-Some.ensures in
     λ there. absurd (cc)
 
 pub returns-in_err-reserve-2-clause-known : goal.returns-in_err-reserve-2-clause-known
 returns-in_err-reserve-2-clause-known c =
-    let says : Says c.self.inside.places.items c.find-found.result c.is_text.result =
-    subst (λ ps. Says ps c.find-found.result c.is_text.result) c.deref.ensures.value c.is_text.ensures in
-    let text : denotes_text c.args.self.now.entries c.args.name.now ≡ false =
-    decided c.self.inside c.args.self.now c.args.name.now c.find-found.result c.is_text.result c.self.invariant c.self.view_is c.find-found.ensures says
-    ∙ c.if-is_text.false in
+    let text =
+    no_text c.self.inside c.args.self.now c.args.name.now _ c.in-Some.found c.self.invariant c.self.view_is c.deref.ensures.value c.in-Some.ensures in
     λ there. absurd (cc)
 
 pub list_of-requires-clause-found : goal.list_of-requires-clause-found
 list_of-requires-clause-found c =
-    let says : Says c.self.inside.places.items c.find-found.result c.is_text.result =
-    subst (λ ps. Says ps c.find-found.result c.is_text.result) c.deref.ensures.value c.is_text.ensures in
-    let text : denotes_text c.args.self.now.entries c.args.name.now ≡ false =
-    decided c.self.inside c.args.self.now c.args.name.now c.find-found.result c.is_text.result c.self.invariant c.self.view_is c.find-found.ensures says
-    ∙ c.if-is_text.false in
-    found_list c.self.inside c.args.name.now c.find-found.result c.is_text.result c.self.invariant c.find-found.ensures says c.if-is_text.false
+    subst (λ ps. IsListPlace c.self.inside.names ps c.args.name.now c.in-Some.found) c.deref.ensures.value c.in-Some.ensures
 
 pub returns-in_err-list-clause-known : goal.returns-in_err-list-clause-known
 returns-in_err-list-clause-known c =
-    let says : Says c.self.inside.places.items c.find-found.result c.is_text.result =
-    subst (λ ps. Says ps c.find-found.result c.is_text.result) c.deref.ensures.value c.is_text.ensures in
-    let text : denotes_text c.args.self.now.entries c.args.name.now ≡ false =
-    decided c.self.inside c.args.self.now c.args.name.now c.find-found.result c.is_text.result c.self.invariant c.self.view_is c.find-found.ensures says
-    ∙ c.if-is_text.false in
+    let text =
+    no_text c.self.inside c.args.self.now c.args.name.now _ c.in-Some.found c.self.invariant c.self.view_is c.deref.ensures.value c.in-Some.ensures in
     λ there. absurd (cc)
 
 pub invariant_of-self-2 : goal.invariant_of-self-2
@@ -116,11 +85,8 @@ invariant_of-self-2 c =
 
 pub returns-clause-answer : goal.returns-clause-answer
 returns-clause-answer c =
-    let says : Says c.self.inside.places.items c.find-found.result c.is_text.result =
-    subst (λ ps. Says ps c.find-found.result c.is_text.result) c.deref.ensures.value c.is_text.ensures in
-    let text : denotes_text c.args.self.now.entries c.args.name.now ≡ false =
-    decided c.self.inside c.args.self.now c.args.name.now c.find-found.result c.is_text.result c.self.invariant c.self.view_is c.find-found.ensures says
-    ∙ c.if-is_text.false in
+    let text =
+    no_text c.self.inside c.args.self.now c.args.name.now _ c.in-Some.found c.self.invariant c.self.view_is c.deref.ensures.value c.in-Some.ensures in
     ap not (sym text)
 
 pub returns-clause-ok : goal.returns-clause-ok
@@ -138,11 +104,8 @@ returns-clause-ok c =
 
 pub returns-clause-known : goal.returns-clause-known
 returns-clause-known c =
-    let says : Says c.self.inside.places.items c.find-found.result c.is_text.result =
-    subst (λ ps. Says ps c.find-found.result c.is_text.result) c.deref.ensures.value c.is_text.ensures in
-    let text : denotes_text c.args.self.now.entries c.args.name.now ≡ false =
-    decided c.self.inside c.args.self.now c.args.name.now c.find-found.result c.is_text.result c.self.invariant c.self.view_is c.find-found.ensures says
-    ∙ c.if-is_text.false in
+    let text =
+    no_text c.self.inside c.args.self.now c.args.name.now _ c.in-Some.found c.self.invariant c.self.view_is c.deref.ensures.value c.in-Some.ensures in
     λ there. absurd (cc)
 
 pub returns-clause-span : goal.returns-clause-span
