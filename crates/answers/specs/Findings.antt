@@ -17,15 +17,15 @@ pub record Report : Type 0 where
   pub text : Text
   pub warned : Bool
 
-abbrev pub report : Findings → Report
-report findings = record { text = string_bytes findings.text; warned = findings.warned }
+abbrev pub findings_report : Findings → Report
+findings_report findings = record { text = string_bytes findings.text; warned = findings.warned }
 
 -- the findings in the table of the bytes, or the first reason why there are none
 pub data IsInspectionOf (bytes : Text) (keys : Keys) : Result Report Refusal → Type 0 where
   no_memory : (table : Holdings) → IsTable bytes table → IsInspectionOf bytes keys (Err Memory)
   no_table : (e : Refusal) → IsNoTable bytes e → IsInspectionOf bytes keys (Err e)
   inspected : (table : Holdings) (found : Report) → IsTable bytes table → table.keys ≡ keys → found.text ≡ inspection.inspection_text table
-      → found.warned ≡ inspection.has_warning table → IsInspectionOf bytes keys (Ok found)
+      → found.warned ≡ inspection.has_table_warning table → IsInspectionOf bytes keys (Ok found)
 
 -- the findings in the rules with the table of the bytes, or the first reason why there are none
 pub data IsLintOf (rules : RuleSet) (bytes : Text) (keys : Keys) : Result Report Refusal → Type 0 where

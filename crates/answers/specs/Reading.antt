@@ -1,7 +1,7 @@
 -- Why bytes and texts cannot be read as what they should be. An allocation is never reported to have failed for bytes that are too long to be read.
 use Rattle.std.specs.Prelude.{◌≡◌, ◌≢◌, ◌≤◌, Some, length}
 use Rattle.text_model.specs.Texts.{Text}
-use Rattle.uri_grammar.specs.Texts.{IsRefused as IsRefusedTemplate}
+use Rattle.uri_grammar.specs.Texts.{IsRefusedTemplate}
 use Rattle.uri_grammar.specs.declared.error.TemplateError.{TemplateError}
 use Rattle.rule_parser.specs.Faults.{IsRefused}
 use Rattle.rule_parser.specs.declared.error.RuleError.{RuleError}

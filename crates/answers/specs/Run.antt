@@ -25,14 +25,14 @@ pub record IsRequest (code : model.Code) (query : Text) (env : EnvValue) : Type 
   pub filled : env.entries ≡ request_entries code query
 
 -- the bound of the code for the request is within the limit of a link, and its run ends with this outcome, within its budget
-pub record IsRun (code : model.Code) (query : Text) (end : runs.Outcome) : Type 0 where
+pub record IsRequestRun (code : model.Code) (query : Text) (end : runs.Outcome) : Type 0 where
   pub env : EnvValue
   pub request : IsRequest code query env
   pub within : most_bytes code env ≤ MAX_LINK_BYTES
   pub ends : EndsSafely code env end
 
 -- the code may print this number of bytes for the request, which is more than the limit of a link
-pub record IsOverBudget (code : model.Code) (query : Text) (n : ℕ) : Type 0 where
+pub record IsRequestOverBudget (code : model.Code) (query : Text) (n : ℕ) : Type 0 where
   pub env : EnvValue
   pub request : IsRequest code query env
   pub bound : n ≡ most_bytes code env
@@ -42,9 +42,9 @@ pub record IsOverBudget (code : model.Code) (query : Text) (n : ℕ) : Type 0 wh
 pub data IsLinkFor (code : model.Code) (query : Text) : Result Text Refusal → Type 0 where
   no_memory : IsLinkFor code query (Err Memory)
   no_request : (e : Refusal) → IsNoRequest query e → IsLinkFor code query (Err e)
-  over_budget : (n : ℕ) → IsOverBudget code query n → IsLinkFor code query (Err (OverBudget n))
-  no_link : IsRun code query runs.NoLink → IsLinkFor code query (Err NoLink)
-  linked : (link line : Text) → IsRun code query (runs.Link link) → line ≡ link ++ 10 ∷ [] → IsLinkFor code query (Ok line)
+  over_budget : (n : ℕ) → IsRequestOverBudget code query n → IsLinkFor code query (Err (OverBudget n))
+  no_link : IsRequestRun code query runs.NoLink → IsLinkFor code query (Err NoLink)
+  linked : (link line : Text) → IsRequestRun code query (runs.Link link) → line ≡ link ++ 10 ∷ [] → IsLinkFor code query (Ok line)
 
 -- the line of the link of accepted code, or the first reason why there is none
 pub data IsRunLinkOf (bytes query : Text) : Result Text Refusal → Type 0 where

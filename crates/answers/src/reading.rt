@@ -47,7 +47,7 @@ pub(crate) fn accepted_code(alloc: Global, bytes: &[u8]) -> Result<Verified, Ref
     accepted_file_has_no_fault();
     match load(alloc, bytes) {
         Ok(code) => {
-            let _accepted = code.code();
+            let _known = code.code();
             Ok(code)
         }
         Err(e) if e == LoadError::NoMemory => Err(Refusal::Memory),

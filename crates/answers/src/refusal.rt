@@ -1,7 +1,7 @@
 //! Why there is no answer.
 
 ghost use Rattle.std.specs.Prelude.{◌≡◌};
-ghost use Rattle.answers.specs.Refusals.{status_of};
+ghost use Rattle.answers.specs.Refusals.{status_of_refusal};
 
 use code_file::CodeError;
 use compiler::CompileError;
@@ -60,7 +60,7 @@ pub enum Refusal {
 impl Refusal {
     /// The exit status.
     pub fn status(&self) -> u8
-        ensures { result ≡ status_of self.now }
+        ensures { result ≡ status_of_refusal self.now }
     {
         match self {
             Refusal::NoLink => NO_LINK,

@@ -5,14 +5,14 @@ use Rattle.code_model.specs.Code.{Code}
 use Rattle.environment_model.specs.Environment.{Environment}
 use Rattle.machine_model.specs.States.{Frame, State, Running, Ended, start}
 use Rattle.machine_model.specs.States as end
-use Rattle.machine_model.specs.Step.{Step}
+use Rattle.machine_model.specs.Step.{StepsTo}
 use Rattle.machine_model.specs.Runs.{After, EndsWith, Outcome, HasOutcome, Link, NoLink, Stuck}
 use Rattle.machine_model.specs.Next.{next_state, Course, course, course_of, step_limit}
 use Rattle.checked_machine.specs.Outcomes.{IsOutcome}
 
 -- the law that the next state is computed
 abbrev pub StepIsDecided : Type 0
-StepIsDecided = (c : Code) (v : Environment) (s new : State) → Step c v s new ↔ (next_state c v s ≡ Some new)
+StepIsDecided = (c : Code) (v : Environment) (s new : State) → StepsTo c v s new ↔ (next_state c v s ≡ Some new)
 
 pub at_start : (c : Code) (v : Environment) → After c v 0 (Running start)
 unfolding After

@@ -6,10 +6,10 @@ use Rattle.machine_model.specs.Runs as run
 use Rattle.checked_machine.specs.declared.run.Checked.{Checked}
 use Rattle.checked_machine.specs.declared.run.Checked.TheVariants.{Link, NoLink, Stuck}
 
-abbrev pub outcome_of : Checked → run.Outcome
-outcome_of (Link link) = run.Link (string_bytes link)
-outcome_of NoLink = run.NoLink
-outcome_of (Stuck place) = run.Stuck place
+abbrev pub checked_outcome : Checked → run.Outcome
+checked_outcome (Link link) = run.Link (string_bytes link)
+checked_outcome NoLink = run.NoLink
+checked_outcome (Stuck place) = run.Stuck place
 
 -- the run ends with this outcome, and with no other
 pub record IsOutcome (c : Code) (v : Environment) (o : run.Outcome) : Type 0 where

@@ -2,7 +2,7 @@
 
 ghost use Rattle.std.specs.Prelude.{◌≡◌, IfOk};
 ghost use Rattle.machine_model.specs.Next.{step_limit};
-ghost use Rattle.checked_machine.specs.Outcomes.{outcome_of, IsOutcome};
+ghost use Rattle.checked_machine.specs.Outcomes.{checked_outcome, IsOutcome};
 
 use crate::frame::Frame;
 use crate::step::Stepped;
@@ -35,7 +35,7 @@ fn step_limit(code: &Code, env: &Env) -> usize
 /// A step takes constant time, except for the bytes that it appends or compares, and for looking a name up, which
 /// compares it with the names of the environment. The only error is that memory for the output runs out.
 pub fn run_checked<'a>(alloc: Global, code: &'a Code, env: &'a Env) -> Result<Checked, AllocError>
-    ensures { IfOk result (λ answer. IsOutcome code.now env.now.entries (outcome_of answer)) }
+    ensures { IfOk result (λ answer. IsOutcome code.now env.now.entries (checked_outcome answer)) }
 {
     // The result relies on these laws of the machine.
     step_is_decided();

@@ -10,7 +10,7 @@ use Rattle.text_model.specs.Texts.{Text}
 use Rattle.code_model.specs.Code.{Name, Literal}
 use Rattle.code_file.specs.declared.limits.TheConstants.{MAX_NAME_BYTES}
 use Rattle.code_file.specs.declared.error.CodeError.{CodeError}
-use Rattle.code_file.specs.Grammar.{number, kind_byte, name_field, literal_field, IsName, IsTextOf, IsLiteral}
+use Rattle.code_file.specs.Grammar.{number, kind_byte, name_field, literal_field, IsCodeName, IsTextOf, IsLiteral}
 use Rattle.code_file.specs.Fault.{after, IsNameLength, IsNameFault, IsLiteralFault, in_kind, no_kind, bad_kind, no_length, bad_length, no_text, bad_text}
 use Rattle.code_file.specs.Fault.{IsTable, IsTableFault}
 use Rattle.code_file.specs.Private.FromLeft.{is_uri_text}
@@ -43,7 +43,7 @@ name_length_or_not len = elim (cases_lt 0 len) [
 ]
 
 text_of_name : (list : Bool) (len : ℕ) (rest : Text) → IsNameLength len
-    → IsEntryOrFault IsName name_field IsNameFault (kind_byte list ∷ len ∷ rest)
+    → IsEntryOrFault IsCodeName name_field IsNameFault (kind_byte list ∷ len ∷ rest)
 text_of_name list len rest good = elim (cases_lt (length rest) len) [
   | inl short ↦ inr (_, no_text list len rest refl good short)
   | inr enough ↦
@@ -56,15 +56,15 @@ text_of_name list len rest good = elim (cases_lt (length rest) len) [
       ]
 ]
 
-pub name_or_fault : (bytes : Text) → AreBytes bytes → IsEntryOrFault IsName name_field IsNameFault bytes
+pub name_or_fault : (bytes : Text) → AreBytes bytes → IsEntryOrFault IsCodeName name_field IsNameFault bytes
 name_or_fault [] fits = inr (_, in_kind _ (no_kind refl))
 name_or_fault (kind ∷ rest) fits = elim (kind_or_fault kind) [
   | inr wrong ↦ inr (_, in_kind _ (bad_kind kind rest refl wrong))
   | inl good ↦
-      subst (λ (k : ℕ). IsEntryOrFault IsName name_field IsNameFault (k ∷ rest)) (sym good.1) (after_kind good.0 rest)
+      subst (λ (k : ℕ). IsEntryOrFault IsCodeName name_field IsNameFault (k ∷ rest)) (sym good.1) (after_kind good.0 rest)
 ]
   where
-    after_kind : (list : Bool) (rest : Text) → IsEntryOrFault IsName name_field IsNameFault (kind_byte list ∷ rest)
+    after_kind : (list : Bool) (rest : Text) → IsEntryOrFault IsCodeName name_field IsNameFault (kind_byte list ∷ rest)
     after_kind list [] = inr (_, no_length list refl)
     after_kind list (len ∷ rest) = elim (name_length_or_not len) [
       | inr bad ↦ inr (_, bad_length list len rest refl bad)

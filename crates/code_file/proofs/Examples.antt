@@ -4,16 +4,16 @@ use Rattle.std.specs.Prelude.{drop, length}
 use Rattle.text_model.specs.Texts.{Text}
 use Rattle.code_model.specs.Code.{Code, row, upgraded}
 use Rattle.code_file.specs.declared.error.CodeErrorKind.TheVariants.{TooMany, NoCode}
-use Rattle.code_file.specs.Grammar.{name_field, literal_field, code_of, spelled, IsNameByte}
+use Rattle.code_file.specs.Grammar.{name_field, literal_field, code_with, spelled, IsNameByte}
 use Rattle.code_file.specs.Fault.{fault, header_fault, IsNameLength}
 
 -- ---- bytes
 
-halt_in_version_1 : spelled (code_of 1 [] [] (row 1 0 0 0 0 ∷ []))
+halt_in_version_1 : spelled (code_with 1 [] [] (row 1 0 0 0 0 ∷ []))
     ≡ 0x4f ∷ 0x4c ∷ 0x4b ∷ 0x31 ∷ 0 ∷ 0 ∷ 0 ∷ 0 ∷ 0 ∷ 1 ∷ 1 ∷ 0 ∷ 0 ∷ 0 ∷ 0 ∷ 0 ∷ 0 ∷ 0 ∷ []
 halt_in_version_1 = refl
 
-fields_in_version_2 : spelled (code_of 2 [] [] (row 19 1 2 770 4 ∷ []))
+fields_in_version_2 : spelled (code_with 2 [] [] (row 19 1 2 770 4 ∷ []))
     ≡ 0x4f ∷ 0x4c ∷ 0x4b ∷ 0x32 ∷ 0 ∷ 0 ∷ 0 ∷ 0 ∷ 0 ∷ 1 ∷ 19 ∷ 1 ∷ 0 ∷ 2 ∷ 3 ∷ 2 ∷ 0 ∷ 4 ∷ []
 fields_in_version_2 = refl
 
@@ -26,13 +26,13 @@ link_text = refl
 -- the members of `list`, separated by commas
 abbrev pub list_code : Code
 list_code =
-    code_of 1 (record { list = true; text = codes "list" } ∷ []) (record { compared = false; bytes = codes "," } ∷ [])
+    code_with 1 (record { list = true; text = codes "list" } ∷ []) (record { compared = false; bytes = codes "," } ∷ [])
     (row 5 0 0 0 0 ∷ row 16 1 0 0 5 ∷ row 17 0 0 0 0 ∷ row 14 1 0 0 0 ∷ row 18 0 0 0 0 ∷ row 1 0 0 0 0 ∷ [])
 
 -- the code of a rule with the template `http://e.org/{rft.issn}`
 abbrev pub issn_code : Code
 issn_code =
-    code_of 1 (record { list = false; text = codes "rft.issn" } ∷ [])
+    code_with 1 (record { list = false; text = codes "rft.issn" } ∷ [])
     (record { compared = false; bytes = codes "http://e.org/" }
     ∷ record { compared = true; bytes = [] }
     ∷ record { compared = false; bytes = codes "," }

@@ -9,7 +9,7 @@ use Rattle.code_model.specs.Code.{Name, Code}
 use Rattle.code_file.specs.declared.error.CodeError.{CodeError}
 use Rattle.code_file.specs.declared.error.CodeErrorKind.TheVariants.{TooLong, BadMagic, Truncated, TooMany, NoCode, BadName, BadKind, BadLiteral, Trailing}
 use Rattle.code_file.specs.declared.header.Header.{Header}
-use Rattle.code_file.specs.Grammar.{magic, IsNameByte, IsName, IsLiteral, IsCodeFile}
+use Rattle.code_file.specs.Grammar.{magic, IsNameByte, IsCodeName, IsLiteral, IsCodeFile}
 use Rattle.code_file.specs.Fault.{fault, after, no_kind, bad_kind, IsNameFault, IsLiteralFault, in_kind, no_length, bad_length, no_text, bad_text}
 use Rattle.code_file.specs.Fault.{IsTableFault, IsFirstWrong}
 use Rattle.code_file.specs.Fault.{IsFirstFault, in_field, too_long, IsFieldFault, bad_magic, no_counts, bad_counts, in_names, in_literals, in_instrs, trailing}
@@ -134,7 +134,7 @@ of_literal rest e short here f = in_field _ (omega (arith, short)) (in_literals 
     a : Name
     a = record { list = true; text = codes "a" }
 
-    is_name : IsName a
+    is_name : IsCodeName a
     is_name =
         record {
           some = omega arith;
@@ -148,7 +148,7 @@ of_literal rest e short here f = in_field _ (omega (arith, short)) (in_literals 
       names = 1 ∷ 1 ∷ 0x61 ∷ [];
       rest = rest;
       allowed = record { version = inl refl; names = omega arith; literals = omega arith; some = omega arith; instrs = omega arith };
-      name_table = (a ∷ [], record { good = All-cons IsName a [] is_name (All-nil IsName); counted = refl; spells = refl });
+      name_table = (a ∷ [], record { good = All-cons IsCodeName a [] is_name (All-nil IsCodeName); counted = refl; spells = refl });
       spells = refl;
     }
 
@@ -179,7 +179,7 @@ short_instruction = in_field _ (omega arith) (in_instrs past (omega arith))
       literals = [];
       rest = 1 ∷ 0 ∷ 0 ∷ 0 ∷ 0 ∷ 0 ∷ 0 ∷ [];
       allowed = record { version = inl refl; names = omega arith; literals = omega arith; some = omega arith; instrs = omega arith };
-      name_table = ([], record { good = All-nil IsName; counted = refl; spells = refl });
+      name_table = ([], record { good = All-nil IsCodeName; counted = refl; spells = refl });
       literal_table = ([], record { good = All-nil IsLiteral; counted = refl; spells = refl });
       spells = refl;
     }

@@ -9,7 +9,7 @@ use Rattle.std.proofs.lemmas.List.{take-append-drop, get_or_past}
 use Rattle.std.proofs.lemmas.Bool.{cases_lt}
 use Rattle.text_model.specs.Texts.{Text}
 use Rattle.code_model.specs.Code.{Name}
-use Rattle.code_file.specs.Grammar.{number, kind_byte, name_field, IsName}
+use Rattle.code_file.specs.Grammar.{number, kind_byte, name_field, IsCodeName}
 
 pub kind_byte-kind : (k : ℕ) → k ≤ 1 → kind_byte (k == 1) ≡ k
 kind_byte-kind k h = grind arith
@@ -38,14 +38,14 @@ name_head bytes following rest list h g = h ∙ ap (λ (t : Text). kind_byte lis
 
 -- ---- the text of a name is ASCII
 
-ascii_name : (n : Name) → IsName n → IsAscii n.text
+ascii_name : (n : Name) → IsCodeName n → IsAscii n.text
 ascii_name n good i =
     elim (cases_lt i (length n.text)) [
       | inl here ↦ let low = good.visible i 0 here in omega (arith, low.1)
       | inr past ↦ let none = get_or_past n.text i 0 past in omega (arith, none)
     ]
 
-pub name_text : (bytes following text : Text) → BeginsWith IsName name_field bytes → following ≡ drop 2 bytes
+pub name_text : (bytes following text : Text) → BeginsWith IsCodeName name_field bytes → following ≡ drop 2 bytes
     → text ≡ take (get_or bytes 1 0) following → IsUtf8 text
 name_text bytes following text b h e =
     let spells : bytes ≡ name_field b.0 ++ b.1 = b.3 in

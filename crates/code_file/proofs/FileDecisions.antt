@@ -8,7 +8,7 @@ use Rattle.text_model.specs.Texts.{Text}
 use Rattle.code_model.specs.Code.{Code}
 use Rattle.code_file.specs.declared.limits.TheConstants.{MAX_BYTES}
 use Rattle.code_file.specs.declared.error.CodeError.{CodeError}
-use Rattle.code_file.specs.Grammar.{digit_byte, magic, number, name_field, literal_field, header_field, IsVersion, IsName, IsLiteral, IsCodeFile}
+use Rattle.code_file.specs.Grammar.{digit_byte, magic, number, name_field, literal_field, header_field, IsVersion, IsCodeName, IsLiteral, IsCodeFile}
 use Rattle.code_file.specs.Fault.{IsNameFault, IsLiteralFault, header_fault, PastMagic, PastCounts, PastHeader, PastNames, PastLiterals, IsFieldFault}
 use Rattle.code_file.specs.Fault.{bad_magic, no_counts, bad_counts, in_names, in_literals, in_instrs, IsFirstFault, too_long, in_field}
 use Rattle.code_file.specs.Private.Tables.{AreTables}
@@ -139,7 +139,7 @@ literals_here bytes fits short p following =
 names_here : (bytes : Text) → AreBytes bytes → length bytes ≤ MAX_BYTES → PastHeader bytes → IsAnswered bytes
 names_here bytes fits short p =
     let following = bytes_right (header_field p.header) p.rest (subst AreBytes p.spells fits) in
-    elim (table_or_fault IsName name_field IsNameFault name_or_fault p.header.names p.rest following) [
+    elim (table_or_fault IsCodeName name_field IsNameFault name_or_fault p.header.names p.rest following) [
       | inr bad ↦ inr (_, in_names p bad.0 bad.1)
       | inl good ↦
           literals_here bytes fits short

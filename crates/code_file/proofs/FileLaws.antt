@@ -11,7 +11,7 @@ use Rattle.code_file.specs.declared.header.Header.{Header}
 use Rattle.code_file.specs.declared.limits.TheConstants.{MAX_BYTES, MAX_NAMES, MAX_LITERALS, MAX_INSTRS}
 use Rattle.code_file.specs.declared.error.CodeError.{CodeError}
 use Rattle.code_file.specs.declared.error.CodeErrorKind.TheVariants.{Truncated, Trailing, NoMemory}
-use Rattle.code_file.specs.Grammar.{header_field, header_of, name_field, literal_field, instr_field, IsName, IsLiteral, IsHeader, IsCodeFile}
+use Rattle.code_file.specs.Grammar.{header_field, header_of, name_field, literal_field, instr_field, IsCodeName, IsLiteral, IsHeader, IsCodeFile}
 use Rattle.code_file.specs.Fault.{fault, after, header_fault, PastHeader, PastNames, PastLiterals, IsNameFault, IsLiteralFault, IsTable, IsTableFault}
 use Rattle.code_file.specs.Fault.{IsFieldFault, bad_magic, no_counts, bad_counts, in_names, in_literals, in_instrs, trailing, IsFirstFault, too_long, in_field}
 use Rattle.code_file.specs.Fault.{IsRefusal}
@@ -64,7 +64,7 @@ names_read bytes p r more =
     continues (p.header, p.names ++ p.rest) r
     (header_read bytes (record { header = p.header; rest = p.names ++ p.rest; allowed = p.allowed; spells = p.spells }))
     (continues (p.header, p.name_table.0, p.rest) r
-    (names_found p.name_table.0 p.rest (table_found IsName name_field IsNameFault p.header.names p.names p.rest p.name_table)) more)
+    (names_found p.name_table.0 p.rest (table_found IsCodeName name_field IsNameFault p.header.names p.names p.rest p.name_table)) more)
 
 literals_read : (bytes : Text) (p : PastLiterals bytes) (r : Result Code CodeError)
     → ReadsInstrs (p.header, p.name_table.0, p.literal_table.0, p.rest) r → Reads bytes r
@@ -127,7 +127,7 @@ reads_fault bytes e (bad_counts p f g) =
     stops f (subst (ReadsHeader bytes) (ap (λ (o : Option CodeError). outcome o p.header p.rest) g) (counted p))
 reads_fault bytes e (in_names p f t) =
     continues (p.header, p.rest) _ (header_read bytes p)
-    (stops _ (names_faulty f (table_faulty IsName name_field IsNameFault p.header.names p.rest f t)))
+    (stops _ (names_faulty f (table_faulty IsCodeName name_field IsNameFault p.header.names p.rest f t)))
 reads_fault bytes e (in_literals p f t) =
     let place : after (10 + length (flat_map name_field p.name_table.0)) f ≡ after (10 + length p.names) f =
     ap (λ (b : Text). after (10 + length b) f) (sym p.name_table.1.spells) in

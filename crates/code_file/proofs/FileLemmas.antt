@@ -10,7 +10,7 @@ use Rattle.code_model.specs.declared.code.Instr.{Instr}
 use Rattle.code_file.specs.declared.header.Header.{Header}
 use Rattle.code_file.specs.declared.limits.TheConstants.{MAX_BYTES}
 use Rattle.code_file.specs.declared.error.CodeErrorKind.TheVariants.{Trailing}
-use Rattle.code_file.specs.Grammar.{number, header_field, header_of, spelled, name_field, literal_field, instr_field, IsName, IsLiteral, IsInstr, IsHeader}
+use Rattle.code_file.specs.Grammar.{number, header_field, header_of, spelled, name_field, literal_field, instr_field, IsCodeName, IsLiteral, IsInstr, IsHeader}
 use Rattle.code_file.specs.Grammar.{IsCodeFile}
 use Rattle.code_file.specs.Fault.{fault, IsTableOf, IsTable, IsFieldFault, trailing}
 use Rattle.code_file.specs.Private.Tables.{AreTables}
@@ -79,7 +79,7 @@ same_header : (h : Header) (n l i : ℕ) → n ≡ h.names → l ≡ h.literals 
 same_header h n l i p q r = rw (p, q, r) refl
 
 pub code_file_of : (bytes : Text) (h : Header) (names literals instrs : Text) → AreTables bytes h names literals instrs
-    → length bytes ≤ MAX_BYTES → (ns : List Name) → IsTableOf IsName name_field h.names names ns
+    → length bytes ≤ MAX_BYTES → (ns : List Name) → IsTableOf IsCodeName name_field h.names names ns
     → (ls : List Literal) → IsTableOf IsLiteral literal_field h.literals literals ls
     → (is : List Instr) → IsTableOf IsInstr instr_field h.instrs instrs is
     → IsCodeFile bytes (record { version = h.version; names = ns; literals = ls; instrs = is })

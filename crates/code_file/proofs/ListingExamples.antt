@@ -3,7 +3,7 @@ use Rattle.std.proofs.Common.{◌≡◌, ◌++◌, List, [], ◌∷◌, refl, co
 use Rattle.std.specs.Fmt.{digits}
 use Rattle.code_model.specs.Code.{row, reading}
 use Rattle.code_model.specs.declared.code.Instr.{Instr}
-use Rattle.code_file.specs.Grammar.{code_of}
+use Rattle.code_file.specs.Grammar.{code_with}
 use Rattle.code_file.specs.Listing.{instr_text, listing}
 use Rattle.code_file.proofs.Examples.{list_code, issn_code}
 
@@ -22,11 +22,11 @@ of_issn_code : listing issn_code
 unfolding listing reading digits
 of_issn_code = refl
 
-of_version_2 : listing (code_of 2 [] [] (row 19 1 0 0 0 ∷ [])) ≡ codes "OLK2 names 0 literals 0 instructions 1\n0 COUNT r1 r0\n"
+of_version_2 : listing (code_with 2 [] [] (row 19 1 0 0 0 ∷ [])) ≡ codes "OLK2 names 0 literals 0 instructions 1\n0 COUNT r1 r0\n"
 unfolding listing reading digits
 of_version_2 = refl
 
-of_odd_parts : listing (code_of 1 [] [] (row 19 1 2 3 4 ∷ [])) ≡ codes "OLK1 names 0 literals 0 instructions 1\n0 ? 19 1 2 3 4\n"
+of_odd_parts : listing (code_with 1 [] [] (row 19 1 2 3 4 ∷ [])) ≡ codes "OLK1 names 0 literals 0 instructions 1\n0 ? 19 1 2 3 4\n"
 unfolding listing reading digits
 of_odd_parts = refl
 

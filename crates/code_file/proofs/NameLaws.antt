@@ -11,7 +11,7 @@ use Rattle.code_model.specs.Code.{Name}
 use Rattle.code_file.specs.declared.error.CodeError.{CodeError}
 use Rattle.code_file.specs.declared.error.CodeErrorKind.TheVariants.{BadKind, BadName}
 use Rattle.code_file.specs.declared.limits.TheConstants.{MAX_NAME_BYTES}
-use Rattle.code_file.specs.Grammar.{kind_byte, name_field, IsNameByte, IsName}
+use Rattle.code_file.specs.Grammar.{kind_byte, name_field, IsNameByte, IsCodeName}
 use Rattle.code_file.specs.Fault.{fault, cut_short, IsFirstWrong, IsNameLength, no_kind, bad_kind, IsNameFault, in_kind, no_length, bad_length}
 use Rattle.code_file.specs.Fault.{no_text, bad_text}
 use Rattle.code_file.proofs.StageLemmas.{IsApart}
@@ -112,7 +112,7 @@ one_name_fault bytes e f p q = go (shaped_name p) (shaped_name q)
         let place : g.1 ≡ h.1 = one_wrong h.0 g.1 h.1 (subst (λ (t : Text). IsFirstWrong t g.1) same g.3) h.3 in
         g.4 ∙ ap (λ (n : ℕ). fault BadName (2 + n)) place ∙ sym h.4
 
-name_no_fault : (n : Name) (rest : Text) (e : CodeError) → IsName n → IsNameFault (name_field n ++ rest) e → ⊥
+name_no_fault : (n : Name) (rest : Text) (e : CodeError) → IsCodeName n → IsNameFault (name_field n ++ rest) e → ⊥
 name_no_fault n rest e good p = go (shaped_name p)
   where
     shape : name_shape (name_field n ++ rest) ≡ Ok n.text
@@ -136,7 +136,7 @@ one_name x y s t h =
       both.1,
     )
 
-pub names_apart : IsApart IsName name_field IsNameFault
+pub names_apart : IsApart IsCodeName name_field IsNameFault
 names_apart = record {
   one_entry = λ x y s t g h e. one_name x y s t e;
   no_fault = λ n rest e good p. name_no_fault n rest e good p;

@@ -8,7 +8,8 @@ use Rattle.text_model.specs.Texts.{Text}
 use Rattle.text_model.specs.UriText.{IsUriText}
 use Rattle.code_model.specs.Code.{Name, Literal, Code, row}
 use Rattle.code_file.specs.declared.header.Header.{Header}
-use Rattle.code_file.specs.Grammar.{header_field, header_of, code_of, spelled, IsVersion, IsNameByte, IsName, IsTextOf, IsLiteral, IsInstr, IsHeader, IsCode}
+use Rattle.code_file.specs.Grammar.{header_field, header_of, code_with, spelled, IsVersion, IsNameByte, IsCodeName, IsTextOf, IsLiteral, IsInstr, IsHeader}
+use Rattle.code_file.specs.Grammar.{IsCode}
 
 -- ---- bytes of names
 
@@ -29,13 +30,13 @@ visible_bytes_are_in_names b h =
 
 -- ---- lengths
 
-names_have_a_byte : (n : Name) → IsName n → 1 ≤ length n.text
+names_have_a_byte : (n : Name) → IsCodeName n → 1 ≤ length n.text
 names_have_a_byte n name = omega (arith, name.some)
 
-name_of_255_bytes : (n : Name) → length n.text ≡ 255 → All IsNameByte n.text → IsName n
+name_of_255_bytes : (n : Name) → length n.text ≡ 255 → All IsNameByte n.text → IsCodeName n
 name_of_255_bytes n len visible = record { some = omega (arith, len); short = omega (arith, len); visible = visible }
 
-no_name_of_256_bytes : (n : Name) → length n.text ≡ 256 → IsName n → ⊥
+no_name_of_256_bytes : (n : Name) → length n.text ≡ 256 → IsCodeName n → ⊥
 no_name_of_256_bytes n len name = omega (arith, len, name.short)
 
 no_literal_of_65536_bytes : (l : Literal) → length l.bytes ≡ 65536 → IsLiteral l → ⊥
@@ -88,7 +89,7 @@ no_code_without_instructions h = omega (arith, h.some)
 counts_in_order : header_field (header 2 258 772 1286) ≡ 0x4f ∷ 0x4c ∷ 0x4b ∷ 0x32 ∷ 1 ∷ 2 ∷ 3 ∷ 4 ∷ 5 ∷ 6 ∷ []
 counts_in_order = refl
 
-counted : header_of (code_of 2 [] (record { compared = true; bytes = [] } ∷ []) (row 1 0 0 0 0 ∷ row 2 0 0 0 0 ∷ [])) ≡ header 2 0 1 2
+counted : header_of (code_with 2 [] (record { compared = true; bytes = [] } ∷ []) (row 1 0 0 0 0 ∷ row 2 0 0 0 0 ∷ [])) ≡ header 2 0 1 2
 counted = refl
 
 -- ---- fields of instructions
@@ -104,7 +105,7 @@ no_d_of_17_bits i = omega (arith, i.d)
 
 -- ---- files
 
-file_of_65536_bytes : (c : Code) → IsHeader (header_of c) → All IsName c.names → All IsLiteral c.literals → length (spelled c) ≡ 65536 → IsCode c
+file_of_65536_bytes : (c : Code) → IsHeader (header_of c) → All IsCodeName c.names → All IsLiteral c.literals → length (spelled c) ≡ 65536 → IsCode c
 file_of_65536_bytes c head names literals len = record { header = head; names = names; literals = literals; short = omega (arith, len) }
 
 no_file_of_65537_bytes : (c : Code) → length (spelled c) ≡ 65537 → IsCode c → ⊥

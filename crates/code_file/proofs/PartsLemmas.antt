@@ -14,7 +14,7 @@ use Rattle.code_file.specs.declared.header.Header.{Header}
 use Rattle.code_file.specs.declared.limits.TheConstants.{MAX_BYTES, MAX_NAMES, MAX_LITERALS, MAX_INSTRS, MAX_NAME_BYTES}
 use Rattle.code_file.specs.declared.error.CodeError.{CodeError}
 use Rattle.code_file.specs.declared.error.CodeErrorKind.TheVariants.{BadName, BadLiteral}
-use Rattle.code_file.specs.Grammar.{spelled, header_of, name_field, literal_field, instr_field, IsNameByte, IsVersion, IsName, IsLiteral, IsHeader}
+use Rattle.code_file.specs.Grammar.{spelled, header_of, name_field, literal_field, instr_field, IsNameByte, IsVersion, IsCodeName, IsLiteral, IsHeader}
 use Rattle.code_file.specs.Fault.{fault, after, IsFirstWrong, IsNameFault, IsLiteralFault, bad_length, bad_text, header_fault, IsTableFault, IsHeaderField}
 use Rattle.code_file.specs.Fault.{in_names, in_literals, IsFirstFault, in_field}
 use Rattle.code_file.specs.Private.Tables.{IsFirstBad}
@@ -71,7 +71,7 @@ first_wrong_of (b ∷ text) = elim (is_name_byte_or_not b) [
   ]
 ]
 
-name_fault_of : (n : Name) (rest : Text) → (IsName n → ⊥) → (at : ℕ) × IsNameFault (name_field n ++ rest) (fault BadName at)
+name_fault_of : (n : Name) (rest : Text) → (IsCodeName n → ⊥) → (at : ℕ) × IsNameFault (name_field n ++ rest) (fault BadName at)
 name_fault_of n rest bad = elim (cases_lt 0 (length n.text)) [
   | inr empty ↦ (1, bad_length n.list (length n.text) (n.text ++ rest) refl (λ p. omega (arith, p.0)))
   | inl some ↦ elim (cases_lt MAX_NAME_BYTES (length n.text)) [
@@ -117,7 +117,7 @@ fault_of_table IsGood field IsFault xs d place more e first here = record {
   place = refl;
 }
 
-pub bad_name_in : (c : Code) (place : ℕ) → length (spelled c) ≤ MAX_BYTES → IsHeader (header_of c) → IsFirstBad IsName c.names place
+pub bad_name_in : (c : Code) (place : ℕ) → length (spelled c) ≤ MAX_BYTES → IsHeader (header_of c) → IsFirstBad IsCodeName c.names place
     → (at : ℕ) × IsFirstFault (spelled c) (fault BadName at)
 bad_name_in c place short allowed first =
     let d : Name = record { list = false; text = [] } in
@@ -126,10 +126,10 @@ bad_name_in c place short allowed first =
       10 + (length (flat_map name_field (take place c.names)) + here.0),
       in_field _ short
           (in_names (record { header = header_of c; rest = flat_map name_field c.names ++ more; allowed = allowed; spells = refl }) _
-          (fault_of_table IsName name_field IsNameFault c.names d place more _ first here.1)),
+          (fault_of_table IsCodeName name_field IsNameFault c.names d place more _ first here.1)),
     )
 
-pub bad_literal_in : (c : Code) (place : ℕ) → length (spelled c) ≤ MAX_BYTES → IsHeader (header_of c) → All IsName c.names
+pub bad_literal_in : (c : Code) (place : ℕ) → length (spelled c) ≤ MAX_BYTES → IsHeader (header_of c) → All IsCodeName c.names
     → IsFirstBad IsLiteral c.literals place → (at : ℕ) × IsFirstFault (spelled c) (fault BadLiteral at)
 bad_literal_in c place short allowed names first =
     let d : Literal = record { compared = false; bytes = [] } in

@@ -9,7 +9,7 @@ use Rattle.code_model.specs.declared.code.Instr.{Instr}
 use Rattle.code_file.specs.declared.header.Header.{Header}
 use Rattle.code_file.specs.declared.error.CodeError.{CodeError}
 use Rattle.code_file.specs.declared.error.CodeErrorKind.TheVariants.{BadMagic, Truncated, Trailing}
-use Rattle.code_file.specs.Grammar.{digit_byte, magic, number, header_field, code_of, name_field, literal_field, instr_field, IsName, IsLiteral, IsInstr}
+use Rattle.code_file.specs.Grammar.{digit_byte, magic, number, header_field, code_with, name_field, literal_field, instr_field, IsCodeName, IsLiteral, IsInstr}
 use Rattle.code_file.specs.Fault.{fault, cut_short, after, header_fault, IsHeaderField, PastMagic, PastCounts, IsNameFault, IsLiteralFault}
 use Rattle.code_file.proofs.StageLemmas.{IsApart, ReadsTable, one_table, same_entries, IsOne, Then, then_one}
 use Rattle.code_file.proofs.NameLaws.{names_apart}
@@ -92,21 +92,21 @@ abbrev Literals : Type 0
 Literals = Header × List Name × List Literal × Text
 
 pub data ReadsNames (s : Header × Text) : Result Names CodeError → Type 0 where
-  names_found : (ns : List Name) (rest : Text) → ReadsTable IsName name_field IsNameFault s.0.names s.1 (Ok (ns, rest))
+  names_found : (ns : List Name) (rest : Text) → ReadsTable IsCodeName name_field IsNameFault s.0.names s.1 (Ok (ns, rest))
       → ReadsNames s (Ok (s.0, ns, rest))
-  names_faulty : (e : CodeError) → ReadsTable IsName name_field IsNameFault s.0.names s.1 (Err e) → ReadsNames s (Err (after 10 e))
+  names_faulty : (e : CodeError) → ReadsTable IsCodeName name_field IsNameFault s.0.names s.1 (Err e) → ReadsNames s (Err (after 10 e))
 
 one_names : IsOne ReadsNames
 one_names s r q (names_found ns x h) (names_found ms y g) =
-    let both = one_table IsName name_field IsNameFault names_apart s.0.names s.1 _ _ h g in
+    let both = one_table IsCodeName name_field IsNameFault names_apart s.0.names s.1 _ _ h g in
     let same : (ns, x) ≡ (ms, y) = cc in
     ap (λ (p : List Name × Text). let a : Result Names CodeError = Ok (s.0, p.0, p.1) in a) same
 one_names s r q (names_found ns x h) (names_faulty e g) =
-    let both = one_table IsName name_field IsNameFault names_apart s.0.names s.1 _ _ h g in cc
+    let both = one_table IsCodeName name_field IsNameFault names_apart s.0.names s.1 _ _ h g in cc
 one_names s r q (names_faulty e g) (names_found ns x h) =
-    let both = one_table IsName name_field IsNameFault names_apart s.0.names s.1 _ _ h g in cc
+    let both = one_table IsCodeName name_field IsNameFault names_apart s.0.names s.1 _ _ h g in cc
 one_names s r q (names_faulty e h) (names_faulty f g) =
-    let both = one_table IsName name_field IsNameFault names_apart s.0.names s.1 _ _ h g in
+    let both = one_table IsCodeName name_field IsNameFault names_apart s.0.names s.1 _ _ h g in
     let same : e ≡ f = cc in ap (λ (x : CodeError). let a : Result Names CodeError = Err (after 10 x) in a) same
 
 pub data ReadsLiterals (s : Names) : Result Literals CodeError → Type 0 where
@@ -172,7 +172,7 @@ pub data ReadsInstrs (s : Literals) : Result Code CodeError → Type 0 where
   too_few : length s.3 < 8 * s.0.instrs → ReadsInstrs s (Err (fault Truncated (front_len s + length s.3)))
   too_many : 8 * s.0.instrs < length s.3 → ReadsInstrs s (Err (fault Trailing (front_len s + 8 * s.0.instrs)))
   whole : (is : List Instr) → All IsInstr is → length is ≡ s.0.instrs → s.3 ≡ flat_map instr_field is
-      → ReadsInstrs s (Ok (code_of s.0.version s.1 s.2 is))
+      → ReadsInstrs s (Ok (code_with s.0.version s.1 s.2 is))
 
 one_instrs : IsOne ReadsInstrs
 one_instrs s r q (too_few h) (too_few g) = refl
@@ -187,7 +187,7 @@ one_instrs s r q (whole is g n e) (whole js h m f) =
     let same =
     same_entries IsInstr instr_field no_instr_fault instrs_apart is js [] [] g h
     (append-nil (flat_map instr_field is) ∙ sym e ∙ f ∙ sym (append-nil (flat_map instr_field js))) (n ∙ sym m) in
-    ap (λ (l : List Instr). let a : Result Code CodeError = Ok (code_of s.0.version s.1 s.2 l) in a) same.0
+    ap (λ (l : List Instr). let a : Result Code CodeError = Ok (code_with s.0.version s.1 s.2 l) in a) same.0
 
 -- ---- all stages
 

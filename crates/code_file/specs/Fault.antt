@@ -10,7 +10,7 @@ use Rattle.code_file.specs.declared.error.CodeErrorKind.TheVariants.{TooLong, Ba
 use Rattle.code_file.specs.declared.error.CodeErrorKind.TheVariants.{NoMemory}
 use Rattle.code_file.specs.declared.header.Header.{Header}
 use Rattle.code_file.specs.declared.limits.TheConstants.{MAX_BYTES, MAX_NAMES, MAX_LITERALS, MAX_INSTRS, MAX_NAME_BYTES}
-use Rattle.code_file.specs.Grammar.{magic, number, kind_byte, name_field, literal_field, header_field, IsVersion, IsNameByte, IsName, IsTextOf, IsLiteral}
+use Rattle.code_file.specs.Grammar.{magic, number, kind_byte, name_field, literal_field, header_field, IsVersion, IsNameByte, IsCodeName, IsTextOf, IsLiteral}
 use Rattle.code_file.specs.Grammar.{IsHeader, IsCodeFile}
 
 abbrev pub fault : CodeErrorKind → ℕ → CodeError
@@ -71,7 +71,7 @@ abbrev pub IsTable : {X : Type 0} → (X → Type 0) → (X → Text) → ℕ �
 IsTable {X} IsGood field count bytes = (entries : List X) × IsTableOf IsGood field count bytes entries
 
 abbrev pub AreNames : ℕ → Text → Type 0
-AreNames count bytes = IsTable IsName name_field count bytes
+AreNames count bytes = IsTable IsCodeName name_field count bytes
 
 abbrev pub AreLiterals : ℕ → Text → Type 0
 AreLiterals count bytes = IsTable IsLiteral literal_field count bytes
@@ -90,7 +90,7 @@ pub record IsTableFault {X : Type 0} (IsGood : X → Type 0) (field : X → Text
   pub place : e ≡ after (length front) here
 
 abbrev pub IsFaultOfNames : ℕ → Text → CodeError → Type 0
-IsFaultOfNames count bytes e = IsTableFault IsName name_field IsNameFault count bytes e
+IsFaultOfNames count bytes e = IsTableFault IsCodeName name_field IsNameFault count bytes e
 
 abbrev pub IsFaultOfLiterals : ℕ → Text → CodeError → Type 0
 IsFaultOfLiterals count bytes e = IsTableFault IsLiteral literal_field IsLiteralFault count bytes e

@@ -55,8 +55,8 @@ instr_text version i = text_of i (reading version i)
 
 -- ---- lines
 
-abbrev pub line_feed : Text
-line_feed = 10 ∷ []
+abbrev pub newline : Text
+newline = 10 ∷ []
 
 abbrev pub name_kind : Bool → Text
 name_kind list = if list then codes "list" else codes "text"
@@ -66,15 +66,15 @@ literal_kind compared = if compared then codes "compare" else codes "link"
 
 abbrev pub name_line : ℕ → Name → Text
 name_line place n =
-    codes "name " ++ (decimal place ++ (codes " " ++ (name_kind n.list ++ (codes " " ++ (n.text ++ line_feed)))))
+    codes "name " ++ (decimal place ++ (codes " " ++ (name_kind n.list ++ (codes " " ++ (n.text ++ newline)))))
 
 abbrev pub literal_line : ℕ → Literal → Text
 literal_line place l =
     codes "literal " ++ (decimal place ++ (codes " " ++ (literal_kind l.compared
-    ++ (codes " " ++ (quoted l.bytes ++ line_feed)))))
+    ++ (codes " " ++ (quoted l.bytes ++ newline)))))
 
 abbrev pub instr_line : ℕ → ℕ → Instr → Text
-instr_line version place i = decimal place ++ (codes " " ++ (instr_text version i ++ line_feed))
+instr_line version place i = decimal place ++ (codes " " ++ (instr_text version i ++ newline))
 
 -- a line for each entry, from a place on
 abbrev pub lines_from : {X : Type 0} → (ℕ → X → Text) → ℕ → List X → Text
@@ -84,7 +84,7 @@ lines_from line place (x ∷ xs) = line place x ++ lines_from line (place + 1) x
 abbrev pub first_line : ℕ → ℕ → ℕ → ℕ → Text
 first_line version names literals instrs =
     magic version ++ (codes " names " ++ (decimal names ++ (codes " literals " ++ (decimal literals
-    ++ (codes " instructions " ++ (decimal instrs ++ line_feed))))))
+    ++ (codes " instructions " ++ (decimal instrs ++ newline))))))
 
 unfoldable pub listing : Code → Text
 listing c =

@@ -2,7 +2,7 @@
 
 ghost use Rattle.std.specs.Prelude.{◌≡◌, ◌<◌, ◌+◌, ◌*◌, ◌++◌, ℕ, List, length, IfOk};
 ghost use Rattle.code_model.specs.Code as code;
-ghost use Rattle.code_file.specs.Grammar.{name_field, literal_field, instr_field, IsName, IsLiteral, IsInstr};
+ghost use Rattle.code_file.specs.Grammar.{name_field, literal_field, instr_field, IsCodeName, IsLiteral, IsInstr};
 ghost use Rattle.code_file.specs.Fault.{AreNames, AreLiterals, IsTableOf};
 ghost use Rattle.code_file.specs.Private.Tables.{BeginsWith};
 
@@ -13,8 +13,9 @@ use std::alloc::{AllocError, Global};
 
 /// The name with which the bytes begin, and what follows it.
 fn read_name(alloc: Global, bytes: &[u8]) -> Result<(Name, &[u8]), AllocError>
-    requires { BeginsWith IsName name_field bytes.now }
-    ensures { IfOk result (λ r. (name : code.Name) (rest : List ℕ) → IsName name → bytes.now ≡ name_field name ++ rest
+    requires { BeginsWith IsCodeName name_field bytes.now }
+    ensures { IfOk result
+        (λ r. (name : code.Name) (rest : List ℕ) → IsCodeName name → bytes.now ≡ name_field name ++ rest
         → (r.0 ≡ name) × (r.1.now ≡ rest)) }
 {
     let list = bytes[0] == 1;
@@ -28,7 +29,7 @@ fn read_name(alloc: Global, bytes: &[u8]) -> Result<(Name, &[u8]), AllocError>
 /// The names of a table without an error.
 pub(crate) fn read_names(alloc: Global, bytes: &[u8], count: u16) -> Result<Vec<Name>, AllocError>
     requires { AreNames count bytes.now }
-    ensures { IfOk result (λ v. IsTableOf IsName name_field count bytes.now v.items) }
+    ensures { IfOk result (λ v. IsTableOf IsCodeName name_field count bytes.now v.items) }
 {
     let mut names = Vec::new(alloc);
     let mut rest = bytes;

@@ -5,7 +5,7 @@ ghost use Rattle.std.specs.Prelude.{string_bytes};
 ghost use Rattle.std.specs.List.{flat_map};
 ghost use Rattle.code_model.specs.Code.{upgraded};
 ghost use Rattle.code_file.specs.Grammar.{IsVersion, IsCode, IsCodeFile, IsInstr, header_field, header_of, name_field};
-ghost use Rattle.code_file.specs.Grammar.{literal_field, instr_field, spelled, code_of};
+ghost use Rattle.code_file.specs.Grammar.{literal_field, instr_field, spelled, code_with};
 ghost use Rattle.code_file.specs.Fault.{fault, IsFirstFault, IsRefusal};
 ghost use Rattle.code_file.specs.Listing.{listing};
 
@@ -81,9 +81,9 @@ impl Code {
         literals: Vec<Literal>,
         instrs: Vec<Instr>,
     ) -> Result<Code, CodeErrorKind>
-        ensures code { IfOk result (λ c. (c ≡ code_of 1 names.items literals.items instrs.items) × IsCode c) }
+        ensures code { IfOk result (λ c. (c ≡ code_with 1 names.items literals.items instrs.items) × IsCode c) }
         ensures refused { IfErr result (λ kind. (at : ℕ)
-            × IsFirstFault (spelled (code_of 1 names.items literals.items instrs.items)) (fault kind at)) }
+            × IsFirstFault (spelled (code_with 1 names.items literals.items instrs.items)) (fault kind at)) }
     {
         Code::of_parts(1, names, literals, instrs)
     }
@@ -94,9 +94,9 @@ impl Code {
         literals: Vec<Literal>,
         instrs: Vec<Instr>,
     ) -> Result<Code, CodeErrorKind>
-        ensures code { IfOk result (λ c. (c ≡ code_of 2 names.items literals.items instrs.items) × IsCode c) }
+        ensures code { IfOk result (λ c. (c ≡ code_with 2 names.items literals.items instrs.items) × IsCode c) }
         ensures refused { IfErr result (λ kind. (at : ℕ)
-            × IsFirstFault (spelled (code_of 2 names.items literals.items instrs.items)) (fault kind at)) }
+            × IsFirstFault (spelled (code_with 2 names.items literals.items instrs.items)) (fault kind at)) }
     {
         Code::of_parts(2, names, literals, instrs)
     }
@@ -108,9 +108,9 @@ impl Code {
         instrs: Vec<Instr>,
     ) -> Result<Code, CodeErrorKind>
         requires { IsVersion version }
-        ensures code { IfOk result (λ c. (c ≡ code_of version names.items literals.items instrs.items) × IsCode c) }
+        ensures code { IfOk result (λ c. (c ≡ code_with version names.items literals.items instrs.items) × IsCode c) }
         ensures refused { IfErr result (λ kind. (at : ℕ)
-            × IsFirstFault (spelled (code_of version names.items literals.items instrs.items)) (fault kind at)) }
+            × IsFirstFault (spelled (code_with version names.items literals.items instrs.items)) (fault kind at)) }
     {
         if let Some(kind) = parts_fault(version, &names, &literals, &instrs) {
             return Err(kind);

@@ -4,7 +4,7 @@ ghost use Rattle.std.specs.Prelude.{◌≡◌, ◌≤◌, ◌<◌, ◌+◌, ◌^
 ghost use Rattle.std.specs.Prelude.{IfNone, IfSome, All};
 ghost use Rattle.code_model.specs.Code.{Name, Literal};
 ghost use Rattle.code_file.specs.Grammar.{kind_byte, number, name_field, literal_field, instr_field, IsNameByte};
-ghost use Rattle.code_file.specs.Grammar.{IsName, IsTextOf, IsLiteral, IsInstr};
+ghost use Rattle.code_file.specs.Grammar.{IsCodeName, IsTextOf, IsLiteral, IsInstr};
 ghost use Rattle.code_file.specs.Fault as fault;
 ghost use Rattle.code_file.specs.Fault.{IsFirstWrong, IsKindFault, IsNameLength, IsNameFault, IsLiteralFault};
 
@@ -84,7 +84,7 @@ pub(crate) fn is_name_length(len: usize) -> bool
 
 /// What follows the name with which the bytes begin, or its error.
 pub(crate) fn after_name(bytes: &[u8]) -> Result<&[u8], CodeError>
-    ensures good { IfOk result (λ rest. (name : Name) × IsName name × (bytes.now ≡ name_field name ++ rest.now)) }
+    ensures good { IfOk result (λ rest. (name : Name) × IsCodeName name × (bytes.now ≡ name_field name ++ rest.now)) }
     ensures fault { IfErr result (IsNameFault bytes.now) }
     ensures within { IfErr result (λ e. e.at ≤ length bytes.now) }
 {

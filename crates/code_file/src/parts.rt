@@ -2,8 +2,8 @@
 
 ghost use Rattle.std.specs.Prelude.{◌≡◌, ◌<◌, ℕ, length, min, IfNone, IfSome, All, IsTrue, ◌↔◌};
 ghost use Rattle.std.specs.List.{flat_map};
-ghost use Rattle.code_file.specs.Grammar.{IsCode, spelled, code_of, name_field, literal_field, IsVersion};
-ghost use Rattle.code_file.specs.Grammar.{IsName, IsLiteral};
+ghost use Rattle.code_file.specs.Grammar.{IsCode, spelled, code_with, name_field, literal_field, IsVersion};
+ghost use Rattle.code_file.specs.Grammar.{IsCodeName, IsLiteral};
 ghost use Rattle.code_file.specs.Fault.{fault, IsFirstFault};
 ghost use Rattle.code_file.specs.Private.Tables.{IsFirstBad};
 
@@ -38,7 +38,7 @@ fn literals_len(literals: &[Literal]) -> usize
 
 /// How many bytes the file of the parts has in either version, at most `usize::MAX`.
 fn file_len(names: &[Name], literals: &[Literal], instrs: &[Instr]) -> usize
-    ensures { (version : ℕ) → result ≡ min (length (spelled (code_of version names.now literals.now instrs.now)))
+    ensures { (version : ℕ) → result ≡ min (length (spelled (code_with version names.now literals.now instrs.now)))
         usize.MAX }
 {
     let instrs_len = instrs.len().saturating_mul(8);
@@ -49,7 +49,7 @@ fn file_len(names: &[Name], literals: &[Literal], instrs: &[Instr]) -> usize
 }
 
 fn is_name(name: &Name) -> bool
-    ensures { IsTrue result ↔ IsName name.now }
+    ensures { IsTrue result ↔ IsCodeName name.now }
 {
     is_name_length(name.text.len()) && first_wrong(name.text.as_bytes()).is_none()
 }
@@ -62,8 +62,8 @@ fn is_literal(literal: &Literal) -> bool
 
 /// The place of the first name that no file may have.
 fn first_bad_name(names: &[Name]) -> Option<usize>
-    ensures none { IfNone result (All IsName names.now) }
-    ensures some { IfSome result (IsFirstBad IsName names.now) }
+    ensures none { IfNone result (All IsCodeName names.now) }
+    ensures some { IfSome result (IsFirstBad IsCodeName names.now) }
 {
     names.iter().position(|name| !is_name(name))
 }
@@ -84,9 +84,9 @@ pub(crate) fn parts_fault(
     instrs: &[Instr],
 ) -> Option<CodeErrorKind>
     requires { IsVersion version }
-    ensures none { IfNone result (IsCode (code_of version names.now literals.now instrs.now)) }
+    ensures none { IfNone result (IsCode (code_with version names.now literals.now instrs.now)) }
     ensures some { IfSome result (λ kind. (at : ℕ)
-        × IsFirstFault (spelled (code_of version names.now literals.now instrs.now)) (fault kind at)) }
+        × IsFirstFault (spelled (code_with version names.now literals.now instrs.now)) (fault kind at)) }
 {
     if file_len(names, literals, instrs) > MAX_BYTES {
         return Some(CodeErrorKind::TooLong);

@@ -2,7 +2,8 @@
 
 ghost use Rattle.std.specs.Prelude.{◌≡◌, ◌++◌, OnOk, All};
 ghost use Rattle.std.specs.List.{flat_map};
-ghost use Rattle.code_file.specs.Grammar.{number, name_field, literal_field, instr_field, IsName, IsLiteral, IsInstr};
+ghost use Rattle.code_file.specs.Grammar.{number, name_field, literal_field, instr_field, IsCodeName, IsLiteral};
+ghost use Rattle.code_file.specs.Grammar.{IsInstr};
 
 use crate::entry::{Literal, Name};
 use code_model::Instr;
@@ -15,7 +16,7 @@ pub(crate) fn push_number(out: &mut Vec<u8>, n: u16) -> Result<(), AllocError>
 }
 
 fn push_name(out: &mut Vec<u8>, name: &Name) -> Result<(), AllocError>
-    requires { IsName name.now }
+    requires { IsCodeName name.now }
     ensures { OnOk result (out.new.items ≡ out.old.items ++ name_field name.now) }
 {
     out.push(u8::from(name.list))?;
@@ -24,7 +25,7 @@ fn push_name(out: &mut Vec<u8>, name: &Name) -> Result<(), AllocError>
 }
 
 pub(crate) fn push_names(out: &mut Vec<u8>, names: &[Name]) -> Result<(), AllocError>
-    requires { All IsName names.now }
+    requires { All IsCodeName names.now }
     ensures { OnOk result (out.new.items ≡ out.old.items ++ flat_map name_field names.now) }
 {
     for name in names {

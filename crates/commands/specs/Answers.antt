@@ -6,7 +6,7 @@ use Rattle.files.specs.Found.{Disk, Gives}
 use Rattle.files.specs.Changes.{Unchanged}
 use Rattle.files.specs.Modes.{Modes}
 use Rattle.files.specs.declared.call.FileCall.{FileCall}
-use Rattle.kbart_rows.specs.Drawing.{IsDrawn}
+use Rattle.kbart_rows.specs.RandomKeys.{IsDrawn}
 use Rattle.kbart_rows.specs.declared.keys.Keys.{Keys}
 use Rattle.rule_parser.specs.Rules.{RuleSet}
 use Rattle.registry.specs.Targets.{TargetValue}

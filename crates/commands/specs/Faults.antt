@@ -6,7 +6,7 @@ use Rattle.registry_file.specs.declared.error.RegistryError.{RegistryError}
 use Rattle.registry_file.specs.declared.error.RegistryError.TheVariants as file
 use Rattle.registry_file.specs.declared.error.TargetFault.{TargetFault}
 use Rattle.registry_file.specs.declared.error.TargetFault.TheVariants as target
-use Rattle.answers.specs.Refusals.{status_of as status_of_refusal}
+use Rattle.answers.specs.Refusals.{status_of_refusal}
 use Rattle.answers.specs.declared.refusal.Refusal.{Refusal}
 use Rattle.answers.specs.declared.refusal.Refusal.TheVariants.{Memory}
 use Rattle.commands.specs.declared.fault.Fault.{Fault}

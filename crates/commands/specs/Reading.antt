@@ -11,7 +11,7 @@ use Rattle.rule_parser.specs.Rules.{RuleSet}
 use Rattle.rule_parser.specs.declared.error.RuleErrorKind.TheVariants as rule
 use Rattle.code_file.specs.declared.error.CodeErrorKind.TheVariants as code
 use Rattle.verifier.specs.declared.error.LoadError.TheVariants as load
-use Rattle.kbart_rows.specs.Drawing.{IsDrawn}
+use Rattle.kbart_rows.specs.RandomKeys.{IsDrawn}
 use Rattle.kbart_rows.specs.declared.error.TableError.TheVariants as table
 use Rattle.kbart_rows.specs.declared.keys.Keys.{Keys}
 use Rattle.answers.specs.Reading.{IsNoRules}

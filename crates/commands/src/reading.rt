@@ -3,7 +3,7 @@
 ghost use Rattle.std.specs.Prelude.{◌≡◌, ◌≤◌, ◌+◌, ◌<◌, ◌^◌, IfOk, IfErr, length};
 ghost use Rattle.files.specs.Found.{Gives};
 ghost use Rattle.files.specs.Changes.{Unchanged};
-ghost use Rattle.kbart_rows.specs.Drawing.{IsDrawn};
+ghost use Rattle.kbart_rows.specs.RandomKeys.{IsDrawn};
 ghost use Rattle.commands.specs.Reading.{HasRules, IsNoTarget, IsTarget, IsUnread, IsUnkeyed, IsUnruled};
 
 use crate::fault::Fault;

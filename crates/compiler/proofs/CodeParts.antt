@@ -13,8 +13,8 @@ use Rattle.text_model.specs.UriText.{IsUriText}
 use Rattle.code_model.specs.Code.{Name, Literal, Code}
 use Rattle.code_model.specs.declared.code.Instr.{Instr}
 use Rattle.code_file.specs.declared.error.CodeError.{CodeError}
-use Rattle.code_file.specs.Grammar.{spelled, name_field, literal_field, instr_field, IsVersion, IsTextOf, IsName as IsFileName, IsLiteral, IsInstr, IsCode}
-use Rattle.code_file.specs.Grammar.{IsCodeFile, code_of as code_of_parts}
+use Rattle.code_file.specs.Grammar.{spelled, name_field, literal_field, instr_field, IsVersion, IsTextOf, IsCodeName, IsLiteral, IsInstr, IsCode}
+use Rattle.code_file.specs.Grammar.{IsCodeFile, code_with}
 use Rattle.code_file.specs.Fault.{IsFirstFault}
 use Rattle.code_file.specs.declared.limits.TheConstants.{MAX_BYTES, MAX_NAMES, MAX_LITERALS, MAX_INSTRS}
 use Rattle.code_file.proofs.PartsLemmas.{length-instrs}
@@ -79,7 +79,7 @@ is_code c version file names utf8 few_names few_literals few_instrs short =
     let back = length-append (flat_map literal_field c.literals) (flat_map instr_field c.instrs) in
     record {
       header = record { version = version; names = few_names; literals = few_literals; some = file.some; instrs = few_instrs };
-      names = All-weaker (λ (name : Name). IsName name.text) IsFileName file_name c.names names;
+      names = All-weaker (λ (name : Name). IsName name.text) IsCodeName file_name c.names names;
       literals = good_literals c.literals (omega (arith, short, front, back)) utf8 file.links;
       short = short;
     }
@@ -87,8 +87,8 @@ is_code c version file names utf8 few_names few_literals few_instrs short =
 -- the parts of the rules' code make that code
 pub whole_code : (rules : RuleSet) (counts : Bool) (names : List Name) (literals : List Literal) (instrs : List Instr) → counts ≡ has_counts rules
     → names ≡ (code_of rules).names → literals ≡ (code_of rules).literals → instrs ≡ (code_of rules).instrs
-    → code_of_parts (if counts then 2 else 1) names literals instrs ≡ code_of rules
-whole_code rules counts names literals instrs b n l i = λ t. code_of_parts (if b t then 2 else 1) (n t) (l t) (i t)
+    → code_with (if counts then 2 else 1) names literals instrs ≡ code_of rules
+whole_code rules counts names literals instrs b n l i = λ t. code_with (if b t then 2 else 1) (n t) (l t) (i t)
 
 pub known_version : (b : Bool) → IsVersion (if b then 2 else 1)
 known_version true = inr refl

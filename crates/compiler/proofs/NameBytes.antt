@@ -8,7 +8,7 @@ use Rattle.text_model.specs.Texts.{Text, is_hexadecimal}
 use Rattle.code_model.specs.Code.{Name}
 use Rattle.uri_grammar.specs.Names.{IsVarchar, character_varchar, triplet_varchar, IsVarname, first_varchar, next_varchar, dotted_varchar, IsName}
 use Rattle.uri_grammar.specs.Names.{is_name_character}
-use Rattle.code_file.specs.Grammar.{IsNameByte, IsName as IsFileName}
+use Rattle.code_file.specs.Grammar.{IsNameByte, IsCodeName}
 
 character_visible : (c : ℕ) → is_name_character c ≡ true → IsNameByte c
 character_visible c h = (grind (arith, nat_tests, h), grind (arith, nat_tests, h))
@@ -46,5 +46,5 @@ varname_some name (first_varchar v h) = varchar_some v h
 varname_some name (next_varchar n v h k) = omega (arith, varchar_some v k, length-append n v)
 varname_some name (dotted_varchar n v h k) = omega (arith, varchar_some v k, length-append n (46 ∷ v))
 
-pub file_name : (name : Name) → IsName name.text → IsFileName name
+pub file_name : (name : Name) → IsName name.text → IsCodeName name
 file_name name h = record { some = varname_some name.text h.0; short = h.1; visible = varname_visible name.text h.0 }

@@ -5,7 +5,7 @@ ghost use Rattle.std.specs.Prelude.{if◌then◌else◌};
 ghost use Rattle.std.specs.List.{list_any};
 ghost use Rattle.environment_model.specs.Environment.{Environment};
 ghost use Rattle.code_model.specs.Code.{spelling as spelled_as};
-ghost use Rattle.code_file.specs.Grammar.{IsCode, IsInstr, spelled, code_of as code_of_parts};
+ghost use Rattle.code_file.specs.Grammar.{IsCode, IsInstr, spelled, code_with};
 ghost use Rattle.code_file.specs.Fault.{fault, IsFirstFault};
 ghost use Rattle.code_file.specs.declared.limits.TheConstants.{MAX_BYTES, MAX_INSTRS, MAX_LITERALS, MAX_NAMES};
 ghost use Rattle.machine_model.specs.Form.{HasGoodForm};
@@ -78,9 +78,9 @@ fn of_parts(
     instrs: Vec<Instr>,
 ) -> Result<Code, CodeErrorKind>
     ensures code { IfOk result
-        (λ c. (c ≡ code_of_parts (if counts then 2 else 1) names.items literals.items instrs.items) × IsCode c) }
+        (λ c. (c ≡ code_with (if counts then 2 else 1) names.items literals.items instrs.items) × IsCode c) }
     ensures refused { IfErr result (λ kind. (at : ℕ)
-        × IsFirstFault (spelled (code_of_parts (if counts then 2 else 1) names.items literals.items instrs.items))
+        × IsFirstFault (spelled (code_with (if counts then 2 else 1) names.items literals.items instrs.items))
         (fault kind at)) }
 {
     if counts {
@@ -107,7 +107,7 @@ fn finish(rules: &Rules, tables: Tables, instrs: Vec<Instr>) -> Result<Code, Com
 {
     compiled_code_is_accepted();
     file_has_no_fault();
-    let _sound = rules.rules();
+    let _known = rules.rules();
     let counts = has_counts(rules);
     match of_parts(counts, tables.names, tables.literals, instrs) {
         Ok(code) => Ok(code),

@@ -7,7 +7,7 @@ use Rattle.code_model.specs.Code.{Code, spelling}
 use Rattle.code_model.specs.declared.code.Instruction.{Instruction}
 use Rattle.machine_model.specs.Operands.{Reads, name_at, literal_at}
 use Rattle.machine_model.specs.States.{Loop, Frame, End, State, Running, Ended}
-use Rattle.machine_model.specs.Step.{Ends, MovesTo, Returns, Does, IsInside, Step}
+use Rattle.machine_model.specs.Step.{Ends, MovesTo, Returns, Does, IsInside, StepsTo}
 use Rattle.machine_model.specs.Runs.{After}
 use Rattle.compiler_model.specs.declared.lines.Action.TheVariants.{LoadText, LoadList, LoadConst, Emits, Separates}
 use Rattle.compiler_model.specs.declared.lines.Line.{Line}
@@ -45,10 +45,10 @@ placed_both c away place (x ∷ a) b h =
 
 -- the machine runs from a frame to an end
 pub data Finishes (c : Code) (v : Environment) (e : End) : Frame → Type 0 where
-  ends : (s : Frame) → Step c v (Running s) (Ended e) → Finishes c v e s
-  moves : (s t : Frame) → Step c v (Running s) (Running t) → Finishes c v e t → Finishes c v e s
+  ends : (s : Frame) → StepsTo c v (Running s) (Ended e) → Finishes c v e s
+  moves : (s t : Frame) → StepsTo c v (Running s) (Running t) → Finishes c v e t → Finishes c v e s
 
-step_within : (c : Code) (v : Environment) (s : Frame) (new : State) → Step c v (Running s) new → s.place < length c.instrs
+step_within : (c : Code) (v : Environment) (s : Frame) (new : State) → StepsTo c v (Running s) new → s.place < length c.instrs
 step_within c v s new st = slice_get_within c.instrs s.place (spelling st.0) st.1.spelled
 
 pub finishes_within : (c : Code) (v : Environment) (e : End) (s : Frame) → Finishes c v e s → s.place < length c.instrs

@@ -23,7 +23,7 @@ use Rattle.end_to_end.specs.declared.error.RuleFileError.{RuleFileError}
 use Rattle.end_to_end.specs.declared.error.RuleFileError.TheVariants as file
 
 -- rules whose code might print more than the limit of a link
-pub record IsOverBudget (set : RuleSet) (e : EnvValue) (n : ℕ) : Type 0 where
+pub record AreOverBudget (set : RuleSet) (e : EnvValue) (n : ℕ) : Type 0 where
   -- the rules have a code file, within the limits of the compiler and accepted by the verifier
   pub compiled : AreCompiled set
   -- the number is the bound of their code on output bytes
@@ -32,7 +32,7 @@ pub record IsOverBudget (set : RuleSet) (e : EnvValue) (n : ℕ) : Type 0 where
   pub passes : MAX_LINK_BYTES < n
 
 -- rules whose code cannot print more than the limit of a link
-pub record IsWithinBudget (set : RuleSet) (e : EnvValue) : Type 0 where
+pub record AreWithinBudget (set : RuleSet) (e : EnvValue) : Type 0 where
   -- the rules have a code file, within the limits of the compiler and accepted by the verifier
   pub compiled : AreCompiled set
   -- the bound of their code on output bytes is within the limit
@@ -49,9 +49,9 @@ IsRulesCause set e rules.NoMemory = limit_passed set ≡ None
 -- their code has an accepted file within the limits, and memory ran out while that was loaded
 IsRulesCause set e (rules.Run (Load error)) = AreCompiled set × (error ≡ load.NoMemory)
 -- their code has an accepted file within the limits, and its bound on output bytes, this number, is over the limit
-IsRulesCause set e (rules.Run (Prepare (OverBudget n))) = IsOverBudget set e n
+IsRulesCause set e (rules.Run (Prepare (OverBudget n))) = AreOverBudget set e n
 -- their code has an accepted file within the limits, and is within its bound; memory ran out before the first step
-IsRulesCause set e (rules.Run (Prepare NoMemory)) = IsWithinBudget set e
+IsRulesCause set e (rules.Run (Prepare NoMemory)) = AreWithinBudget set e
 
 -- memory ran out while the bytes were parsed, which is never reported for bytes that are too many or not UTF-8
 pub record IsParseMemory (bytes : Text) (error : RuleError) : Type 0 where

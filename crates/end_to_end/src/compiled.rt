@@ -1,7 +1,7 @@
 //! Rules, run by their code.
 
 ghost use Rattle.std.specs.Prelude.{IfOk, IfErr};
-ghost use Rattle.verified_runs.specs.RunValue.{outcome_of};
+ghost use Rattle.verified_runs.specs.RunValue.{outcome_value};
 ghost use Rattle.end_to_end.specs.Ending.{RulesEndSafely, RuleFileEndsSafely};
 ghost use Rattle.end_to_end.specs.Causes.{IsRulesCause, IsRuleFileCause};
 
@@ -26,12 +26,12 @@ use verified_runs::Outcome;
 /// - `Run`: `OverBudget`, with the bound on output bytes, if that is over 1,048,576; or `NoMemory`, while the file is
 ///   loaded, or while a run within that limit is prepared. The verifier never rejects the file for an error.
 pub fn run_rules(alloc: Global, rules: &Rules, env: &Env) -> Result<Outcome, RulesError>
-    ensures ends { IfOk result (λ outcome. RulesEndSafely rules.now env.now (outcome_of outcome)) }
+    ensures ends { IfOk result (λ outcome. RulesEndSafely rules.now env.now (outcome_value outcome)) }
     ensures refused { IfErr result (IsRulesCause rules.now env.now) }
 {
     files_of_rules_are_accepted();
     file_has_one_code();
-    let _sound = rules.rules();
+    let _known = rules.rules();
     let code = compile(alloc, rules)?;
     let file = code.write(alloc)?;
     Ok(run_file(alloc, &file, env)?)
@@ -43,7 +43,7 @@ pub fn run_rules(alloc: Global, rules: &Rules, env: &Env) -> Result<Outcome, Rul
 /// line; or it says that memory ran out, which is never reported for bytes that are too many or not UTF-8. `Run` says
 /// why the rules of the file are not run.
 pub fn run_rule_file(alloc: Global, bytes: &[u8], env: &Env) -> Result<Outcome, RuleFileError>
-    ensures ends { IfOk result (λ outcome. RuleFileEndsSafely bytes.now env.now (outcome_of outcome)) }
+    ensures ends { IfOk result (λ outcome. RuleFileEndsSafely bytes.now env.now (outcome_value outcome)) }
     ensures refused { IfErr result (IsRuleFileCause bytes.now env.now) }
 {
     let rules = Rules::parse(alloc, bytes)?;

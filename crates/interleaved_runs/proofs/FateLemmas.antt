@@ -8,7 +8,7 @@ use Rattle.code_model.specs.Code.{Code}
 use Rattle.machine_model.specs.Runs.{Outcome}
 use Rattle.target_vars.specs.EnvValue.{EnvValue}
 use Rattle.verified_runs.specs.RunValue.{RunValue, new_run, most_bytes}
-use Rattle.verified_runs.specs.Fates.{Fate, OverBudget, ended, fate_in}
+use Rattle.verified_runs.specs.Fates.{FateValue, OverBudget, ended, fate_in}
 use Rattle.interleaved_runs.specs.declared.fate.Fate as answer
 use Rattle.interleaved_runs.specs.Fates.{is_over_budget, fate_of, runs_of, fate_value}
 use Rattle.interleaved_runs.specs.Private.Rounds.{AreOfTheSame, same_but_steps}
@@ -19,7 +19,7 @@ use Rattle.interleaved_runs.specs.Private.RunSets.{excess_of, fates_in, outcome_
 abbrev pub outcomes_in_the_end : List RunValue → List Outcome
 outcomes_in_the_end runs = map outcome_in_the_end runs
 
-first_fate : (over : Bool) (bytes : ℕ) (run : RunValue) (over_budget : List (Option ℕ)) (runs : List RunValue) (fates : List Fate)
+first_fate : (over : Bool) (bytes : ℕ) (run : RunValue) (over_budget : List (Option ℕ)) (runs : List RunValue) (fates : List FateValue)
     → fates_in over_budget (outcomes_in_the_end runs) ≡ fates
     → fates_in ((if over then Some bytes else None) ∷ over_budget) (outcomes_in_the_end (cons_option (if over then None else Some run) runs))
     ≡ (if over then OverBudget bytes else ended (outcome_in_the_end run)) ∷ fates
@@ -79,5 +79,5 @@ module _ (pairs : List (Code × EnvValue)) (over_budget : List (Option ℕ)) (ol
       ∙ sym (ap length (after_turns new old len long same) ∙ as_many old new same ∙ ap length runs)
 
 -- the fates so far, and those of the places and the runs that are left, are all
-abbrev pub AddUp : List answer.Fate → List (Option ℕ) → List RunValue → List Fate → Type 0
+abbrev pub AddUp : List answer.Fate → List (Option ℕ) → List RunValue → List FateValue → Type 0
 AddUp fates over_budget runs all = map fate_value fates ++ fates_in over_budget (outcomes_in_the_end runs) ≡ all

@@ -13,7 +13,7 @@ use Rattle.verified_runs.proofs.Ends.{same_run}
 use Rattle.interleaved_runs.specs.Turns.{is_live, IsMoved}
 use Rattle.interleaved_runs.specs.StepLists.{steps_of, with_list, with_lists, end_of, ends_of, steps_after, HasSeenSome, step_lists_in, step_lists_to_end}
 use Rattle.interleaved_runs.specs.StepLists.{turns_left, turns_to_end}
-use Rattle.interleaved_runs.specs.Private.Rounds.{IsFresh, AreFresh, same_but_steps, AreOfTheSame, run_after}
+use Rattle.interleaved_runs.specs.Private.Rounds.{IsFresh, AreFresh, same_but_steps, AreOfTheSame, advanced_run}
 use Rattle.interleaved_runs.proofs.StepListLemmas.{first_of, with_more, with_none}
 use Rattle.interleaved_runs.proofs.TurnLemmas.{AreDecided, ended_is_over, others_go_on}
 
@@ -22,7 +22,7 @@ abbrev pub EndsOnce : Type 0
 EndsOnce = (c : Code) (v : Environment) (k m : ℕ) → EndsAfter c v k → EndsAfter c v m → k ≡ m
 
 abbrev pub all_after : ℕ → List RunValue → List RunValue
-all_after n runs = map (run_after n) runs
+all_after n runs = map (advanced_run n) runs
 
 abbrev pub one_if : Bool → ℕ
 one_if b = cond b 1 0
@@ -32,15 +32,15 @@ one_if b = cond b 1 0
 more_steps : (m n end to : ℕ) → to ≡ min (min m end + n) end → to ≡ min (m + n) end
 more_steps m n end to is = omega (arith, is)
 
-run_moved : (m n : ℕ) (run new : RunValue) → IsFresh run → IsMoved (run_after m run) n new → new ≡ run_after (m + n) run
+run_moved : (m n : ℕ) (run new : RunValue) → IsFresh run → IsMoved (advanced_run m run) n new → new ≡ advanced_run (m + n) run
 run_moved m n run new fresh moved =
-    same_run new (run_after (m + n) run) moved.code moved.env (more_steps m n (end_of run) new.steps (moved.steps (end_of run) fresh.ends))
+    same_run new (advanced_run (m + n) run) moved.code moved.env (more_steps m n (end_of run) new.steps (moved.steps (end_of run) fresh.ends))
 
 no_steps : (steps end : ℕ) → steps ≡ 0 → steps ≡ min 0 end
 no_steps steps end is = omega (arith, is)
 
-run_at_start : (run : RunValue) → IsFresh run → run ≡ run_after 0 run
-run_at_start run fresh = same_run run (run_after 0 run) refl refl (no_steps run.steps (end_of run) fresh.start)
+run_at_start : (run : RunValue) → IsFresh run → run ≡ advanced_run 0 run
+run_at_start run fresh = same_run run (advanced_run 0 run) refl refl (no_steps run.steps (end_of run) fresh.start)
 
 started_is_live : (run : RunValue) → IsFresh run → is_live run ≡ true
 unfolding state_after
@@ -52,21 +52,21 @@ at_end m end le = omega (arith, le)
 before_end : (m end k : ℕ) → m < end → k ≡ min m end → k ≡ end → ⊥
 before_end m end k lt is same = absurd (omega (arith, lt, is, same))
 
-over_at_end : AreDecided → (m : ℕ) (run : RunValue) → IsFresh run → end_of run ≤ m → is_live (run_after m run) ≡ false
+over_at_end : AreDecided → (m : ℕ) (run : RunValue) → IsFresh run → end_of run ≤ m → is_live (advanced_run m run) ≡ false
 over_at_end decided m run fresh le =
-    ended_is_over decided (run_after m run) (subst (λ k. EndsAfter run.code run.env.entries k) (at_end m (end_of run) le) fresh.ends)
+    ended_is_over decided (advanced_run m run) (subst (λ k. EndsAfter run.code run.env.entries k) (at_end m (end_of run) le) fresh.ends)
 
-live_before_end : AreDecided → EndsOnce → (m : ℕ) (run : RunValue) → IsFresh run → m < end_of run → is_live (run_after m run) ≡ true
+live_before_end : AreDecided → EndsOnce → (m : ℕ) (run : RunValue) → IsFresh run → m < end_of run → is_live (advanced_run m run) ≡ true
 live_before_end decided once m run fresh lt =
-    others_go_on decided (run_after m run)
-    (λ ended. before_end m (end_of run) (run_after m run).steps lt refl
-    (once run.code run.env.entries (run_after m run).steps (end_of run) ended fresh.ends))
+    others_go_on decided (advanced_run m run)
+    (λ ended. before_end m (end_of run) (advanced_run m run).steps lt refl
+    (once run.code run.env.entries (advanced_run m run).steps (end_of run) ended fresh.ends))
 
 -- ---- all runs
 
 pub at_start : (runs : List RunValue) → AreFresh runs → runs ≡ all_after 0 runs
 at_start [] fresh = refl
-at_start (run ∷ runs) fresh = ap (λ r. r ∷ runs) (run_at_start run fresh.0) ∙ ap (λ rs. run_after 0 run ∷ rs) (at_start runs fresh.1)
+at_start (run ∷ runs) fresh = ap (λ r. r ∷ runs) (run_at_start run fresh.0) ∙ ap (λ rs. advanced_run 0 run ∷ rs) (at_start runs fresh.1)
 
 pub all_live : (runs : List RunValue) → AreFresh runs → length runs ≡ count_by is_live runs
 all_live [] fresh = refl
@@ -83,7 +83,7 @@ all_moved m n [] (x ∷ xs) fresh count moved = absurd (omega (arith, count))
 all_moved m n (run ∷ runs) [] fresh count moved = absurd (omega (arith, count))
 all_moved m n (run ∷ runs) (x ∷ xs) fresh count moved =
     ap (λ r. r ∷ xs) (run_moved m n run x fresh.0 (moved 0 run (omega arith)))
-    ∙ ap (λ rs. run_after (m + n) run ∷ rs) (all_moved m n runs xs fresh.1 (omega (arith, count)) (λ i d lt. moved (suc i) d (omega (arith, lt))))
+    ∙ ap (λ rs. advanced_run (m + n) run ∷ rs) (all_moved m n runs xs fresh.1 (omega (arith, count)) (λ i d lt. moved (suc i) d (omega (arith, lt))))
 
 pub same_runs : (n : ℕ) (runs : List RunValue) → AreOfTheSame runs (all_after n runs)
 same_runs n [] = refl
@@ -151,14 +151,14 @@ done_or_left decided once t [] fresh = inl (refl, omega arith)
 done_or_left decided once t (run ∷ runs) fresh =
     let m = 64 * t in
     let live = λ (r : RunValue). one_if (is_live r) in
-    let all : count_by is_live (all_after m (run ∷ runs)) ≡ one_if (is_live (run_after m run)) + count_by is_live (all_after m runs) =
-    sum_by-cons live (run_after m run) (all_after m runs) in
+    let all : count_by is_live (all_after m (run ∷ runs)) ≡ one_if (is_live (advanced_run m run)) + count_by is_live (all_after m runs) =
+    sum_by-cons live (advanced_run m run) (all_after m runs) in
     let rest = done_or_left decided once t runs fresh.1 in
     ⊎_elim
-    (λ lt. join_left (count_by is_live (all_after m (run ∷ runs))) (one_if (is_live (run_after m run))) (count_by is_live (all_after m runs)) t
+    (λ lt. join_left (count_by is_live (all_after m (run ∷ runs))) (one_if (is_live (advanced_run m run))) (count_by is_live (all_after m runs)) t
     (turns_left (end_of run - run.steps)) (turns_of runs) all
     (ap one_if (live_before_end decided once m run fresh.0 lt)) (turns_short t (end_of run) run.steps fresh.0.start lt))
-    (λ le. join_done (count_by is_live (all_after m (run ∷ runs))) (one_if (is_live (run_after m run))) (count_by is_live (all_after m runs)) t
+    (λ le. join_done (count_by is_live (all_after m (run ∷ runs))) (one_if (is_live (advanced_run m run))) (count_by is_live (all_after m runs)) t
     (turns_left (end_of run - run.steps)) (turns_of runs) all
     (ap one_if (over_at_end decided m run fresh.0 le)) (turns_enough t (end_of run) run.steps fresh.0.start le) rest)
     (cases_lt m (end_of run))

@@ -1,7 +1,7 @@
 //! How a code ends on an environment.
 
 ghost use Rattle.std.specs.Prelude.{◌≡◌};
-ghost use Rattle.verified_runs.specs.RunValue.{outcome_of};
+ghost use Rattle.verified_runs.specs.RunValue.{outcome_value};
 ghost use Rattle.verified_runs.specs.Fates.{ended};
 ghost use Rattle.interleaved_runs.specs.Fates.{fate_value};
 
@@ -21,7 +21,7 @@ pub enum Fate {
 
 impl Fate {
     pub(crate) fn of(outcome: Outcome) -> Fate
-        ensures { fate_value result ≡ ended (outcome_of outcome) }
+        ensures { fate_value result ≡ ended (outcome_value outcome) }
     {
         match outcome {
             Outcome::Link(link) => Fate::Link(link),

@@ -55,7 +55,7 @@ impl<'a, E: Scope> RunSet<'a, E> {
         ensures fresh { OnOk result (AreFresh (runs_of ((code.now, E.environment env.now) ∷ []))) }
     {
         course_is_decided();
-        let _accepted = code.code();
+        let _known = code.code();
         match prepare(alloc, code, env) {
             Ok(run) => {
                 self.runs.push(run)?;

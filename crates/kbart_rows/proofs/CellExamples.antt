@@ -8,7 +8,7 @@ use Rattle.text_model.specs.Texts.{Text}
 use Rattle.environment_model.specs.Environment.{Environment, Entry, Single, Several}
 use Rattle.target_vars.specs.declared.error.VarsError.TheVariants.{TooLarge}
 use Rattle.kbart_rows.specs.Cells.{Row, NamedCell, row_bytes, column_of, defined, cell_in, cell_of, named_cells, cell_bytes}
-use Rattle.kbart_rows.specs.Filling.{filled, StopsAtCell}
+use Rattle.kbart_rows.specs.Filling.{with_named_cells, StopsAtCell}
 use Rattle.kbart_rows.specs.Hashing.{keyed}
 use Rattle.kbart_rows.specs.Lines.{cells_in, IsCellAt}
 use Rattle.kbart_rows.proofs.OnLiterals.{kbart_rows_on_literals}
@@ -91,7 +91,7 @@ text name t = record { name = name; meaning = Single t }
 
 -- the environment after a row ` x `, `y ` under these names
 abbrev filled_under : Row → Environment → Environment
-filled_under names env = filled env (named_cells names (codes " x " ∷ codes "y " ∷ []))
+filled_under names env = with_named_cells env (named_cells names (codes " x " ∷ codes "y " ∷ []))
 
 cells_come_in_order : filled_under (codes "y" ∷ codes "x" ∷ codes "z" ∷ []) [] ≡ text (codes "y") (codes " x ") ∷ text (codes "x") (codes "y ") ∷ []
 unfolding kbart_rows_on_literals

@@ -17,21 +17,21 @@ use Rattle.kbart_rows.specs.Cells.{Row, NamedCell, cell_bytes, column_of, is_fir
 use Rattle.kbart_rows.specs.Private.Kept.{cell_at_first, IsRefusedCell}
 use Rattle.kbart_rows.proofs.FirstColumns.{item_at}
 use Rattle.kbart_rows.proofs.Rows.{range_parts}
-use Rattle.kbart_rows.specs.Filling.{fill_one, filled, with_defined, StopsAtCell}
+use Rattle.kbart_rows.specs.Filling.{with_named_cell, with_named_cells, with_defined, StopsAtCell}
 
 -- ---- growth
 
 cell_bytes-cons : (cell : NamedCell) (cells : List NamedCell) → cell_bytes (cell ∷ cells) ≡ length cell.text + cell_bytes cells
 cell_bytes-cons cell cells = sum_by-cons (λ (c : NamedCell). length c.text) cell cells
 
-filled_bytes : (env : Environment) (cells : List NamedCell) → byte_count (filled env cells) ≤ byte_count env + cell_bytes cells
+filled_bytes : (env : Environment) (cells : List NamedCell) → byte_count (with_named_cells env cells) ≤ byte_count env + cell_bytes cells
 filled_bytes env [] = omega arith
 filled_bytes env (cell ∷ cells) =
-    omega (arith, filled_bytes (fill_one env cell) cells, byte_count-with_text-le env cell.name cell.text, cell_bytes-cons cell cells)
+    omega (arith, filled_bytes (with_named_cell env cell) cells, byte_count-with_text-le env cell.name cell.text, cell_bytes-cons cell cells)
 
-filled_members : (env : Environment) (cells : List NamedCell) → member_count (filled env cells) ≡ member_count env
+filled_members : (env : Environment) (cells : List NamedCell) → member_count (with_named_cells env cells) ≡ member_count env
 filled_members env [] = refl
-filled_members env (cell ∷ cells) = filled_members (fill_one env cell) cells ∙ member_count-with_text env cell.name cell.text
+filled_members env (cell ∷ cells) = filled_members (with_named_cell env cell) cells ∙ member_count-with_text env cell.name cell.text
 
 -- ---- what follows from how far the filling came
 
@@ -40,10 +40,10 @@ pub record Reaches (old : Environment) (cells : List NamedCell) (new : Environme
   pub before : List NamedCell
   pub after : List NamedCell
   pub in_order : cells ≡ before ++ after
-  pub reached : new ≡ filled old before
+  pub reached : new ≡ with_named_cells old before
 
 pub reaches : {T : Type 0} (old : Environment) (cells : List NamedCell) (new : Environment) (r : Result T VarsError)
-    → OnOk r (new ≡ filled old cells) → IfErr r (StopsAtCell old cells new) → Reaches old cells new
+    → OnOk r (new ≡ with_named_cells old cells) → IfErr r (StopsAtCell old cells new) → Reaches old cells new
 reaches old cells new (Ok x) ok err = record { before = cells; after = []; in_order = sym (append-nil cells); reached = ok }
 reaches old cells new (Err e) ok err = record { before = err.before; after = err.refused ∷ err.after; in_order = err.in_order; reached = err.reached }
 
@@ -73,22 +73,22 @@ only_memory old cells new (Err TooLarge) err fits =
 
 -- ---- column by column
 
-pub one_cell : (env : Environment) (cell : Option NamedCell) → filled env (cons_option cell []) ≡ with_defined env cell
+pub one_cell : (env : Environment) (cell : Option NamedCell) → with_named_cells env (cons_option cell []) ≡ with_defined env cell
 one_cell env None = refl
 one_cell env (Some cell) = refl
 
 -- the cell of one more column
 pub filled_more : (old : Environment) (header cells : Row) (column : ℕ)
-    → with_defined (filled old (filter_map (named_cell header cells) (range_with_len 0 column))) (named_cell header cells column)
-    ≡ filled old (filter_map (named_cell header cells) (range_with_len 0 (column + 1)))
+    → with_defined (with_named_cells old (filter_map (named_cell header cells) (range_with_len 0 column))) (named_cell header cells column)
+    ≡ with_named_cells old (filter_map (named_cell header cells) (range_with_len 0 (column + 1)))
 filled_more old header cells column =
     let so_far = filter_map (named_cell header cells) (range_with_len 0 column) in
     let here : 0 + column ≡ column = omega arith in
-    sym (one_cell (filled old so_far) (named_cell header cells column))
-    ∙ sym (fold-append fill_one old so_far (cons_option (named_cell header cells column) []))
-    ∙ ap (λ at. filled old (so_far ++ cons_option (named_cell header cells at) [])) (sym here)
-    ∙ ap (filled old) (sym (filter_map-append (named_cell header cells) (range_with_len 0 column) ((0 + column) ∷ [])))
-    ∙ ap (λ columns. filled old (filter_map (named_cell header cells) columns)) (sym (range_more 0 column))
+    sym (one_cell (with_named_cells old so_far) (named_cell header cells column))
+    ∙ sym (fold-append with_named_cell old so_far (cons_option (named_cell header cells column) []))
+    ∙ ap (λ at. with_named_cells old (so_far ++ cons_option (named_cell header cells at) [])) (sym here)
+    ∙ ap (with_named_cells old) (sym (filter_map-append (named_cell header cells) (range_with_len 0 column) ((0 + column) ∷ [])))
+    ∙ ap (λ columns. with_named_cells old (filter_map (named_cell header cells) columns)) (sym (range_more 0 column))
 
 -- the cell that the program finds is that of the definition
 cell_is : (header cells : Row) (column : ℕ) (name cell : Text) (found : Option ℕ) → get_or header column [] ≡ name → get_or cells column [] ≡ cell
@@ -120,7 +120,7 @@ column_at header row column name cell other_names cells found names_left cells_l
 
 -- a cell is rejected after those before it were added
 pub stops_at : (old now new : Environment) (header cells : Row) (column : ℕ) (cell : Option NamedCell) (e : VarsError) → column < length header
-    → cell ≡ named_cell header cells column → now ≡ filled old (filter_map (named_cell header cells) (range_with_len 0 column)) → new ≡ now
+    → cell ≡ named_cell header cells column → now ≡ with_named_cells old (filter_map (named_cell header cells) (range_with_len 0 column)) → new ≡ now
     → IsRefusedCell now cell e
     → StopsAtCell old (named_cells header cells) new e
 stops_at old now new header cells column None e inside is so_far unchanged refused = absurd refused

@@ -6,5 +6,5 @@ pub mod Filling
 pub mod ColumnNames
 pub mod KeyedHasher
 pub mod Hashing
-pub mod Drawing
+pub mod RandomKeys
 pub mod Private

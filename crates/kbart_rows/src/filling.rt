@@ -23,7 +23,8 @@ pub(crate) fn fill(
 ) -> Result<(), VarsError>
     requires { (name : Text) → get_by_text columns.now name ≡ column_of (cells_in header.now) name }
     ensures ok { OnOk result
-        (env.new.entries ≡ spec.filled env.old.entries (named_cells (cells_in header.now) (cells_in line.now))) }
+        (env.new.entries ≡ spec.with_named_cells env.old.entries
+        (named_cells (cells_in header.now) (cells_in line.now))) }
     ensures err { IfErr result
         (spec.StopsAtCell env.old.entries (named_cells (cells_in header.now) (cells_in line.now)) env.new.entries) }
 {

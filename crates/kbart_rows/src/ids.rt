@@ -6,7 +6,7 @@ ghost use Rattle.std.specs.Option.{option_to_list};
 ghost use Rattle.std.specs.Str.{bytes_eq};
 ghost use Rattle.kbart_rows.specs.Hashing.{hash_of};
 ghost use Rattle.kbart_rows.specs.Identifiers as spec;
-ghost use Rattle.kbart_rows.specs.Private.Hashed.{IsHashed, text_of};
+ghost use Rattle.kbart_rows.specs.Private.Hashed.{IsHashed, id_text};
 
 use crate::identifier::{is_identifier, normalised};
 use crate::keys::Keys;
@@ -32,11 +32,11 @@ pub(crate) struct Id {
 impl Model for Ids {
     ghost use Rattle.std.specs.Prelude.{◌≤◌, All, List, length, map};
     ghost use Rattle.text_model.specs.Texts.{Text};
-    ghost use Rattle.kbart_rows.specs.Private.Hashed.{IsHashed, text_of};
+    ghost use Rattle.kbart_rows.specs.Private.Hashed.{IsHashed, id_text};
 
     ghost Value = { List Text };
 
-    ghost view = { λ ids. map text_of ids.ids.items };
+    ghost view = { λ ids. map id_text ids.ids.items };
 
     ghost invariant = { λ ids. (length ids.ids.items ≤ 3) × All (IsHashed ids.keys) ids.ids.items };
 }
@@ -107,8 +107,8 @@ fn add_first(
     keys: &Keys,
     ids: &mut Vec<Id>,
 ) -> Result<(), AllocError>
-    ensures added { OnOk result (map text_of ids.new.items
-        ≡ map text_of ids.old.items ++ option_to_list (spec.id_of request.now.pairs key.now)) }
+    ensures added { OnOk result (map id_text ids.new.items
+        ≡ map id_text ids.old.items ++ option_to_list (spec.id_of request.now.pairs key.now)) }
     ensures few { OnOk result (length ids.new.items ≤ length ids.old.items + 1) }
     ensures hashed { All (IsHashed keys.now) ids.old.items → OnOk result (All (IsHashed keys.now) ids.new.items) }
 {

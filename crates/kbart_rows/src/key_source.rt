@@ -2,7 +2,7 @@
 
 ghost use Rattle.std.specs.Prelude.{ℕ, IfOk, OnErr};
 ghost use Rattle.kbart_rows.specs.declared.keys.Keys.{Keys};
-ghost use Rattle.kbart_rows.specs.Drawing.{IsDrawn};
+ghost use Rattle.kbart_rows.specs.RandomKeys.{IsDrawn};
 
 use crate::keys::Keys;
 use std::io;

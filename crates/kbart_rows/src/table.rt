@@ -9,7 +9,7 @@ ghost use Rattle.target_vars.specs.declared.env.TheConstants.{MAX_BYTES, MAX_MEM
 ghost use Rattle.target_vars.specs.declared.error.VarsError.TheVariants as vars_error;
 ghost use Rattle.kev_read.specs.declared.read.TheConstants.{MAX_PAIRS, MAX_QUERY_BYTES};
 ghost use Rattle.kbart_rows.specs.Cells.{cell_bytes, cell_of, column_of, named_cells};
-ghost use Rattle.kbart_rows.specs.Filling.{filled, StopsAtCell};
+ghost use Rattle.kbart_rows.specs.Filling.{with_named_cells, StopsAtCell};
 ghost use Rattle.kbart_rows.specs.Hashing.{hasher_at_start, keyed};
 ghost use Rattle.kbart_rows.specs.Identifiers as spec;
 ghost use Rattle.kbart_rows.specs.Identifiers.{identifier_in};
@@ -236,7 +236,8 @@ impl Table {
     pub fn fill(&self, row: usize, env: &mut Env) -> Result<(), VarsError>
         requires { row < length self.now.rows }
         ensures ok { OnOk result
-            (env.new.entries ≡ filled env.old.entries (named_cells self.now.header (get_or self.now.rows row []))) }
+            (env.new.entries ≡ with_named_cells env.old.entries
+            (named_cells self.now.header (get_or self.now.rows row []))) }
         ensures err { IfErr result
             (StopsAtCell env.old.entries (named_cells self.now.header (get_or self.now.rows row []))
             env.new.entries) }

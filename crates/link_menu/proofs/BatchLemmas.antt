@@ -14,7 +14,7 @@ use Rattle.row_scope.specs.RowEnvironments.{names_of}
 use Rattle.row_scope.specs.RowValue.{RowValue}
 use Rattle.target_vars.specs.EnvValue.{EnvValue}
 use Rattle.verified_runs.specs.RunValue.{RunValue, new_run}
-use Rattle.verified_runs.specs.Fates.{Fate, fate_in}
+use Rattle.verified_runs.specs.Fates.{FateValue, fate_in}
 use Rattle.registry.specs.RowEnvironments.{row_environment}
 use Rattle.registry.specs.Entries.{fate_of_row, resolution_by}
 use Rattle.interleaved_runs.specs.declared.fate.Fate as answer
@@ -28,7 +28,7 @@ use Rattle.link_menu.specs.Private.Searches.{after_fate, after_fate_at, after_ne
 abbrev entries_of : EnvValue → Environment
 entries_of env = env.entries
 
-abbrev fate_at : Code × Environment → Fate
+abbrev fate_at : Code × Environment → FateValue
 fate_at p = fate_in p.0 p.1
 
 -- fates depend only on the entries

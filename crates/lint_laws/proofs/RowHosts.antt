@@ -20,7 +20,7 @@ use Rattle.rule_parser.specs.Meaning.{seen}
 use Rattle.rule_lint.specs.declared.place.Place.{Place}
 use Rattle.rule_lint.specs.Host.{host_names, host_of, may_be_hostless}
 use Rattle.rule_lint.specs.WebLink.{is_never_web_link}
-use Rattle.rule_lint.specs.Findings.{Hostless, NeverWebLink, found_if, in_host, in_names, in_open_host, names_in}
+use Rattle.rule_lint.specs.Findings.{Hostless, NeverWebLink, found_if, in_host, in_names, in_open_host, names_in_template}
 use Rattle.lint_laws.specs.RowLinks.{IsHostOfRow, environment_of_cells, has_open_host, host_of_row_alone, is_of_host, link_on_row}
 use Rattle.lint_laws.proofs.BrowserHosts.{browser_agrees}
 use Rattle.lint_laws.proofs.HostStates.{cell_covered}
@@ -40,8 +40,8 @@ record HasNoFinding (rules : RuleSet) (table : Holdings) (parts : List Part) : T
 nothing_found : (rules : RuleSet) (table : Holdings) (at : Place) (parts : List Part) → has_open_host rules table at parts ≡ false
     → (is_never_web_link parts ≡ true → ⊥) → HasNoFinding rules table parts
 nothing_found rules table at parts e web =
-    let both = or_parts (list_any is_of_host (in_names rules table at (names_in parts))) (list_any is_of_host (in_host rules table at parts))
-    (sym (list_any-append is_of_host (in_names rules table at (names_in parts)) (in_host rules table at parts)) ∙ e) in
+    let both = or_parts (list_any is_of_host (in_names rules table at (names_in_template parts))) (list_any is_of_host (in_host rules table at parts))
+    (sym (list_any-append is_of_host (in_names rules table at (names_in_template parts)) (in_host rules table at parts)) ∙ e) in
     by_web (is_never_web_link parts) refl both.1
   where
     no_line : (hostless : Bool) → list_any is_of_host (found_if hostless (Hostless at)) ≡ false → hostless ≡ false

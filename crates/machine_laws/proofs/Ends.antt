@@ -5,7 +5,7 @@ use Rattle.std.proofs.Math.Nat.{mul_comm}
 use Rattle.environment_model.specs.Environment.{Environment, member_count, byte_count}
 use Rattle.code_model.specs.Code.{Code}
 use Rattle.machine_model.specs.States.{Frame, End, State, Running, Ended, start}
-use Rattle.machine_model.specs.Step.{Step}
+use Rattle.machine_model.specs.Step.{StepsTo}
 use Rattle.machine_model.specs.Runs.{After}
 use Rattle.machine_model.specs.Form.{body_at, is_in_body, HasGoodForm}
 use Rattle.machine_model.specs.Typable.{Table, IsClosed, MeetsNeeds}
@@ -14,7 +14,7 @@ use Rattle.machine_laws.proofs.Sums.{total_zero}
 use Rattle.machine_laws.proofs.Safety.{reached, stepping}
 use Rattle.machine_laws.proofs.Potential.{spent_at_end}
 use Rattle.machine_laws.proofs.AtHand.{at_hand}
-use Rattle.machine_laws.proofs.Spending.{StateSpent, within_weight, spent_step}
+use Rattle.machine_laws.proofs.StepCosts.{StateSpent, within_weight, spent_step}
 
 -- if no place has the second weight, the bodies have none
 no_second : (c : Code) → inside c (λ p. 0) ≡ 0
@@ -31,7 +31,7 @@ module _ (c : Code) (form : HasGoodForm c) (some : 0 < length c.instrs) (t : Tab
   steps_spent zero s h = subst (λ x. StateSpent c (λ p. 1) (λ p. 0) (member_count v) (byte_count v) x 0) (sym h) (omega arith)
   steps_spent (suc k) s h = by_state h.0 h.1 h.2 (steps_spent k h.0 h.1)
     where
-      by_state : (old : State) → After c v k old → Step c v old s → StateSpent c (λ p. 1) (λ p. 0) (member_count v) (byte_count v) old k
+      by_state : (old : State) → After c v k old → StepsTo c v old s → StateSpent c (λ p. 1) (λ p. 0) (member_count v) (byte_count v) old k
           → StateSpent c (λ p. 1) (λ p. 0) (member_count v) (byte_count v) s (suc k)
       by_state (Ended e) a st sp = absurd st
       by_state (Running o) a st sp =
@@ -51,7 +51,7 @@ module _ (c : Code) (form : HasGoodForm c) (some : 0 < length c.instrs) (t : Tab
   abbrev pub EndsInTime : Type 0
   EndsInTime = (k : ℕ) × (e : End) × After c v k (Ended e) × (k ≤ steps_bound (sums_of c) (member_count v))
 
-  next_after : (k : ℕ) (s : Frame) (new : State) → After c v k (Running s) → Step c v (Running s) new → After c v (suc k) new
+  next_after : (k : ℕ) (s : Frame) (new : State) → After c v k (Running s) → StepsTo c v (Running s) new → After c v (suc k) new
   unfolding After
   next_after k s new h st = (Running s, h, st)
 

@@ -7,7 +7,7 @@ pub mod Sums
 pub mod Limit
 pub mod Potential
 pub mod AtHand
-pub mod Spending
+pub mod StepCosts
 pub mod Ends
 pub mod UriOutputs
 pub mod OutputWeights

@@ -9,7 +9,7 @@ use Rattle.code_model.specs.Code.{Code}
 use Rattle.code_model.specs.declared.code.Instruction.{Instruction}
 use Rattle.machine_model.specs.Operands.{Reads}
 use Rattle.machine_model.specs.States.{Loop, Frame, State, Running, Ended, start}
-use Rattle.machine_model.specs.Step.{Move, IsInside, Leads, Step}
+use Rattle.machine_model.specs.Step.{Move, IsInside, Leads, StepsTo}
 use Rattle.machine_model.specs.Runs.{After}
 use Rattle.machine_model.specs.Next.{step_limit}
 use Rattle.machine_model.specs.Budget.{inside}
@@ -142,7 +142,7 @@ module _ (c : Code) (v : Environment) where
       let out : AtMost None f.place (k + 1) = subst (λ n. k + 1 ≤ (member_count v + 1) * n) (sym place) past in
       subst (λ y. StateAtMost y (k + 1)) (sym led.1) (subst (λ o. AtMost o f.place (k + 1)) (sym into) out)
 
-  stepped : (old new : State) (k : ℕ) → After c v k old → StateAtMost old k → Step c v old new → StateAtMost new (k + 1)
+  stepped : (old new : State) (k : ℕ) → After c v k old → StateAtMost old k → StepsTo c v old new → StateAtMost new (k + 1)
       × (k + 1 ≤ (member_count v + 1) * length c.instrs)
   stepped (Ended e) new k a h st = absurd st
   stepped (Running s) new k a h st =

@@ -5,7 +5,7 @@ use Rattle.environment_model.specs.Environment.{Environment, member_count, byte_
 use Rattle.code_model.specs.Code.{Code}
 use Rattle.machine_model.specs.declared.form.Body.{Body}
 use Rattle.machine_model.specs.States.{Link, NoLink, State, Running, Ended}
-use Rattle.machine_model.specs.Step.{Step}
+use Rattle.machine_model.specs.Step.{StepsTo}
 use Rattle.machine_model.specs.Runs.{After}
 use Rattle.machine_model.specs.Form.{body_at, is_in_body, HasGoodForm}
 use Rattle.machine_model.specs.Typable.{Table, IsClosed, MeetsNeeds, IsTypable}
@@ -18,7 +18,7 @@ use Rattle.machine_laws.proofs.Safety.{never_stuck, reached}
 use Rattle.machine_laws.proofs.Small.{small_after}
 use Rattle.machine_laws.proofs.AtHand.{at_hand}
 use Rattle.machine_laws.proofs.Potential.{spent_at_end}
-use Rattle.machine_laws.proofs.Spending.{StateSpent, within_weight, spent_step}
+use Rattle.machine_laws.proofs.StepCosts.{StateSpent, within_weight, spent_step}
 use Rattle.machine_laws.proofs.Ends.{ends_in_time}
 use Rattle.machine_laws.proofs.UriOutputs.{lead_output, uri_after}
 use Rattle.machine_laws.proofs.OutputWeights.{long_move, separated, tight, weight}
@@ -60,7 +60,7 @@ module _ (c : Code) (form : HasGoodForm c) (some : 0 < length c.instrs) (t : Tab
   long_after zero s h = subst (λ x. All x (length (output_of x))) (sym h) (omega arith)
   long_after (suc k) s h = by_state h.0 h.1 h.2 (long_after k h.0 h.1)
     where
-      by_state : (old : State) → After c v k old → Step c v old s → All old (length (output_of old)) → All s (length (output_of s))
+      by_state : (old : State) → After c v k old → StepsTo c v old s → All old (length (output_of old)) → All s (length (output_of s))
       by_state (Ended e) a st sp = absurd st
       by_state (Running o) a st sp =
           let r = reached c form some t closed meets v k (Running o) a in

@@ -23,7 +23,7 @@ use Rattle.machine_model.specs.Fitting.{body_of}
 use Rattle.machine_laws.proofs.Small.{FrameSmall, IsSmall, text_limit}
 use Rattle.machine_laws.proofs.AtHand.{hand_in, at_hand}
 use Rattle.machine_laws.proofs.Potential.{Within}
-use Rattle.machine_laws.proofs.Spending.{StepWithin, within_weight}
+use Rattle.machine_laws.proofs.StepCosts.{StepWithin, within_weight}
 use Rattle.machine_laws.proofs.UriOutputs.{move_output}
 
 -- a SEP prints only in a body

@@ -13,7 +13,7 @@ use Rattle.machine_model.specs.Operands.{register_count}
 use Rattle.machine_model.specs.Form.{body_at, HasGoodForm}
 use Rattle.machine_model.specs.Kinds.{kind_le, kind_join, Kinds, any_kinds, IsBelow, Edge, edge, edges, for_instruction, edges_at}
 use Rattle.machine_model.specs.Typable.{Table, Holds, IsClosed, TableBelow, IsLeast}
-use Rattle.machine_model.specs.Passes.{Row, kinds_in, listed, joined, is_within, Rows, row_at, table_in, arrived, carried, carried_all, edges_from, followed}
+use Rattle.machine_model.specs.Passes.{Row, kinds_in, listed, row_join, is_within, Rows, row_at, table_in, arrived, carried, carried_all, edges_from, followed}
 use Rattle.machine_model.specs.Passes.{pass, none_reached, first_rows, passes, is_covered, is_reached, is_closed}
 use Rattle.machine_model.proofs.Orders.{kind_join-least, below_trans, EdgesBelow, edges_below}
 use Rattle.machine_laws.proofs.Registers.{IsAnyFrom, EdgeAny, edges_at_any}
@@ -30,8 +30,8 @@ join_any : (k : Kind) → kind_join Any k ≡ Any
 join_any Any = refl
 join_any _ = refl
 
-joined_kinds : (row : Row) (ks : Kinds) (r : ℕ) → kinds_in (joined row ks) r ≡ kind_join (kinds_in row r) (ks r)
-unfolding joined
+joined_kinds : (row : Row) (ks : Kinds) (r : ℕ) → kinds_in (row_join row ks) r ≡ kind_join (kinds_in row r) (ks r)
+unfolding row_join
 joined_kinds [] ks r = sym (join_any (ks r))
 joined_kinds (k ∷ row) ks zero = refl
 joined_kinds (k ∷ row) ks (suc r) = joined_kinds row (λ q. ks (suc q)) r

@@ -14,11 +14,11 @@ use Rattle.machine_model.specs.First.{first_below}
 use Rattle.machine_model.specs.Form.{body_at, fault_at, HasGoodForm}
 use Rattle.machine_model.specs.Typable.{IsTypable, IsLeast}
 use Rattle.machine_model.specs.Mismatch.{mismatch_at}
-use Rattle.machine_model.specs.Passes.{listed, joined, is_within, none_reached, carried, pass, passes, is_closed, table_in}
+use Rattle.machine_model.specs.Passes.{listed, row_join, is_within, none_reached, carried, pass, passes, is_closed, table_in}
 use Rattle.machine_model.specs.Budget.{longest_compared, is_kept, total}
 use Rattle.machine_model.specs.Safe.{IsFileCode, IsSafe, output_of}
 use Rattle.machine_model.proofs.Listings.{list_code, sample}
-use Rattle.machine_model.proofs.Decides.{Step-next_state}
+use Rattle.machine_model.proofs.Decides.{StepsTo-next_state}
 use Rattle.machine_model.proofs.Faults.{form_decided}
 use Rattle.machine_laws.proofs.Least.{least_decides, mismatch_decides}
 use Rattle.machine_laws.proofs.PassLemmas.{passes_least}
@@ -37,11 +37,11 @@ unfolding first_below fault_at body_at reading
 list_form = (form_decided list_code).1 refl
 
 list_least : IsLeast list_code (table_in (passes list_code 2))
-unfolding body_at reading listed joined is_within none_reached carried pass passes is_closed
+unfolding body_at reading listed row_join is_within none_reached carried pass passes is_closed
 list_least = passes_least list_code list_form 2 refl
 
 list_typable : IsTypable list_code
-unfolding first_below mismatch_at body_at reading listed joined none_reached carried pass passes
+unfolding first_below mismatch_at body_at reading listed row_join none_reached carried pass passes
 list_typable = (least_decides list_code (table_in (passes list_code 2)) list_least).0 ((mismatch_decides list_code (table_in (passes list_code 2))).1 refl)
 
 list_is_safe : IsSafe list_code
@@ -69,5 +69,5 @@ list_prints_uri_text v = list_is_safe.uri v
 put_is_not_safe : IsSafe (sample (instruction.Put 0 0 ∷ instruction.Halt ∷ [])) → ⊥
 unfolding After reading has_right_operands
 put_is_not_safe h =
-    h.never_stuck [] 0 (Running start) refl (λ new st. let none : None ≡ Some new = Step-next_state (sample (instruction.Put 0 0 ∷ instruction.Halt ∷ [])) []
+    h.never_stuck [] 0 (Running start) refl (λ new st. let none : None ≡ Some new = StepsTo-next_state (sample (instruction.Put 0 0 ∷ instruction.Halt ∷ [])) []
     (Running start) new st in absurd (cc (none)))

@@ -6,7 +6,7 @@ use Rattle.environment_model.specs.Environment.{Environment}
 use Rattle.code_model.specs.Code.{Code}
 use Rattle.code_model.specs.declared.code.Instruction.{Instruction}
 use Rattle.machine_model.specs.States.{Frame, State, Running, Ended, start, at}
-use Rattle.machine_model.specs.Step.{Step}
+use Rattle.machine_model.specs.Step.{StepsTo}
 use Rattle.machine_model.specs.Runs.{After, IsStuck}
 use Rattle.machine_model.specs.Form.{body_at, HasGoodForm}
 use Rattle.machine_model.specs.Kinds.{any_kinds, needs, edges, for_instruction}
@@ -30,10 +30,10 @@ module _ (c : Code) (form : HasGoodForm c) (starts : 0 < length c.instrs) (t : T
       (closed.along s.place k.kinds k.known) in
       (g.0, moves c t v s k g.0 g.1 n h, g.1)
 
-  pub stepping : (s : Frame) → Conforms c t s → (new : State) × Step c v (Running s) new × StateConforms c t new
+  pub stepping : (s : Frame) → Conforms c t s → (new : State) × StepsTo c v (Running s) new × StateConforms c t new
   stepping s k = let m = moves_on s k in (m.1.1, (m.0, m.2.reads, m.1.0, m.1.2, m.1.3), m.1.4)
 
-  pub conforms_on : (s : State) (new : State) → StateConforms c t s → Step c v s new → StateConforms c t new
+  pub conforms_on : (s : State) (new : State) → StateConforms c t s → StepsTo c v s new → StateConforms c t new
   conforms_on (Ended e) new k st = absurd st
   conforms_on (Running s) new k st =
       let m = stepping s k in

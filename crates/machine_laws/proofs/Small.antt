@@ -14,7 +14,7 @@ use Rattle.machine_model.specs.Values.{Value, Nothing, Undefined, Text as TextVa
 use Rattle.machine_model.specs.States.{Loop, Frame, State, Running, Ended, put}
 use Rattle.machine_model.specs.Step.{Move, Ends, MovesTo, Returns, Does, halt, fail, text, list}
 use Rattle.machine_model.specs.Step.{const, number, no_turn, enter, next_member, leave, count, Leads}
-use Rattle.machine_model.specs.Step.{Step}
+use Rattle.machine_model.specs.Step.{StepsTo}
 use Rattle.machine_model.specs.Runs.{After}
 use Rattle.machine_model.specs.Budget.{compared_length, longest_compared}
 
@@ -140,7 +140,7 @@ module _ (c : Code) (v : Environment) where
   small_lead from (MovesTo f) new k led = subst (StateSmall (member_count v) (byte_count v) (text_limit c v)) (sym led.1) k
   small_lead from (Returns f) new k led = subst (StateSmall (member_count v) (byte_count v) (text_limit c v)) (sym led) k
 
-  small_step : (s new : State) → Small s → Step c v s new → Small new
+  small_step : (s new : State) → Small s → StepsTo c v s new → Small new
   small_step (Ended e) new h st = absurd st
   small_step (Running s) new h st = small_lead s.place st.2 new (small_move s st.0 st.2 h st.1.right st.3) st.4
 

@@ -14,7 +14,7 @@ use Rattle.code_model.specs.declared.code.Instruction.{Instruction}
 use Rattle.code_model.specs.declared.code.Instruction.TheVariants.{Halt, Count}
 use Rattle.machine_model.specs.Operands.{is_register, is_in_table, has_table_kind, is_right, has_right_operands, Reads}
 use Rattle.machine_model.specs.States.{Frame, State, Running, Ended}
-use Rattle.machine_model.specs.Step.{Move, Ends, MovesTo, Returns, Leads, Step}
+use Rattle.machine_model.specs.Step.{Move, Ends, MovesTo, Returns, Leads, StepsTo}
 use Rattle.machine_model.specs.Runs.{After, EndsWith, Outcome, Link, NoLink, Stuck}
 use Rattle.machine_model.specs.Next.{move_of}
 use Rattle.machine_model.specs.Budget.{inside}
@@ -104,7 +104,7 @@ module _ (c : Code) where
   leads_same from (MovesTo s) new h = (record { forward = h.0.forward; within = h.0.within; inside = h.0.inside }, h.1)
   leads_same from (Returns s) new h = h
 
-  step_more : (v : Environment) (old new : State) → Step c v old new → Step (upgraded c) v old new
+  step_more : (v : Environment) (old new : State) → StepsTo c v old new → StepsTo (upgraded c) v old new
   step_more v (Ended e) new h = h
   step_more v (Running s) new h =
       let does = does-move_of (upgraded c) v s h.0 h.2 (sym (moves_same v s h.0) ∙ move_of-does c v s h.0 h.2 h.3) in

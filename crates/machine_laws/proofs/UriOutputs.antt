@@ -13,7 +13,7 @@ use Rattle.code_model.specs.declared.code.Instruction.TheVariants.{Emit, Sep}
 use Rattle.text_model.proofs.UriTexts.{IsUriText-append, written-uri}
 use Rattle.machine_model.specs.Operands.{is_link_text, has_right_operands, literal_at, writing_of}
 use Rattle.machine_model.specs.States.{Frame, Link, NoLink, State, Running, Ended}
-use Rattle.machine_model.specs.Step.{Move, Ends, MovesTo, Returns, Does, fail, emit, put_text, cut_text, later_turn, Leads, Step}
+use Rattle.machine_model.specs.Step.{Move, Ends, MovesTo, Returns, Does, fail, emit, put_text, cut_text, later_turn, Leads, StepsTo}
 use Rattle.machine_model.specs.Runs.{After}
 use Rattle.machine_model.specs.Safe.{IsFileCode, output_of}
 
@@ -54,7 +54,7 @@ module _ (c : Code) (v : Environment) where
       IsUriText-append s.output (written (writing_of m) (cut (writing_of m) t n)) h (written-uri (writing_of m) (cut (writing_of m) t n))
   uri_move s _ _ k ok h _ = h
 
-  uri_step : (s new : State) → IsFileCode c → IsUriText (output_of s) → Step c v s new → IsUriText (output_of new)
+  uri_step : (s new : State) → IsFileCode c → IsUriText (output_of s) → StepsTo c v s new → IsUriText (output_of new)
   uri_step (Ended e) new k h st = absurd st
   uri_step (Running s) new k h st = subst IsUriText (sym (lead_output c s.place st.2 new st.4)) (uri_move s st.0 st.2 k st.1.right h st.3)
 

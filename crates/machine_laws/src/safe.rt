@@ -4,7 +4,7 @@ ghost use Rattle.std.specs.Prelude.{ℕ, length, ◌<◌};
 ghost use Rattle.environment_model.specs.Environment.{Environment};
 ghost use Rattle.code_model.specs.Code.{Code};
 ghost use Rattle.machine_model.specs.States.{Frame, State, Running};
-ghost use Rattle.machine_model.specs.Step.{Step};
+ghost use Rattle.machine_model.specs.Step.{StepsTo};
 ghost use Rattle.machine_model.specs.Runs.{After};
 ghost use Rattle.machine_model.specs.Form.{HasGoodForm};
 ghost use Rattle.machine_model.specs.Typable.{Table, IsClosed, MeetsNeeds, IsTypable};
@@ -25,5 +25,5 @@ pub fn reached_states_conform()
         HasGoodForm c → 0 < length c.instrs → IsClosed c t → MeetsNeeds c t → After c v k (Running s) → Conforms c t s }
     ensures continues { (c : Code) (v : Environment) (k : ℕ) (s : Frame) →
         HasGoodForm c → 0 < length c.instrs → IsTypable c → After c v k (Running s) →
-        (new : State) × Step c v (Running s) new }
+        (new : State) × StepsTo c v (Running s) new }
 {}

@@ -11,7 +11,7 @@ use Rattle.machine_model.specs.First.{Located, first_below}
 use Rattle.machine_model.specs.Form.{body_at}
 use Rattle.machine_model.specs.Kinds.{Kinds}
 use Rattle.machine_model.specs.Mismatch.{mismatch_at}
-use Rattle.machine_model.specs.Passes.{listed, joined, is_within, none_reached, carried, pass, passes, is_closed, Found, found, table_in}
+use Rattle.machine_model.specs.Passes.{listed, row_join, is_within, none_reached, carried, pass, passes, is_closed, Found, found, table_in}
 use Rattle.machine_model.proofs.Listings.{list_code, issn_code, x_code, sample, second, with_instruction}
 
 record Case : Type 0 where
@@ -65,12 +65,12 @@ straight_cases =
     ∷ []
 
 straight_cases_hold : computed straight_cases ≡ expected straight_cases
-unfolding first_below mismatch_at body_at reading listed joined is_within none_reached carried pass passes is_closed
+unfolding first_below mismatch_at body_at reading listed row_join is_within none_reached carried pass passes is_closed
 straight_cases_hold = refl
 
 -- the version changes none of these
 straight_cases_hold_of_second : computed_second straight_cases ≡ expected straight_cases
-unfolding first_below mismatch_at body_at reading listed joined is_within none_reached carried pass passes is_closed
+unfolding first_below mismatch_at body_at reading listed row_join is_within none_reached carried pass passes is_closed
 straight_cases_hold_of_second = refl
 
 abbrev loop_cases : List Case
@@ -109,12 +109,12 @@ loop_cases =
     ∷ []
 
 loop_cases_hold : computed loop_cases ≡ expected loop_cases
-unfolding first_below mismatch_at body_at reading listed joined is_within none_reached carried pass passes is_closed
+unfolding first_below mismatch_at body_at reading listed row_join is_within none_reached carried pass passes is_closed
 loop_cases_hold = refl
 
 -- the version changes none of these
 loop_cases_hold_of_second : computed_second loop_cases ≡ expected loop_cases
-unfolding first_below mismatch_at body_at reading listed joined is_within none_reached carried pass passes is_closed
+unfolding first_below mismatch_at body_at reading listed row_join is_within none_reached carried pass passes is_closed
 loop_cases_hold_of_second = refl
 
 abbrev accepted_second : List Instruction → Case
@@ -138,14 +138,14 @@ second_cases =
     ∷ []
 
 second_cases_hold : computed second_cases ≡ expected second_cases
-unfolding first_below mismatch_at body_at reading listed joined is_within none_reached carried pass passes is_closed
+unfolding first_below mismatch_at body_at reading listed row_join is_within none_reached carried pass passes is_closed
 second_cases_hold = refl
 
 -- one pass does not see that the head of a body rises
 one_pass : (found
     (sample (instruction.List 0 0 ∷ instruction.Const 2 1 ∷ instruction.Each 1 0 6 ∷ instruction.Put 2 0 ∷ instruction.List 2
     0 ∷ instruction.Next ∷ instruction.Halt ∷ [])) 1).least ≡ false
-unfolding first_below mismatch_at body_at reading listed joined is_within none_reached carried pass passes is_closed
+unfolding first_below mismatch_at body_at reading listed row_join is_within none_reached carried pass passes is_closed
 one_pass = refl
 
 -- the kinds of r0 and r1 at each place of the list code, and past it
@@ -161,5 +161,5 @@ list_kinds : map (λ p. option_map of_two (table_in (passes list_code 2) p)) (0 
     ∷ Some (ListKind ∷ Any ∷ [])
     ∷ None
     ∷ []
-unfolding body_at reading listed joined none_reached carried pass passes
+unfolding body_at reading listed row_join none_reached carried pass passes
 list_kinds = refl

@@ -26,9 +26,9 @@ unfoldable pub listed : ℕ → Kinds → Row
 listed zero ks = []
 listed (suc n) ks = ks 0 ∷ listed n (λ r. ks (suc r))
 
-unfoldable pub joined : Row → Kinds → Row
-joined [] ks = []
-joined (k ∷ row) ks = kind_join k (ks 0) ∷ joined row (λ r. ks (suc r))
+unfoldable pub row_join : Row → Kinds → Row
+row_join [] ks = []
+row_join (k ∷ row) ks = kind_join k (ks 0) ∷ row_join row (λ r. ks (suc r))
 
 -- kinds are at or below those of a row
 unfoldable pub is_within : Kinds → Row → Bool
@@ -48,7 +48,7 @@ table_in rows p = option_map kinds_in (row_at rows p)
 
 abbrev pub arrived : ℕ → Kinds → Option Row → Row
 arrived n ks None = listed n ks
-arrived n ks (Some row) = joined row ks
+arrived n ks (Some row) = row_join row ks
 
 -- the kinds of an edge to a place are joined with the row of that place
 unfoldable pub carried : ℕ → ℕ → Kinds → Rows → Rows

@@ -7,7 +7,7 @@ use Rattle.std.proofs.lemmas.List.Elements.{All-nil, All-cons, All-head, All-tai
 use Rattle.text_model.specs.Texts.{Text, percent, is_unreserved, is_reserved, is_hexadecimal}
 use Rattle.text_model.specs.Writing.{is_unreserved_or_reserved}
 use Rattle.text_model.specs.UriText.{IsUriText, nothing, and_character, and_triplet}
-use Rattle.menu.specs.Contained.{is_delimiter, is_markup, BeginsWith, IsContained, is_name_character, IsTargetName}
+use Rattle.menu.specs.Contained.{is_delimiter, is_markup, BeginsWith, IsContained, is_target_name_character, IsTargetName}
 use Rattle.menu.specs.Escaping.{ampersand, apostrophe, ampersand_reference, apostrophe_reference, escaped_byte, escaped}
 use Rattle.menu.proofs.ReadingLemmas.{head_of, rest_of}
 
@@ -124,8 +124,8 @@ escaped-contained link u = record { no_delimiter = no_delimiter link u; referenc
 
 -- ---- names
 
-name_character : (b : ℕ) → is_name_character b ≡ true → is_markup b ≡ false
+name_character : (b : ℕ) → is_target_name_character b ≡ true → is_markup b ≡ false
 name_character b e = grind (arith, nat_tests)
 
 pub name-plain : (name : Text) → IsTargetName name → All (λ b. is_markup b ≡ false) name
-name-plain name h = All-weaker (λ b. is_name_character b ≡ true) (λ b. is_markup b ≡ false) name_character name h.characters
+name-plain name h = All-weaker (λ b. is_target_name_character b ≡ true) (λ b. is_markup b ≡ false) name_character name h.characters

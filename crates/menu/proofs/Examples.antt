@@ -13,7 +13,7 @@ use Rattle.menu.specs.Links.{links, is_link, is_empty}
 use Rattle.menu.specs.Escaping.{escaped}
 use Rattle.menu.specs.Printed.{text, report, html}
 use Rattle.menu.specs.WebLink.{is_web_link}
-use Rattle.menu.specs.Contained.{is_name_character, is_markup, IsTargetName}
+use Rattle.menu.specs.Contained.{is_target_name_character, is_markup, IsTargetName}
 
 -- ---- menus
 
@@ -130,17 +130,17 @@ schemes_alone = refl
 
 -- ---- names of targets
 
-name_characters : filter is_name_character all_bytes ≡ codes "-.0123456789ABCDEFGHIJKLMNOPQRSTUVWXYZ_abcdefghijklmnopqrstuvwxyz"
+name_characters : filter is_target_name_character all_bytes ≡ codes "-.0123456789ABCDEFGHIJKLMNOPQRSTUVWXYZ_abcdefghijklmnopqrstuvwxyz"
 name_characters = refl
 
 markup : filter is_markup all_bytes ≡ codes "\"&'<>"
 markup = refl
 
 one_character : IsTargetName (codes "a")
-one_character = record { some = lit≤ tt; few = lit≤ tt; characters = All-from_list_all is_name_character (codes "a") refl }
+one_character = record { some = lit≤ tt; few = lit≤ tt; characters = All-from_list_all is_target_name_character (codes "a") refl }
 
 longest_name : IsTargetName (replicate 64 0x61)
-longest_name = record { some = lit≤ tt; few = lit≤ tt; characters = All-from_list_all is_name_character (replicate 64 0x61) refl }
+longest_name = record { some = lit≤ tt; few = lit≤ tt; characters = All-from_list_all is_target_name_character (replicate 64 0x61) refl }
 
 too_long_name : IsTargetName (replicate 65 0x61) → ⊥
 too_long_name h = omega (arith, h.few)

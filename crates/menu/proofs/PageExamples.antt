@@ -8,7 +8,7 @@ use Rattle.text_model.proofs.UriTexts.{written_ur-uri}
 use Rattle.text_model.proofs.Lists.{All-from_list_all}
 use Rattle.menu.specs.Printed.{html}
 use Rattle.menu.specs.Escaping.{read_nothing, read_ampersand, read_character}
-use Rattle.menu.specs.Contained.{is_name_character}
+use Rattle.menu.specs.Contained.{is_target_name_character}
 use Rattle.menu.specs.PageReading.{is_in_text, is_in_value, doctype, list_start, list_end, item_start, item_end, paragraph_start, paragraph_end, link_end}
 use Rattle.menu.specs.PageReading.{Token, tag, title, link, text, with_tag, with_link, with_text, IsReadAsTokens, read_end, read_token, links_in, IsSoundLink}
 use Rattle.menu.specs.PageReading.{HasSoundLinks, page_tokens}
@@ -32,7 +32,7 @@ alpha_is_sound : HasSoundLinks one_link
 unfolding written_ur is_unreserved is_reserved
 alpha_is_sound =
     All-cons IsSoundLink (record { name = codes "alpha"; link = codes "http://e.org/b" }) [] (record {
-      name = record { some = lit≤ tt; few = lit≤ tt; characters = All-from_list_all is_name_character (codes "alpha") refl };
+      name = record { some = lit≤ tt; few = lit≤ tt; characters = All-from_list_all is_target_name_character (codes "alpha") refl };
       uri = written_ur-uri (codes "http://e.org/b");
     }) (All-nil IsSoundLink)
 

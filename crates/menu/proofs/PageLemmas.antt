@@ -10,7 +10,7 @@ use Rattle.std.proofs.lemmas.List.Elements.{All-head, All-tail, All-weaker}
 use Rattle.text_model.specs.Texts.{Text, is_unreserved, is_reserved}
 use Rattle.text_model.proofs.Lists.{All-from_list_all}
 use Rattle.menu.specs.Entries.{MenuEntry}
-use Rattle.menu.specs.Contained.{is_name_character, IsTargetName}
+use Rattle.menu.specs.Contained.{is_target_name_character, IsTargetName}
 use Rattle.menu.specs.Escaping.{ampersand, apostrophe, ampersand_reference, apostrophe_reference, escaped, IsReadAs, read_nothing, read_character}
 use Rattle.menu.specs.Links.{NamedLink, links, is_empty}
 use Rattle.menu.specs.Printed.{html_item, html_list, html}
@@ -67,11 +67,11 @@ all_in_value l h =
     All-escaped (λ b. is_in_value b ≡ true) (All-from_list_all is_in_value ampersand_reference refl)
     (All-from_list_all is_in_value apostrophe_reference refl) value_byte l.link h.uri
 
-name_byte : (b : ℕ) → is_name_character b ≡ true → is_simple b ≡ true
+name_byte : (b : ℕ) → is_target_name_character b ≡ true → is_simple b ≡ true
 name_byte b e = grind (arith, nat_tests)
 
 all_simple : (name : Text) → IsTargetName name → All simple name
-all_simple name h = All-weaker (λ b. is_name_character b ≡ true) simple name_byte name h.characters
+all_simple name h = All-weaker (λ b. is_target_name_character b ≡ true) simple name_byte name h.characters
 
 some_name : (name : Text) → IsTargetName name → name ≢ []
 some_name name h e = omega (arith, ap length e, h.some)

@@ -26,11 +26,11 @@ abbrev pub is_markup : ℕ → Bool
 is_markup b = is_delimiter b || b == ampersand
 
 -- a letter, a digit, or one of `-_.`
-abbrev pub is_name_character : ℕ → Bool
-is_name_character b = is_ascii_alphanumeric b || list_any (nat_eq b) (codes "-_.")
+abbrev pub is_target_name_character : ℕ → Bool
+is_target_name_character b = is_ascii_alphanumeric b || list_any (nat_eq b) (codes "-_.")
 
 -- 1 to 64 of these characters
 pub record IsTargetName (name : Text) : Type 0 where
   pub some : 1 ≤ length name
   pub few : length name ≤ 64
-  pub characters : All (λ b. is_name_character b ≡ true) name
+  pub characters : All (λ b. is_target_name_character b ≡ true) name

@@ -16,7 +16,7 @@ use Rattle.registry.specs.Entries.{menu_of, resolution_of}
 use Rattle.lint_laws.specs.RowLinks.{HasHostOfRow, environment_of_cells, has_open_hosts}
 use Rattle.rule_menus.specs.FirstLinks.{IsFirstWebLink}
 use Rattle.rule_menus.specs.RuleMenus.{HasSoundRules, RuleTarget, coded}
-use Rattle.menu_laws.specs.Hosts.{HasHostOfItsRow, HasHostOfSomeRow, IsClosed}
+use Rattle.menu_laws.specs.Hosts.{HasHostOfItsRow, HasHostOfSomeRow, HasClosedHosts}
 
 -- what lower crates say
 pub record LawsOfHosts : Type 0 where
@@ -28,7 +28,7 @@ pub record LawsOfHosts : Type 0 where
       → is_web_link link ≡ true → HasHostOfRow rules table row pairs link
 
 module _ (laws : LawsOfHosts) (pairs : List KeyValue) where
-  pub closed_target : (target : RuleTarget) (row : ℕ) (link : Text) → HasSoundRules target → IsClosed target
+  pub closed_target : (target : RuleTarget) (row : ℕ) (link : Text) → HasSoundRules target → HasClosedHosts target
       → resolution_of (coded target) pairs ≡ resolution.Link row link → HasHostOfRow target.rules target.table row pairs link
   closed_target target row link sound closed is =
       let first = ((laws.chosen target pairs row link sound).0 is).here in
@@ -45,7 +45,8 @@ module _ (laws : LawsOfHosts) (pairs : List KeyValue) where
   -- ---- all links
 
   module _ (all : List RuleTarget) where
-    links_from : (targets : List RuleTarget) → AllByRecursion HasSoundRules targets → AllByRecursion IsClosed targets → AllByRecursion (Contains all) targets
+    links_from : (targets : List RuleTarget) → AllByRecursion HasSoundRules targets → AllByRecursion HasClosedHosts targets
+        → AllByRecursion (Contains all) targets
         → AllByRecursion (HasHostOfSomeRow all pairs) (links (menu_of (map coded targets) pairs))
     links_from [] sound closed among = tt
     links_from (target ∷ targets) sound closed among =
@@ -71,9 +72,9 @@ module _ (laws : LawsOfHosts) (pairs : List KeyValue) where
         by_resolution resolution.NotAWebLink is later = later
         by_resolution (resolution.OverBudget bytes) is later = later
 
-  pub closed_links : (targets : List RuleTarget) → All HasSoundRules targets → All IsClosed targets
+  pub closed_links : (targets : List RuleTarget) → All HasSoundRules targets → All HasClosedHosts targets
       → All (HasHostOfSomeRow targets pairs) (links (menu_of (map coded targets) pairs))
   closed_links targets sound closed =
       All-from_recursion (HasHostOfSomeRow targets pairs) (links (menu_of (map coded targets) pairs))
-      (links_from targets targets (recursion_from_All HasSoundRules targets sound) (recursion_from_All IsClosed targets closed)
+      (links_from targets targets (recursion_from_All HasSoundRules targets sound) (recursion_from_All HasClosedHosts targets closed)
       (recursion_from_All (Contains targets) targets (All-contains_itself targets)))

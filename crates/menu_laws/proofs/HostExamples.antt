@@ -23,7 +23,7 @@ use Rattle.verified_runs.specs.Fates.{fate_in}
 use Rattle.registry.specs.Entries.{menu_of}
 use Rattle.rule_menus.specs.RuleMenus.{HasSoundRules, RuleTarget, coded}
 use Rattle.lint_laws.specs.RowLinks.{has_open_hosts}
-use Rattle.menu_laws.specs.Hosts.{IsClosed}
+use Rattle.menu_laws.specs.Hosts.{HasClosedHosts}
 use Rattle.menu_laws.proofs.SmallRegistries.{run_on_literals, table}
 
 -- ---- the template `{+title_url}`
@@ -89,7 +89,7 @@ alpha = target ((codes "2" ∷ codes "http://e.org/x" ∷ []) ∷ (codes "1" ∷
 alpha_is_sound : HasSoundRules alpha
 alpha_is_sound = rules_are_sound
 
-alpha_is_closed : IsClosed alpha
+alpha_is_closed : HasClosedHosts alpha
 alpha_is_closed = refl
 
 -- the request has an address of its own

@@ -9,7 +9,7 @@ use Rattle.std.proofs.lemmas.List.Elements.{All-append, All-cons, All-nil, All-p
 use Rattle.text_model.specs.Texts.{Text, percent, is_hexadecimal, is_unreserved, is_reserved}
 use Rattle.text_model.specs.UriText.{IsUriText, nothing, and_character, and_triplet}
 use Rattle.text_model.specs.Writing.{is_unreserved_or_reserved}
-use Rattle.menu.specs.Contained.{IsTargetName, is_name_character}
+use Rattle.menu.specs.Contained.{IsTargetName, is_target_name_character}
 use Rattle.menu.specs.Links.{NamedLink, links}
 use Rattle.menu.specs.PageReading.{IsSoundLink, HasSoundLinks}
 use Rattle.menu.specs.Printed.{report, resolution_text, text}
@@ -25,11 +25,11 @@ in_line b = is_in_line b ≡ true
 
 -- ---- bytes
 
-name_byte : (b : ℕ) → is_name_character b ≡ true → is_in_name b ≡ true
+name_byte : (b : ℕ) → is_target_name_character b ≡ true → is_in_name b ≡ true
 name_byte b e = grind (arith, nat_tests)
 
 name_bytes : (name : Text) → IsTargetName name → All (λ b. is_in_name b ≡ true) name
-name_bytes name h = All-weaker (λ b. is_name_character b ≡ true) (λ b. is_in_name b ≡ true) name_byte name h.characters
+name_bytes name h = All-weaker (λ b. is_target_name_character b ≡ true) (λ b. is_in_name b ≡ true) name_byte name h.characters
 
 uri_byte : (b : ℕ) → is_unreserved_or_reserved b ≡ true → in_line b
 unfolding is_unreserved is_reserved

@@ -11,17 +11,17 @@ use Rattle.kev_read.specs.Filling.{filled}
 use Rattle.kbart_rows.specs.Cells.{Row, named_cells}
 use Rattle.row_laws.specs.Shadowing.{row_of}
 use Rattle.row_scope.specs.RowEnvironments.{lists_of}
-use Rattle.verified_runs.specs.Fates.{Fate, fate_in}
+use Rattle.verified_runs.specs.Fates.{FateValue, fate_in}
 use Rattle.menu.specs.declared.entry.Resolution.{Resolution}
 use Rattle.registry.specs.Targets.{TargetValue}
 use Rattle.registry.specs.Entries.{matching_rows_of, resolution_by, resolution_of_row}
 use Rattle.menu_laws.specs.Updates.{is_cited}
 
 -- the fate of a code on the cells of a row
-abbrev pub fate_of_cells : Code → Row → List KeyValue → Row → Fate
+abbrev pub fate_of_cells : Code → Row → List KeyValue → Row → FateValue
 fate_of_cells code header pairs cells = fate_in code (filled (lists_of code) (row_of (named_cells header cells)) pairs)
 
-module _ (test : Row → Bool) (fate : Row → Fate) where
+module _ (test : Row → Bool) (fate : Row → FateValue) where
   -- the resolutions of the rows that pass the test, whose numbers begin with k
   abbrev pub resolutions_from : ℕ → List Row → List Resolution
   resolutions_from k [] = []

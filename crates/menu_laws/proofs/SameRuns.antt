@@ -9,7 +9,7 @@ use Rattle.machine_model.specs.Next.{state_after}
 use Rattle.machine_model.specs.Runs.{After, HasOutcome, IsStuck, Outcome}
 use Rattle.machine_model.specs.Runs as outcome
 use Rattle.machine_model.specs.States.{Frame, Running, State}
-use Rattle.machine_model.specs.Step.{Step}
+use Rattle.machine_model.specs.Step.{StepsTo}
 use Rattle.rule_menus.proofs.SameRuns.{AgreeOn, same_states}
 use Rattle.menu_laws.specs.Keys.{DenoteTheSame}
 
@@ -37,7 +37,7 @@ still_stuck decided c v w k s agree after stuck new step =
     let next : After c v (suc k) new = same_states c w v (turned c v w agree) (suc k) new (Running s, same_states c v w agree k (Running s) after, step) in
     let same : next.0 ≡ Running s =
     same_Some next.0 (Running s) (sym ((decided c v k next.0).0 next.1) ∙ (decided c v k (Running s)).0 after) in
-    stuck new (subst (λ (old : State). Step c v old new) same next.2)
+    stuck new (subst (λ (old : State). StepsTo c v old new) same next.2)
 
 pub same_outcome : StatesAreDecided → (c : Code) (v w : Environment) (o : Outcome) → DenoteTheSame c v w → HasOutcome c v o → HasOutcome c w o
 same_outcome decided c v w (outcome.Link link) same has = (has.0, same_states c v w (agree_on c v w same) has.0 _ has.1)

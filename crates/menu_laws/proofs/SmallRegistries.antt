@@ -16,7 +16,7 @@ use Rattle.machine_model.specs.Form.{body_at, fault_at, first_form_fault}
 use Rattle.machine_model.specs.Mismatch.{first_mismatch, mismatch_at}
 use Rattle.machine_model.specs.Next.{course_from}
 use Rattle.machine_model.specs.Operands.{has_right_operands}
-use Rattle.machine_model.specs.Passes.{carried, is_closed, is_within, joined, listed, none_reached, pass, passes, table_in}
+use Rattle.machine_model.specs.Passes.{carried, is_closed, is_within, row_join, listed, none_reached, pass, passes, table_in}
 use Rattle.machine_model.specs.Safe.{IsFileCode, IsSafe}
 use Rattle.machine_model.proofs.Faults.{form_decided}
 use Rattle.machine_laws.proofs.Least.{least_decides, mismatch_decides}
@@ -24,7 +24,7 @@ use Rattle.machine_laws.proofs.PassLemmas.{passes_least}
 use Rattle.machine_laws.proofs.OutputBounds.{safe}
 use Rattle.kev_read.specs.Pairs.{KeyValue, pairs_of}
 use Rattle.kbart_rows.specs.Cells.{Holdings, Row}
-use Rattle.menu.specs.Contained.{IsTargetName, is_name_character}
+use Rattle.menu.specs.Contained.{IsTargetName, is_target_name_character}
 use Rattle.registry.specs.Targets.{TargetValue, IsRegistry}
 
 -- what is unfolded to compute runs
@@ -57,11 +57,11 @@ accepted c n file form closed needs =
     safe c file good ((least_decides c (table_in (passes c n)) least).0 ((mismatch_decides c (table_in (passes c n))).1 needs))
 
 url_code_is_safe : IsSafe url_code
-unfolding first_below fault_at body_at reading listed joined is_within none_reached carried pass passes is_closed mismatch_at
+unfolding first_below fault_at body_at reading listed row_join is_within none_reached carried pass passes is_closed mismatch_at
 url_code_is_safe = accepted url_code 5 (record { some = omega arith; links = λ n is. absurd (false≢true is) }) refl refl refl
 
 spoilt_code_is_safe : IsSafe spoilt_code
-unfolding first_below fault_at body_at reading listed joined is_within none_reached carried pass passes is_closed mismatch_at
+unfolding first_below fault_at body_at reading listed row_join is_within none_reached carried pass passes is_closed mismatch_at
 spoilt_code_is_safe = accepted spoilt_code 1 (record { some = omega arith; links = λ n is. absurd (false≢true is) }) refl refl refl
 
 -- ---- registries
@@ -88,13 +88,14 @@ registry = alpha ∷ beta ∷ []
 abbrev pub spoilt_registry : List TargetValue
 spoilt_registry = spoilt_alpha ∷ beta ∷ []
 
-is_name : (name : Text) → 1 ≤ length name → length name ≤ 64 → list_all is_name_character name ≡ true → IsTargetName name
+is_name : (name : Text) → 1 ≤ length name → length name ≤ 64 → list_all is_target_name_character name ≡ true → IsTargetName name
 is_name name some few all =
     record {
       some = some;
       few = few;
       characters =
-          (Decides-by_and is_name_character (λ b. is_name_character b ≡ true) (list_all is_name_character) (λ _. (λ x. x, λ x. x)) refl (λ _ _. refl) name).0
+          (Decides-by_and is_target_name_character (λ b. is_target_name_character b ≡ true) (list_all is_target_name_character) (λ _. (λ x. x, λ x. x)) refl
+          (λ _ _. refl) name).0
           all;
     }
 

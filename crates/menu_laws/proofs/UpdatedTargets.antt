@@ -8,7 +8,7 @@ use Rattle.text_model.specs.Texts.{Text}
 use Rattle.code_model.specs.Code.{Code}
 use Rattle.kev_read.specs.Pairs.{KeyValue}
 use Rattle.kbart_rows.specs.Cells.{Row}
-use Rattle.verified_runs.specs.Fates.{Fate, OverBudget, Link, NoLink}
+use Rattle.verified_runs.specs.Fates.{FateValue, OverBudget, Link, NoLink}
 use Rattle.menu.specs.Links.{NamedLink, is_link, link_under, links}
 use Rattle.menu.specs.WebLink.{is_web_link}
 use Rattle.menu.specs.Entries.{MenuEntry}
@@ -75,7 +75,7 @@ extended_menu pairs (o ∷ old) (n ∷ new) all = (extended_entry pairs o n all.
 
 -- ---- without the numbers of rows
 
-unnumbered_row : (row other : ℕ) (fate : Fate) → unnumbered (resolution_by row fate) ≡ unnumbered (resolution_by other fate)
+unnumbered_row : (row other : ℕ) (fate : FateValue) → unnumbered (resolution_by row fate) ≡ unnumbered (resolution_by other fate)
 unnumbered_row row other (OverBudget bytes) = refl
 unnumbered_row row other NoLink = refl
 unnumbered_row row other (Link link) = by_test (is_web_link link)
@@ -94,7 +94,7 @@ chosen_unnumbered before (resolution.NoLink ∷ resolutions) = chosen_unnumbered
 chosen_unnumbered before (resolution.NotAWebLink ∷ resolutions) = chosen_unnumbered resolution.NotAWebLink resolutions
 chosen_unnumbered before (resolution.OverBudget bytes ∷ resolutions) = chosen_unnumbered (resolution.OverBudget bytes) resolutions
 
-module _ (test : Row → Bool) (fate : Row → Fate) where
+module _ (test : Row → Bool) (fate : Row → FateValue) where
   rows_unnumbered : (k : ℕ) (rows : List Row)
       → map unnumbered (resolutions_from test fate k rows) ≡ map (λ cells. unnumbered (resolution_by 0 (fate cells))) (filter test rows)
   rows_unnumbered k [] = refl

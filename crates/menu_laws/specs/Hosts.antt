@@ -9,13 +9,13 @@ use Rattle.lint_laws.specs.RowLinks.{HasHostOfRow, has_open_hosts}
 use Rattle.rule_menus.specs.RuleMenus.{RuleTarget}
 
 -- `lint` finds nothing about the hosts of the target's links
-abbrev pub IsClosed : RuleTarget → Type 0
-IsClosed target = has_open_hosts target.rules target.table ≡ false
+abbrev pub HasClosedHosts : RuleTarget → Type 0
+HasClosedHosts target = has_open_hosts target.rules target.table ≡ false
 
 -- if it finds nothing, and the entry of the target has a link, a row of the target's table decides the link's host
 abbrev pub HasHostOfItsRow : List KeyValue → RuleTarget → MenuEntry → Type 0
 HasHostOfItsRow pairs target entry =
-    IsClosed target → (row : ℕ) (link : Text) → entry.resolution ≡ Link row link → HasHostOfRow target.rules target.table row pairs link
+    HasClosedHosts target → (row : ℕ) (link : Text) → entry.resolution ≡ Link row link → HasHostOfRow target.rules target.table row pairs link
 
 -- a row of one of these targets, which has the name, decides the link's host
 pub record HasHostOfSomeRow (targets : List RuleTarget) (pairs : List KeyValue) (named : NamedLink) : Type 0 where

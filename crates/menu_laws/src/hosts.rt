@@ -11,7 +11,7 @@ ghost use Rattle.registry.specs.Entries.{menu_of, resolution_of};
 ghost use Rattle.registry.specs.Targets.{IsRegistry};
 ghost use Rattle.lint_laws.specs.RowLinks.{HasHostOfRow};
 ghost use Rattle.rule_menus.specs.RuleMenus.{RuleTarget, HasSoundRules, coded};
-ghost use Rattle.menu_laws.specs.Hosts.{HasHostOfItsRow, HasHostOfSomeRow, IsClosed};
+ghost use Rattle.menu_laws.specs.Hosts.{HasHostOfItsRow, HasHostOfSomeRow, HasClosedHosts};
 ghost use Rattle.menu_laws.specs.Lines.{links_in_text};
 
 use crate::text::text_is_read_as_its_links;
@@ -27,15 +27,15 @@ use rule_menus::laws::first_web_link_is_chosen;
 /// decodes. The law is false if the lines `a request can set the host by NAME` do not count.
 pub fn no_open_redirect()
     ensures target { (target : RuleTarget) (pairs : List KeyValue) (row : ℕ) (link : Text) → HasSoundRules target
-        → IsClosed target → resolution_of (coded target) pairs ≡ Link row link
+        → HasClosedHosts target → resolution_of (coded target) pairs ≡ Link row link
         → HasHostOfRow target.rules target.table row pairs link }
     ensures menu { (targets : List RuleTarget) (pairs : List KeyValue) → All HasSoundRules targets
         → AllZip (HasHostOfItsRow pairs) targets (menu_of (map coded targets) pairs) }
     ensures links { (targets : List RuleTarget) (pairs : List KeyValue) → All HasSoundRules targets
-        → All IsClosed targets
+        → All HasClosedHosts targets
         → All (HasHostOfSomeRow targets pairs) (links (menu_of (map coded targets) pairs)) }
     ensures text { (targets : List RuleTarget) (pairs : List KeyValue) → All HasSoundRules targets
-        → All IsClosed targets → IsRegistry (map coded targets)
+        → All HasClosedHosts targets → IsRegistry (map coded targets)
         → All (HasHostOfSomeRow targets pairs) (links_in_text (text (menu_of (map coded targets) pairs))) }
 {
     first_web_link_is_chosen();

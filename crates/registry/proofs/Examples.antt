@@ -10,7 +10,7 @@ use Rattle.kbart_rows.specs.Cells.{Holdings}
 use Rattle.menu.specs.declared.entry.Resolution.{Resolution}
 use Rattle.menu.specs.declared.entry.Resolution.TheVariants as resolution
 use Rattle.registry.specs.Targets.{TargetValue, has_name}
-use Rattle.registry.specs.Refusals.{IsRefusal}
+use Rattle.registry.specs.Refusals.{IsAddRefusal}
 use Rattle.registry.specs.declared.error.AddErrorKind.TheVariants.{BadTargetName, NoMemory}
 use Rattle.row_scope.specs.RowEnvironments.{entries_of_row}
 use Rattle.registry.specs.RowEnvironments.{row_environment}
@@ -105,8 +105,8 @@ names_of_two : map (has_name (alpha ∷ target (codes "beta") (printing []) ∷ 
 names_of_two = refl
 
 -- a full registry is full, whatever the name
-full_before_names : (targets : List TargetValue) → length targets ≡ 256 → IsRefusal targets (codes "a b") BadTargetName → ⊥
+full_before_names : (targets : List TargetValue) → length targets ≡ 256 → IsAddRefusal targets (codes "a b") BadTargetName → ⊥
 full_before_names targets many refused = omega (arith, many, refused.0)
 
-names_before_memory : IsRefusal [] (codes "a b") NoMemory → ⊥
+names_before_memory : IsAddRefusal [] (codes "a b") NoMemory → ⊥
 names_before_memory may = absurd (cc (may.1.is_name.characters 1 0 (lit< tt)))

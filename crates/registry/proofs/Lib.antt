@@ -1,4 +1,4 @@
-pub mod Adding
+pub mod OneMoreTarget
 mod Examples
 mod MenuExamples
 pub mod Fates

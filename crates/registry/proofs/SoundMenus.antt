@@ -22,7 +22,7 @@ use Rattle.menu.specs.declared.entry.Resolution.{Resolution}
 use Rattle.menu.specs.declared.entry.Resolution.TheVariants as resolution
 use Rattle.registry.specs.Targets.{TargetValue, IsRegistry}
 use Rattle.registry.specs.RowEnvironments.{row_environment}
-use Rattle.verified_runs.specs.Fates.{Fate, OverBudget, Link, NoLink, ended, fate_in, most_bytes_in}
+use Rattle.verified_runs.specs.Fates.{FateValue, OverBudget, Link, NoLink, ended, fate_in, most_bytes_in}
 use Rattle.registry.specs.Entries.{entry_of, last_resolution, matching_rows_of, menu_of, resolution_by, resolution_of, resolution_of_row}
 use Rattle.registry.specs.MenuLinks.{IsMenuLink, IsSoundMenu}
 
@@ -33,7 +33,7 @@ OutcomesAreDecided = (c : Code) (v : Environment) (o : Outcome) → HasOutcome c
 -- ---- fates
 
 -- a link is URI text
-abbrev IsUriFate : Fate → Type 0
+abbrev IsUriFate : FateValue → Type 0
 IsUriFate (OverBudget bytes) = Unit {0}
 IsUriFate (Link link) = IsUriText link
 IsUriFate NoLink = Unit {0}
@@ -63,7 +63,7 @@ IsSoundResolution resolution.NoLink = Unit {0}
 IsSoundResolution resolution.NotAWebLink = Unit {0}
 IsSoundResolution (resolution.OverBudget bytes) = Unit {0}
 
-sound_resolution_by : (row : ℕ) (fate : Fate) → IsUriFate fate → IsSoundResolution (resolution_by row fate)
+sound_resolution_by : (row : ℕ) (fate : FateValue) → IsUriFate fate → IsSoundResolution (resolution_by row fate)
 sound_resolution_by row (OverBudget bytes) uri = tt
 sound_resolution_by row NoLink uri = tt
 sound_resolution_by row (Link link) uri = by_test (is_web_link link) refl

@@ -8,18 +8,18 @@ use Rattle.menu.specs.Links.{is_link}
 use Rattle.menu.specs.Entries.{MenuEntry}
 use Rattle.menu.specs.declared.entry.Resolution.{Resolution}
 use Rattle.menu.specs.declared.entry.Resolution.TheVariants as resolution
-use Rattle.verified_runs.specs.Fates.{Fate, OverBudget, Link, NoLink, fate_in}
+use Rattle.verified_runs.specs.Fates.{FateValue, OverBudget, Link, NoLink, fate_in}
 use Rattle.registry.specs.Targets.{TargetValue}
 use Rattle.registry.specs.RowEnvironments.{row_environment}
 
 -- ---- one row
 
 -- the target's code runs on the environment of the row and the request
-abbrev pub fate_of_row : TargetValue → List KeyValue → ℕ → Fate
+abbrev pub fate_of_row : TargetValue → List KeyValue → ℕ → FateValue
 fate_of_row target pairs row = fate_in target.code (row_environment target pairs row)
 
 -- the resolution of a row's fate: only a web link counts as a link
-abbrev pub resolution_by : ℕ → Fate → Resolution
+abbrev pub resolution_by : ℕ → FateValue → Resolution
 resolution_by row (OverBudget bytes) = resolution.OverBudget bytes
 resolution_by row (Link link) = if is_web_link link then resolution.Link row link else resolution.NotAWebLink
 resolution_by row NoLink = resolution.NoLink

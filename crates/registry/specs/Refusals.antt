@@ -11,7 +11,7 @@ abbrev pub MayBeAdded : List TargetValue → Text → Type 0
 MayBeAdded targets name = (length targets < MAX_TARGETS) × IsFreeName targets name
 
 -- the first reason in the order number, name, memory
-abbrev pub IsRefusal : List TargetValue → Text → AddErrorKind → Type 0
-IsRefusal targets name Full = length targets ≡ MAX_TARGETS
-IsRefusal targets name BadTargetName = (length targets < MAX_TARGETS) × ¬ (IsFreeName targets name)
-IsRefusal targets name NoMemory = MayBeAdded targets name
+abbrev pub IsAddRefusal : List TargetValue → Text → AddErrorKind → Type 0
+IsAddRefusal targets name Full = length targets ≡ MAX_TARGETS
+IsAddRefusal targets name BadTargetName = (length targets < MAX_TARGETS) × ¬ (IsFreeName targets name)
+IsAddRefusal targets name NoMemory = MayBeAdded targets name

@@ -8,7 +8,7 @@ const MAX_NAME_BYTES: usize = 64;
 
 /// Whether a byte is a letter, a digit, or one of `-_.`.
 fn is_name_character(byte: u8) -> bool
-    ensures { result ≡ spec.is_name_character byte }
+    ensures { result ≡ spec.is_target_name_character byte }
 {
     byte.is_ascii_alphanumeric() || byte == b'-' || byte == b'_' || byte == b'.'
 }

@@ -8,7 +8,7 @@ ghost use Rattle.kbart_rows.specs.ColumnNames.{has};
 ghost use Rattle.row_scope.specs.NameColumns.{AreNameColumns};
 ghost use Rattle.row_scope.specs.RequestValues.{AreAmong};
 ghost use Rattle.registry.specs.Targets.{IsRegistry, AreAllAmong};
-ghost use Rattle.registry.specs.Refusals.{IsRefusal, MayBeAdded};
+ghost use Rattle.registry.specs.Refusals.{IsAddRefusal, MayBeAdded};
 
 use crate::error::{AddError, AddErrorKind};
 use crate::name::is_target_name;
@@ -89,7 +89,7 @@ impl Registry {
             (self.new ≡ self.old ++ record { name = string_bytes name; code = code; table = table } ∷ []) }
         ensures accepted { IfOk result (λ _. MayBeAdded self.old (string_bytes name)) }
         ensures err { OnErr result (self.new ≡ self.old) }
-        ensures refused { IfErr result (λ e. IsRefusal self.old (string_bytes name) e.kind) }
+        ensures refused { IfErr result (λ e. IsAddRefusal self.old (string_bytes name) e.kind) }
         ensures parts { IfErr result (λ e. (string_bytes e.name ≡ string_bytes name) × (e.code ≡ code)
             × (e.table ≡ table)) }
     {
@@ -126,7 +126,7 @@ impl Registry {
 
     /// Why a target of this name is not added, apart from memory.
     fn refusal(&self, name: &str) -> Option<AddErrorKind>
-        ensures { MatchOption result (MayBeAdded self.now name.now) (IsRefusal self.now name.now) }
+        ensures { MatchOption result (MayBeAdded self.now name.now) (IsAddRefusal self.now name.now) }
     {
         if self.targets.len() >= MAX_TARGETS {
             Some(AddErrorKind::Full)

@@ -9,7 +9,7 @@ use Rattle.kbart_rows.specs.Cells.{Row}
 use Rattle.kbart_rows.specs.Reading.{AreLines}
 use Rattle.kbart_rows.specs.declared.keys.Keys.{Keys}
 use Rattle.registry.specs.Targets.{TargetValue}
-use Rattle.kbart_rows.specs.Drawing.{IsDrawn}
+use Rattle.kbart_rows.specs.RandomKeys.{IsDrawn}
 use Rattle.registry_file.specs.Loading.{IsTargetAt, AreTargets, IsRefusedLine, StopsAtLine, IsRegistryFault, IsNotLoaded}
 use Rattle.registry_file.specs.declared.lines.TheConstants.{MAX_REGISTRY_BYTES}
 use Rattle.registry_file.specs.declared.error.RegistryError.{RegistryError}

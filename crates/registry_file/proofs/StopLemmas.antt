@@ -4,7 +4,7 @@ use Rattle.text_model.specs.Texts.{Text}
 use Rattle.files.specs.Found.{Disk, OfFile}
 use Rattle.files.specs.declared.call.FileCall.{FileCall}
 use Rattle.registry.specs.Targets.{TargetValue}
-use Rattle.registry.specs.Refusals.{IsRefusal}
+use Rattle.registry.specs.Refusals.{IsAddRefusal}
 use Rattle.registry.specs.declared.error.AddErrorKind.{AddErrorKind}
 use Rattle.files.specs.Found.{Found, Absent, Gives}
 use Rattle.kbart_rows.specs.Reading.{IsFault}
@@ -53,12 +53,12 @@ module _ {F : Type 0} (fails : F → FileCall → Text → F → Type 0) (disk :
   named_fault stop (fault.Add kind) why is = subst (IsStop fails disk targets name code_path table_path) is why
 
 -- `add` refused the target
-pub not_added : (targets : List TargetValue) (name : Text) (kind : AddErrorKind) (stop : Stop) → IsRefusal targets name kind → IsAddStop kind stop
+pub not_added : (targets : List TargetValue) (name : Text) (kind : AddErrorKind) (stop : Stop) → IsAddRefusal targets name kind → IsAddStop kind stop
     → IsNotAdded targets name stop
 not_added targets name kind (Device named) why is = absurd is
 not_added targets name kind (Load e) why is = absurd is
 not_added targets name kind (Table e) why is = absurd is
-not_added targets name kind (Add told) why is = (λ same. is.1 (sym is.0 ∙ same), subst (IsRefusal targets name) (sym is.0) why)
+not_added targets name kind (Add told) why is = (λ same. is.1 (sym is.0 ∙ same), subst (IsAddRefusal targets name) (sym is.0) why)
 not_added targets name kind NoMemory why is = tt
 
 -- the file was read, and is no code

@@ -15,9 +15,9 @@ use Rattle.kbart_rows.specs.Reading.{AreLines, IsTable, IsFault}
 use Rattle.kbart_rows.specs.declared.keys.Keys.{Keys}
 use Rattle.kbart_rows.specs.declared.error.TableError.TheVariants as table
 use Rattle.registry.specs.Targets.{TargetValue}
-use Rattle.registry.specs.Refusals.{IsRefusal}
+use Rattle.registry.specs.Refusals.{IsAddRefusal}
 use Rattle.registry.specs.declared.error.AddErrorKind.TheVariants as add
-use Rattle.kbart_rows.specs.Drawing.{IsDrawn}
+use Rattle.kbart_rows.specs.RandomKeys.{IsDrawn}
 use Rattle.registry_file.specs.Lines.{IsTargetLine, IsNoTargetLine}
 use Rattle.registry_file.specs.declared.lines.TheConstants.{MAX_REGISTRY_BYTES}
 use Rattle.registry_file.specs.declared.error.RegistryError.{RegistryError}
@@ -79,7 +79,7 @@ module _ {F : Type 0} (fails : F → FileCall → Text → F → Type 0) (disk :
   IsTargetFault targets name code_path table_path (fault.Table e) =
       (e ≢ table.NoMemory) × HasCode (disk code_path) × OfFile (disk table_path) (λ bytes. IsFault bytes e)
   IsTargetFault targets name code_path table_path (fault.Add kind) =
-      (kind ≢ add.NoMemory) × HasCode (disk code_path) × HasTable (disk table_path) × IsRefusal targets name kind
+      (kind ≢ add.NoMemory) × HasCode (disk code_path) × HasTable (disk table_path) × IsAddRefusal targets name kind
 
   -- the line is that of a target that cannot be added to the others
   pub record IsRefusedTarget (targets : List TargetValue) (row : Row) (e : TargetError) : Type 0 where

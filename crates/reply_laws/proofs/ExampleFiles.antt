@@ -14,7 +14,7 @@ use Rattle.code_model.specs.Code as code
 use Rattle.code_model.specs.declared.code.Instr.{Instr}
 use Rattle.machine_model.specs.Safe.{IsSafe}
 use Rattle.machine_laws.proofs.OutputBounds.{safe}
-use Rattle.code_file.specs.Grammar.{IsCode, IsCodeFile, IsInstr, IsLiteral, IsName, IsNameByte, IsTextOf, spelled}
+use Rattle.code_file.specs.Grammar.{IsCode, IsCodeFile, IsInstr, IsLiteral, IsCodeName, IsNameByte, IsTextOf, spelled}
 use Rattle.kbart_rows.specs.Cells.{Holdings, Row}
 use Rattle.kbart_rows.specs.Reading.{IsTable}
 use Rattle.kbart_rows.specs.declared.keys.Keys.{Keys}
@@ -165,8 +165,8 @@ is_code =
     let links = (code_is_file template_sound rules rules_are_sound).links in
     record {
       header = record { version = inl refl; names = omega arith; literals = omega arith; some = omega arith; instrs = omega arith };
-      names = All-cons IsName _ [] (record { some = omega arith; short = omega arith; visible = all_of IsNameByte _ visible (codes "title_id") refl })
-          (All-nil IsName);
+      names = All-cons IsCodeName _ [] (record { some = omega arith; short = omega arith; visible = all_of IsNameByte _ visible (codes "title_id") refl })
+          (All-nil IsCodeName);
       literals = All-cons IsLiteral (link_text (codes "http://e.org/")) after_site (is_literal _ refl (links 0 refl))
           (All-cons IsLiteral (compared_text []) after_empty (is_literal _ refl texts_are_utf8.0)
           (All-cons IsLiteral (link_text (codes ",")) after_comma (is_literal _ refl (links 2 refl))

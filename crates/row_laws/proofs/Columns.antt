@@ -6,7 +6,7 @@ use Rattle.std.specs.List.{cons_option, filter_map, range_with_len}
 use Rattle.text_model.proofs.Lists.{range_more}
 use Rattle.environment_model.specs.Environment.{Environment}
 use Rattle.kbart_rows.specs.Cells.{NamedCell, Row, named_cell}
-use Rattle.kbart_rows.specs.Filling.{fill_one, with_defined}
+use Rattle.kbart_rows.specs.Filling.{with_named_cell, with_defined}
 use Rattle.kbart_rows.proofs.FillingLemmas.{one_cell}
 use Rattle.row_laws.specs.Shadowing.{row_of}
 
@@ -27,5 +27,5 @@ cells_more header cells n =
 pub entries_more : (header cells : Row) (n : ℕ) → entries_of header cells (suc n) ≡ with_defined (entries_of header cells n) (named_cell header cells n)
 entries_more header cells n =
     ap row_of (cells_more header cells n)
-    ∙ fold-append fill_one [] (cells_of header cells n) (cons_option (named_cell header cells n) [])
+    ∙ fold-append with_named_cell [] (cells_of header cells n) (cons_option (named_cell header cells n) [])
     ∙ one_cell (entries_of header cells n) (named_cell header cells n)

@@ -21,9 +21,9 @@ once-with_text env name t once = by_test (is_there env name) refl
 
 -- ---- all cells, all pairs
 
-once-cells : (env : Environment) (cells : List NamedCell) → EachNameOnce env → EachNameOnce (by_cells.filled env cells)
+once-cells : (env : Environment) (cells : List NamedCell) → EachNameOnce env → EachNameOnce (by_cells.with_named_cells env cells)
 once-cells env [] once = once
-once-cells env (cell ∷ cells) once = once-cells (by_cells.fill_one env cell) cells (once-with_text env cell.name cell.text once)
+once-cells env (cell ∷ cells) once = once-cells (by_cells.with_named_cell env cell) cells (once-with_text env cell.name cell.text once)
 
 once-added : (list : Bool) (env : Environment) (pair : KeyValue) → EachNameOnce env → EachNameOnce (by_pairs.added list env pair)
 once-added true env pair once = once-with_member env pair.key pair.value once

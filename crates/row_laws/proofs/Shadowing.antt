@@ -34,9 +34,9 @@ texts-with_text env name t alone = by_test (is_there env name)
     by_test true = alone
     by_test false = texts-push env name t alone
 
-texts-filled : (env : Environment) (cells : List NamedCell) → HasTextsAlone env → HasTextsAlone (by_cells.filled env cells)
+texts-filled : (env : Environment) (cells : List NamedCell) → HasTextsAlone env → HasTextsAlone (by_cells.with_named_cells env cells)
 texts-filled env [] alone = alone
-texts-filled env (cell ∷ cells) alone = texts-filled (by_cells.fill_one env cell) cells (texts-with_text env cell.name cell.text alone)
+texts-filled env (cell ∷ cells) alone = texts-filled (by_cells.with_named_cell env cell) cells (texts-with_text env cell.name cell.text alone)
 
 pub row_has_texts : (cells : List NamedCell) → HasTextsAlone (row_of cells)
 row_has_texts cells = texts-filled [] cells tt

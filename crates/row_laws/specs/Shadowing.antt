@@ -10,7 +10,7 @@ use Rattle.kbart_rows.specs.Filling as by_cells
 
 -- the entries of the cells, without a request
 abbrev pub row_of : List NamedCell → Environment
-row_of cells = by_cells.filled [] cells
+row_of cells = by_cells.with_named_cells [] cells
 
 -- the entries of the request without a row, if these lists are declared
 abbrev pub requested : List Text → List KeyValue → Environment

@@ -62,9 +62,9 @@ impl<'a> RequestValues<'a> {
         ensures meets { IfOk result (λ values. values.meets ≡ has_key_among columns.now request.now.pairs) }
         ensures apart { IfOk result (λ values. IsApart values (has columns.now)) }
     {
-        let _bounded = request.pairs();
+        let _known = request.pairs();
         let values = request.values_by_key(alloc)?;
-        let _in_order = values.buffer();
+        let _known = values.buffer();
         let ends = ends_of(alloc, &values)?;
         let (bytes, members) = sums_without_lists(request);
         let meets = names_a_column(request, &values, columns);

@@ -122,7 +122,7 @@ impl<'t, 'a> Scope for RowScope<'t, 'a> {
     }
 
     fn size(&self) -> usize {
-        let _bytes = self.bytes;
+        let _known = self.bytes;
         self.target.request().size() + self.line.len()
     }
 

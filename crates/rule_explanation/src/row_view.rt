@@ -59,7 +59,7 @@ impl<'r, 'a> RowView<'r, 'a> {
         ensures small { IfSome result (λ cell. length cell.now ≤ MAX_BYTES) }
     {
         let request = self.request;
-        let _rows = request.table.rows();
+        let _known = request.table.rows();
         let cell = *self.cells.get(request.table.column(name)?)?;
         if cell.is_empty() { None } else { Some(cell) }
     }

@@ -10,17 +10,17 @@ use Rattle.std.proofs.lemmas.Slice.Eq.{bytes_eq-Decides}
 use Rattle.std.proofs.lemmas.List.{drop-map, length-drop, take_all}
 use Rattle.text_model.specs.Texts.{Text, texts_of}
 use Rattle.rule_lint.specs.Names.{adds_prefix, has_one_before, has_one_replaced, has_two_exchanged, is_edited_first, is_one_edit, resembles}
-use Rattle.rule_lint.specs.Private.Starts.{AreStarts, IsMarked, IsStart, first_with, hash_of, lower_case, without}
+use Rattle.rule_lint.specs.Private.Starts.{AreSearchStarts, IsMarked, IsStart, first_with, name_hash, lower_case, without}
 
 -- ---- one more name
 
 kept_mark : (old new : List ℕ) (k : ℕ) (name : Text) → ((h : ℕ) → first_with new h ≤ first_with old h) → IsMarked old k name → IsMarked new k name
 kept_mark old new k name kept marked =
     record {
-      whole = omega (arith, kept (hash_of name), marked.whole);
-      lowered = omega (arith, kept (hash_of (lower_case name)), marked.lowered);
-      unprefixed = omega (arith, kept (hash_of (drop 4 name)), marked.unprefixed);
-      shorter = λ i l. omega (arith, kept (hash_of (without name i)), marked.shorter i l);
+      whole = omega (arith, kept (name_hash name), marked.whole);
+      lowered = omega (arith, kept (name_hash (lower_case name)), marked.lowered);
+      unprefixed = omega (arith, kept (name_hash (drop 4 name)), marked.unprefixed);
+      shorter = λ i l. omega (arith, kept (name_hash (without name i)), marked.shorter i l);
     }
 
 pub one_more_marked : (old new : List ℕ) (names : List Text) (place : ℕ) → ((h : ℕ) → first_with new h ≤ first_with old h)
@@ -107,11 +107,11 @@ one_edit (b ∷ t) (c ∷ u) e = by_place (one_edit t u) (or_cases (is_edited_fi
 
 near : (firsts : List ℕ) (t u : Text) (k start : ℕ) → IsNear t u → IsStart firsts t start → IsMarked firsts k u → start ≤ k
 near firsts t u k start (is_longer t' u' i l e) from marked =
-    omega (arith, from.whole, marked.shorter i l, ap (λ text. first_with firsts (hash_of text)) e)
+    omega (arith, from.whole, marked.shorter i l, ap (λ text. first_with firsts (name_hash text)) e)
 near firsts t u k start (is_shorter t' u' i l e) from marked =
-    omega (arith, from.shorter i l, marked.whole, ap (λ text. first_with firsts (hash_of text)) e)
+    omega (arith, from.shorter i l, marked.whole, ap (λ text. first_with firsts (name_hash text)) e)
 near firsts t u k start (both t' u' i j l m e) from marked =
-    omega (arith, from.shorter i l, marked.shorter j m, ap (λ text. first_with firsts (hash_of text)) e)
+    omega (arith, from.shorter i l, marked.shorter j m, ap (λ text. first_with firsts (name_hash text)) e)
 
 prefixed : (t u : Text) → u ≡ codes "rft." ++ t → t ≡ drop 4 u
 prefixed t u e = sym (ap (drop 4) e)
@@ -121,15 +121,15 @@ alike firsts t u k start e from marked = by_case (or_cases (str_eq_ignore_ascii_
   where
     by_edit : (adds_prefix t u ≡ true) ⊎ (is_one_edit t u ≡ true) → start ≤ k
     by_edit (inl prefix) =
-        omega (arith, from.whole, marked.unprefixed, ap (λ text. first_with firsts (hash_of text)) (prefixed t u (same u (codes "rft." ++ t) prefix)))
+        omega (arith, from.whole, marked.unprefixed, ap (λ text. first_with firsts (name_hash text)) (prefixed t u (same u (codes "rft." ++ t) prefix)))
     by_edit (inr edit) = near firsts t u k start (one_edit t u edit) from marked
 
     by_case : (str_eq_ignore_ascii_case t u ≡ true) ⊎ ((adds_prefix t u || is_one_edit t u) ≡ true) → start ≤ k
     by_case (inl case) =
-        omega (arith, from.lowered, marked.lowered, ap (λ text. first_with firsts (hash_of text)) (same (lower_case t) (lower_case u) case))
+        omega (arith, from.lowered, marked.lowered, ap (λ text. first_with firsts (name_hash text)) (same (lower_case t) (lower_case u) case))
     by_case (inr other) = by_edit (or_cases (adds_prefix t u) (is_one_edit t u) other)
 
-not_before : (firsts : List ℕ) (names : List Text) (name : Text) (start k : ℕ) → AreStarts firsts names → IsStart firsts name start → k < length names
+not_before : (firsts : List ℕ) (names : List Text) (name : Text) (start k : ℕ) → AreSearchStarts firsts names → IsStart firsts name start → k < length names
     → k < start → resembles name (get_or names k []) ≡ false
 not_before firsts names name start k are from within early = by_test (resembles name (get_or names k [])) refl
   where
@@ -145,7 +145,7 @@ find_after p (name ∷ names) (suc start) within none =
     let first : p name ≡ false = none 0 (omega arith) in
     rw first (find_after p names start (omega (arith, within)) (λ k l. none (suc k) (omega (arith, l))))
 
-pub find_from_start : (firsts : List ℕ) (names : List Text) (name : Text) (start from : ℕ) → AreStarts firsts names → IsStart firsts name start
+pub find_from_start : (firsts : List ℕ) (names : List Text) (name : Text) (start from : ℕ) → AreSearchStarts firsts names → IsStart firsts name start
     → from ≤ start → from ≤ length names → find (resembles name) (drop from names) ≡ find (resembles name) names
 find_from_start firsts names name start from are is below within =
     find_after (resembles name) names from within

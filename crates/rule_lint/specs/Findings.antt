@@ -56,8 +56,8 @@ names_in_part (Literal text) = []
 names_in_part (Expression op specs) = names_of specs
 
 -- the names of a template in order, each once
-abbrev pub names_in : List Part → List Text
-names_in parts = each_once (flat_map names_in_part parts)
+abbrev pub names_in_template : List Part → List Text
+names_in_template parts = each_once (flat_map names_in_part parts)
 
 -- the names by which a request can set the host; if there are none, whether the host may be empty or have an `@`
 abbrev pub in_open_host : Place → List Text → Bool → List Finding
@@ -70,7 +70,7 @@ in_host rules table at parts =
     else in_open_host at (host_names rules table parts) (may_be_hostless rules table parts)
 
 abbrev pub in_link : RuleSet → Holdings → Place → List Part → List Finding
-in_link rules table at parts = in_names rules table at (names_in parts) ++ in_host rules table at parts
+in_link rules table at parts = in_names rules table at (names_in_template parts) ++ in_host rules table at parts
 
 -- the findings for a guard, given with its index from 0
 abbrev pub in_numbered_guard : RuleSet → Holdings → ℕ → ℕ × Guard → List Finding

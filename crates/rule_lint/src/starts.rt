@@ -33,14 +33,14 @@ fn hash_on(start: u64, bytes: &[u8]) -> u64
 
 fn hash_without(name: &[u8], i: usize) -> u64
     requires { i < length name.now }
-    ensures { result ≡ spec.hash_of (spec.without name.now i) }
+    ensures { result ≡ spec.name_hash (spec.without name.now i) }
 {
     let (before, after) = (&name[..i], &name[i + 1..]);
     hash_on(hash_on(0, before), after)
 }
 
 fn hash_in_lower_case(name: &[u8]) -> u64
-    ensures { result ≡ spec.hash_of (spec.lower_case name.now) }
+    ensures { result ≡ spec.name_hash (spec.lower_case name.now) }
 {
     let mut hash = 0;
     for byte in name {
@@ -50,7 +50,7 @@ fn hash_in_lower_case(name: &[u8]) -> u64
 }
 
 fn hash_after_prefix(name: &[u8]) -> u64
-    ensures { result ≡ spec.hash_of (drop 4 name.now) }
+    ensures { result ≡ spec.name_hash (drop 4 name.now) }
 {
     match name {
         [_, _, _, _, rest @ ..] => hash_on(0, rest),
@@ -103,7 +103,7 @@ fn mark_name(firsts: &mut [usize], place: usize, name: &[u8])
 
 fn mark_names(firsts: &mut [usize], names: &[&str])
     requires { 0 < length firsts.old }
-    ensures { spec.AreStarts firsts.new (texts_of names.now) }
+    ensures { spec.AreSearchStarts firsts.new (texts_of names.now) }
 {
     for place in 0..names.len() {
         mark_name(firsts, place, names[place].as_bytes());
@@ -112,7 +112,7 @@ fn mark_names(firsts: &mut [usize], names: &[&str])
 
 /// From each hash to the first of the names that has it, or to one before it.
 pub(crate) fn starts_of(alloc: Global, names: &[&str]) -> Result<Vec<usize>, AllocError>
-    ensures { IfOk result (λ firsts. spec.AreStarts firsts.items (texts_of names.now)) }
+    ensures { IfOk result (λ firsts. spec.AreSearchStarts firsts.items (texts_of names.now)) }
 {
     let hashes = names.len().min(MOST_NAMES) * HASHES_PER_NAME + 1;
     let mut firsts = vec![in alloc; usize::MAX; hashes]?;

@@ -6,7 +6,7 @@ ghost use Rattle.environment_model.specs.Lists.{list_names};
 ghost use Rattle.rule_parser.specs.Names.{each_once};
 ghost use Rattle.rule_lint.specs.Names.{is_name};
 ghost use Rattle.rule_lint.specs.Private.Columns.{AreColumns};
-ghost use Rattle.rule_lint.specs.Private.Starts.{AreStarts};
+ghost use Rattle.rule_lint.specs.Private.Starts.{AreSearchStarts};
 
 use crate::columns::Column;
 use kbart_rows::Table;
@@ -24,6 +24,6 @@ pub(crate) struct Target<'a> {
     pub(crate) starts: Vec<usize>,
     ghost lists_of_rules: { texts_of lists.items ≡ each_once (list_names rules.now.lists) },
     ghost template_columns_of_table: { texts_of template_columns.items ≡ filter is_name table.now.header },
-    ghost starts_of_columns: { AreStarts starts.items (texts_of template_columns.items) },
+    ghost starts_of_columns: { AreSearchStarts starts.items (texts_of template_columns.items) },
     ghost columns_of_table: { AreColumns table.now.header table.now.rows columns.items },
 }

@@ -3,7 +3,7 @@
 ghost use Rattle.std.specs.Prelude.{◌≡◌, ◌++◌, ◌∷◌, [], List, IfOk, OnOk};
 ghost use Rattle.text_model.specs.Texts.{Text, texts_of};
 ghost use Rattle.rule_parser.specs.Names.{each_once};
-ghost use Rattle.rule_lint.specs.Findings.{names_in as names_in_template, names_in_part};
+ghost use Rattle.rule_lint.specs.Findings.{names_in_template, names_in_part};
 ghost use Rattle.rule_lint.specs.Host.{names_of};
 
 use std::alloc::{AllocError, Global};

@@ -22,7 +22,7 @@ use Rattle.rule_explanation.specs.Explanation.{explanation, is_detailed, text_of
 use Rattle.rule_explanation.specs.Rows.{gives_web_link, has_web_link, is_web, tried_rows, up_to_first}
 use Rattle.rule_menus.specs.RuleMenus.{RuleTarget, HasSoundRules, coded, environment_by_rules, fate_of_meaning, most_bytes_of_row, resolution_by_rules}
 use Rattle.rule_menus.specs.RuleMenus.{resolution_of_row_by_rules}
-use Rattle.rule_menus.specs.Explanations.{EndAs, IsExplained, IsWithinBudget, lines_of}
+use Rattle.rule_menus.specs.Explanations.{EndAs, IsExplained, AreTriedRowsWithinBudget, lines_of}
 use Rattle.rule_menus.proofs.Lines.{are_lines, end_joined, lines_joined, no_lines}
 use Rattle.rule_menus.proofs.RowEnds.{Ends, LawsOfRows, row_ends}
 
@@ -91,10 +91,10 @@ module _ (target : RuleTarget) (pairs : List KeyValue) where
   abbrev rows_of_request : List ℕ
   rows_of_request = matching_rows target.table (ids_of pairs)
 
-  entry_is_last : IsWithinBudget pairs target → resolution_by_rules target pairs ≡ last_tried resolution.NoRow rows_of_request
+  entry_is_last : AreTriedRowsWithinBudget pairs target → resolution_by_rules target pairs ≡ last_tried resolution.NoRow rows_of_request
   entry_is_last within = chosen_is_last rows_of_request resolution.NoRow (recursion_from_All IsWithin (up_to_first test rows_of_request) within)
 
-  pub found_is_link : IsWithinBudget pairs target → is_link (resolution_by_rules target pairs) ≡ has_web_link target.rules target.table pairs
+  pub found_is_link : AreTriedRowsWithinBudget pairs target → is_link (resolution_by_rules target pairs) ≡ has_web_link target.rules target.table pairs
   found_is_link within = ap is_link (entry_is_last within) ∙ last_is_link rows_of_request resolution.NoRow refl
 
   -- ---- how the explanation ends
@@ -128,7 +128,7 @@ module _ (target : RuleTarget) (pairs : List KeyValue) where
     all_end [] = record { lines = codes "no row" ∷ []; are = record { before = λ rest. refl }; last = refl }
     all_end (row ∷ rows) = rows_end rows 1 row resolution.NoRow
 
-    pub explanation_ends : IsWithinBudget pairs target
+    pub explanation_ends : AreTriedRowsWithinBudget pairs target
         → EndAs (lines_of (explanation target.rules target.table pairs)) (resolution_by_rules target pairs)
     explanation_ends within =
         let whole = all_end (tried_rows target.rules target.table pairs) in
@@ -139,14 +139,14 @@ module _ (target : RuleTarget) (pairs : List KeyValue) where
 -- ---- all targets
 
 abbrev pub EntryIsExplained : List KeyValue → RuleTarget → Type 0
-EntryIsExplained pairs target = HasSoundRules target → IsWithinBudget pairs target
+EntryIsExplained pairs target = HasSoundRules target → AreTriedRowsWithinBudget pairs target
     → EndAs (lines_of (explanation target.rules target.table pairs)) (resolution_of (coded target) pairs)
 
 module _ (pairs : List KeyValue) (each : (target : RuleTarget) → EntryIsExplained pairs target) where
-  pub menu_explained : (targets : List RuleTarget) → All HasSoundRules targets → All (IsWithinBudget pairs) targets
+  pub menu_explained : (targets : List RuleTarget) → All HasSoundRules targets → All (AreTriedRowsWithinBudget pairs) targets
       → AllZip (IsExplained pairs) targets (menu_of (map coded targets) pairs)
   menu_explained [] sound within = tt
   menu_explained (target ∷ targets) sound within = (
-    record { name = refl; last = each target (All-head HasSoundRules target targets sound) (All-head (IsWithinBudget pairs) target targets within) },
-    menu_explained targets (All-tail HasSoundRules target targets sound) (All-tail (IsWithinBudget pairs) target targets within),
+    record { name = refl; last = each target (All-head HasSoundRules target targets sound) (All-head (AreTriedRowsWithinBudget pairs) target targets within) },
+    menu_explained targets (All-tail HasSoundRules target targets sound) (All-tail (AreTriedRowsWithinBudget pairs) target targets within),
   )

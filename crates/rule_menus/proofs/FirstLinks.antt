@@ -13,7 +13,7 @@ use Rattle.menu.specs.declared.entry.Resolution.TheVariants as resolution
 use Rattle.verified_runs.specs.Fates.{OverBudget}
 use Rattle.registry.specs.Entries.{resolution_by}
 use Rattle.rule_menus.specs.RuleMenus.{RuleTarget, environment_by_rules, most_bytes_of_row, fate_of_meaning, resolution_of_row_by_rules, resolution_by_rules}
-use Rattle.rule_menus.specs.FirstLinks.{is_cited, MeansWebLink, IsFirstWebLink}
+use Rattle.rule_menus.specs.FirstLinks.{is_cited_row, MeansWebLink, IsFirstWebLink}
 use Rattle.rule_menus.proofs.FirstRows.{IsFirstFrom, first_if_chosen, chosen_if_first}
 
 -- the parts of a resolution that is a link
@@ -73,7 +73,7 @@ module _ (target : RuleTarget) (pairs : List KeyValue) where
   own_number row place link is = (read_link row place link is).own
 
   abbrev IsFirst : ℕ → Text → Type 0
-  IsFirst row link = IsFirstFrom f (is_cited target pairs) own_number 0 (length target.table.rows) row link
+  IsFirst row link = IsFirstFrom f (is_cited_row target pairs) own_number 0 (length target.table.rows) row link
 
   from_first : (row : ℕ) (link : Text) → IsFirst row link → IsFirstWebLink target pairs row link
   from_first row link h =
@@ -98,6 +98,6 @@ module _ (target : RuleTarget) (pairs : List KeyValue) where
 
   pub first_link : (row : ℕ) (link : Text) → (resolution_by_rules target pairs ≡ resolution.Link row link) ↔ IsFirstWebLink target pairs row link
   first_link row link = (
-    λ is. from_first row link (first_if_chosen f (is_cited target pairs) own_number (length target.table.rows) 0 resolution.NoRow row link refl is),
-    λ h. chosen_if_first f (is_cited target pairs) own_number (length target.table.rows) 0 resolution.NoRow row link (to_first row link h),
+    λ is. from_first row link (first_if_chosen f (is_cited_row target pairs) own_number (length target.table.rows) 0 resolution.NoRow row link refl is),
+    λ h. chosen_if_first f (is_cited_row target pairs) own_number (length target.table.rows) 0 resolution.NoRow row link (to_first row link h),
   )

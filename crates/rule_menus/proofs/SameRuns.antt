@@ -14,7 +14,7 @@ use Rattle.machine_model.specs.States.{Frame, State, Running, Ended, on, holding
 use Rattle.machine_model.specs.Step.{Move, MovesTo, Does, halt, fail, jump, text, list}
 use Rattle.machine_model.specs.Step.{const, number, no_number, undefined, defined, empty, not_empty, no_member}
 use Rattle.machine_model.specs.Step.{a_member, equal, different, less, not_less, emit, put_text, cut_text, no_turn, enter, first_turn, later_turn, next_member}
-use Rattle.machine_model.specs.Step.{leave, count, Step}
+use Rattle.machine_model.specs.Step.{leave, count, StepsTo}
 use Rattle.machine_model.specs.Runs.{After}
 
 -- each name of the table denotes the same text and the same members
@@ -85,7 +85,7 @@ module _ (c : Code) (v w : Environment) (agree : AgreeOn c v w) where
   same_move s _ _ right (leave l h e k) = leave l h e k
   same_move s _ _ right (count a b ts h) = count a b ts h
 
-  same_step : (old new : State) → Step c v old new → Step c w old new
+  same_step : (old new : State) → StepsTo c v old new → StepsTo c w old new
   same_step (Ended end) new step = absurd step
   same_step (Running s) new step = (step.0, step.1, step.2, same_move s step.0 step.2 step.1.right step.3, step.4)
 

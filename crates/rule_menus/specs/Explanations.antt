@@ -13,8 +13,8 @@ use Rattle.menu.specs.declared.entry.Resolution.TheVariants as resolution
 use Rattle.rule_menus.specs.RuleMenus.{RuleTarget, most_bytes_of_row}
 
 -- the code cannot print too many bytes on any row that is tried
-abbrev pub IsWithinBudget : List KeyValue → RuleTarget → Type 0
-IsWithinBudget pairs target = All (λ row. most_bytes_of_row target pairs row ≤ MAX_LINK_BYTES) (tried_rows target.rules target.table pairs)
+abbrev pub AreTriedRowsWithinBudget : List KeyValue → RuleTarget → Type 0
+AreTriedRowsWithinBudget pairs target = All (λ row. most_bytes_of_row target pairs row ≤ MAX_LINK_BYTES) (tried_rows target.rules target.table pairs)
 
 -- ---- lines
 

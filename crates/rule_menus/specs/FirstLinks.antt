@@ -10,14 +10,14 @@ use Rattle.menu.specs.WebLink.{is_web_link}
 use Rattle.rule_menus.specs.RuleMenus.{RuleTarget, environment_by_rules, most_bytes_of_row}
 
 -- an identifier of the row is one of the request's
-abbrev pub is_cited : RuleTarget → List KeyValue → ℕ → Bool
-is_cited target pairs row =
+abbrev pub is_cited_row : RuleTarget → List KeyValue → ℕ → Bool
+is_cited_row target pairs row =
     is_match (identifier_columns target.table.header) (ids_of pairs) (cells_of_row target.table row)
 
 -- the row matches, the code cannot print too many bytes, and the rules give this link, which is a web link
 pub record MeansWebLink (target : RuleTarget) (pairs : List KeyValue) (row : ℕ) (link : Text) : Type 0 where
   pub there : row < length target.table.rows
-  pub cited : is_cited target pairs row ≡ true
+  pub cited : is_cited_row target pairs row ≡ true
   pub within : most_bytes_of_row target pairs row ≤ MAX_LINK_BYTES
   pub means : meaning target.rules (environment_by_rules target pairs row) ≡ Some link
   pub web : is_web_link link ≡ true

@@ -15,7 +15,7 @@ use Rattle.menu.specs.declared.entry.Resolution.{Resolution}
 use Rattle.menu.specs.declared.entry.Resolution.TheVariants.{NoRow}
 use Rattle.registry.specs.Targets.{TargetValue}
 use Rattle.registry.specs.RowEnvironments.{row_environment}
-use Rattle.verified_runs.specs.Fates.{Fate, OverBudget, Link, NoLink, most_bytes_in}
+use Rattle.verified_runs.specs.Fates.{FateValue, OverBudget, Link, NoLink, most_bytes_in}
 use Rattle.registry.specs.Entries.{chosen, resolution_by}
 
 -- a content provider: its name, its rules, and the table of its holdings
@@ -45,12 +45,12 @@ environment_by_code target pairs row = row_environment (coded target) pairs row
 abbrev pub most_bytes_of_row : RuleTarget → List KeyValue → ℕ → ℕ
 most_bytes_of_row target pairs row = most_bytes_in (code_of target.rules) (environment_by_code target pairs row)
 
-abbrev pub fate_of_meaning : Option Text → Fate
+abbrev pub fate_of_meaning : Option Text → FateValue
 fate_of_meaning None = NoLink
 fate_of_meaning (Some link) = Link link
 
 -- what the rules mean, unless the code might print too many bytes
-abbrev pub fate_by_rules : RuleTarget → List KeyValue → ℕ → Fate
+abbrev pub fate_by_rules : RuleTarget → List KeyValue → ℕ → FateValue
 fate_by_rules target pairs row =
     if nat_lt MAX_LINK_BYTES (most_bytes_of_row target pairs row) then OverBudget (most_bytes_of_row target pairs row)
     else fate_of_meaning (meaning target.rules (environment_by_rules target pairs row))

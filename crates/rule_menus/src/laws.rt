@@ -27,7 +27,7 @@ ghost use Rattle.rule_explanation.specs.Rows.{has_web_link};
 ghost use Rattle.rule_menus.specs.RuleMenus.{RuleTarget, HasSoundRules, coded, menu_by_rules, resolution_by_rules};
 ghost use Rattle.rule_menus.specs.RuleMenus.{environment_by_code, environment_by_rules};
 ghost use Rattle.rule_menus.specs.FirstLinks.{IsFirstWebLink};
-ghost use Rattle.rule_menus.specs.Explanations.{EndAs, IsExplained, IsWithinBudget, lines_of};
+ghost use Rattle.rule_menus.specs.Explanations.{EndAs, IsExplained, AreTriedRowsWithinBudget, lines_of};
 ghost use Rattle.rule_menus.specs.RuleFiles.{TargetFiles, AreOfFiles};
 ghost use Rattle.rule_menus.specs.CodeFiles.{IsCodeFileOf, AreReadFrom};
 ghost use Rattle.rule_menus.specs.Replies.{HasReply, page_by_rules};
@@ -75,13 +75,13 @@ pub fn first_web_link_is_chosen()
 /// or say why there is none.
 pub fn explanations_agree_with_menus()
     ensures found { (target : RuleTarget) (pairs : List KeyValue)
-        → HasSoundRules target → IsWithinBudget pairs target
+        → HasSoundRules target → AreTriedRowsWithinBudget pairs target
         → has_web_link target.rules target.table pairs ≡ is_link (resolution_of (coded target) pairs) }
     ensures last { (target : RuleTarget) (pairs : List KeyValue)
-        → HasSoundRules target → IsWithinBudget pairs target
+        → HasSoundRules target → AreTriedRowsWithinBudget pairs target
         → EndAs (lines_of (explanation target.rules target.table pairs)) (resolution_of (coded target) pairs) }
     ensures menu { (targets : List RuleTarget) (pairs : List KeyValue)
-        → All HasSoundRules targets → All (IsWithinBudget pairs) targets
+        → All HasSoundRules targets → All (AreTriedRowsWithinBudget pairs) targets
         → AllZip (IsExplained pairs) targets (menu_of (map coded targets) pairs) }
 {
     menus_are_what_rules_mean();

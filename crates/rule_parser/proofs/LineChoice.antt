@@ -12,7 +12,7 @@ use Rattle.std.proofs.Math.Seq.{take-append_seam, drop-append-add, get_or-append
 use Rattle.text_model.specs.Texts.{Text}
 use Rattle.uri_grammar.specs.declared.parts.Part.{Part}
 use Rattle.uri_grammar.specs.declared.error.TemplateErrorKind.{TemplateErrorKind}
-use Rattle.uri_grammar.specs.Texts.{IsTemplate, IsRefused as IsRefusedTemplate}
+use Rattle.uri_grammar.specs.Texts.{IsTemplate, IsRefusedTemplate}
 use Rattle.rule_parser.specs.declared.error.RuleErrorKind.{RuleErrorKind}
 use Rattle.rule_parser.specs.declared.error.RuleErrorKind.TheVariants as kind
 use Rattle.rule_parser.specs.declared.rule.Guard.{Guard}
@@ -23,7 +23,7 @@ use Rattle.rule_parser.specs.Statements.{Statement, Declare, Begin, When, Link, 
 use Rattle.rule_parser.specs.declared.rules.TheConstants.{MAX_BYTES}
 use Rattle.rule_parser.specs.Grammar.{is_significant, significant, IsRuleText}
 use Rattle.rule_parser.specs.Faults.{RulesSoFar, AreSoundSoFar, statements_so_far, takes_lists, IsLineFault, no_statement, out_of_order, bad_template}
-use Rattle.rule_parser.specs.Faults.{mismatched_guard, mismatched_link, IsFirstFault, IsRefused}
+use Rattle.rule_parser.specs.Faults.{mismatched_guard, mismatched_link, IsFirstRuleError, IsRefused}
 use Rattle.rule_parser.specs.Private.Progress.{Continues, no_rules}
 use Rattle.rule_parser.specs.Private.Reading.{ReadsGuard}
 use Rattle.rule_parser.proofs.LineNumbers.{line_number, line_fault, open_rule, first_fault}
@@ -186,7 +186,7 @@ line_choice tree b line u s =
 
 abbrev HasRulesOrFault : List Text → Type 0
 HasRulesOrFault ls =
-    ((rules : RuleSet) × IsSound rules × (significant ls ≡ map line_of (statements rules))) ⊎ ((k : RuleErrorKind) × (at : ℕ) × IsFirstFault ls k at)
+    ((rules : RuleSet) × IsSound rules × (significant ls ≡ map line_of (statements rules))) ⊎ ((k : RuleErrorKind) × (at : ℕ) × IsFirstRuleError ls k at)
 
 at_end : (ls : List Text) (whole : RuleSet) (o : Option (List Guard)) → AreSoundSoFar (record { whole = whole; guards = o })
     → significant ls ≡ map line_of (statements_so_far (record { whole = whole; guards = o })) ++ [] → HasRulesOrFault ls

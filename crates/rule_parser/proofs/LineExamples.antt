@@ -18,7 +18,7 @@ use Rattle.rule_parser.specs.declared.rule.Guard.TheVariants as guard
 use Rattle.rule_parser.specs.Rules.{RuleSet, IsSound, IsSoundGuard, IsSoundRule}
 use Rattle.rule_parser.specs.Statements.{Statement, Declare, Begin, When, Link, IsStatement, line_of, statements}
 use Rattle.rule_parser.specs.Grammar.{is_significant, IsRuleText}
-use Rattle.rule_parser.specs.Faults.{AreSoundSoFar, no_statement, out_of_order, mismatched_guard, IsFirstFault, IsRefused}
+use Rattle.rule_parser.specs.Faults.{AreSoundSoFar, no_statement, out_of_order, mismatched_guard, IsFirstRuleError, IsRefused}
 use Rattle.rule_parser.proofs.NameChoice.{name_from}
 
 -- ---- lines
@@ -72,7 +72,7 @@ nothing : IsRuleText [] (record { lists = []; rules = [] })
 nothing = record { short = text_of [] refl; utf8 = IsUtf8-nil; spelled = refl; sound = no_rules_are_sound }
 
 refused : (text : Text) (k : RuleErrorKind) (number : ℕ) → nat_le (length text) 65536 ≡ true → list_all (λ b. nat_lt b 128) text ≡ true
-    → IsFirstFault (lines text) k number → IsRefused text k number
+    → IsFirstRuleError (lines text) k number → IsRefused text k number
 refused text k number t u f = inr (inr (text_of text t, IsUtf8-from_ascii text (is_ascii_text text u), f))
 
 rule_started : AreSoundSoFar (record { whole = record { lists = []; rules = [] }; guards = Some [] })

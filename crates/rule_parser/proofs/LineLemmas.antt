@@ -17,7 +17,7 @@ use Rattle.std.specs.Prelude.{IsUtf8}
 use Rattle.std.specs.Str.Lines.{lines}
 use Rattle.rule_parser.specs.declared.rules.TheConstants.{MAX_BYTES}
 use Rattle.rule_parser.specs.Grammar.{is_significant, significant, IsRuleText}
-use Rattle.rule_parser.specs.Faults.{AreSoundSoFar, statements_so_far, statements_of_guards, IsFirstFault, EndsRule, IsRefused}
+use Rattle.rule_parser.specs.Faults.{AreSoundSoFar, statements_so_far, statements_of_guards, IsFirstRuleError, EndsRule, IsRefused}
 use Rattle.rule_parser.specs.Private.Progress.{so_far_of, no_rules, Continues, IsNumbered, KeepsLine, IsStepFault}
 use Rattle.rule_parser.proofs.LineNumbers.{significant-append, one_significant, line_number, split_at, significant_around, number_is, line_fault, open_rule}
 use Rattle.rule_parser.proofs.LineNumbers.{first_fault}
@@ -61,21 +61,21 @@ line_skipped ls i reader line r h e x = record {
 no_link_found : (ls : List Text) (whole : RuleSet) (guards : List Guard) (rule_line : Option ℕ) (at : ℕ) (k : RuleErrorKind) (rest : List Text)
     → rule_line ≡ Some at → k ≡ kind.NoLink → AreSoundSoFar (record { whole = whole; guards = guards_from rule_line guards })
     → significant ls ≡ map line_of (statements whole ++ statements_of_guards (guards_from rule_line guards)) ++ rest → EndsRule rest
-    → IfSome rule_line (λ line. line ≡ line_number ls (length (statements whole))) → IsFirstFault ls k at
+    → IfSome rule_line (λ line. line ≡ line_number ls (length (statements whole))) → IsFirstRuleError ls k at
 no_link_found ls whole guards None at k rest a b s e r n = absurd (cc)
 no_link_found ls whole guards (Some l) at k rest a b s e r n =
     let same : l ≡ at = cc in
-    subst (λ (x : RuleErrorKind). IsFirstFault ls x at) (sym b)
-    (subst (IsFirstFault ls kind.NoLink) (sym n ∙ same) (first_fault ls _ _ (open_rule ls whole guards rest s e r)))
+    subst (λ (x : RuleErrorKind). IsFirstRuleError ls x at) (sym b)
+    (subst (IsFirstRuleError ls kind.NoLink) (sym n ∙ same) (first_fault ls _ _ (open_rule ls whole guards rest s e r)))
 
 pub line_refused : (ls : List Text) (i : ℕ) (reader : Reader) (line : Text) (e : RuleError) → AreRead ls i reader → i < length ls → get_or ls i line ≡ line
-    → is_significant line ≡ true → IsStepFault reader (i + 1) line e → (e ≡ NO_MEMORY) ⊎ IsFirstFault ls e.kind e.line
+    → is_significant line ≡ true → IsStepFault reader (i + 1) line e → (e ≡ NO_MEMORY) ⊎ IsFirstRuleError ls e.kind e.line
 line_refused ls i reader line e r h g x (inl m) = inl m
 line_refused ls i reader line e r h g x (inr (inl f)) =
     let split = split_at ls i line h g in
     let spelled = significant_around ls (take i ls) split.0 line split.1 x ∙ ap (λ l. l ++ line ∷ significant split.0) r.spelled in
     inr
-    (subst (IsFirstFault ls e.kind) (number_is ls i (statements_so_far (so_far_of reader)) line h g x r.spelled ∙ sym f.1)
+    (subst (IsFirstRuleError ls e.kind) (number_is ls i (statements_so_far (so_far_of reader)) line h g x r.spelled ∙ sym f.1)
     (first_fault ls _ _ (line_fault ls (so_far_of reader) line (significant split.0) e.kind r.sound spelled f.0)))
 line_refused ls i reader line e r h g x (inr (inr f)) =
     let split = split_at ls i line h g in
@@ -84,7 +84,7 @@ line_refused ls i reader line e r h g x (inr (inr f)) =
     r.numbered)
 
 pub end_refused : (ls : List Text) (i : ℕ) (reader : Reader) (e : RuleError) → AreRead ls i reader → length ls ≤ i → e.kind ≡ kind.NoLink
-    → reader.rule_line ≡ Some e.line → IsFirstFault ls e.kind e.line
+    → reader.rule_line ≡ Some e.line → IsFirstRuleError ls e.kind e.line
 end_refused ls i reader e r h k a =
     no_link_found ls (so_far_of reader).whole reader.guards.items reader.rule_line e.line e.kind [] a k r.sound
     (ap significant (sym (take_all i ls h)) ∙ r.spelled ∙ sym (append-nil (map line_of (statements_so_far (so_far_of reader))))) tt r.numbered
@@ -103,7 +103,7 @@ all_lines ls i h = omega (arith, length-map ls (λ (x : Bor Text). x.now))
 
 pub end_result : (ls : List Text) (i : ℕ) (reader : Reader) (r : Result RuleSet RuleError) → AreRead ls i reader → length ls ≤ i
     → IfErr r (λ (e : RuleError). (e.kind ≡ kind.NoLink) × (reader.rule_line ≡ Some e.line))
-    → IfErr r (λ (e : RuleError). (e ≡ NO_MEMORY) ⊎ IsFirstFault ls e.kind e.line)
+    → IfErr r (λ (e : RuleError). (e ≡ NO_MEMORY) ⊎ IsFirstRuleError ls e.kind e.line)
 end_result ls i reader (Ok rules) a h f = tt
 end_result ls i reader (Err e) a h f = inr (end_refused ls i reader e a h f.0 f.1)
 
@@ -113,8 +113,8 @@ text_result bytes ls (Ok rules) short utf8 e s h = record { short = short; utf8 
 text_result bytes ls (Err f) short utf8 e s h = tt
 
 pub refused_result : (bytes : Text) (ls : List Text) (r : Result RuleSet RuleError) → length bytes ≤ MAX_BYTES → IsUtf8 bytes → ls ≡ lines bytes
-    → IfErr r (λ (e : RuleError). (e ≡ NO_MEMORY) ⊎ IsFirstFault ls e.kind e.line)
+    → IfErr r (λ (e : RuleError). (e ≡ NO_MEMORY) ⊎ IsFirstRuleError ls e.kind e.line)
     → IfErr r (λ (e : RuleError). (e ≡ NO_MEMORY) ⊎ IsRefused bytes e.kind e.line)
 refused_result bytes ls (Ok rules) short utf8 e h = tt
 refused_result bytes ls (Err f) short utf8 e (inl m) = inl m
-refused_result bytes ls (Err f) short utf8 e (inr h) = inr (inr (inr (short, utf8, subst (λ l. IsFirstFault l f.kind f.line) e h)))
+refused_result bytes ls (Err f) short utf8 e (inr h) = inr (inr (inr (short, utf8, subst (λ l. IsFirstRuleError l f.kind f.line) e h)))

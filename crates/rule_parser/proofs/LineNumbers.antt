@@ -11,7 +11,7 @@ use Rattle.rule_parser.specs.declared.rule.Guard.{Guard}
 use Rattle.rule_parser.specs.Rules.{RuleSet}
 use Rattle.rule_parser.specs.Statements.{Statement, Begin, When, line_of, statements}
 use Rattle.rule_parser.specs.Grammar.{is_significant, significant}
-use Rattle.rule_parser.specs.Faults.{RulesSoFar, AreSoundSoFar, statements_so_far, statements_of_guards, EndsRule, IsLineFault, IsFirstFault}
+use Rattle.rule_parser.specs.Faults.{RulesSoFar, AreSoundSoFar, statements_so_far, statements_of_guards, EndsRule, IsLineFault, IsFirstRuleError}
 
 -- ---- significant lines
 
@@ -84,7 +84,7 @@ pub data IsNumberedFault : List Text → RuleErrorKind → ℕ → Type 0 where
       → significant ls ≡ map line_of (statements whole ++ statements_of_guards (Some guards)) ++ rest → EndsRule rest
       → IsNumberedFault ls kind.NoLink (line_number ls (length (statements whole)))
 
-pub numbered_fault : (ls : List Text) (k : RuleErrorKind) (at : ℕ) → IsFirstFault ls k at → IsNumberedFault ls k at
+pub numbered_fault : (ls : List Text) (k : RuleErrorKind) (at : ℕ) → IsFirstRuleError ls k at → IsNumberedFault ls k at
 numbered_fault ls k at (inl f) =
     subst (IsNumberedFault ls k) (number_after ls f.before f.following f.line (statements_so_far f.started) f.whole f.is_no_comment f.spelled ∙ sym f.counted)
     (line_fault ls f.started f.line (significant f.following) k f.sound
@@ -143,7 +143,7 @@ splits_at (l ∷ ls) before line following e = by_case (is_significant l) refl b
           is_no_comment = more.is_no_comment;
         }
 
-pub first_fault : (ls : List Text) (k : RuleErrorKind) (at : ℕ) → IsNumberedFault ls k at → IsFirstFault ls k at
+pub first_fault : (ls : List Text) (k : RuleErrorKind) (at : ℕ) → IsNumberedFault ls k at → IsFirstRuleError ls k at
 first_fault ls k at (line_fault l b line rest k' s e f) =
     let split = splits_at l (map line_of (statements_so_far b)) line rest e in
     inl (record {

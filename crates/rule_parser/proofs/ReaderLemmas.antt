@@ -8,7 +8,7 @@ use Rattle.std.proofs.lemmas.Bool.{eqb-true}
 use Rattle.std.proofs.lemmas.List.Elements.{All-nil, All-push}
 use Rattle.text_model.specs.Texts.{Text}
 use Rattle.uri_grammar.specs.Names.{IsName}
-use Rattle.uri_grammar.specs.Texts.{IsTemplate, IsRefused}
+use Rattle.uri_grammar.specs.Texts.{IsTemplate, IsRefusedTemplate}
 use Rattle.uri_grammar.specs.declared.error.TemplateError.{TemplateError}
 use Rattle.uri_grammar.specs.declared.error.TemplateErrorKind.{TemplateErrorKind}
 use Rattle.uri_grammar.specs.declared.error.TemplateErrorKind.TheVariants as template_kind
@@ -141,7 +141,7 @@ no_memory_or_not k = inr (λ e. cc)
 
 -- an error of a template, unless memory ran out
 pub template_faulty : (r : Reader) (number : ℕ) (text : Text) (t : TemplateError) (e : RuleError) → is_some (so_far_of r).guards ≡ true
-    → (t ≡ TEMPLATE_NO_MEMORY) ⊎ IsRefused text t.kind t.at
+    → (t ≡ TEMPLATE_NO_MEMORY) ⊎ IsRefusedTemplate text t.kind t.at
     → (t.kind ≡ template_kind.NoMemory → e ≡ NO_MEMORY) → (t.kind ≢ template_kind.NoMemory → e ≡ record { kind = kind.Template t.kind; line = number })
     → IsStepFault r number (codes "link " ++ text) e
 template_faulty r number text t e o (inl m) memory fault = inl (memory (ap (λ (x : TemplateError). x.kind) m))

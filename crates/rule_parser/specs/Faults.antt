@@ -5,7 +5,7 @@ use Rattle.std.specs.Str.Lines.{lines}
 use Rattle.text_model.specs.Texts.{Text}
 use Rattle.uri_grammar.specs.declared.parts.Part.{Part}
 use Rattle.uri_grammar.specs.declared.error.TemplateErrorKind.{TemplateErrorKind}
-use Rattle.uri_grammar.specs.Texts.{IsTemplate, IsRefused as IsRefusedTemplate}
+use Rattle.uri_grammar.specs.Texts.{IsTemplate, IsRefusedTemplate}
 use Rattle.rule_parser.specs.declared.error.RuleErrorKind.{RuleErrorKind}
 use Rattle.rule_parser.specs.declared.error.RuleErrorKind.TheVariants as kind
 use Rattle.rule_parser.specs.declared.rule.Guard.{Guard}
@@ -94,12 +94,12 @@ pub record LacksLink (ls : List Text) (k : RuleErrorKind) (number : ℕ) : Type 
   pub sound : AreSoundSoFar (record { whole = rules; guards = Some guards })
   pub no_link : k ≡ kind.NoLink
 
-abbrev pub IsFirstFault : List Text → RuleErrorKind → ℕ → Type 0
-IsFirstFault ls k number = StopsAtLine ls k number ⊎ LacksLink ls k number
+abbrev pub IsFirstRuleError : List Text → RuleErrorKind → ℕ → Type 0
+IsFirstRuleError ls k number = StopsAtLine ls k number ⊎ LacksLink ls k number
 
 -- the bytes are not a rule text: what is wrong with them, and the number of the line, from 1; 0 if the error belongs to no line
 abbrev pub IsRefused : Text → RuleErrorKind → ℕ → Type 0
 IsRefused bytes k number =
     ((MAX_BYTES < length bytes) × (k ≡ kind.TooLong) × (number ≡ 0))
     ⊎ ((length bytes ≤ MAX_BYTES) × (IsUtf8 bytes → ⊥) × (k ≡ kind.NotUtf8) × (number ≡ 0))
-    ⊎ ((length bytes ≤ MAX_BYTES) × IsUtf8 bytes × IsFirstFault (lines bytes) k number)
+    ⊎ ((length bytes ≤ MAX_BYTES) × IsUtf8 bytes × IsFirstRuleError (lines bytes) k number)

@@ -4,7 +4,7 @@ ghost use Rattle.std.specs.Prelude.{◌≡◌, ◌<◌, ◌⊎◌, map, IfOk, If
 ghost use Rattle.rule_parser.specs.Rules.{IsSound};
 ghost use Rattle.rule_parser.specs.Statements.{line_of, statements};
 ghost use Rattle.rule_parser.specs.Grammar.{is_significant as says_something, significant};
-ghost use Rattle.rule_parser.specs.Faults.{IsFirstFault};
+ghost use Rattle.rule_parser.specs.Faults.{IsFirstRuleError};
 ghost use Rattle.rule_parser.specs.declared.error.TheConstants.{NO_MEMORY};
 
 use crate::error::RuleError;
@@ -17,7 +17,8 @@ pub(crate) fn read_lines(alloc: Global, lines: &[&str]) -> Result<Rules, RuleErr
     ensures sound { IfOk result IsSound }
     ensures spelled { IfOk result (λ rules. significant (map (λ line. line.now) lines.now)
         ≡ map line_of (statements rules)) }
-    ensures err { IfErr result (λ e. (e ≡ NO_MEMORY) ⊎ IsFirstFault (map (λ line. line.now) lines.now) e.kind e.line) }
+    ensures err { IfErr result
+        (λ e. (e ≡ NO_MEMORY) ⊎ IsFirstRuleError (map (λ line. line.now) lines.now) e.kind e.line) }
 {
     let mut reader = Reader::new(alloc);
     for (i, line) in lines.iter().enumerate() {

@@ -12,7 +12,7 @@ use Rattle.machine_model.specs.Runs.{After, EndsAfter, HasOutcome}
 use Rattle.machine_model.specs.Runs as run
 use Rattle.machine_model.specs.Safe.{IsSafe}
 use Rattle.target_vars.specs.EnvValue.{EnvValue}
-use Rattle.verified_runs.specs.RunValue.{most_steps, most_bytes, outcome_of}
+use Rattle.verified_runs.specs.RunValue.{most_steps, most_bytes, outcome_value}
 use Rattle.verified_runs.specs.declared.outcome.Outcome.{Outcome}
 use Rattle.verified_runs.specs.declared.outcome.Outcome.TheVariants.{Link, NoLink}
 use Rattle.verified_runs.specs.declared.run.TheConstants.{MAX_LINK_BYTES}
@@ -46,7 +46,7 @@ module _ (once : EndsOnce) (c : Code) (e : EnvValue) (safe : IsSafe c) where
     uri = λ u same. subst IsUriText (link_is t u same) (safe.uri e.entries k (Ended (end.Link t)) after);
   }
 
-  pub ends_safely : (o : Outcome) → HasOutcome c e.entries (outcome_of o) → EndsSafely c e (outcome_of o)
+  pub ends_safely : (o : Outcome) → HasOutcome c e.entries (outcome_value o) → EndsSafely c e (outcome_value o)
   ends_safely (Link link) h = ends_with h.0 _ h.1
   ends_safely NoLink h = record {
     steps = h.0;

@@ -2,7 +2,7 @@
 
 ghost use Rattle.std.specs.Prelude.{◌≡◌, ℕ, ◌<◌, ◌≤◌, ◌↔◌, Err, IfOk, IfErr};
 ghost use Rattle.verifier.specs.Accepted.{IsAccepted};
-ghost use Rattle.verified_runs.specs.RunValue.{most_bytes, outcome_of};
+ghost use Rattle.verified_runs.specs.RunValue.{most_bytes, outcome_value};
 ghost use Rattle.verified_runs.specs.declared.error.PrepareError.TheVariants.{OverBudget, NoMemory};
 ghost use Rattle.safe_runs.specs.Ending.{EndsSafely, FileEndsSafely};
 ghost use Rattle.safe_runs.specs.Causes.{IsCause};
@@ -24,14 +24,14 @@ use verifier::{Verified, load};
 /// code over that limit.
 pub fn run_verified(alloc: Global, code: &Verified, env: &Env) -> Result<Outcome, PrepareError>
     ensures accepted { IsAccepted code.now }
-    ensures ends { IfOk result (λ outcome. EndsSafely code.now env.now (outcome_of outcome)) }
+    ensures ends { IfOk result (λ outcome. EndsSafely code.now env.now (outcome_value outcome)) }
     ensures within { IfOk result (λ _. most_bytes code.now env.now ≤ MAX_LINK_BYTES) }
     ensures over { (n : ℕ) →
         (result ≡ Err (OverBudget n)) ↔ ((n ≡ most_bytes code.now env.now) × (MAX_LINK_BYTES < n)) }
     ensures no_memory { result ≡ Err NoMemory → most_bytes code.now env.now ≤ MAX_LINK_BYTES }
 {
     run_ends_once();
-    let _accepted = code.code();
+    let _known = code.code();
     match prepare(alloc, code, env) {
         Ok(run) => Ok(run.finish()),
         Err(error) => Err(error),
@@ -45,7 +45,7 @@ pub fn run_verified(alloc: Global, code: &Verified, env: &Env) -> Result<Outcome
 /// loaded. `Prepare` is returned only for accepted code: `OverBudget` if its bound on output bytes is over
 /// [`MAX_LINK_BYTES`], 1,048,576 bytes, and `NoMemory`, only for code within that limit, if memory runs out.
 pub fn run_file(alloc: Global, bytes: &[u8], env: &Env) -> Result<Outcome, RunError>
-    ensures ends { IfOk result (λ outcome. FileEndsSafely bytes.now env.now (outcome_of outcome)) }
+    ensures ends { IfOk result (λ outcome. FileEndsSafely bytes.now env.now (outcome_value outcome)) }
     ensures refused { IfErr result (IsCause bytes.now env.now) }
 {
     accepted_file_has_no_fault();

@@ -1,2 +1,2 @@
 pub mod InMemory
-pub mod Accepting
+pub mod Listener

@@ -2,7 +2,7 @@
 
 ghost use Rattle.std.specs.Prelude.{◌≡◌, ◌++◌, ◌∷◌, [], OnOk, slice_get};
 ghost use Rattle.std.specs.Option.{option_copied};
-ghost use Rattle.streams_in_memory.specs.Accepting.{Gives, Keeps};
+ghost use Rattle.streams_in_memory.specs.Listener.{Gives, Keeps};
 
 use crate::pieces::{PieceIn, PieceOut};
 use http_streams::Listener;
@@ -23,7 +23,7 @@ pub struct Peers {
 
 impl Model for Peers {
     ghost use Rattle.std.specs.Prelude.{map};
-    ghost use Rattle.streams_in_memory.specs.Accepting.{PeersValue};
+    ghost use Rattle.streams_in_memory.specs.Listener.{PeersValue};
 
     ghost Value = { PeersValue };
 

@@ -2,10 +2,10 @@
 use Rattle.std.proofs.Common.{◌≡◌, Bool, true, false, List, [], ◌∷◌, if◌then◌else◌}
 use Rattle.printed_text.specs.declared.findings.Findings.{Findings}
 use Rattle.printed_text.proofs.Adding.{adds_line, adds_none}
-use Rattle.table_inspection.specs.Findings.{Finding, text_of, is_warning}
-use Rattle.table_inspection.specs.Private.Adding.{AddsLine, Adds}
+use Rattle.table_inspection.specs.Findings.{Finding, finding_text, is_warning}
+use Rattle.table_inspection.specs.Private.AddedLines.{AddsLine, Adds}
 
-pub adds_one : (a b : Findings) (finding : Finding) → AddsLine a b (text_of finding) (is_warning finding) → Adds a b (finding ∷ [])
+pub adds_one : (a b : Findings) (finding : Finding) → AddsLine a b (finding_text finding) (is_warning finding) → Adds a b (finding ∷ [])
 adds_one a b finding added = adds_line a b finding added.text added.warned
 
 pub adds_if_true : (has : Bool) (findings : List Finding) (a b : Findings) → has ≡ true → Adds a b findings → Adds a b (if has then findings else [])

@@ -7,7 +7,7 @@ use Rattle.std.proofs.lemmas.Option.{get_or_from_slice_get, none-some}
 use Rattle.std.proofs.lemmas.Bool.{false≢true}
 use Rattle.std.proofs.lemmas.List.Sums.{sum_by-cons}
 use Rattle.std.specs.List.{list_any, slice_get}
-use Rattle.table_inspection.specs.Columns.{is_empty}
+use Rattle.table_inspection.specs.Columns.{is_empty_text}
 use Rattle.table_inspection.proofs.Ranges.{not_none}
 use Rattle.text_model.specs.Texts.{Text}
 use Rattle.text_model.proofs.Lists.{drop_from, past_end as past_the_last}
@@ -30,16 +30,16 @@ tab_count (b ∷ line) =
 -- ---- cells past that many
 
 abbrev pub any_text : Row → Bool
-any_text cells = list_any (λ cell. not (is_empty cell)) cells
+any_text cells = list_any (λ cell. not (is_empty_text cell)) cells
 
-pub past_found : (left : ℕ) (cell : Text) (rest : Row) → (left == 0 && not (is_empty cell)) ≡ true → any_text (drop left (cell ∷ rest)) ≡ true
+pub past_found : (left : ℕ) (cell : Text) (rest : Row) → (left == 0 && not (is_empty_text cell)) ≡ true → any_text (drop left (cell ∷ rest)) ≡ true
 past_found zero cell rest is = ap (λ b. b || any_text rest) is
 past_found (suc left) cell rest is =
     let no = not_none left in
-    let never : false ≡ true = ap (λ b. b && not (is_empty cell)) (sym no) ∙ is in
+    let never : false ≡ true = ap (λ b. b && not (is_empty_text cell)) (sym no) ∙ is in
     absurd (false≢true never)
 
-pub past_continues : (left : ℕ) (cell : Text) (rest : Row) → (left == 0 && not (is_empty cell)) ≡ false
+pub past_continues : (left : ℕ) (cell : Text) (rest : Row) → (left == 0 && not (is_empty_text cell)) ≡ false
     → any_text (drop left (cell ∷ rest)) ≡ any_text (drop (left - 1) rest)
 past_continues zero cell rest is = ap (λ b. b || any_text rest) is
 past_continues (suc left) cell rest is =

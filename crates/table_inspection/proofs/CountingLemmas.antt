@@ -14,11 +14,11 @@ use Rattle.std.proofs.Math.Bool.{or-false}
 use Rattle.text_model.specs.Texts.{Text}
 use Rattle.kbart_rows.specs.Cells.{Row, cell_in, defined}
 use Rattle.kbart_rows.specs.Identifiers.{identifier_in, normalised}
-use Rattle.table_inspection.specs.Columns.{is_empty}
+use Rattle.table_inspection.specs.Columns.{is_empty_text}
 use Rattle.table_inspection.specs.Private.Forms.{normal_form}
 use Rattle.table_inspection.proofs.Ranges.{not_none}
 use Rattle.table_inspection.specs.Identifiers.{identifiers_of, distinct, row_identifiers, rows_having}
-use Rattle.table_inspection.specs.Private.Counting.{AreCounts, is_id, new_among}
+use Rattle.table_inspection.specs.Private.Counting.{AreCounts, is_same_id, new_among}
 
 -- ---- different texts
 
@@ -52,7 +52,7 @@ new_among_same f g same (Some id) = ap (λ b. if b then 0 else 1) (same id)
 
 -- ---- the identifiers of a row
 
-pub is_in_option : (id : Text) (o : Option Text) → list_any (bytes_eq id) (option_to_list o) ≡ is_id id o
+pub is_in_option : (id : Text) (o : Option Text) → list_any (bytes_eq id) (option_to_list o) ≡ is_same_id id o
 is_in_option id None = refl
 is_in_option id (Some x) = or-false (bytes_eq id x)
 
@@ -95,35 +95,36 @@ having_more columns rows cells id =
     let f : Row → ℕ = λ cells. cond (list_any (bytes_eq id) (row_identifiers columns cells)) 1 0 in
     omega (arith, sum_by-append f rows (cells ∷ []), sum_by-cons f cells [])
 
-either : (id : Text) (first second : Option Text) → list_any (bytes_eq id) (option_to_list first ++ option_to_list second) ≡ (is_id id first || is_id id second)
+either : (id : Text) (first second : Option Text)
+    → list_any (bytes_eq id) (option_to_list first ++ option_to_list second) ≡ (is_same_id id first || is_same_id id second)
 either id first second =
     list_any-append (bytes_eq id) (option_to_list first) (option_to_list second)
-    ∙ ap (λ a. a || list_any (bytes_eq id) (option_to_list second)) (is_in_option id first) ∙ ap (λ b. is_id id first || b) (is_in_option id second)
+    ∙ ap (λ a. a || list_any (bytes_eq id) (option_to_list second)) (is_in_option id first) ∙ ap (λ b. is_same_id id first || b) (is_in_option id second)
 
 pub row_counted : (columns : List (Option ℕ)) (rows : List Row) (cells : Row) (first second : Option Text) (number new_number : Text → ℕ)
     (known new_known : Text → Bool)
     (count new_count : ℕ) → row_identifiers columns cells ≡ option_to_list first ++ option_to_list second → AreCounts columns rows number known count
-    → ((id : Text) → new_number id ≡ number id + (if is_id id first || is_id id second then 1 else 0))
-    → ((id : Text) → new_known id ≡ (known id || (is_id id first || is_id id second)))
-    → new_count ≡ count + (new_among known first + new_among (λ id. known id || is_id id first) second)
+    → ((id : Text) → new_number id ≡ number id + (if is_same_id id first || is_same_id id second then 1 else 0))
+    → ((id : Text) → new_known id ≡ (known id || (is_same_id id first || is_same_id id second)))
+    → new_count ≡ count + (new_among known first + new_among (λ id. known id || is_same_id id first) second)
     → AreCounts columns (rows ++ cells ∷ []) new_number new_known new_count
 row_counted columns rows cells first second number new_number known new_known count new_count is old numbers knows counts =
     let ids = identifiers_of columns rows in
     let all : identifiers_of columns (rows ++ cells ∷ []) ≡ ids ++ (option_to_list first ++ option_to_list second) = identifiers_more columns rows cells
     ∙ ap (λ row. ids ++ row) is in
-    let any : (id : Text) → list_any (bytes_eq id) (ids ++ option_to_list first) ≡ (known id || is_id id first) = λ id.
+    let any : (id : Text) → list_any (bytes_eq id) (ids ++ option_to_list first) ≡ (known id || is_same_id id first) = λ id.
     list_any-append (bytes_eq id) ids (option_to_list first) ∙ ap (λ a. a || list_any (bytes_eq id) (option_to_list first)) (sym (old.knows id))
     ∙ ap (λ b. known id || b) (is_in_option id first) in
     let one = distinct_option ids first in
     let one_known = new_among_same known (λ id. list_any (bytes_eq id) ids) old.knows first in
     let other = distinct_option (ids ++ option_to_list first) second in
-    let other_known = new_among_same (λ id. list_any (bytes_eq id) (ids ++ option_to_list first)) (λ id. known id || is_id id first) any second in
+    let other_known = new_among_same (λ id. list_any (bytes_eq id) (ids ++ option_to_list first)) (λ id. known id || is_same_id id first) any second in
     let joined = ap (λ xs. length (distinct xs)) (all ∙ sym (append_assoc ids (option_to_list first) (option_to_list second))) in
     record {
-      numbers = λ id. numbers id ∙ ap (λ n. n + (if is_id id first || is_id id second then 1 else 0)) (old.numbers id)
+      numbers = λ id. numbers id ∙ ap (λ n. n + (if is_same_id id first || is_same_id id second then 1 else 0)) (old.numbers id)
           ∙ ap (λ b. rows_having columns rows id + (if b then 1 else 0)) (sym (ap (list_any (bytes_eq id)) is ∙ either id first second))
           ∙ sym (having_more columns rows cells id);
-      knows = λ id. knows id ∙ ap (λ b. b || (is_id id first || is_id id second)) (old.knows id)
+      knows = λ id. knows id ∙ ap (λ b. b || (is_same_id id first || is_same_id id second)) (old.knows id)
           ∙ ap (λ b. list_any (bytes_eq id) ids || b) (sym (either id first second))
           ∙ sym (ap (list_any (bytes_eq id)) all ∙ list_any-append (bytes_eq id) ids (option_to_list first ++ option_to_list second));
       counts = omega (arith, counts, old.counts, joined, one, one_known, other, other_known);
@@ -148,9 +149,9 @@ identifiers_of_two a b cells first second first_is second_is =
     form None = refl
     form (Some text) = refl
 
-pub none_of_two : (first second : Text) → (is_empty first && is_empty second)
+pub none_of_two : (first second : Text) → (is_empty_text first && is_empty_text second)
     ≡ (length (option_to_list (defined first) ++ option_to_list (defined second)) == 0)
 none_of_two [] [] = refl
 none_of_two [] (b ∷ text) = not_none (length text)
 none_of_two (b ∷ text) second =
-    ap (λ empty. empty && is_empty second) (not_none (length text)) ∙ sym (not_none (length (option_to_list (defined second))))
+    ap (λ empty. empty && is_empty_text second) (not_none (length text)) ∙ sym (not_none (length (option_to_list (defined second))))

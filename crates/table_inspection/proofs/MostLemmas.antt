@@ -11,7 +11,7 @@ use Rattle.std.specs.List.{find, list_all}
 use Rattle.std.specs.Option.{option_map_or, option_to_list}
 use Rattle.std.proofs.Math.Bool.{and-false}
 use Rattle.kbart_rows.specs.Cells.{defined}
-use Rattle.table_inspection.specs.Columns.{is_empty}
+use Rattle.table_inspection.specs.Columns.{is_empty_text}
 use Rattle.table_inspection.proofs.Ranges.{not_none}
 use Rattle.text_model.specs.Texts.{Text}
 use Rattle.table_inspection.specs.Identifiers.{finding_of_most, first_of_most}
@@ -92,17 +92,17 @@ finding_is f g texts most same is found found_is =
 
 -- ---- an identifier that may be empty
 
-pub empty_is : (text : Text) → is_empty text ≡ true → text ≡ []
+pub empty_is : (text : Text) → is_empty_text text ≡ true → text ≡ []
 empty_is [] is = refl
 empty_is (b ∷ text) is = absurd (false≢true (sym (not_none (length text)) ∙ is))
 
-pub defined_is : (text : Text) → is_empty text ≡ false → defined text ≡ Some text
+pub defined_is : (text : Text) → is_empty_text text ≡ false → defined text ≡ Some text
 defined_is [] is = absurd (false≢true (sym is))
 defined_is (b ∷ text) is = refl
 
 -- one that has more rows, or the first one
 pub most_taken : (number : Text → ℕ) (texts : List Text) (first second : Text) (rows : ℕ) → rows ≡ option_map_or number (defined first) 0
-    → (is_empty first || nat_lt rows (number second)) ≡ true → IsMost number texts (defined first) → IsMost number (texts ++ second ∷ []) (Some second)
+    → (is_empty_text first || nat_lt rows (number second)) ≡ true → IsMost number texts (defined first) → IsMost number (texts ++ second ∷ []) (Some second)
 most_taken number texts [] second rows rows_is more most = most_of_none number texts (Some second) most
 most_taken number texts (b ∷ first) second rows rows_is more most =
     let less : nat_lt rows (number second) ≡ true = ap (λ empty. empty || nat_lt rows (number second)) (sym (not_none (length first))) ∙ more in
@@ -110,7 +110,7 @@ most_taken number texts (b ∷ first) second rows rows_is more most =
     most_is_later number texts (b ∷ first) second (omega (arith, rows_is, below)) most
 
 pub most_kept : (number : Text → ℕ) (texts : List Text) (first second : Text) (rows : ℕ) → rows ≡ option_map_or number (defined first) 0
-    → (is_empty first || nat_lt rows (number second)) ≡ false → IsMost number texts (defined first) → IsMost number (texts ++ second ∷ []) (defined first)
+    → (is_empty_text first || nat_lt rows (number second)) ≡ false → IsMost number texts (defined first) → IsMost number (texts ++ second ∷ []) (defined first)
 most_kept number texts [] second rows rows_is more most = absurd (false≢true (sym more))
 most_kept number texts (b ∷ first) second rows rows_is more most =
     let less : nat_lt rows (number second) ≡ false = ap (λ empty. empty || nat_lt rows (number second)) (sym (not_none (length first))) ∙ more in
@@ -128,7 +128,7 @@ most_settled number texts more text largest (some front _ back is below above) =
     every [] = All-nil (λ other. number other ≤ number text)
     every (other ∷ texts) = All-cons (λ other. number other ≤ number text) other texts (largest other) (every texts)
 
-pub most_has_all : (number : Text → ℕ) (texts more : List Text) (text : Text) (rows largest : ℕ) → (not (is_empty text) && rows == largest) ≡ true
+pub most_has_all : (number : Text → ℕ) (texts more : List Text) (text : Text) (rows largest : ℕ) → (not (is_empty_text text) && rows == largest) ≡ true
     → rows ≡ option_map_or number (defined text) 0 → ((other : Text) → number other ≤ largest) → IsMost number texts (defined text)
     → IsMost number (texts ++ more) (defined text)
 most_has_all number texts more [] rows largest has rows_is few most = absurd (false≢true has)

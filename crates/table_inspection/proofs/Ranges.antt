@@ -7,7 +7,7 @@ use Rattle.std.proofs.lemmas.Grind.{flat_map-append}
 use Rattle.std.proofs.lemmas.List.Elements.{filter-append}
 use Rattle.std.specs.List.{flat_map, range_with_len}
 use Rattle.text_model.proofs.Lists.{range_more}
-use Rattle.table_inspection.specs.Private.Gathering.{AreRows, AreCells}
+use Rattle.table_inspection.specs.Private.CountedCells.{AreRows, AreCells}
 use Rattle.table_inspection.specs.Cells.{CellAt, of_cells, of_rows}
 use Rattle.table_inspection.specs.Findings.{Finding}
 

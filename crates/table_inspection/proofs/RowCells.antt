@@ -7,7 +7,7 @@ use Rattle.std.proofs.lemmas.List.Elements.{filter-append}
 use Rattle.text_model.specs.Texts.{Text}
 use Rattle.kbart_rows.specs.Cells.{Holdings, Row, cell_in}
 use Rattle.table_inspection.specs.Cells.{CellAt, faults_in_row}
-use Rattle.table_inspection.specs.Private.Gathering.{AreCells, AreRows, faults_at}
+use Rattle.table_inspection.specs.Private.CountedCells.{AreCells, AreRows, faults_at}
 use Rattle.table_inspection.proofs.Ranges.{cell_if, flat_more, row_step, at_most_one_more}
 
 abbrev at : ℕ → Text → CellAt

@@ -6,7 +6,7 @@ use Rattle.std.proofs.lemmas.Bool.Decides.{nat_tests}
 use Rattle.std.specs.Char.{is_ascii_alphabetic, to_ascii_lowercase}
 use Rattle.std.proofs.lemmas.List.{drop_more}
 use Rattle.text_model.specs.Texts.{Text}
-use Rattle.table_inspection.specs.Columns.{is_empty, spelled, spelling, underscore, underscored, without_first_underscore}
+use Rattle.table_inspection.specs.Columns.{is_empty_text, spelled, spelling, underscore, underscored, without_first_underscore}
 use Rattle.table_inspection.specs.Private.Spelling.{continued, next_name}
 use Rattle.table_inspection.proofs.Ranges.{not_none}
 
@@ -32,7 +32,7 @@ first_other (c ∷ rest) =
     ] refl
 
 letter_step : (name : Text) (after : Bool) (l : ℕ) (rest : Text) → (l == underscore) ≡ false
-    → name ++ continued name after (l ∷ rest) ≡ (if after && not (is_empty name) then (name ++ underscore ∷ []) ++ l ∷ [] else name ++ l ∷ []) ++ rest
+    → name ++ continued name after (l ∷ rest) ≡ (if after && not (is_empty_text name) then (name ++ underscore ∷ []) ++ l ∷ [] else name ++ l ∷ []) ++ rest
 letter_step [] true l rest letter = rw letter refl
 letter_step [] false l rest letter = rw letter refl
 letter_step (n ∷ name) true l rest letter =
@@ -43,7 +43,7 @@ letter_step (n ∷ name) false l rest letter =
     rw some (sym (append_assoc (n ∷ name) (l ∷ []) rest))
 
 later : (name : Text) (l : ℕ) (after : Bool) (rest : Text)
-    → continued (if after && not (is_empty name) then (name ++ underscore ∷ []) ++ l ∷ [] else name ++ l ∷ []) false rest ≡ rest
+    → continued (if after && not (is_empty_text name) then (name ++ underscore ∷ []) ++ l ∷ [] else name ++ l ∷ []) false rest ≡ rest
 later [] l true rest = refl
 later [] l false rest = refl
 later (n ∷ name) l true rest =
@@ -71,12 +71,13 @@ spelled_step name after b rest =
     elim (is_ascii_alphabetic b) as (λ letter. (letter ≡ is_ascii_alphabetic b)
     → name ++ continued name after (if letter then to_ascii_lowercase b ∷ spelled rest else underscored (spelled rest))
     ≡ (if letter then
-    (if after && not (is_empty name) then (name ++ underscore ∷ []) ++ to_ascii_lowercase b ∷ [] else name ++ to_ascii_lowercase b ∷ []) else name)
+    (if after && not (is_empty_text name) then (name ++ underscore ∷ []) ++ to_ascii_lowercase b ∷ [] else name ++ to_ascii_lowercase b ∷ []) else name)
     ++ continued (if letter then
-    (if after && not (is_empty name) then (name ++ underscore ∷ []) ++ to_ascii_lowercase b ∷ [] else name ++ to_ascii_lowercase b ∷ []) else name)
+    (if after && not (is_empty_text name) then (name ++ underscore ∷ []) ++ to_ascii_lowercase b ∷ [] else name ++ to_ascii_lowercase b ∷ []) else name)
     (not letter) (spelled rest)) [
       | true ↦ λ is. letter_step name after (to_ascii_lowercase b) (spelled rest) (not_underscore b (sym is))
-          ∙ ap (λ last. (if after && not (is_empty name) then (name ++ underscore ∷ []) ++ to_ascii_lowercase b ∷ [] else name ++ to_ascii_lowercase b ∷ [])
+          ∙ ap (λ last. (if after && not (is_empty_text name) then (name ++ underscore ∷ []) ++ to_ascii_lowercase b ∷ []
+          else name ++ to_ascii_lowercase b ∷ [])
           ++ last)
           (sym (later name (to_ascii_lowercase b) after (spelled rest)))
       | false ↦ λ is. ap (λ last. name ++ last) (other_step name after (spelled rest))

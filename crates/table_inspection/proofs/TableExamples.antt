@@ -7,11 +7,11 @@ use Rattle.text_model.specs.Texts.{Text}
 use Rattle.kbart_rows.specs.Cells.{Row, Holdings}
 use Rattle.table_inspection.specs.Cells.{bad_numbers, bad_dates, bad_links, unidentified, unlinked, long_rows}
 use Rattle.table_inspection.specs.Columns.{missing_columns, unknown_columns, ignored_columns}
-use Rattle.table_inspection.specs.Findings.{MissingColumn, UnknownColumn, MisspelledColumn, IgnoredColumn, line_of, is_warning}
+use Rattle.table_inspection.specs.Findings.{MissingColumn, UnknownColumn, MisspelledColumn, IgnoredColumn, finding_line, is_warning}
 use Rattle.table_inspection.specs.Findings.{RowsWithoutIdentifier, NotNumbers, RowsOfOneIdentifier, NotDates, NotWebLinks, RowsWithoutLink, LongRows}
 use Rattle.table_inspection.specs.Findings.{RowCount, IdentifierCount, lines_of}
 use Rattle.table_inspection.specs.Identifiers.{most_rows}
-use Rattle.table_inspection.specs.Inspection.{counts, inspection_text, has_warning}
+use Rattle.table_inspection.specs.Inspection.{totals, inspection_text, has_table_warning}
 use Rattle.table_inspection.proofs.OnLiterals.{on_literals}
 
 abbrev table : Row → List Row → Holdings
@@ -34,7 +34,7 @@ whole_text : inspection_text misspelled
 unfolding on_literals
 whole_text = refl
 
-whole_warning : has_warning misspelled ≡ true
+whole_warning : has_table_warning misspelled ≡ true
 unfolding on_literals
 whole_warning = refl
 
@@ -49,7 +49,7 @@ sound_text : inspection_text sound
 unfolding on_literals
 sound_text = refl
 
-sound_warning : has_warning sound ≡ false
+sound_warning : has_table_warning sound ≡ false
 unfolding on_literals
 sound_warning = refl
 
@@ -64,14 +64,14 @@ counts_of_no_rows : map is_warning (RowCount 0 ∷ RowCount 1 ∷ IdentifierCoun
 counts_of_no_rows = refl
 
 -- two forms of one identifier are one; a cell of hyphens has none, and neither has a cell past the header
-different_identifiers : counts
+different_identifiers : totals
     (table (codes "print_identifier" ∷ []) ((codes "1234-567x" ∷ codes "1111-1111" ∷ []) ∷ (codes "1234567X" ∷ []) ∷ (codes "-" ∷ []) ∷ []))
     ≡ RowCount 3 ∷ IdentifierCount 1 ∷ []
 unfolding on_literals
 different_identifiers = refl
 
 -- the second column with a name does not count
-second_columns : counts (table (codes "print_identifier" ∷ codes "print_identifier" ∷ []) ((codes "1" ∷ codes "2" ∷ []) ∷ ([] ∷ codes "3" ∷ []) ∷ []))
+second_columns : totals (table (codes "print_identifier" ∷ codes "print_identifier" ∷ []) ((codes "1" ∷ codes "2" ∷ []) ∷ ([] ∷ codes "3" ∷ []) ∷ []))
     ≡ RowCount 2 ∷ IdentifierCount 1 ∷ []
 unfolding on_literals
 second_columns = refl
@@ -165,7 +165,7 @@ lines : lines_of
 unfolding on_literals
 lines = refl
 
-long_texts : line_of (IgnoredColumn (repeat 61 (codes "e"))) ≡ line (codes "ignored column \"" ++ (repeat 60 (codes "e") ++ codes "\"..."))
+long_texts : finding_line (IgnoredColumn (repeat 61 (codes "e"))) ≡ line (codes "ignored column \"" ++ (repeat 60 (codes "e") ++ codes "\"..."))
 unfolding on_literals
 long_texts = refl
 

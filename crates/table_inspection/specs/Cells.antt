@@ -7,7 +7,7 @@ use Rattle.text_model.specs.Texts.{Text}
 use Rattle.kbart_rows.specs.Cells.{Row, Holdings, cell_in, cell_of, column_of}
 use Rattle.kbart_rows.specs.Identifiers.{identifier_columns, normalised}
 use Rattle.menu.specs.WebLink.{is_web_link}
-use Rattle.table_inspection.specs.Columns.{is_empty}
+use Rattle.table_inspection.specs.Columns.{is_empty_text}
 use Rattle.table_inspection.specs.Findings.{Finding, RowsWithoutIdentifier, NotNumbers, NotDates, NotWebLinks, RowsWithoutLink, LongRows}
 use Rattle.table_inspection.specs.Identifiers.{is_number, row_identifiers}
 
@@ -94,7 +94,7 @@ unlinked table =
 
 -- a cell beyond the columns of the header is not empty
 abbrev pub is_long : Row → Row → Bool
-is_long header cells = list_any (λ cell. not (is_empty cell)) (drop (length header) cells)
+is_long header cells = list_any (λ cell. not (is_empty_text cell)) (drop (length header) cells)
 
 unfoldable pub long_rows : Holdings → List Finding
 long_rows table = of_rows LongRows (row_faults (is_long table.header) table)

@@ -57,16 +57,16 @@ meant header text = find (λ name. is_missing header name && resembles text name
 
 -- ---- other columns
 
-abbrev pub is_empty : Text → Bool
-is_empty text = length text == 0
+abbrev pub is_empty_text : Text → Bool
+is_empty_text text = length text == 0
 
 -- a column with a name that an earlier one has is ignored
 abbrev pub is_ignored : Row → ℕ → Bool
-is_ignored header column = not (is_empty (get_or header column [])) && not (is_first header column)
+is_ignored header column = not (is_empty_text (get_or header column [])) && not (is_first header column)
 
 abbrev pub is_unknown : Row → ℕ → Bool
 is_unknown header column =
-    not (is_empty (get_or header column [])) && (is_first header column && not (list_any (bytes_eq (get_or header column [])) known_columns))
+    not (is_empty_text (get_or header column [])) && (is_first header column && not (list_any (bytes_eq (get_or header column [])) known_columns))
 
 abbrev pub column_finding : Text → Option Text → Finding
 column_finding text None = UnknownColumn text

@@ -38,20 +38,20 @@ named_text label text = label ++ (codes " " ++ shortened text)
 
 -- ---- the lines
 
-abbrev pub text_of : Finding → Text
-text_of (RowCount rows) = counted (codes "rows") rows
-text_of (IdentifierCount identifiers) = counted (codes "identifiers") identifiers
-text_of (MissingColumn name are_both) = codes "no column " ++ name
-text_of (UnknownColumn text) = named_text (codes "unknown column") text
-text_of (MisspelledColumn text name) = named_text (codes "unknown column") text ++ (codes ", did you mean " ++ name)
-text_of (IgnoredColumn text) = named_text (codes "ignored column") text
-text_of (RowsWithoutIdentifier rows first) = counted_rows (codes "rows without an identifier") rows first
-text_of (NotNumbers cells first text) = counted_cells (codes "not an ISSN or ISBN") cells first text
-text_of (RowsOfOneIdentifier rows identifier) = codes "rows of one identifier" ++ (codes " " ++ (decimal rows ++ (codes ", " ++ shortened identifier)))
-text_of (NotDates column cells first text) = counted_cells (column ++ codes " not a date") cells first text
-text_of (NotWebLinks cells first text) = counted_cells (codes "title_url not a web link") cells first text
-text_of (RowsWithoutLink rows first) = counted_rows (codes "rows without title_url") rows first
-text_of (LongRows rows first) = counted_rows (codes "rows longer than the header") rows first
+abbrev pub finding_text : Finding → Text
+finding_text (RowCount rows) = counted (codes "rows") rows
+finding_text (IdentifierCount identifiers) = counted (codes "identifiers") identifiers
+finding_text (MissingColumn name are_both) = codes "no column " ++ name
+finding_text (UnknownColumn text) = named_text (codes "unknown column") text
+finding_text (MisspelledColumn text name) = named_text (codes "unknown column") text ++ (codes ", did you mean " ++ name)
+finding_text (IgnoredColumn text) = named_text (codes "ignored column") text
+finding_text (RowsWithoutIdentifier rows first) = counted_rows (codes "rows without an identifier") rows first
+finding_text (NotNumbers cells first text) = counted_cells (codes "not an ISSN or ISBN") cells first text
+finding_text (RowsOfOneIdentifier rows identifier) = codes "rows of one identifier" ++ (codes " " ++ (decimal rows ++ (codes ", " ++ shortened identifier)))
+finding_text (NotDates column cells first text) = counted_cells (column ++ codes " not a date") cells first text
+finding_text (NotWebLinks cells first text) = counted_cells (codes "title_url not a web link") cells first text
+finding_text (RowsWithoutLink rows first) = counted_rows (codes "rows without title_url") rows first
+finding_text (LongRows rows first) = counted_rows (codes "rows longer than the header") rows first
 
 abbrev pub is_warning : Finding → Bool
 is_warning (RowCount rows) = rows == 0
@@ -68,15 +68,15 @@ is_warning (NotWebLinks cells first text) = true
 is_warning (RowsWithoutLink rows first) = false
 is_warning (LongRows rows first) = true
 
-abbrev pub line_feed : Text
-line_feed = 10 ∷ []
+abbrev pub newline : Text
+newline = 10 ∷ []
 
-abbrev pub line_of : Finding → Text
-line_of finding = text_of finding ++ line_feed
+abbrev pub finding_line : Finding → Text
+finding_line finding = finding_text finding ++ newline
 
 -- a line for each finding
 unfoldable pub lines_of : List Finding → Text
-lines_of findings = flat_map line_of findings
+lines_of findings = flat_map finding_line findings
 
 -- one of them is a warning
 unfoldable pub have_warning : List Finding → Bool

@@ -8,8 +8,8 @@ use Rattle.table_inspection.specs.Columns.{missing_columns, unknown_columns, ign
 use Rattle.table_inspection.specs.Findings.{Finding, RowCount, IdentifierCount, lines_of, have_warning}
 use Rattle.table_inspection.specs.Identifiers.{identifiers_of, distinct, most_rows}
 
-unfoldable pub counts : Holdings → List Finding
-counts table =
+unfoldable pub totals : Holdings → List Finding
+totals table =
     RowCount (length table.rows) ∷ IdentifierCount (length (distinct (identifiers_of (identifier_columns table.header) table.rows))) ∷ []
 
 unfoldable pub findings_in_columns : Row → List Finding
@@ -25,11 +25,11 @@ findings_in_values table =
 
 -- all findings, in the order of their lines
 unfoldable pub findings_of : Holdings → List Finding
-findings_of table = counts table ++ (findings_in_columns table.header ++ (findings_in_identifiers table ++ findings_in_values table))
+findings_of table = totals table ++ (findings_in_columns table.header ++ (findings_in_identifiers table ++ findings_in_values table))
 
 unfoldable pub inspection_text : Holdings → Text
 inspection_text table = lines_of (findings_of table)
 
 -- one of the lines is a warning
-unfoldable pub has_warning : Holdings → Bool
-has_warning table = have_warning (findings_of table)
+unfoldable pub has_table_warning : Holdings → Bool
+has_table_warning table = have_warning (findings_of table)

@@ -1,7 +1,7 @@
 -- Definitions that no contract of a public function cites.
-pub mod Adding
+pub mod AddedLines
+pub mod CountedCells
 pub mod Counting
 pub mod Forms
-pub mod Gathering
 pub mod Headers
 pub mod Spelling

@@ -3,9 +3,9 @@
 ghost use Rattle.std.specs.Prelude.{◌≡◌, ◌==◌, ◌&&◌, [], ◌<◌, ◌+◌, ℕ, List, OnOk, true, if◌then◌else◌};
 ghost use Rattle.text_model.specs.Texts.{Text};
 ghost use Rattle.table_inspection.specs.Cells.{CellAt, of_cells};
-ghost use Rattle.table_inspection.specs.Findings.{Finding, counted_cells, is_warning, text_of};
-ghost use Rattle.table_inspection.specs.Private.Adding.{Adds};
-ghost use Rattle.table_inspection.specs.Private.Gathering.{AreCells};
+ghost use Rattle.table_inspection.specs.Findings.{Finding, counted_cells, is_warning, finding_text};
+ghost use Rattle.table_inspection.specs.Private.AddedLines.{Adds};
+ghost use Rattle.table_inspection.specs.Private.CountedCells.{AreCells};
 
 use crate::lines::add_cells;
 use printed_text::Findings;
@@ -52,7 +52,7 @@ impl<'a> Cells<'a> {
         ensures { OnOk result ((finding : ℕ → ℕ → Text → Finding) (cells : List CellAt)
             → AreCells cells self.entry.count self.entry.first self.entry.text.now
             → ((count first : ℕ) (text : Text)
-            → text_of (finding count first text) ≡ counted_cells label.now count first text)
+            → finding_text (finding count first text) ≡ counted_cells label.now count first text)
             → ((count first : ℕ) (text : Text) → is_warning (finding count first text) ≡ true)
             → Adds findings.old findings.new (of_cells finding cells)) }
     {

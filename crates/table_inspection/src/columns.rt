@@ -7,7 +7,7 @@ ghost use Rattle.std.specs.Str.{bytes_eq};
 ghost use Rattle.standard_names.specs.Columns.{known_columns};
 ghost use Rattle.table_inspection.specs.Columns as spec;
 ghost use Rattle.table_inspection.specs.Inspection.{findings_in_columns};
-ghost use Rattle.table_inspection.specs.Private.Adding.{Adds};
+ghost use Rattle.table_inspection.specs.Private.AddedLines.{Adds};
 ghost use Rattle.table_inspection.specs.Private.Headers.{findings_of};
 
 use crate::lines::{add_missing, add_misspelled, add_text};

@@ -3,10 +3,10 @@
 ghost use Rattle.std.specs.Prelude.{◌≡◌, ◌&&◌, ◌++◌, ◌<◌, ◌≤◌, ◌+◌, List, IfOk};
 ghost use Rattle.std.specs.Option.{option_copied};
 ghost use Rattle.table_inspection.specs.Cells as spec;
-ghost use Rattle.table_inspection.specs.Columns.{is_empty};
+ghost use Rattle.table_inspection.specs.Columns.{is_empty_text};
 ghost use Rattle.table_inspection.specs.Private.Counting.{AreIdentified};
 ghost use Rattle.table_inspection.specs.Private.Forms.{normal_form};
-ghost use Rattle.table_inspection.specs.Private.Gathering.{AreCells, faults_at};
+ghost use Rattle.table_inspection.specs.Private.CountedCells.{AreCells, faults_at};
 
 use crate::cells::Cells;
 use crate::number::{is_number, normal_form};
@@ -61,7 +61,7 @@ pub(crate) fn identify<'a>(alloc: Global, table: &'a Table) -> Result<Identified
 }
 
 fn are_empty(print: &str, online: &str) -> bool
-    ensures { result ≡ (is_empty print.now && is_empty online.now) }
+    ensures { result ≡ (is_empty_text print.now && is_empty_text online.now) }
 {
     print.is_empty() && online.is_empty()
 }

@@ -4,7 +4,7 @@ ghost use Rattle.std.specs.Prelude.{◌≡◌, IfOk, OnOk, length, string_bytes}
 ghost use Rattle.kbart_rows.specs.Identifiers.{identifier_columns};
 ghost use Rattle.table_inspection.specs.Identifiers.{distinct, identifiers_of};
 ghost use Rattle.table_inspection.specs.Inspection as spec;
-ghost use Rattle.table_inspection.specs.Private.Adding.{Adds};
+ghost use Rattle.table_inspection.specs.Private.AddedLines.{Adds};
 ghost use Rattle.table_inspection.specs.Private.Counting.{AreIdentified};
 
 use crate::columns::add_columns;
@@ -20,7 +20,7 @@ use std::alloc::{AllocError, Global};
 /// rows are not as they should be. Rows are counted from 0.
 pub fn inspect(alloc: Global, table: &Table) -> Result<Findings, AllocError>
     ensures text { IfOk result (λ findings. string_bytes findings.text ≡ spec.inspection_text table.now) }
-    ensures warned { IfOk result (λ findings. findings.warned ≡ spec.has_warning table.now) }
+    ensures warned { IfOk result (λ findings. findings.warned ≡ spec.has_table_warning table.now) }
 {
     let found = identify(alloc, table)?;
     let text = String::new(alloc);
@@ -39,7 +39,7 @@ pub fn inspect(alloc: Global, table: &Table) -> Result<Findings, AllocError>
 fn add_counts(findings: &mut Findings, table: &Table, identifiers: usize) -> Result<(), AllocError>
     requires { identifiers
         ≡ length (distinct (identifiers_of (identifier_columns table.now.header) table.now.rows)) }
-    ensures { OnOk result (Adds findings.old findings.new (spec.counts table.now)) }
+    ensures { OnOk result (Adds findings.old findings.new (spec.totals table.now)) }
 {
     let rows = table.rows();
     add_count(findings, "rows", rows, rows == 0)?;

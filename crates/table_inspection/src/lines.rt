@@ -3,8 +3,8 @@
 ghost use Rattle.std.specs.Prelude.{◌≡◌, ◌++◌, OnOk, false, true, codes, string_bytes};
 ghost use Rattle.std.specs.Fmt.{decimal};
 ghost use Rattle.printed_text.specs.Printed.{shortened};
-ghost use Rattle.table_inspection.specs.Findings.{counted, counted_cells, counted_rows, line_feed, named_text};
-ghost use Rattle.table_inspection.specs.Private.Adding.{AddsLine};
+ghost use Rattle.table_inspection.specs.Findings.{counted, counted_cells, counted_rows, newline, named_text};
+ghost use Rattle.table_inspection.specs.Private.AddedLines.{AddsLine};
 
 use printed_text::{Findings, push_shortened};
 use std::alloc::AllocError;
@@ -117,7 +117,7 @@ fn push_named(out: &mut String, label: &str, text: &str) -> Result<(), AllocErro
 
 fn push_meant(out: &mut String, name: &str) -> Result<(), AllocError>
     ensures { OnOk result
-        (string_bytes out.new ≡ string_bytes out.old ++ (codes ", did you mean " ++ (name.now ++ line_feed))) }
+        (string_bytes out.new ≡ string_bytes out.old ++ (codes ", did you mean " ++ (name.now ++ newline))) }
 {
     write!(out, ", did you mean {name}\n")
 }

@@ -6,9 +6,9 @@ ghost use Rattle.std.specs.Option.{option_map_or, option_to_list};
 ghost use Rattle.text_model.specs.Texts.{Text};
 ghost use Rattle.kbart_rows.specs.Cells.{defined};
 ghost use Rattle.kbart_rows.specs.Identifiers.{identifier_columns};
-ghost use Rattle.table_inspection.specs.Columns.{is_empty};
+ghost use Rattle.table_inspection.specs.Columns.{is_empty_text};
 ghost use Rattle.table_inspection.specs.Identifiers as spec;
-ghost use Rattle.table_inspection.specs.Private.Adding.{Adds};
+ghost use Rattle.table_inspection.specs.Private.AddedLines.{Adds};
 ghost use Rattle.table_inspection.specs.Private.Counting.{IsMost, number_in};
 
 use crate::lines::add_most_rows;
@@ -82,7 +82,7 @@ fn most_of_all(
 
 /// Whether it has that many rows, and is one.
 fn has_all(most: &Most, rows: usize) -> bool
-    ensures { result ≡ (not (is_empty (string_bytes most.now.id)) && most.now.rows == rows) }
+    ensures { result ≡ (not (is_empty_text (string_bytes most.now.id)) && most.now.rows == rows) }
 {
     !most.id.as_str().is_empty() && most.rows == rows
 }
@@ -110,7 +110,7 @@ fn take_if_more(most: &mut Most, counts: &RowCounts, id: &str) -> Result<(), All
 
 /// Whether it has fewer rows than that many, or is none.
 fn has_fewer(most: &Most, rows: usize) -> bool
-    ensures { result ≡ (is_empty (string_bytes most.now.id) || nat_lt most.now.rows rows) }
+    ensures { result ≡ (is_empty_text (string_bytes most.now.id) || nat_lt most.now.rows rows) }
 {
     most.id.as_str().is_empty() || most.rows < rows
 }

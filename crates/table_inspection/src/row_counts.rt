@@ -6,7 +6,7 @@ ghost use Rattle.std.specs.Str.{bytes_eq};
 ghost use Rattle.text_model.specs.Texts.{Text};
 ghost use Rattle.kbart_rows.specs.Cells.{defined};
 ghost use Rattle.kbart_rows.specs.declared.read.TheConstants.{MAX_ROWS};
-ghost use Rattle.table_inspection.specs.Private.Counting.{is_id, is_in, new_among, number_in};
+ghost use Rattle.table_inspection.specs.Private.Counting.{is_same_id, is_in, new_among, number_in};
 
 use kbart_rows::Keys;
 use std::alloc::{AllocError, Global};
@@ -25,12 +25,12 @@ pub(crate) fn count_row(
 ) -> Result<usize, AllocError>
     requires { (id : Text) → number_in counts.old id ≤ MAX_ROWS }
     ensures numbers { OnOk result ((id : Text) → number_in counts.new id ≡ number_in counts.old id
-        + (if (is_id id (defined print.now) || is_id id (defined online.now)) then 1 else 0)) }
+        + (if (is_same_id id (defined print.now) || is_same_id id (defined online.now)) then 1 else 0)) }
     ensures known { OnOk result ((id : Text) → is_in counts.new id ≡ (is_in counts.old id
-        || (is_id id (defined print.now) || is_id id (defined online.now)))) }
+        || (is_same_id id (defined print.now) || is_same_id id (defined online.now)))) }
     ensures count { OnOk result (hash_map_len counts.new ≡ hash_map_len counts.old
         + (new_among (is_in counts.old) (defined print.now)
-        + new_among (λ id. is_in counts.old id || is_id id (defined print.now)) (defined online.now))) }
+        + new_among (λ id. is_in counts.old id || is_same_id id (defined print.now)) (defined online.now))) }
     ensures most { IfOk result (λ most. (id : Text) (n : ℕ)
         → number_in counts.old id ≤ n → most ≤ n → number_in counts.new id ≤ n) }
 {
@@ -47,9 +47,9 @@ pub(crate) fn count_row(
 fn count_identifier(alloc: Global, counts: &mut RowCounts, id: &str) -> Result<usize, AllocError>
     requires { (id : Text) → number_in counts.old id ≤ MAX_ROWS + 1 }
     ensures numbers { OnOk result ((other : Text) → number_in counts.new other ≡ number_in counts.old other
-        + (if is_id other (defined id.now) then 1 else 0)) }
+        + (if is_same_id other (defined id.now) then 1 else 0)) }
     ensures known { OnOk result ((other : Text)
-        → is_in counts.new other ≡ (is_in counts.old other || is_id other (defined id.now))) }
+        → is_in counts.new other ≡ (is_in counts.old other || is_same_id other (defined id.now))) }
     ensures count { OnOk result (hash_map_len counts.new
         ≡ hash_map_len counts.old + new_among (is_in counts.old) (defined id.now)) }
     ensures most { IfOk result (λ most. (other : Text) (n : ℕ)

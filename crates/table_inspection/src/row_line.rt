@@ -5,7 +5,7 @@ ghost use Rattle.std.specs.List.{list_any};
 ghost use Rattle.std.specs.Option.{option_copied};
 ghost use Rattle.kbart_rows.specs.Cells as spec;
 ghost use Rattle.kbart_rows.specs.Lines.{cells_in};
-ghost use Rattle.table_inspection.specs.Columns.{is_empty};
+ghost use Rattle.table_inspection.specs.Columns.{is_empty_text};
 
 use kbart_rows::RowCursor;
 
@@ -50,7 +50,7 @@ fn tabs_in(bytes: &[u8]) -> usize
 
 /// Whether a line has a cell past that many that is not empty.
 pub(crate) fn is_longer(line: &str, width: usize) -> bool
-    ensures { result ≡ list_any (λ cell. not (is_empty cell)) (drop width (cells_in line.now)) }
+    ensures { result ≡ list_any (λ cell. not (is_empty_text cell)) (drop width (cells_in line.now)) }
 {
     if width_of(line) <= width {
         return false;
@@ -59,7 +59,7 @@ pub(crate) fn is_longer(line: &str, width: usize) -> bool
 }
 
 fn has_text_past(line: &str, width: usize) -> bool
-    ensures { result ≡ list_any (λ cell. not (is_empty cell)) (drop width (cells_in line.now)) }
+    ensures { result ≡ list_any (λ cell. not (is_empty_text cell)) (drop width (cells_in line.now)) }
 {
     let mut left = width;
     let mut cells = RowCursor::new(line);
@@ -73,7 +73,7 @@ fn has_text_past(line: &str, width: usize) -> bool
 }
 
 fn is_past(left: usize, cell: &str) -> bool
-    ensures { result ≡ (left == 0 && not (is_empty cell.now)) }
+    ensures { result ≡ (left == 0 && not (is_empty_text cell.now)) }
 {
     left == 0 && !cell.is_empty()
 }

@@ -2,9 +2,9 @@
 
 ghost use Rattle.std.specs.Prelude.{◌≡◌, ◌==◌, ◌&&◌, [], ◌<◌, ◌+◌, ℕ, List, OnOk, if◌then◌else◌};
 ghost use Rattle.table_inspection.specs.Cells.{of_rows};
-ghost use Rattle.table_inspection.specs.Findings.{Finding, counted_rows, is_warning, text_of};
-ghost use Rattle.table_inspection.specs.Private.Adding.{Adds};
-ghost use Rattle.table_inspection.specs.Private.Gathering.{AreRows};
+ghost use Rattle.table_inspection.specs.Findings.{Finding, counted_rows, is_warning, finding_text};
+ghost use Rattle.table_inspection.specs.Private.AddedLines.{Adds};
+ghost use Rattle.table_inspection.specs.Private.CountedCells.{AreRows};
 
 use crate::lines::add_rows;
 use printed_text::Findings;
@@ -46,7 +46,7 @@ impl Rows {
         warns: bool,
     ) -> Result<(), AllocError>
         ensures { OnOk result ((finding : ℕ → ℕ → Finding) (rows : List ℕ) → AreRows rows self.count self.first
-            → ((count first : ℕ) → text_of (finding count first) ≡ counted_rows label.now count first)
+            → ((count first : ℕ) → finding_text (finding count first) ≡ counted_rows label.now count first)
             → ((count first : ℕ) → is_warning (finding count first) ≡ warns)
             → Adds findings.old findings.new (of_rows finding rows)) }
     {

@@ -4,9 +4,9 @@ ghost use Rattle.std.specs.Prelude.{◌++◌, ◌<◌, ◌≤◌, ◌+◌, List,
 ghost use Rattle.std.specs.Option.{option_copied};
 ghost use Rattle.table_inspection.specs.Cells as spec;
 ghost use Rattle.table_inspection.specs.Inspection.{findings_in_values};
-ghost use Rattle.table_inspection.specs.Private.Adding.{Adds};
+ghost use Rattle.table_inspection.specs.Private.AddedLines.{Adds};
 ghost use Rattle.table_inspection.specs.Private.Forms.{fits};
-ghost use Rattle.table_inspection.specs.Private.Gathering.{AreCells, AreRows, AreValues, faults_at};
+ghost use Rattle.table_inspection.specs.Private.CountedCells.{AreCells, AreRows, AreValues, faults_at};
 
 use crate::cells::Cells;
 use crate::form::{Form, fits};

@@ -12,7 +12,7 @@ use Rattle.environment_model.specs.Environment.{Entry, Single, Several, is_there
 use Rattle.environment_model.proofs.Environments.{byte_count-with_text, byte_count-with_member, member_count-with_member, member_count-push, with_text-new}
 use Rattle.environment_model.proofs.Environments.{with_member-new, with_member-append, with_member-same}
 use Rattle.target_vars.specs.EnvValue.{EachNameOnce}
-use Rattle.target_vars.specs.Layout.{piece, spans_of, members_in, laid_entries, IsPiece, IsPlace, IsPutLast, HasList, IsLaid}
+use Rattle.target_vars.specs.Layout.{span_bytes, spans_of, list_members, laid_entries, IsPiece, IsPlace, IsPutLast, HasList, IsLaid}
 use Rattle.target_vars.specs.declared.place.Part.{Part}
 use Rattle.target_vars.specs.declared.place.Span.{Span}
 use Rattle.target_vars.specs.declared.place.Place.{Place}
@@ -30,7 +30,7 @@ pub within : (r : Bool) (limit n : ℕ) → (limit < n → IsTrue r) → r ≡ f
 within r limit n passes refused = let not_above : limit < n → ⊥ = λ above. (let yes : r ≡ true = passes above in cc) in omega arith
 
 -- the lists stay the same when a text is appended to the buffer
-members_stay : (b t : Text) (spans : List Span) (j : ℕ) → All (IsPiece b) spans → members_in (b ++ t) spans j ≡ members_in b spans j
+members_stay : (b t : Text) (spans : List Span) (j : ℕ) → All (IsPiece b) spans → list_members (b ++ t) spans j ≡ list_members b spans j
 members_stay b t spans j pieces = same_pieces b t (spans_of spans j) (All-filter (λ s. s.list == j) (IsPiece b) spans pieces)
 
 -- ---- a text
@@ -39,8 +39,8 @@ pub put_is : (b t : Text) (spans : List Span) (names : List Text) (places : List
     → is_among name names ≡ false → p.start ≡ length b → p.len ≡ length t
     → laid_entries (b ++ t) spans (names ++ name ∷ []) (places ++ One p ∷ []) ≡ with_text (laid_entries b spans names places) name t
 put_is b t spans names places name p laid lacks start len =
-    entries_from-push (b ++ t) (members_in (b ++ t) spans) 0 names places name (One p) laid.one_each
-    ∙ ap (λ es. es ++ entry (b ++ t) [] name (One p) ∷ []) (entries_stay b t (members_in b spans) (members_in (b ++ t) spans) 0 names places laid.placed
+    entries_from-push (b ++ t) (list_members (b ++ t) spans) 0 names places name (One p) laid.one_each
+    ∙ ap (λ es. es ++ entry (b ++ t) [] name (One p) ∷ []) (entries_stay b t (list_members b spans) (list_members (b ++ t) spans) 0 names places laid.placed
     (λ j from. members_stay b t spans j laid.pieces))
     ∙ ap (λ x. laid_entries b spans names places ++ record { name = name; meaning = Single x } ∷ []) (last_part b t p start len)
     ∙ sym (with_text-new (laid_entries b spans names places) name t (is_there-laid b spans names places name laid ∙ lacks))
@@ -112,10 +112,10 @@ ready b t spans names places name names' places' k laid has = ⊎_elim known_lis
         let env = laid_entries b spans names places in
         let e : Entry = record { name = name; meaning = Several [] } in
         let absent : is_there env name ≡ false = is_there-laid b spans names places name laid ∙ h.0 in
-        let none : members_in b spans (length names) ≡ [] = ap (map (piece b)) (none_of spans (length names) laid.known) in
+        let none : list_members b spans (length names) ≡ [] = ap (map (span_bytes b)) (none_of spans (length names) laid.known) in
         let entries : laid_entries b spans (names ++ name ∷ []) (places ++ Many ∷ []) ≡ env ++ e ∷ [] =
-        entries_from-push b (members_in b spans) 0 names places name Many laid.one_each ∙ ap (λ ms. env ++ record { name = name; meaning = Several ms } ∷ [])
-        (ap (members_in b spans) (zero-add (length names)) ∙ none) in
+        entries_from-push b (list_members b spans) 0 names places name Many laid.one_each ∙ ap (λ ms. env ++ record { name = name; meaning = Several ms } ∷ [])
+        (ap (list_members b spans) (zero-add (length names)) ∙ none) in
         let one_each = laid.one_each in
         let more_names = length-append names (name ∷ []) in
         let more_places = length-append places (Many ∷ []) in
@@ -132,25 +132,25 @@ ready b t spans names places name names' places' k laid has = ⊎_elim known_lis
 -- ---- a member
 
 own_members : (b t : Text) (spans : List Span) (s : Span) (new : List Span) → All (IsPiece b) spans → IsPutLast spans s new → s.part.start ≡ length b
-    → s.part.len ≡ length t → members_in (b ++ t) new s.list ≡ members_in b spans s.list ++ t ∷ []
+    → s.part.len ≡ length t → list_members (b ++ t) new s.list ≡ list_members b spans s.list ++ t ∷ []
 own_members b t spans s new pieces put start len =
-    ap (map (piece (b ++ t))) put.own
-    ∙ map-append (piece (b ++ t)) (spans_of spans s.list) (s ∷ [])
-    ∙ ap (λ ms. ms ++ piece (b ++ t) s ∷ []) (members_stay b t spans s.list pieces)
-    ∙ ap (λ x. members_in b spans s.list ++ x ∷ []) (last_part b t s.part start len)
+    ap (map (span_bytes (b ++ t))) put.own
+    ∙ map-append (span_bytes (b ++ t)) (spans_of spans s.list) (s ∷ [])
+    ∙ ap (λ ms. ms ++ span_bytes (b ++ t) s ∷ []) (members_stay b t spans s.list pieces)
+    ∙ ap (λ x. list_members b spans s.list ++ x ∷ []) (last_part b t s.part start len)
 
 pub add_is : (b t : Text) (spans : List Span) (names : List Text) (places : List Place) (name : Text) (names' : List Text) (places' : List Place) (s : Span)
     (new : List Span) → IsLaid b spans names places → HasList names places name names' places' s.list → IsPutLast spans s new
     → s.part.start ≡ length b → s.part.len ≡ length t → laid_entries (b ++ t) new names' places' ≡ with_member (laid_entries b spans names places) name t
 add_is b t spans names places name names' places' s new laid has put start len =
     let is = ready b t spans names places name names' places' s.list laid has in
-    let m = members_in b spans in
-    let m' = members_in (b ++ t) new in
+    let m = list_members b spans in
+    let m' = list_members (b ++ t) new in
     let zero = zero-add s.list in
     entries_stay b t m' m' 0 names' places' is.placed (λ j from. refl)
     ∙ with_member-at b t m m' 0 names' places' name s.list is.once has.named has.is_list
     (subst (λ j. m' j ≡ m j ++ t ∷ []) (sym zero) (own_members b t spans s new laid.pieces put start len))
-    (λ j differs. ap (map (piece (b ++ t))) (put.others j (ap (λ x. x == j) (sym zero) ∙ differs)) ∙ members_stay b t spans j laid.pieces)
+    (λ j differs. ap (map (span_bytes (b ++ t))) (put.others j (ap (λ x. x == j) (sym zero) ∙ differs)) ∙ members_stay b t spans j laid.pieces)
     ∙ is.same
 
 pub laid_add : (b t : Text) (spans : List Span) (names : List Text) (places : List Place) (name : Text) (names' : List Text) (places' : List Place) (s : Span)

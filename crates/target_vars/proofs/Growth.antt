@@ -5,7 +5,7 @@ use Rattle.std.proofs.lemmas.List.{take-append-le, drop-append-le}
 use Rattle.std.proofs.lemmas.List.Elements.{All-head, All-tail, All-weaker}
 use Rattle.std.proofs.lemmas.Str.{IsUtf8-append, IsUtf8-take, IsCharBoundary-from_take, IsCharBoundary-at_seam, IsCharBoundary-end}
 use Rattle.text_model.specs.Texts.{Text}
-use Rattle.target_vars.specs.Layout.{part_text, piece, IsPart, IsPiece, IsPlace}
+use Rattle.target_vars.specs.Layout.{part_bytes, span_bytes, IsPart, IsPiece, IsPlace}
 use Rattle.target_vars.specs.declared.place.Part.{Part}
 use Rattle.target_vars.specs.declared.place.Span.{Span}
 use Rattle.target_vars.specs.declared.place.Place.{Place}
@@ -38,18 +38,18 @@ front_piece b t at within =
     ap (take at.1) (drop-append-le at.0 b t (omega (arith, within)))
     ∙ take-append-le at.1 (drop at.0 b) t (omega (arith, length-drop at.0 b, within))
 
-pub same_part : (b t : Text) (p : Part) → IsPart b p → part_text (b ++ t) p ≡ part_text b p
+pub same_part : (b t : Text) (p : Part) → IsPart b p → part_bytes (b ++ t) p ≡ part_bytes b p
 same_part b t p is = front_piece b t (p.start, p.len) is.ends.0
 
-pub same_pieces : (b t : Text) (spans : List Span) → All (IsPiece b) spans → map (piece (b ++ t)) spans ≡ map (piece b) spans
+pub same_pieces : (b t : Text) (spans : List Span) → All (IsPiece b) spans → map (span_bytes (b ++ t)) spans ≡ map (span_bytes b) spans
 same_pieces b t [] are = refl
 same_pieces b t (s ∷ ss) are =
-    ap (λ x. x ∷ map (piece (b ++ t)) ss) (same_part b t s.part (All-head (IsPiece b) s ss are))
-    ∙ ap (λ xs. piece b s ∷ xs) (same_pieces b t ss (All-tail (IsPiece b) s ss are))
+    ap (λ x. x ∷ map (span_bytes (b ++ t)) ss) (same_part b t s.part (All-head (IsPiece b) s ss are))
+    ∙ ap (λ xs. span_bytes b s ∷ xs) (same_pieces b t ss (All-tail (IsPiece b) s ss are))
 
 -- ---- the text at the end
 
-pub last_part : (b t : Text) (p : Part) → p.start ≡ length b → p.len ≡ length t → part_text (b ++ t) p ≡ t
+pub last_part : (b t : Text) (p : Part) → p.start ≡ length b → p.len ≡ length t → part_bytes (b ++ t) p ≡ t
 last_part b t p start len = ap (take p.len) (drop_at b t p.start (sym start)) ∙ take_all p.len t (omega arith)
 
 pub last_is_part : (b t : Text) (p : Part) → IsUtf8 t → p.start ≡ length b → p.len ≡ length t → IsPart (b ++ t) p

@@ -7,11 +7,12 @@ use Rattle.std.proofs.lemmas.List.Elements.{All-tail, All-nil, All-map, All-get_
 use Rattle.std.proofs.lemmas.List.Sorted.{IsNonDecreasingBy-short}
 use Rattle.std.proofs.lemmas.Option.{slice_get-get_or, slice_get_within}
 use Rattle.text_model.specs.Texts.{Text}
-use Rattle.environment_model.specs.Environment.{look_up, is_there, is_among, text_in, text_of, members_in as members_meant, members_of, byte_count}
+use Rattle.environment_model.specs.Environment.{look_up, is_there, is_among, text_in, text_of, members_in, members_of, byte_count}
 use Rattle.environment_model.specs.Environment.{member_count}
 use Rattle.environment_model.proofs.NameTests.{undefined}
 use Rattle.target_vars.specs.EnvValue.{EnvValue, EachNameOnce, piece_at, IsWithin, AreMembersAt, IsInOrder}
-use Rattle.target_vars.specs.Layout.{at, piece, members_in, meaning_in, laid_entries, laid_spans, IsPart, IsPiece, IsPieces, IsPlace, IsRun, IsTextPart, IsLaid}
+use Rattle.target_vars.specs.Layout.{at, span_bytes, list_members, meaning_in, laid_entries, laid_spans, IsPart, IsPiece, IsPieces, IsPlace, AreAdjacent}
+use Rattle.target_vars.specs.Layout.{IsTextPart, IsLaid}
 use Rattle.target_vars.specs.declared.place.Part.{Part}
 use Rattle.target_vars.specs.declared.place.Span.{Span}
 use Rattle.target_vars.specs.declared.place.Place.{Place}
@@ -23,7 +24,7 @@ abbrev pub seen : Text → List Span → List Text → List Place → EnvValue
 seen b spans names places = record { entries = laid_entries b spans names places; buffer = b; seam = 0; spans = laid_spans spans }
 
 pub laid_entries-empty : laid_entries [] [] [] [] ≡ []
-laid_entries-empty = entries_from-empty [] (members_in [] []) 0 []
+laid_entries-empty = entries_from-empty [] (list_members [] []) 0 []
 
 pub laid_empty : IsLaid [] [] [] []
 laid_empty = record {
@@ -43,7 +44,7 @@ laid_empty = record {
 
 pub is_there-laid : (b : Text) (spans : List Span) (names : List Text) (places : List Place) (name : Text) → IsLaid b spans names places
     → is_there (laid_entries b spans names places) name ≡ is_among name names
-is_there-laid b spans names places name laid = is_there-entries b (members_in b spans) 0 names places name laid.one_each
+is_there-laid b spans names places name laid = is_there-entries b (list_members b spans) 0 names places name laid.one_each
 
 pub look_up-lacking : (b : Text) (spans : List Span) (names : List Text) (places : List Place) (name : Text) → IsLaid b spans names places
     → is_among name names ≡ false → look_up (laid_entries b spans names places) name ≡ None
@@ -52,9 +53,9 @@ look_up-lacking b spans names places name laid lacks =
 
 pub look_up-laid : (b : Text) (spans : List Span) (names : List Text) (places : List Place) (name : Text) (k : ℕ) (p : Place) → IsLaid b spans names places
     → slice_get names k ≡ Some name → slice_get places k ≡ Some p
-    → look_up (laid_entries b spans names places) name ≡ Some (meaning_in b (members_in b spans k) p)
+    → look_up (laid_entries b spans names places) name ≡ Some (meaning_in b (list_members b spans k) p)
 look_up-laid b spans names places name k p laid named placed =
-    look_up-at b (members_in b spans) 0 names places name k p laid.once named placed ∙ ap (λ j. Some (meaning_in b (members_in b spans j) p)) (zero-add k)
+    look_up-at b (list_members b spans) 0 names places name k p laid.once named placed ∙ ap (λ j. Some (meaning_in b (list_members b spans j) p)) (zero-add k)
 
 -- the place of a name's number
 pub place_read : (names : List Text) (places : List Place) (name : Text) (k : ℕ) (p : Place) → length places ≡ length names → slice_get names k ≡ Some name
@@ -101,43 +102,43 @@ pub no_members-at : (b : Text) (spans : List Span) (names : List Text) (places :
     → slice_get names k ≡ Some name → slice_get places k ≡ Some (One part)
     → AreMembersAt (seen b spans names places) name 0 0
 no_members-at b spans names places name k part laid named placed =
-    no_members (seen b spans names places) name (ap members_meant (look_up-laid b spans names places name k (One part) laid named placed))
+    no_members (seen b spans names places) name (ap members_in (look_up-laid b spans names places name k (One part) laid named placed))
 
 pub no_members-lacking : (b : Text) (spans : List Span) (names : List Text) (places : List Place) (name : Text) → IsLaid b spans names places
     → is_among name names ≡ false → AreMembersAt (seen b spans names places) name 0 0
 no_members-lacking b spans names places name laid lacks =
-    no_members (seen b spans names places) name (ap members_meant (look_up-lacking b spans names places name laid lacks))
+    no_members (seen b spans names places) name (ap members_in (look_up-lacking b spans names places name laid lacks))
 
 -- the pieces of spans, by their offsets and lengths
-same_texts : (b : Text) (spans : List Span) → map (piece_at b) (laid_spans spans) ≡ map (piece b) spans
+same_texts : (b : Text) (spans : List Span) → map (piece_at b) (laid_spans spans) ≡ map (span_bytes b) spans
 same_texts b [] = refl
-same_texts b (s ∷ ss) = ap (λ xs. piece b s ∷ xs) (same_texts b ss)
+same_texts b (s ∷ ss) = ap (λ xs. span_bytes b s ∷ xs) (same_texts b ss)
 
 laid_run : (b : Text) (spans : List Span) (first count : ℕ) → map (piece_at b) (take count (drop first (laid_spans spans)))
-    ≡ map (piece b) (take count (drop first spans))
+    ≡ map (span_bytes b) (take count (drop first spans))
 laid_run b spans first count =
     ap (λ xs. map (piece_at b) (take count xs)) (drop-map (λ (s : Span). at s.part) first spans)
     ∙ ap (map (piece_at b)) (take-map (λ (s : Span). at s.part) count (drop first spans))
     ∙ same_texts b (take count (drop first spans))
 
 pub members_at : (b : Text) (spans : List Span) (names : List Text) (places : List Place) (name : Text) (k first count : ℕ) → IsLaid b spans names places
-    → slice_get names k ≡ Some name → slice_get places k ≡ Some Many → IsRun spans k first count
+    → slice_get names k ≡ Some name → slice_get places k ≡ Some Many → AreAdjacent spans k first count
     → AreMembersAt (seen b spans names places) name first count
 members_at b spans names places name k first count laid named placed run =
     let long = length-map spans (λ (s : Span). at s.part) in
     let within = run.within in
     record {
       within = omega arith;
-      are = ap members_meant (look_up-laid b spans names places name k Many laid named placed) ∙ ap (map (piece b)) (sym run.is)
+      are = ap members_in (look_up-laid b spans names places name k Many laid named placed) ∙ ap (map (span_bytes b)) (sym run.is)
           ∙ sym (laid_run b spans first count);
     }
 
 -- the members that are borrowed
 pub members_lent : (b : Text) (spans : List Span) (env : EnvValue) (name : Text) (first count : ℕ) → env.buffer ≡ b → env.spans ≡ laid_spans spans
-    → AreMembersAt env name first count → map (piece b) (slice_range spans first (first + count)) ≡ members_of env.entries name
+    → AreMembersAt env name first count → map (span_bytes b) (slice_range spans first (first + count)) ≡ members_of env.entries name
 members_lent b spans env name first count buffer laid are =
     let many : first + count - first ≡ count = omega arith in
-    ap (λ n. map (piece b) (take n (drop first spans))) many
+    ap (λ n. map (span_bytes b) (take n (drop first spans))) many
     ∙ sym (laid_run b spans first count)
     ∙ ap (λ t. map (piece_at t) (take count (drop first (laid_spans spans)))) (sym buffer)
     ∙ ap (λ xs. map (piece_at env.buffer) (take count (drop first xs))) (sym laid)

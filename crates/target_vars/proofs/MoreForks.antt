@@ -8,7 +8,8 @@ use Rattle.std.proofs.lemmas.List.{length-map, map-append, take-append-le, drop-
 use Rattle.std.proofs.lemmas.List.Elements.{All-push, All-weaker, All-head, All-tail}
 use Rattle.std.proofs.lemmas.Option.{slice_get_within, get_or_from_slice_get}
 use Rattle.text_model.specs.Texts.{Text}
-use Rattle.target_vars.specs.Private.NamesValue.{names_in, branch_of, branch_at, Passes, Leads, IsForward, AreForward, IsNamePlace, AreNames, IsGap, Separates}
+use Rattle.target_vars.specs.Private.NamesValue.{placed_names, branch_of, branch_at, Passes, Leads, IsForward, AreForward, IsNamePlace, AreNames, IsGap}
+use Rattle.target_vars.specs.Private.NamesValue.{Separates}
 use Rattle.target_vars.specs.Private.NamesValue.{IsForked}
 use Rattle.target_vars.specs.declared.names.NamePlace.{NamePlace}
 use Rattle.target_vars.specs.declared.names.forks.Fork.{Fork}
@@ -52,20 +53,20 @@ same_name bytes more p is =
     let left = length-drop p.start bytes in
     ap (take (p.end - p.start)) (drop-append-le p.start bytes more (omega arith)) ∙ take-append-le (p.end - p.start) (drop p.start bytes) more (omega arith)
 
-same_names : (bytes more : Text) (places : List NamePlace) → All (IsNamePlace bytes) places → names_in (bytes ++ more) places ≡ names_in bytes places
+same_names : (bytes more : Text) (places : List NamePlace) → All (IsNamePlace bytes) places → placed_names (bytes ++ more) places ≡ placed_names bytes places
 same_names bytes more [] are = refl
 same_names bytes more (p ∷ ps) are =
-    ap (λ n. n ∷ names_in (bytes ++ more) ps) (same_name bytes more p (All-head (IsNamePlace bytes) p ps are))
+    ap (λ n. n ∷ placed_names (bytes ++ more) ps) (same_name bytes more p (All-head (IsNamePlace bytes) p ps are))
     ∙ ap (λ ns. slice_range bytes p.start p.end ∷ ns) (same_names bytes more ps (All-tail (IsNamePlace bytes) p ps are))
 
-pub names_in-push : (bytes name : Text) (places : List NamePlace) (p : NamePlace) → All (IsNamePlace bytes) places → p.start ≡ length bytes
-    → p.end ≡ length bytes + length name → names_in (bytes ++ name) (places ++ p ∷ []) ≡ names_in bytes places ++ name ∷ []
-names_in-push bytes name places p placed start end =
+pub placed_names-push : (bytes name : Text) (places : List NamePlace) (p : NamePlace) → All (IsNamePlace bytes) places → p.start ≡ length bytes
+    → p.end ≡ length bytes + length name → placed_names (bytes ++ name) (places ++ p ∷ []) ≡ placed_names bytes places ++ name ∷ []
+placed_names-push bytes name places p placed start end =
     let last : slice_range (bytes ++ name) p.start p.end ≡ name = ap (take (p.end - p.start)) (drop_at bytes name p.start (sym start))
     ∙ take_all (p.end - p.start) name (omega arith) in
     map-append (λ (q : NamePlace). slice_range (bytes ++ name) q.start q.end) places (p ∷ [])
     ∙ ap (λ ns. ns ++ slice_range (bytes ++ name) p.start p.end ∷ []) (same_names bytes name places placed)
-    ∙ ap (λ n. names_in bytes places ++ n ∷ []) last
+    ∙ ap (λ n. placed_names bytes places ++ n ∷ []) last
 
 -- a branch that leads forward still does when there are more forks
 more_forks : (n m at : ℕ) (branch : Branch) → n ≤ m → IsForward n at branch → IsForward m at branch
@@ -195,12 +196,12 @@ all_found listed old new name gap fork each found is separates forked = λ numbe
         subst (λ k. (l : ℕ) × Leads new text l k) (sym here) (subst (λ t. (l : ℕ) × Leads new t l (length listed)) same (newest (cases_lt 0 (length listed))))
 
 pub are_names-push : (bytes name : Text) (places : List NamePlace) (old new : List Fork) (p : NamePlace) (gap : ℕ) (fork : Fork) → AreNames bytes places old
-    → IsGap (record { listed = names_in bytes places; forks = old }) name gap
-    → Separates (record { listed = names_in bytes places; forks = old }) name gap fork → IsForked old name gap fork new → p.start ≡ length bytes
+    → IsGap (record { listed = placed_names bytes places; forks = old }) name gap
+    → Separates (record { listed = placed_names bytes places; forks = old }) name gap fork → IsForked old name gap fork new → p.start ≡ length bytes
     → p.end ≡ length bytes + length name
     → AreNames (bytes ++ name) (places ++ p ∷ []) new
 are_names-push bytes name places old new p gap fork are is separates forked start end =
-    let names = names_in bytes places in
+    let names = placed_names bytes places in
     let each : length names ≡ length old = length-map places (λ (q : NamePlace). slice_range bytes q.start q.end) ∙ sym are.one_each in
     let long : length (places ++ p ∷ []) ≡ length places + 1 = length-append places (p ∷ []) in
     let longer = forked.longer in
@@ -212,5 +213,5 @@ are_names-push bytes name places old new p gap fork are is separates forked star
           places are.placed) (record { start_le_end = omega arith; inside = omega arith });
       one_each = omega arith;
       forward = forward-push names old new name gap fork each are.forward separates forked;
-      found = rw (names_in-push bytes name places p are.placed start end) (all_found names old new name gap fork each are.found is separates forked);
+      found = rw (placed_names-push bytes name places p are.placed start end) (all_found names old new name gap fork each are.found is separates forked);
     }

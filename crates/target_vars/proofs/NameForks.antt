@@ -12,7 +12,7 @@ use Rattle.std.proofs.lemmas.Option.{slice_get-get_or, slice_get_within, slice_g
 use Rattle.std.proofs.lemmas.Slice.Eq.{bytes_eq-Decides}
 use Rattle.text_model.specs.Texts.{Text}
 use Rattle.environment_model.specs.Environment.{is_among}
-use Rattle.target_vars.specs.Private.NamesValue.{names_in, branch_of, branch_at, is_high, turned, Passes, Leads, AreNames, IsGap, IsForked}
+use Rattle.target_vars.specs.Private.NamesValue.{placed_names, branch_of, branch_at, is_high, turned, Passes, Leads, AreNames, IsGap, IsForked}
 use Rattle.target_vars.specs.declared.names.NamePlace.{NamePlace}
 use Rattle.target_vars.specs.declared.names.forks.Fork.{Fork}
 use Rattle.target_vars.specs.declared.names.forks.Branch.{Branch}
@@ -60,36 +60,37 @@ one_end forks text last last' number number' leads leads' = same_end leads.path 
 -- the search for a name ends with another name: then there is no such name
 pub lacking : (bytes : Text) (places : List NamePlace) (forks : List Fork) (name : Text) (last number : ℕ) → AreNames bytes places forks
     → Leads forks name last number
-    → bytes_eq (get_or (names_in bytes places) number []) name ≡ false → is_among name (names_in bytes places) ≡ false
+    → bytes_eq (get_or (placed_names bytes places) number []) name ≡ false → is_among name (placed_names bytes places) ≡ false
 lacking bytes places forks name last number are leads other =
     list_any_none (λ n. bytes_eq n name) names (All-from_get_or (λ n. bytes_eq n name ≡ false) names [] every)
   where
     names : List Text
-    names = names_in bytes places
+    names = placed_names bytes places
 
-    every : (i : ℕ) → i < length (names_in bytes places) → bytes_eq (get_or (names_in bytes places) i []) name ≡ false
-    every i below = by_cases (bytes_eq (get_or (names_in bytes places) i []) name) refl
+    every : (i : ℕ) → i < length (placed_names bytes places) → bytes_eq (get_or (placed_names bytes places) i []) name ≡ false
+    every i below = by_cases (bytes_eq (get_or (placed_names bytes places) i []) name) refl
       where
-        by_cases : (r : Bool) → bytes_eq (get_or (names_in bytes places) i []) name ≡ r → bytes_eq (get_or (names_in bytes places) i []) name ≡ false
+        by_cases : (r : Bool) → bytes_eq (get_or (placed_names bytes places) i []) name ≡ r → bytes_eq (get_or (placed_names bytes places) i []) name ≡ false
         by_cases false is = is
         by_cases true is =
-            let same : get_or (names_in bytes places) i [] ≡ name = (bytes_eq-Decides (get_or (names_in bytes places) i []) name).0 is in
-            let own = are.found i name (slice_get-get_or (names_in bytes places) i [] below ∙ ap Some same) in
+            let same : get_or (placed_names bytes places) i [] ≡ name = (bytes_eq-Decides (get_or (placed_names bytes places) i []) name).0 is in
+            let own = are.found i name (slice_get-get_or (placed_names bytes places) i [] below ∙ ap Some same) in
             let at : i ≡ number = one_end forks name own.0 last i number own.1 leads in
-            subst (λ k. bytes_eq (get_or (names_in bytes places) k []) name ≡ false) (sym at) other
+            subst (λ k. bytes_eq (get_or (placed_names bytes places) k []) name ≡ false) (sym at) other
 
 -- the name with which the search for it ends
 pub found : (bytes : Text) (places : List NamePlace) (forks : List Fork) (name : Text) (number : ℕ) → AreNames bytes places forks → number < length forks
-    → bytes_eq (get_or (names_in bytes places) number []) name ≡ true → slice_get (names_in bytes places) number ≡ Some name
+    → bytes_eq (get_or (placed_names bytes places) number []) name ≡ true → slice_get (placed_names bytes places) number ≡ Some name
 found bytes places forks name number are below same =
     let long = length-map places (λ (p : NamePlace). slice_range bytes p.start p.end) in
     let one_each = are.one_each in
-    slice_get-get_or (names_in bytes places) number [] (omega arith) ∙ ap Some ((bytes_eq-Decides (get_or (names_in bytes places) number []) name).0 same)
+    slice_get-get_or (placed_names bytes places) number [] (omega arith)
+    ∙ ap Some ((bytes_eq-Decides (get_or (placed_names bytes places) number []) name).0 same)
 
 -- the search for a name ends with another one: its last fork is the gap of the name
 pub gap_of : (bytes : Text) (places : List NamePlace) (forks : List Fork) (name : Text) (last number : ℕ) → AreNames bytes places forks → number < length forks
     → Leads forks name last number
-    → bytes_eq (get_or (names_in bytes places) number []) name ≡ false → IsGap (record { listed = names_in bytes places; forks = forks }) name last
+    → bytes_eq (get_or (placed_names bytes places) number []) name ≡ false → IsGap (record { listed = placed_names bytes places; forks = forks }) name last
 gap_of bytes places forks name last number are below leads other =
     let long = length-map places (λ (p : NamePlace). slice_range bytes p.start p.end) in
     let one_each = are.one_each in

@@ -15,7 +15,7 @@ use Rattle.std.proofs.lemmas.Option.{slice_get-get_or, slice_get_past}
 use Rattle.std.proofs.lemmas.Slice.Eq.{bytes_eq-Decides}
 use Rattle.text_model.specs.Texts.{Text}
 use Rattle.environment_model.specs.Environment.{is_among}
-use Rattle.target_vars.specs.Private.NamesValue.{NamesValue, names_in, code_at, is_set, branch_of, branch_at, AreNames, IsGap, Separates}
+use Rattle.target_vars.specs.Private.NamesValue.{NamesValue, placed_names, code_at, is_set, branch_of, branch_at, AreNames, IsGap, Separates}
 use Rattle.target_vars.specs.declared.names.NamePlace.{NamePlace}
 use Rattle.target_vars.specs.declared.names.forks.Fork.{Fork}
 use Rattle.target_vars.specs.declared.names.forks.Branch.{Branch}
@@ -46,7 +46,7 @@ pub fork_read : (v : NamesValue) (forks : List Fork) (gap : ℕ) (last : Fork) �
     → slice_get v.forks gap ≡ Some last
 fork_read v forks gap last same below read = ap (λ fs. slice_get fs gap) (sym same) ∙ slice_get-get_or forks gap last below ∙ ap Some (sym read)
 
-pub each_fork : (bytes : Text) (places : List NamePlace) (forks : List Fork) → AreNames bytes places forks → length (names_in bytes places) ≡ length forks
+pub each_fork : (bytes : Text) (places : List NamePlace) (forks : List Fork) → AreNames bytes places forks → length (placed_names bytes places) ≡ length forks
 each_fork bytes places forks are = length-map places (λ (p : NamePlace). slice_range bytes p.start p.end) ∙ sym are.one_each
 
 pub gap_branch : (forks : List Fork) (name : Text) (gap : ℕ) (last : Fork) (branch : Branch) → slice_get forks gap ≡ Some last → branch ≡ branch_of last name

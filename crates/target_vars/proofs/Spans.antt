@@ -10,7 +10,7 @@ use Rattle.std.proofs.lemmas.List.{get_or-take, get_or-drop}
 use Rattle.std.proofs.lemmas.List.Elements.{All-weaker, filter-append}
 use Rattle.std.proofs.lemmas.List.Sorted.{IsNonDecreasingBy-insert}
 use Rattle.text_model.proofs.Lists.{filter_all, filter_none}
-use Rattle.target_vars.specs.Layout.{spans_of, IsRun, IsPutLast}
+use Rattle.target_vars.specs.Layout.{spans_of, AreAdjacent, IsPutLast}
 use Rattle.target_vars.specs.declared.place.Span.{Span}
 
 -- ---- filters
@@ -44,7 +44,8 @@ both s n from upto = let ge = ltb-false s.list n from in let le = leb-true s.lis
 
 pub run_is : (xs : List Span) (n first count : ℕ) → first ≤ length xs → IsNonDecreasingBy (λ s. s.list) xs
     → IsPartitionPoint (λ s. ltb s.list n ≡ true) (λ s. ltb s.list n ≡ false) xs first
-    → count ≤ length (drop first xs) → IsPartitionPoint (λ s. leb s.list n ≡ true) (λ s. leb s.list n ≡ false) (drop first xs) count → IsRun xs n first count
+    → count ≤ length (drop first xs) → IsPartitionPoint (λ s. leb s.list n ≡ true) (λ s. leb s.list n ≡ false) (drop first xs) count
+    → AreAdjacent xs n first count
 run_is xs n first count in_first order firsts in_count counts =
     let size = length-drop first xs in
     let p : Span → Bool = λ s. s.list == n in

@@ -18,11 +18,11 @@ abbrev pub at : Part → ℕ × ℕ
 at part = (part.start, part.len)
 
 -- the bytes of a part, and of a span
-abbrev pub part_text : Text → Part → Text
-part_text buffer part = piece_at buffer (at part)
+abbrev pub part_bytes : Text → Part → Text
+part_bytes buffer part = piece_at buffer (at part)
 
-abbrev pub piece : Text → Span → Text
-piece buffer span = part_text buffer span.part
+abbrev pub span_bytes : Text → Span → Text
+span_bytes buffer span = part_bytes buffer span.part
 
 -- the part begins and ends between two characters of the buffer
 pub record IsPart (buffer : Text) (part : Part) : Type 0 where
@@ -43,7 +43,7 @@ abbrev pub spans_of : List Span → ℕ → List Span
 spans_of spans number = filter (λ s. s.list == number) spans
 
 -- the spans of a list are next to each other, `count` of them from `first` on
-pub record IsRun (spans : List Span) (number first count : ℕ) : Type 0 where
+pub record AreAdjacent (spans : List Span) (number first count : ℕ) : Type 0 where
   pub within : first + count ≤ length spans
   pub is : take count (drop first spans) ≡ spans_of spans number
 
@@ -59,12 +59,12 @@ pub record IsPutLast (spans : List Span) (span : Span) (new : List Span) : Type 
 -- ---- the entries
 
 -- the members of a name's list
-abbrev pub members_in : Text → List Span → ℕ → List Text
-members_in buffer spans number = map (piece buffer) (spans_of spans number)
+abbrev pub list_members : Text → List Span → ℕ → List Text
+list_members buffer spans number = map (span_bytes buffer) (spans_of spans number)
 
 -- what a name denotes, given the members of its list
 abbrev pub meaning_in : Text → List Text → Place → Meaning
-meaning_in buffer members (One part) = Single (part_text buffer part)
+meaning_in buffer members (One part) = Single (part_bytes buffer part)
 meaning_in buffer members Many = Several members
 
 -- the entries of the names from a number on, given the members for each number
@@ -75,7 +75,7 @@ entries_from buffer members number (name ∷ names) (place ∷ places) =
     record { name = name; meaning = meaning_in buffer (members number) place } ∷ entries_from buffer members (suc number) names places
 
 abbrev pub laid_entries : Text → List Span → List Text → List Place → Environment
-laid_entries buffer spans names places = entries_from buffer (members_in buffer spans) 0 names places
+laid_entries buffer spans names places = entries_from buffer (list_members buffer spans) 0 names places
 
 -- the offsets and lengths of the spans
 abbrev pub laid_spans : List Span → List (ℕ × ℕ)
@@ -85,7 +85,7 @@ laid_spans spans = map (λ s. at s.part) spans
 pub record IsTextPart (env : EnvValue) (name : Text) (part : Part) : Type 0 where
   pub is_part : IsPart env.buffer part
   pub within : IsWithin env (at part)
-  pub is : text_of env.entries name ≡ Some (part_text env.buffer part)
+  pub is : text_of env.entries name ≡ Some (part_bytes env.buffer part)
 
 abbrev pub is_one : Place → Bool
 is_one (One part) = true

@@ -20,12 +20,12 @@ pub struct Members<'a> {
 
 impl<'a> Members<'a> {
     ghost use Rattle.std.specs.Prelude.{[], ◌∷◌, map, MatchOption, IsTrue, ◌↔◌};
-    ghost use Rattle.target_vars.specs.Layout.{piece, IsPieces};
+    ghost use Rattle.target_vars.specs.Layout.{span_bytes, IsPieces};
     ghost use Rattle.target_vars.specs.Members.{members_left};
 
     pub(crate) fn new(buffer: &'a str, spans: &'a [Span]) -> Members<'a>
         requires { IsPieces buffer.now spans.now }
-        ensures { members_left result ≡ map (piece buffer.now) spans.now }
+        ensures { members_left result ≡ map (span_bytes buffer.now) spans.now }
     {
         Members { buffer, spans }
     }

@@ -36,9 +36,9 @@ impl Model for Names {
 
     ghost Value = { NamesValue };
 
-    ghost use Rattle.target_vars.specs.Private.NamesValue.{names_in, AreNames};
+    ghost use Rattle.target_vars.specs.Private.NamesValue.{placed_names, AreNames};
 
-    ghost view = { λ n. record { listed = names_in n.bytes.items n.places.items; forks = n.forks.items } };
+    ghost view = { λ n. record { listed = placed_names n.bytes.items n.places.items; forks = n.forks.items } };
 
     ghost invariant = { λ n. AreNames n.bytes.items n.places.items n.forks.items };
 }

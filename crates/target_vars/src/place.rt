@@ -3,7 +3,7 @@
 ghost use Rattle.std.specs.Prelude.{◌≡◌, ◌<◌, ◌≤◌, ◌+◌, [], ◌∷◌, ◌++◌, length, vec_len, vec_capacity};
 ghost use Rattle.std.specs.Prelude.{MatchOption, IfOk, OnOk, OnErr};
 ghost use Rattle.std.specs.List.Sorted.{IsNonDecreasingBy};
-ghost use Rattle.target_vars.specs.Layout.{part_text, HasList, IsPart, IsPutLast, IsRun};
+ghost use Rattle.target_vars.specs.Layout.{part_bytes, HasList, IsPart, IsPutLast, AreAdjacent};
 ghost use Rattle.target_vars.specs.Private.ListPlaces.{HasText, IsListPlace};
 ghost use Rattle.target_vars.specs.Private.NamesValue.{IsGap};
 
@@ -48,7 +48,7 @@ impl Part {
 
     pub(crate) fn of(self, buffer: &str) -> &str
         requires { IsPart buffer.now self }
-        ensures { result.now ≡ part_text buffer.now self }
+        ensures { result.now ≡ part_bytes buffer.now self }
     {
         let start = self.start as usize;
         &buffer[start..start + self.len as usize]
@@ -114,7 +114,7 @@ pub(crate) fn list_of(
 /// Where the spans of the list begin, and how many there are.
 pub(crate) fn run_of(spans: &[Span], list: usize) -> (usize, usize)
     requires { IsNonDecreasingBy (λ s. s.list) spans.now }
-    ensures { IsRun spans.now list result.0 result.1 }
+    ensures { AreAdjacent spans.now list result.0 result.1 }
 {
     let first = spans.partition_point(|span| span.list < list);
     let count = spans[first..].partition_point(|span| span.list <= list);

@@ -73,7 +73,7 @@ impl Scope for Env {
     }
 
     fn span(&self, i: usize) -> (u32, u32) {
-        let _members = self.members();
+        let _known = self.members();
         self.span(i)
     }
 

@@ -22,7 +22,7 @@ use Rattle.uri_grammar.specs.Specs.{IsModifier, no_modifier, prefix_modifier, Is
 use Rattle.uri_grammar.specs.Templates.{Spells}
 use Rattle.uri_grammar.specs.Expressions.{begins_with_operator, begins_with_reserved, HasOperator}
 use Rattle.uri_grammar.specs.Faults.{IsFirstFault}
-use Rattle.uri_grammar.specs.Texts.{IsTemplate, IsRefused}
+use Rattle.uri_grammar.specs.Texts.{IsTemplate, IsRefusedTemplate}
 use Rattle.uri_grammar.proofs.NameLemmas.{encodes_ascii}
 
 -- ---- tests that compute
@@ -54,7 +54,7 @@ has_tree : (cs : List ℕ) (parts : List Part) → list_all (λ c. nat_lt c 128)
 has_tree cs parts a t s = (leb-true (length cs) 8192 t, cs, sym (plain cs a), s)
 
 pub refused : (cs : List ℕ) (k : TemplateErrorKind) (at : ℕ) → list_all (λ c. nat_lt c 128) cs ≡ true → nat_le (length cs) 8192 ≡ true → IsFirstFault cs k at
-    → IsRefused cs k at
+    → IsRefusedTemplate cs k at
 refused cs k at a t f = inr (leb-true (length cs) 8192 t, cs, sym (plain cs a), f)
 
 pub characters : (cs : List ℕ) → list_all is_literal_character cs ≡ true → AreLiterals cs

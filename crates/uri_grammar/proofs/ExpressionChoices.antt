@@ -20,7 +20,7 @@ use Rattle.uri_grammar.specs.Specs.{Lacks}
 use Rattle.uri_grammar.specs.Expressions.{operator_text, begins_with_reserved, IsBody}
 use Rattle.uri_grammar.specs.Templates.{Spells}
 use Rattle.uri_grammar.specs.Faults.{IsBodyFault, reserved_operator, bad_list, IsPartFault, unclosed, empty_expression, bad_expression, IsFirstFault}
-use Rattle.uri_grammar.specs.Texts.{IsTemplate, IsRefused}
+use Rattle.uri_grammar.specs.Texts.{IsTemplate, IsRefusedTemplate}
 use Rattle.uri_grammar.specs.Private.Reading.{begins_with_brace, operator_of, IsExpression, EndsWithNoLiteral}
 use Rattle.uri_grammar.proofs.ExpressionLemmas.{operator_of-HasOperator}
 use Rattle.uri_grammar.proofs.TemplateLemmas.{IsPartFault-literal, Spells-literal, Spells-expression, EndsWithNoLiteral-expression, brace_after}
@@ -123,7 +123,7 @@ parts_or_fault (suc n) front (c ∷ cs) parts l s ends =
     started (x ∷ raw) after cs e z some = omega arith
 
 short_text_or_fault : (text : Text) → IsUtf8 text → length text ≤ MAX_BYTES → ((parts : List Part) × IsTemplate text parts)
-    ⊎ ((k : TemplateErrorKind) × (at : ℕ) × IsRefused text k at)
+    ⊎ ((k : TemplateErrorKind) × (at : ℕ) × IsRefusedTemplate text k at)
 short_text_or_fault text utf8 l =
     let is : text ≡ encode_utf8_all (chars text) = sym (encodes-chars text utf8) in
     ⊎_elim
@@ -131,7 +131,8 @@ short_text_or_fault text utf8 l =
     (λ f. inr (f.0, f.1, inr (l, chars text, is, f.2)))
     (parts_or_fault (suc (length (chars text))) [] (chars text) [] (omega arith) refl (λ _. tt))
 
-pub tree_or_fault : (text : Text) → IsUtf8 text → ((parts : List Part) × IsTemplate text parts) ⊎ ((k : TemplateErrorKind) × (at : ℕ) × IsRefused text k at)
+pub tree_or_fault : (text : Text) → IsUtf8 text
+    → ((parts : List Part) × IsTemplate text parts) ⊎ ((k : TemplateErrorKind) × (at : ℕ) × IsRefusedTemplate text k at)
 tree_or_fault text utf8 =
     ⊎_elim
     (λ z. short_text_or_fault text utf8 (omega (arith, z)))

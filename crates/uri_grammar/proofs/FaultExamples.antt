@@ -20,7 +20,7 @@ use Rattle.uri_grammar.specs.Private.Reading.{modifier_of}
 use Rattle.uri_grammar.specs.Expressions.{begins_with_operator, begins_with_reserved}
 use Rattle.uri_grammar.specs.Faults.{begins_with_modifier, IsSpecFault, IsListFault, IsBodyFault, IsPartFault, bad_name, bad_modifier, reserved_operator}
 use Rattle.uri_grammar.specs.Faults.{bad_list, bad_literal, unclosed, empty_expression, bad_expression, IsFirstFault}
-use Rattle.uri_grammar.specs.Texts.{IsRefused}
+use Rattle.uri_grammar.specs.Texts.{IsRefusedTemplate}
 use Rattle.uri_grammar.proofs.NameLemmas.{ended_varname}
 use Rattle.uri_grammar.proofs.SpecLemmas.{modifier_of-none, no_name, bad_follower}
 use Rattle.uri_grammar.proofs.Examples.{characters, lacks, no_operator, refused, spec_of, spelled_spec, word}
@@ -66,36 +66,36 @@ simple_list list k d some l m r o f =
     listed list k (0 + d) some (lacks close_brace list l)
     (bad_list list operator.Simple list k d (no_operator list r o) (only_spec list k d (lacks comma list m) f))
 
-bad_character : IsRefused (codes "{a b}") kind.BadName 1
+bad_character : IsRefusedTemplate (codes "{a b}") kind.BadName 1
 bad_character =
     refused (codes "{a b}") kind.BadName 1 refl refl
     (simple_list (codes "a b") kind.BadName 0 (omega arith) refl refl refl refl
     (bad_name (codes "a b") (bad_follower (codes "a b") (codes "a") (codes " b") (letter_a (codes " b") refl) (omega arith) refl)))
 
 -- a hyphen cannot be in a name
-hyphen : IsRefused (codes "{a-b}") kind.BadName 1
+hyphen : IsRefusedTemplate (codes "{a-b}") kind.BadName 1
 hyphen =
     refused (codes "{a-b}") kind.BadName 1 refl refl
     (simple_list (codes "a-b") kind.BadName 0 (omega arith) refl refl refl refl
     (bad_name (codes "a-b") (bad_follower (codes "a-b") (codes "a") (codes "-b") (letter_a (codes "-b") refl) (omega arith) refl)))
 
-cut_of_zero : IsRefused (codes "{a:0}") kind.BadModifier 2
+cut_of_zero : IsRefusedTemplate (codes "{a:0}") kind.BadModifier 2
 cut_of_zero =
     refused (codes "{a:0}") kind.BadModifier 2 refl refl
     (simple_list (codes "a:0") kind.BadModifier 1 (omega arith) refl refl refl refl (modified_a (codes ":0") refl refl refl))
 
-cut_of_five_digits : IsRefused (codes "{a:10000}") kind.BadModifier 2
+cut_of_five_digits : IsRefusedTemplate (codes "{a:10000}") kind.BadModifier 2
 unfolding value_from
 cut_of_five_digits =
     refused (codes "{a:10000}") kind.BadModifier 2 refl refl
     (simple_list (codes "a:10000") kind.BadModifier 1 (omega arith) refl refl refl refl (modified_a (codes ":10000") refl refl refl))
 
-cut_and_explode : IsRefused (codes "{a:3*}") kind.BadModifier 2
+cut_and_explode : IsRefusedTemplate (codes "{a:3*}") kind.BadModifier 2
 cut_and_explode =
     refused (codes "{a:3*}") kind.BadModifier 2 refl refl
     (simple_list (codes "a:3*") kind.BadModifier 1 (omega arith) refl refl refl refl (modified_a (codes ":3*") refl refl refl))
 
-no_spec_after_the_comma : IsRefused (codes "{a,}") kind.BadName 3
+no_spec_after_the_comma : IsRefusedTemplate (codes "{a,}") kind.BadName 3
 no_spec_after_the_comma =
     refused (codes "{a,}") kind.BadName 3 refl refl (listed (codes "a,") kind.BadName 2 (omega arith) (lacks close_brace (codes "a,") refl)
     (bad_list (codes "a,") operator.Simple (codes "a,") kind.BadName 2 (no_operator (codes "a,") refl refl) (record {
@@ -120,26 +120,26 @@ no_spec_after_the_comma =
       place = refl;
     })))
 
-reserved : IsRefused (codes "{,a}") kind.ReservedOperator 1
+reserved : IsRefusedTemplate (codes "{,a}") kind.ReservedOperator 1
 reserved =
     refused (codes "{,a}") kind.ReservedOperator 1 refl refl (listed (codes ",a") kind.ReservedOperator 0 (omega arith) (lacks close_brace (codes ",a") refl)
     (reserved_operator (codes ",a") refl))
 
-nothing_after_the_operator : IsRefused (codes "{.}") kind.BadName 2
+nothing_after_the_operator : IsRefusedTemplate (codes "{.}") kind.BadName 2
 nothing_after_the_operator =
     refused (codes "{.}") kind.BadName 2 refl refl (listed (codes ".") kind.BadName 1 (omega arith) (lacks close_brace (codes ".") refl)
     (bad_list (codes ".") operator.Dot [] kind.BadName 0
     (record { whole = refl; not_reserved = refl; chosen = λ e. absurd (let never : ⊥ = cc in never) })
     (only_spec [] kind.BadName 0 (lacks comma [] refl) (bad_name [] (no_name [] refl)))))
 
-unclosed_brace : IsRefused (codes "{a") kind.Unclosed 0
+unclosed_brace : IsRefusedTemplate (codes "{a") kind.Unclosed 0
 unclosed_brace =
     refused (codes "{a") kind.Unclosed 0 refl refl (faulty (codes "{a") kind.Unclosed 0 (unclosed (codes "a") (lacks close_brace (codes "a") refl)))
 
-empty : IsRefused (codes "{}") kind.EmptyExpression 0
+empty : IsRefusedTemplate (codes "{}") kind.EmptyExpression 0
 empty = refused (codes "{}") kind.EmptyExpression 0 refl refl (faulty (codes "{}") kind.EmptyExpression 0 (empty_expression []))
 
-caret : IsRefused (codes "^") kind.BadLiteral 0
+caret : IsRefusedTemplate (codes "^") kind.BadLiteral 0
 unfolding is_literal_character
 caret = refused (codes "^") kind.BadLiteral 0 refl refl
     (faulty (codes "^") kind.BadLiteral 0 (bad_literal 94 [] refl (λ e. false≢true (eq-eqb 94 open_brace e))))

@@ -16,7 +16,7 @@ use Rattle.uri_grammar.specs.declared.template.TheConstants.{MAX_BYTES}
 use Rattle.uri_grammar.specs.Expressions.{IsBody}
 use Rattle.uri_grammar.specs.Templates.{BeginsNoLiteral, BeginsWithLiterals, BeginsWithExpression, Spells}
 use Rattle.uri_grammar.specs.Faults.{IsBodyFault, IsPartFault, bad_literal, unclosed, empty_expression, bad_expression, IsFirstFault}
-use Rattle.uri_grammar.specs.Texts.{IsTemplate, IsRefused}
+use Rattle.uri_grammar.specs.Texts.{IsTemplate, IsRefusedTemplate}
 use Rattle.uri_grammar.proofs.RunLemmas.{item-Run, run_same, split_same, lacks_split}
 use Rattle.uri_grammar.proofs.LiteralLemmas.{AreLiterals-run, no_literal-length, literal_item_len-brace}
 use Rattle.uri_grammar.proofs.TemplateLemmas.{literals_before, expression_before}
@@ -172,7 +172,7 @@ one_tree text parts others h k =
     let same : h.1 ≡ k.1 = encodes_same h.1 k.1 (sym h.2 ∙ k.2) in
     (spelled_same parts others h.1 k.1 [] [] h.3 k.3 nothing_no_part nothing_no_part (ap (λ (t : List ℕ). t ++ []) same)).0
 
-pub tree_without_fault : (text : Text) (parts : List Part) (kind : TemplateErrorKind) (at : ℕ) → IsTemplate text parts → IsRefused text kind at → ⊥
+pub tree_without_fault : (text : Text) (parts : List Part) (kind : TemplateErrorKind) (at : ℕ) → IsTemplate text parts → IsRefusedTemplate text kind at → ⊥
 tree_without_fault text parts kind at h r =
     let short : length text ≤ MAX_BYTES = h.0 in
     ⊎_elim
@@ -185,7 +185,7 @@ tree_without_fault text parts kind at h r =
     not_nothing g.rest (length-fault g.rest kind g.distance g.fault) ends.2)
     r
 
-pub one_first_fault : (text : Text) (kind other : TemplateErrorKind) (at place : ℕ) → IsRefused text kind at → IsRefused text other place
+pub one_first_fault : (text : Text) (kind other : TemplateErrorKind) (at place : ℕ) → IsRefusedTemplate text kind at → IsRefusedTemplate text other place
     → (kind ≡ other) × (at ≡ place)
 one_first_fault text kind other at place r q =
     ⊎_elim

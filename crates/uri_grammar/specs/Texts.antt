@@ -13,8 +13,8 @@ abbrev pub IsTemplate : Text → List Part → Type 0
 IsTemplate text parts = (length text ≤ MAX_BYTES) × (cs : List ℕ) × (text ≡ encode_utf8_all cs) × Spells cs parts
 
 -- the text is too long, or this is its first error, at this byte
-abbrev pub IsRefused : Text → TemplateErrorKind → ℕ → Type 0
-IsRefused text kind at =
+abbrev pub IsRefusedTemplate : Text → TemplateErrorKind → ℕ → Type 0
+IsRefusedTemplate text kind at =
     ((MAX_BYTES < length text) × (kind ≡ TooLong) × (at ≡ MAX_BYTES))
     ⊎ ((length text ≤ MAX_BYTES) × (cs : List ℕ) × (text ≡ encode_utf8_all cs) × IsFirstFault cs kind at)
 

@@ -4,7 +4,7 @@ ghost use Rattle.std.specs.Prelude.{◌≡◌, ◌<◌, ◌≤◌, ◌⊎◌, Al
 ghost use Rattle.uri_grammar.specs.Templates.{Spells};
 ghost use Rattle.uri_grammar.specs.Faults.{IsFirstFault};
 ghost use Rattle.uri_grammar.specs.Private.Reading.{IsFault};
-ghost use Rattle.uri_grammar.specs.Texts.{IsTemplate, IsRefused};
+ghost use Rattle.uri_grammar.specs.Texts.{IsTemplate, IsRefusedTemplate};
 ghost use Rattle.uri_grammar.specs.Promises.{IsSoundPart};
 ghost use Rattle.uri_grammar.specs.declared.error.TemplateErrorKind.TheVariants.{NoMemory, TooLong};
 
@@ -57,7 +57,8 @@ impl Template {
         ensures limits { (MAX_BYTES ≡ 8192) × (MAX_NAME_BYTES ≡ 255) × (MAX_PREFIX ≡ 9999) }
         ensures text { IfOk result (λ template. template.text ≡ text.now) }
         ensures ok { IfOk result (λ template. IsTemplate text.now template.parts) }
-        ensures err { IfErr result (λ e. (e ≡ record { kind = NoMemory; at = 0 }) ⊎ IsRefused text.now e.kind e.at) }
+        ensures err { IfErr result
+            (λ e. (e ≡ record { kind = NoMemory; at = 0 }) ⊎ IsRefusedTemplate text.now e.kind e.at) }
         ensures too_long { MAX_BYTES < length text.now → IfErr result (λ e. e.kind ≡ TooLong) }
     {
         if text.len() > MAX_BYTES {

@@ -1,11 +1,11 @@
 pub mod KindRises
 pub mod Rowed
-pub mod Raising
+pub mod RaisedRows
 pub mod Pushes
-pub mod Following
+pub mod GrowingTables
 pub mod Listed
 pub mod Loads
 pub mod ComparedTexts
 pub mod Firsts
 pub mod GoodEdges
-pub mod Continuing
+pub mod NextPlaces

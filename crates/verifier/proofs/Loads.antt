@@ -24,7 +24,7 @@ use Rattle.machine_model.specs.Safe.{IsFileCode}
 use Rattle.verifier.specs.declared.error.LoadError.{LoadError}
 use Rattle.verifier.specs.declared.error.LoadError.TheVariants as load
 use Rattle.verifier.specs.Private.Checks.{located_of}
-use Rattle.verifier.specs.Faults.{form_error, mismatch_error, read_error, IsLoadFault, IsRefusal}
+use Rattle.verifier.specs.Faults.{form_error, mismatch_error, read_error, IsLoadFault, IsCodeRefusal}
 use Rattle.verifier.specs.Faults as faults
 
 -- ---- a first error is never out of memory
@@ -82,10 +82,10 @@ read_refused bytes e (inr h) = subst (λ x. IsLoadFault bytes (read_error x)) (s
 
 -- ---- errors of a code
 
-pub code_refused : (bytes : Text) (c : Code) (e : LoadError) → IsCodeFile bytes c → IsRefusal c e → IsLoadFault bytes e
-code_refused bytes c e file (IsRefusal.bad_form f h) = IsLoadFault.bad_form c f file h
-code_refused bytes c e file (IsRefusal.mismatch m g h) = IsLoadFault.mismatch c m file g h
-code_refused bytes c e file IsRefusal.no_memory = IsLoadFault.no_memory c file
+pub code_refused : (bytes : Text) (c : Code) (e : LoadError) → IsCodeFile bytes c → IsCodeRefusal c e → IsLoadFault bytes e
+code_refused bytes c e file (IsCodeRefusal.bad_form f h) = IsLoadFault.bad_form c f file h
+code_refused bytes c e file (IsCodeRefusal.mismatch m g h) = IsLoadFault.mismatch c m file g h
+code_refused bytes c e file IsCodeRefusal.no_memory = IsLoadFault.no_memory c file
 
 not_of_form : (f : FormFault) (place : ℕ) (m : Located ℕ) → form_error (record { place = place; what = f }) ≡ mismatch_error m → ⊥
 not_of_form form.UnknownOp place m e = absurd (cc)
@@ -118,12 +118,12 @@ file_code c k = record { some = k.header.some; links = λ n h. by_literal n (sli
 -- ---- what the checks found
 
 pub form_refused : (c d : Code) (found : Option (FormFault × ℕ)) (f : FormFault × ℕ) (e : LoadError) → d ≡ c → located_of found ≡ first_form_fault d
-    → found ≡ Some f → e ≡ form_error (record { place = f.1; what = f.0 }) → IsRefusal c e
+    → found ≡ Some f → e ≡ form_error (record { place = f.1; what = f.0 }) → IsCodeRefusal c e
 form_refused c d found f e same h is er =
-    subst (IsRefusal c) (sym er) (IsRefusal.bad_form (record { place = f.1; what = f.0 }) (ap first_form_fault (sym same) ∙ sym h ∙ ap located_of is))
+    subst (IsCodeRefusal c) (sym er) (IsCodeRefusal.bad_form (record { place = f.1; what = f.0 }) (ap first_form_fault (sym same) ∙ sym h ∙ ap located_of is))
 
 pub kinds_refused : (c d : Code) (found : Option (ℕ × ℕ)) (m : ℕ × ℕ) (t : Table) → d ≡ c → HasGoodForm d → IsLeast d t → located_of found ≡ first_mismatch d t
-    → found ≡ Some m → IsRefusal c (load.KindMismatch m.1 m.0)
+    → found ≡ Some m → IsCodeRefusal c (load.KindMismatch m.1 m.0)
 kinds_refused c d found m t same form least h is =
-    subst (λ x. IsRefusal x (load.KindMismatch m.1 m.0)) same
-    (IsRefusal.mismatch (record { place = m.1; what = m.0 }) form (t, least, sym h ∙ ap located_of is))
+    subst (λ x. IsCodeRefusal x (load.KindMismatch m.1 m.0)) same
+    (IsCodeRefusal.mismatch (record { place = m.1; what = m.0 }) form (t, least, sym h ∙ ap located_of is))

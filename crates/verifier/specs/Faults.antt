@@ -46,10 +46,10 @@ pub data IsLoadFault (bytes : Text) : LoadError → Type 0 where
   no_memory : (c : Code) → IsCodeFile bytes c → IsLoadFault bytes load.NoMemory
 
 -- the same for code that was read
-pub data IsRefusal (c : Code) : LoadError → Type 0 where
-  bad_form : (f : Located FormFault) → first_form_fault c ≡ Some f → IsRefusal c (form_error f)
-  mismatch : (m : Located ℕ) → HasGoodForm c → IsFirstMismatch c m → IsRefusal c (mismatch_error m)
-  no_memory : IsRefusal c load.NoMemory
+pub data IsCodeRefusal (c : Code) : LoadError → Type 0 where
+  bad_form : (f : Located FormFault) → first_form_fault c ≡ Some f → IsCodeRefusal c (form_error f)
+  mismatch : (m : Located ℕ) → HasGoodForm c → IsFirstMismatch c m → IsCodeRefusal c (mismatch_error m)
+  no_memory : IsCodeRefusal c load.NoMemory
 
 -- an error of reading as an error of loading
 abbrev pub read_error : CodeError → LoadError

@@ -7,7 +7,7 @@ ghost use Rattle.machine_model.specs.First.{Located};
 ghost use Rattle.machine_model.specs.Form.{HasGoodForm};
 ghost use Rattle.machine_model.specs.Typable.{IsTypable};
 ghost use Rattle.machine_model.specs.Safe.{IsSafe};
-ghost use Rattle.verifier.specs.Faults.{IsLoadFault, IsRefusal, mismatch_error};
+ghost use Rattle.verifier.specs.Faults.{IsLoadFault, IsCodeRefusal, mismatch_error};
 ghost use Rattle.verifier.specs.Private.Layouts.{AreInstructions};
 
 use crate::compared::join_compared;
@@ -27,7 +27,7 @@ fn check(alloc: Global, code: &Code) -> Result<Vec<Instruction>, LoadError>
     ensures form { IfOk result (λ _. HasGoodForm code.now) }
     ensures typable { IfOk result (λ _. IsTypable code.now) }
     ensures instructions { IfOk result (λ v. AreInstructions code.now (length code.now.instrs) v.items) }
-    ensures refused { IfErr result (IsRefusal code.now) }
+    ensures refused { IfErr result (IsCodeRefusal code.now) }
 {
     form_is_decided();
     least_table_decides();

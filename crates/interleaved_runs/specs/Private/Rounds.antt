@@ -22,5 +22,5 @@ abbrev pub AreOfTheSame : List RunValue → List RunValue → Type 0
 AreOfTheSame old new = map same_but_steps new ≡ map same_but_steps old
 
 -- a run n steps from its start, or at its end
-abbrev pub run_after : ℕ → RunValue → RunValue
-run_after n run = record run { steps = min n (end_of run) }
+abbrev pub advanced_run : ℕ → RunValue → RunValue
+advanced_run n run = record run { steps = min n (end_of run) }

@@ -5,7 +5,7 @@ use Rattle.machine_model.specs.Runs.{Outcome}
 use Rattle.machine_model.specs.Next.{outcome_of}
 use Rattle.target_vars.specs.EnvValue.{EnvValue}
 use Rattle.verified_runs.specs.RunValue.{RunValue, most_bytes}
-use Rattle.verified_runs.specs.Fates.{Fate, OverBudget, ended}
+use Rattle.verified_runs.specs.Fates.{FateValue, OverBudget, ended}
 use Rattle.interleaved_runs.specs.Fates.{is_over_budget, runs_of}
 use Rattle.interleaved_runs.specs.Private.Rounds.{AreFresh}
 
@@ -24,7 +24,7 @@ abbrev pub outcome_in_the_end : RunValue → Outcome
 outcome_in_the_end run = outcome_of run.code run.env.entries
 
 -- the fates, in order: over budget, or otherwise the next outcome
-abbrev pub fates_in : List (Option ℕ) → List Outcome → List Fate
+abbrev pub fates_in : List (Option ℕ) → List Outcome → List FateValue
 fates_in [] outcomes = []
 fates_in (Some bytes ∷ over_budget) outcomes = OverBudget bytes ∷ fates_in over_budget outcomes
 fates_in (None ∷ over_budget) [] = []

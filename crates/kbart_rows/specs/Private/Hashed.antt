@@ -5,9 +5,9 @@ use Rattle.kbart_rows.specs.Hashing.{hash_of}
 use Rattle.kbart_rows.specs.declared.ids.Id.{Id}
 use Rattle.kbart_rows.specs.declared.keys.Keys.{Keys}
 
-abbrev pub text_of : Id → Text
-text_of id = string_bytes id.text
+abbrev pub id_text : Id → Text
+id_text id = string_bytes id.text
 
 -- it has the hash under these keys
 abbrev pub IsHashed : Keys → Id → Type 0
-IsHashed keys id = id.hash ≡ hash_of keys (text_of id)
+IsHashed keys id = id.hash ≡ hash_of keys (id_text id)

@@ -14,7 +14,7 @@ use Rattle.row_scope.specs.RowValue.{RowValue, TargetRequestValue}
 use Rattle.verified_runs.specs.Names.{AreNumbered}
 use Rattle.registry.specs.Targets.{TargetValue}
 use Rattle.registry.specs.RowEnvironments.{row_environment}
-use Rattle.verified_runs.specs.Fates.{Fate}
+use Rattle.verified_runs.specs.Fates.{FateValue}
 use Rattle.registry.specs.Entries.{fate_of_row, matching_rows_of, resolution_by}
 use Rattle.link_menu.specs.declared.batch.Batch.{Batch}
 use Rattle.interleaved_runs.specs.Fates.{fate_of, runs_of}
@@ -59,10 +59,10 @@ code_next s = option_map (λ row. s.target.code) s.next
 abbrev pub env_next : SearchValue → Option Environment
 env_next s = option_map (λ row. row_environment s.target s.requested.pairs row) s.next
 
-abbrev pub fate_next : SearchValue → Option Fate
+abbrev pub fate_next : SearchValue → Option FateValue
 fate_next s = option_map (λ row. fate_of_row s.target s.requested.pairs row) s.next
 
-abbrev pub fates_next : List SearchValue → List Fate
+abbrev pub fates_next : List SearchValue → List FateValue
 fates_next searches = filter_map fate_next searches
 
 -- the steps of the codes that are run
@@ -90,11 +90,11 @@ after_row s row resolution =
       resolution = resolution;
     }
 
-abbrev pub after_fate_at : SearchValue → Fate → Option ℕ → SearchValue
+abbrev pub after_fate_at : SearchValue → FateValue → Option ℕ → SearchValue
 after_fate_at s fate None = s
 after_fate_at s fate (Some row) = after_row s row (resolution_by row fate)
 
-abbrev pub after_fate : SearchValue → Fate → SearchValue
+abbrev pub after_fate : SearchValue → FateValue → SearchValue
 after_fate s fate = after_fate_at s fate s.next
 
 abbrev pub after_row_at : SearchValue → Option ℕ → SearchValue

@@ -18,7 +18,7 @@ use Rattle.kbart_rows.specs.declared.keys.Keys.{Keys}
 use Rattle.kbart_rows.specs.declared.error.TableError.{TableError}
 use Rattle.kbart_rows.specs.declared.error.TableError.TheVariants as table
 use Rattle.registry.specs.Targets.{TargetValue}
-use Rattle.registry.specs.Refusals.{IsRefusal}
+use Rattle.registry.specs.Refusals.{IsAddRefusal}
 use Rattle.registry.specs.declared.error.AddErrorKind.{AddErrorKind}
 use Rattle.registry.specs.declared.error.AddErrorKind.TheVariants as add
 use Rattle.registry_file.specs.Loading.{IsSafeFile, IsTargetFault, IsUnread}
@@ -63,7 +63,7 @@ IsAddStop kind other = ⊥
 
 -- why a target of this name, whose files were read, is not added to others
 abbrev pub IsNotAdded : List TargetValue → Text → Stop → Type 0
-IsNotAdded targets name (Add kind) = (kind ≢ add.NoMemory) × IsRefusal targets name kind
+IsNotAdded targets name (Add kind) = (kind ≢ add.NoMemory) × IsAddRefusal targets name kind
 IsNotAdded targets name NoMemory = Unit {0}
 IsNotAdded targets name other = ⊥
 

@@ -7,8 +7,8 @@ use Rattle.text_model.specs.Texts.{Text}
 abbrev pub next_hash : ℕ → ℕ → ℕ
 next_hash hash b = (hash % 4294967296) * 31 + b
 
-abbrev pub hash_of : Text → ℕ
-hash_of text = fold next_hash 0 text
+abbrev pub name_hash : Text → ℕ
+name_hash text = fold next_hash 0 text
 
 abbrev pub lower_case : Text → Text
 lower_case text = map to_ascii_lowercase text
@@ -23,17 +23,17 @@ first_with firsts hash = get_or firsts (hash % length firsts) 0
 
 -- what is kept of the hashes of the name is at most its place
 pub record IsMarked (firsts : List ℕ) (place : ℕ) (name : Text) : Type 0 where
-  pub whole : first_with firsts (hash_of name) ≤ place
-  pub lowered : first_with firsts (hash_of (lower_case name)) ≤ place
-  pub unprefixed : first_with firsts (hash_of (drop 4 name)) ≤ place
-  pub shorter : (i : ℕ) → i < length name → first_with firsts (hash_of (without name i)) ≤ place
+  pub whole : first_with firsts (name_hash name) ≤ place
+  pub lowered : first_with firsts (name_hash (lower_case name)) ≤ place
+  pub unprefixed : first_with firsts (name_hash (drop 4 name)) ≤ place
+  pub shorter : (i : ℕ) → i < length name → first_with firsts (name_hash (without name i)) ≤ place
 
-pub record AreStarts (firsts : List ℕ) (names : List Text) : Type 0 where
+pub record AreSearchStarts (firsts : List ℕ) (names : List Text) : Type 0 where
   pub some : 0 < length firsts
   pub marked : (k : ℕ) → k < length names → IsMarked firsts k (get_or names k [])
 
 -- the start is at most what is kept of the hashes of the name
 pub record IsStart (firsts : List ℕ) (name : Text) (start : ℕ) : Type 0 where
-  pub whole : start ≤ first_with firsts (hash_of name)
-  pub lowered : start ≤ first_with firsts (hash_of (lower_case name))
-  pub shorter : (i : ℕ) → i < length name → start ≤ first_with firsts (hash_of (without name i))
+  pub whole : start ≤ first_with firsts (name_hash name)
+  pub lowered : start ≤ first_with firsts (name_hash (lower_case name))
+  pub shorter : (i : ℕ) → i < length name → start ≤ first_with firsts (name_hash (without name i))

@@ -9,12 +9,12 @@ use Rattle.kbart_rows.specs.Cells.{Row, Holdings}
 use Rattle.kbart_rows.specs.Identifiers.{identifier_columns}
 use Rattle.table_inspection.specs.Cells.{cell_faults, has_no_identifier, is_numbered, row_faults}
 use Rattle.table_inspection.specs.Identifiers.{identifiers_of, distinct, rows_having}
-use Rattle.table_inspection.specs.Private.Gathering.{AreCells, AreRows}
+use Rattle.table_inspection.specs.Private.CountedCells.{AreCells, AreRows}
 use Rattle.table_inspection.specs.declared.identifiers.Identified.{Identified}
 
 -- the text equals this identifier, if there is one
-abbrev pub is_id : Text → Option Text → Bool
-is_id text id = option_map_or (bytes_eq text) id false
+abbrev pub is_same_id : Text → Option Text → Bool
+is_same_id text id = option_map_or (bytes_eq text) id false
 
 -- the number under an identifier, 0 if there is none
 abbrev pub number_in : {A B : Type 0} → HashMap (String A) ℕ B → Text → ℕ

@@ -15,8 +15,8 @@ pub record NamesValue : Type 0 where
   pub forks : List Fork
 
 -- the names at these places
-abbrev pub names_in : Text → List NamePlace → List Text
-names_in bytes places = map (λ p. slice_range bytes p.start p.end) places
+abbrev pub placed_names : Text → List NamePlace → List Text
+placed_names bytes places = map (λ p. slice_range bytes p.start p.end) places
 
 pub record IsNamePlace (bytes : Text) (p : NamePlace) : Type 0 where
   pub start_le_end : p.start ≤ p.end
@@ -69,7 +69,7 @@ pub record AreNames (bytes : Text) (places : List NamePlace) (forks : List Fork)
   pub placed : All (IsNamePlace bytes) places
   pub one_each : length forks ≡ length places
   pub forward : AreForward forks
-  pub found : (number : ℕ) (name : Text) → slice_get (names_in bytes places) number ≡ Some name → (last : ℕ) × Leads forks name last number
+  pub found : (number : ℕ) (name : Text) → slice_get (placed_names bytes places) number ≡ Some name → (last : ℕ) × Leads forks name last number
 
 -- ---- one more name
 

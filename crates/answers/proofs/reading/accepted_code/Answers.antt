@@ -6,7 +6,7 @@ use Rattle.answers.proofs.reading.accepted_code.Goals as goal
 
 pub returns-in-Ok-clause-ok : goal.returns-in-Ok-clause-ok
 returns-in-Ok-clause-ok c =
-    let known = c.code-accepted.ensures in
+    let known = c.code-known.ensures in
     record {
       is_file = c.in-Ok.ensures.code;
       accepted = record { is_code = known.is_code; form = known.form; typable = known.typable; file = known.file; safe = known.safe };

@@ -28,7 +28,7 @@ returns-in-Err-clause-err c =
     c.has_counts-counts.ensures r.names r.literals r.instrs in
     let e = fault c.in-Err.field-0 c.in-Err.ensures.refused.0 in
     let laws = c.compiled_code_is_accepted.ensures in
-    let sound = c.rules-sound.ensures.sound in
+    let sound = c.rules-known.ensures.sound in
     let good : length (spelled code) ≤ MAX_BYTES → IsCode code =
     λ short. is_code code (known_version (has_counts rules)) (laws.file rules sound) (laws.names rules sound) (subst (All IsUtf8Literal) r.literals r.utf8)
     (subst (λ xs. length xs ≤ MAX_NAMES) r.names r.few_names) (subst (λ xs. length xs ≤ MAX_LITERALS) r.literals r.few_literals)

@@ -2,7 +2,7 @@ use Rattle.std.proofs.Common.{subst}
 use Rattle.std.proofs.lemmas.Result.{err_from_is_err_and}
 use Rattle.code_file.specs.Grammar.{IsCodeFile}
 use Rattle.compiler_model.specs.Compiled.{code_of}
-use Rattle.verified_runs.specs.RunValue.{outcome_of}
+use Rattle.verified_runs.specs.RunValue.{outcome_value}
 use Rattle.safe_runs.specs.Causes.{IsCause}
 use Rattle.safe_runs.specs.Ending.{FileEndsSafely}
 use Rattle.end_to_end.proofs.Written.{rules_cause, rules_end}
@@ -13,7 +13,7 @@ returns-in_err-run_file-clause-refused c =
     let set = c.args.rules.now in
     let e = c.args.env.now in
     let bytes = c.in_ok-file.file.items in
-    let sound = c.rules-sound.ensures.sound in
+    let sound = c.rules-known.ensures.sound in
     let file : IsCodeFile bytes (code_of set) = subst (IsCodeFile bytes) c.in_ok-code.ensures.ok.0 c.in_ok-file.ensures in
     let error = c.in_err-run_file.field-0.0 in
     let cause : IsCause bytes e error = subst (λ b. IsCause b e error) c.deref.ensures.value c.in_err-run_file.ensures.refused in
@@ -26,8 +26,8 @@ returns-clause-ends c =
     let set = c.args.rules.now in
     let e = c.args.env.now in
     let bytes = c.in_ok-file.file.items in
-    let sound = c.rules-sound.ensures.sound in
-    let o = outcome_of c.in_ok-run_file.field-0 in
+    let sound = c.rules-known.ensures.sound in
+    let o = outcome_value c.in_ok-run_file.field-0 in
     let file : IsCodeFile bytes (code_of set) = subst (IsCodeFile bytes) c.in_ok-code.ensures.ok.0 c.in_ok-file.ensures in
     let ran : FileEndsSafely bytes e o = subst (λ b. FileEndsSafely b e o) c.deref.ensures.value c.in_ok-run_file.ensures.ends in
     let accepted = c.files_of_rules_are_accepted.ensures.accepted set bytes sound file in

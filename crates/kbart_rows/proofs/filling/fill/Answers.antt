@@ -3,7 +3,7 @@ use Rattle.std.proofs.lemmas.List.{drop-drop, length-drop}
 use Rattle.std.specs.HashMap.{get_by_text}
 use Rattle.std.specs.List.{filter_map, range_with_len}
 use Rattle.kbart_rows.specs.Cells.{named_cell, named_cells}
-use Rattle.kbart_rows.specs.Filling.{filled, with_defined, StopsAtCell}
+use Rattle.kbart_rows.specs.Filling.{with_named_cells, with_defined, StopsAtCell}
 use Rattle.kbart_rows.specs.Private.Kept.{cell_at_first}
 use Rattle.kbart_rows.specs.Lines.{cells_in}
 use Rattle.kev_read.proofs.FillingLemmas.{IfErr_passed_on}
@@ -29,7 +29,7 @@ loop-name-preserved c =
       omega (arith, inside),
       omega (arith, shorter, inv.5),
       c.in_ok-add.ensures.ok ∙ ap (λ (env : _). with_defined env (cell_at_first (get_by_text c.args.columns.now name) column name cell)) inv.6
-          ∙ ap (with_defined (filled c.args.env.now.entries (filter_map (named_cell header row) (range_with_len 0 column)))) at.is
+          ∙ ap (with_defined (with_named_cells c.args.env.now.entries (filter_map (named_cell header row) (range_with_len 0 column)))) at.is
           ∙ filled_more c.args.env.now.entries header row column,
     )
 
@@ -57,4 +57,4 @@ returns-clause-ok c =
     let none = ap length (sym c.in_default.ensures.none ∙ inv.2) in
     let size = length-drop column header in
     let end : column ≡ length header = omega (arith, none, size, inv.4) in
-    inv.6 ∙ ap (λ (n : _). filled c.args.env.now.entries (filter_map (named_cell header row) (range_with_len 0 n))) end
+    inv.6 ∙ ap (λ (n : _). with_named_cells c.args.env.now.entries (filter_map (named_cell header row) (range_with_len 0 n))) end

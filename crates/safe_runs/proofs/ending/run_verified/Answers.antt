@@ -1,14 +1,14 @@
 use Rattle.std.proofs.Common.{◌≡◌, ◌<◌, subst}
 use Rattle.machine_model.specs.Runs.{HasOutcome}
-use Rattle.verified_runs.specs.RunValue.{RunValue, outcome_of, most_bytes}
+use Rattle.verified_runs.specs.RunValue.{RunValue, outcome_value, most_bytes}
 use Rattle.verified_runs.specs.declared.run.TheConstants.{MAX_LINK_BYTES}
 use Rattle.safe_runs.proofs.Safely.{ends_safely, same_over, within_limit, no_memory_is}
 use Rattle.safe_runs.proofs.ending.run_verified.Goals as goal
 
 pub returns-in-Ok-clause-ends : goal.returns-in-Ok-clause-ends
 returns-in-Ok-clause-ends c =
-    let o = outcome_of c.finish.result in
-    ends_safely c.run_ends_once.ensures c.args.code.now c.args.env.now c.code-accepted.ensures.safe c.finish.result
+    let o = outcome_value c.finish.result in
+    ends_safely c.run_ends_once.ensures c.args.code.now c.args.env.now c.code-known.ensures.safe c.finish.result
     (subst (λ (r : RunValue). HasOutcome r.code r.env.entries o) c.in-Ok.ensures.ok c.finish.ensures)
 
 pub returns-in-Err-clause-over : goal.returns-in-Err-clause-over

@@ -2,7 +2,7 @@ use Rattle.std.proofs.Common.{◌≡◌, ◌≤◌, ◌-◌, length}
 use Rattle.std.specs.List.{flat_map, range_with_len}
 use Rattle.kbart_rows.specs.Lines.{cells_in}
 use Rattle.table_inspection.specs.Private.Headers.{findings_of}
-use Rattle.table_inspection.specs.Private.Adding.{Adds}
+use Rattle.table_inspection.specs.Private.AddedLines.{Adds}
 use Rattle.table_inspection.proofs.columns.add_columns_of.Given as goal
 
 -- the columns so far were examined

@@ -3,12 +3,12 @@ use Rattle.printed_text.proofs.Adding.{adds_both}
 use Rattle.kbart_rows.specs.Identifiers.{identifier_columns}
 use Rattle.table_inspection.specs.Findings.{RowCount, IdentifierCount}
 use Rattle.table_inspection.specs.Identifiers.{identifiers_of, distinct}
-use Rattle.table_inspection.specs.Inspection.{counts}
+use Rattle.table_inspection.specs.Inspection.{totals}
 use Rattle.table_inspection.proofs.AddingLemmas.{adds_one}
 use Rattle.table_inspection.proofs.inspection.add_counts.Goals as goal
 
 pub returns : goal.returns
-unfolding counts
+unfolding totals
 returns c =
     let table = c.args.table.now in
     let rows = rw c.rows-rows.ensures.count at c.in_ok-add_count.ensures in

@@ -1,6 +1,6 @@
 use Rattle.std.proofs.Common.{◌||◌, ◌++◌, string_bytes, sym, ap, ◌∙◌}
 use Rattle.std.specs.Prelude.{nat_lt}
-use Rattle.table_inspection.specs.Columns.{is_empty}
+use Rattle.table_inspection.specs.Columns.{is_empty_text}
 use Rattle.table_inspection.specs.Private.Counting.{number_in}
 use Rattle.table_inspection.proofs.MostLemmas.{defined_is, most_kept, most_taken}
 use Rattle.table_inspection.proofs.most_rows.take_if_more.Goals as goal
@@ -11,7 +11,7 @@ returns-in_ok-push_str-clause-most c = λ ids most.
     let id = c.args.id.now in
     let new = c.in_ok-push_str.ensures.bytes ∙ ap (λ (front : _). front ++ id) c.clear.ensures.bytes in
     let some = defined_is id (sym c.is_empty.ensures ∙ c.if-is_empty.false) in
-    let more = ap (λ (rows : _). is_empty old || nat_lt c.args.most.now.rows rows) (sym c.count_of-rows.ensures) ∙ sym c.has_fewer.ensures
+    let more = ap (λ (rows : _). is_empty_text old || nat_lt c.args.most.now.rows rows) (sym c.count_of-rows.ensures) ∙ sym c.has_fewer.ensures
     ∙ c.if-has_fewer.true in
     rw (new, some) (most_taken (number_in c.args.counts.now) ids old id c.args.most.now.rows c.requires more most)
 
@@ -20,6 +20,6 @@ returns-else-has_fewer-clause-most c = λ ids most.
     let old = string_bytes c.args.most.now.id in
     let id = c.args.id.now in
     let some = defined_is id (sym c.is_empty.ensures ∙ c.if-is_empty.false) in
-    let more = ap (λ (rows : _). is_empty old || nat_lt c.args.most.now.rows rows) (sym c.count_of-rows.ensures) ∙ sym c.has_fewer.ensures
+    let more = ap (λ (rows : _). is_empty_text old || nat_lt c.args.most.now.rows rows) (sym c.count_of-rows.ensures) ∙ sym c.has_fewer.ensures
     ∙ c.if-has_fewer.false in
     rw some (most_kept (number_in c.args.counts.now) ids old id c.args.most.now.rows c.requires more most)

@@ -1,5 +1,5 @@
 use Rattle.std.proofs.Common.{◌+◌, sym, ◌∙◌, arith}
-use Rattle.verifier.proofs.Raising.{Raised, raise_up, raise_keep}
+use Rattle.verifier.proofs.RaisedRows.{Raised, raise_up, raise_keep}
 use Rattle.verifier.proofs.row.raise.Goals as goal
 use Rattle.verifier.proofs.row.raise.Goals.{then-not-is_below, else-not-is_below}
 

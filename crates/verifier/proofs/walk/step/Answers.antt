@@ -1,10 +1,10 @@
 use Rattle.std.proofs.Common.{ap, ◌+◌, ◌∙◌, arith}
 use Rattle.std.specs.Prelude.{option_map}
 use Rattle.verifier.specs.Private.Rows.{kinds_of, table_of}
-use Rattle.verifier.proofs.Following.{place_followed, below_on, closed_on, closed_past_none}
+use Rattle.verifier.proofs.GrowingTables.{place_followed, below_on, closed_on, closed_past_none}
 use Rattle.verifier.proofs.GoodEdges.{registers_fit, element_fits, ends_within}
 use Rattle.verifier.proofs.Pushes.{same_both, on_both}
-use Rattle.verifier.proofs.Continuing.{continues}
+use Rattle.verifier.proofs.NextPlaces.{continues}
 use Rattle.verifier.proofs.walk.step.Goals as goal
 
 pub edges-first-requires-clause-registers : goal.edges-first-requires-clause-registers

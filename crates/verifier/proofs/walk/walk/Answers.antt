@@ -1,7 +1,7 @@
 use Rattle.std.proofs.Common.{length, arith}
 use Rattle.verifier.specs.Private.Rows.{table_of}
 use Rattle.verifier.specs.Private.Walks.{table_rises}
-use Rattle.verifier.proofs.Following.{least_of, less_left_in}
+use Rattle.verifier.proofs.GrowingTables.{least_of, less_left_in}
 use Rattle.verifier.proofs.walk.walk.Goals as goal
 
 pub returns : goal.returns

@@ -4,7 +4,7 @@ use Rattle.interleaved_runs.proofs.run_set.RunSet.begin.Goals as goal
 
 pub returns-in_ok-push-in-Ok-2-clause-fresh : goal.returns-in_ok-push-in-Ok-2-clause-fresh
 returns-in_ok-push-in-Ok-2-clause-fresh g c = fresh_alone c.course_is_decided.ensures.course c.args.code.now (g.E.Scope.environment c.args.env.now)
-    c.code-accepted.ensures.safe
+    c.code-known.ensures.safe
 
 pub returns-in_ok-push-in-Err-OverBudget-clause-over_budget : goal.returns-in_ok-push-in-Err-OverBudget-clause-over_budget
 returns-in_ok-push-in-Err-OverBudget-clause-over_budget g c =
@@ -22,4 +22,4 @@ returns-in_ok-push-in-Err-OverBudget-clause-runs g c =
 
 pub returns-in_ok-push-in-Err-OverBudget-clause-fresh : goal.returns-in_ok-push-in-Err-OverBudget-clause-fresh
 returns-in_ok-push-in-Err-OverBudget-clause-fresh g c = fresh_alone c.course_is_decided.ensures.course c.args.code.now (g.E.Scope.environment c.args.env.now)
-    c.code-accepted.ensures.safe
+    c.code-known.ensures.safe

@@ -3,7 +3,7 @@ use Rattle.std.specs.Prelude.{◌==◌}
 use Rattle.machine_model.specs.Safe.{IsSafe}
 use Rattle.row_scope.specs.RequestValues.{AreAmong}
 use Rattle.registry.specs.Refusals.{MayBeAdded}
-use Rattle.registry.proofs.Adding.{after_adding, among_after_adding}
+use Rattle.registry.proofs.OneMoreTarget.{after_adding, among_after_adding}
 use Rattle.registry.proofs.registry.Registry.add.Goals as goal
 
 pub invariant_of-self-2 : goal.invariant_of-self-2

@@ -18,5 +18,5 @@ returns-else-is_empty-clause-small c =
     let row = c.self.inside.row in
     let are = ap texts_of c.deref.ensures.value ∙ c.self.invariant
     ∙ ap (λ (r : RulesRequestValue). get_or r.table.rows row []) (sym c.request.view_is) in
-    let short = short_cell table.header table.rows row cells column cell c.rows-rows.ensures.fit are within in
+    let short = short_cell table.header table.rows row cells column cell c.rows-known.ensures.fit are within in
     omega (arith, ap (λ (cell : Bor Text). length cell.now) at, short)

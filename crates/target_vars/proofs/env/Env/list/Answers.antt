@@ -1,7 +1,7 @@
 use Rattle.std.proofs.Common.{◌+◌, map, string_bytes, sym, ap, ◌∙◌}
 use Rattle.std.specs.Prelude.{slice_range}
 use Rattle.target_vars.specs.EnvValue.{EnvValue}
-use Rattle.target_vars.specs.Layout.{piece}
+use Rattle.target_vars.specs.Layout.{span_bytes}
 use Rattle.target_vars.proofs.Laid.{members_lent}
 use Rattle.target_vars.proofs.env.Env.list.Goals as goal
 
@@ -15,6 +15,6 @@ returns c =
     let k = c.run-first.result.0 in
     let n = c.run-first.result.1 in
     c.new.ensures
-    ∙ ap (λ t. map (piece t) (slice_range c.deref-2.result.now k (k + n))) c.deref.ensures
-    ∙ ap (λ xs. map (piece b) (slice_range xs k (k + n))) c.deref-2.ensures.value
+    ∙ ap (λ t. map (span_bytes t) (slice_range c.deref-2.result.now k (k + n))) c.deref.ensures
+    ∙ ap (λ xs. map (span_bytes b) (slice_range xs k (k + n))) c.deref-2.ensures.value
     ∙ is

@@ -1,7 +1,7 @@
 use Rattle.std.proofs.Common.{rules, ◌≡◌, ◌+◌, [], ◌∷◌, ◌++◌, length, sym, ap, ◌∙◌, subst}
 use Rattle.target_vars.specs.Private.NamesValue.{NamesValue, IsGap, Separates, IsForked}
 use Rattle.target_vars.specs.declared.names.NamePlace.{NamePlace}
-use Rattle.target_vars.proofs.MoreForks.{names_in-push, are_names-push}
+use Rattle.target_vars.proofs.MoreForks.{placed_names-push, are_names-push}
 use Rattle.target_vars.proofs.names.Names.add.Goals as goal
 
 pub invariant_of-self-2 : goal.invariant_of-self-2
@@ -32,5 +32,5 @@ returns-clause-ok c =
     let places : c.push_reserved.new.self.items ≡ r.places.items ++ p ∷ [] = search rules in
     let start : p.start ≡ length r.bytes.items = search rules in
     let end : p.end ≡ length r.bytes.items + length c.args.name.now = search rules in
-    rw (bytes, places) (names_in-push r.bytes.items c.args.name.now r.places.items p c.self.invariant.placed start end
+    rw (bytes, places) (placed_names-push r.bytes.items c.args.name.now r.places.items p c.self.invariant.placed start end
     ∙ ap (λ (v : NamesValue). v.listed ++ c.args.name.now ∷ []) c.self.view_is)

@@ -6,7 +6,7 @@ use Rattle.environment_model.specs.Environment.{Environment, member_count, byte_
 use Rattle.code_model.specs.Code.{Code, reading_at}
 use Rattle.code_model.specs.declared.code.Instruction.{Instruction}
 use Rattle.machine_model.specs.States.{Loop, Frame, State, Running, Ended}
-use Rattle.machine_model.specs.Step.{Move, Leads, Step}
+use Rattle.machine_model.specs.Step.{Move, Leads, StepsTo}
 use Rattle.machine_model.specs.Runs.{After}
 use Rattle.machine_model.proofs.Readings.{Reads-reading_at}
 use Rattle.machine_model.specs.Form.{body_at, HasGoodForm}
@@ -77,7 +77,7 @@ module _ (c : Code) (w t : ℕ → ℕ) (M E : ℕ) where
 -- a typable code of good form, on an environment
 module _ (c : Code) (form : HasGoodForm c) (some : 0 < length c.instrs) (t : Table) (closed : IsClosed c t) (meets : MeetsNeeds c t) (v : Environment) where
   -- one step of any run
-  pub spent_step : (w u : ℕ → ℕ) (k : ℕ) (s : Frame) (new : State) (g g' : ℕ) → After c v k (Running s) → Step c v (Running s) new
+  pub spent_step : (w u : ℕ → ℕ) (k : ℕ) (s : Frame) (new : State) (g g' : ℕ) → After c v k (Running s) → StepsTo c v (Running s) new
       → StateSpent c w u (member_count v) (byte_count v) (Running s) g → StepWithin c w u (member_count v) (byte_count v) s g g'
       → StateSpent c w u (member_count v) (byte_count v) new g'
   spent_step w u k s new g g' a st h le =
