@@ -32,4 +32,4 @@ pub data IsLintOf (rules : RuleSet) (bytes : Text) (keys : Keys) : Result Report
   no_memory : (table : Holdings) → IsTable bytes table → IsLintOf rules bytes keys (Err Memory)
   no_table : (e : Refusal) → IsNoTable bytes e → IsLintOf rules bytes keys (Err e)
   linted : (table : Holdings) (found : Report) → IsTable bytes table → table.keys ≡ keys → found.text ≡ lint.lint_text rules table
-      → found.warned ≡ lint.has_warning rules table → IsLintOf rules bytes keys (Ok found)
+      → found.warned ≡ lint.has_rule_warning rules table → IsLintOf rules bytes keys (Ok found)

@@ -14,7 +14,7 @@ use Rattle.rule_parser.specs.Rules.{RuleSet}
 use Rattle.rule_parser.specs.Meaning.{guards_hold, seen}
 use Rattle.rule_lint.specs.declared.place.Place.{Place}
 use Rattle.rule_lint.specs.Host.{host_of}
-use Rattle.rule_lint.specs.Findings.{Finding, HostByRequest, Hostless, findings, in_link}
+use Rattle.rule_lint.specs.Findings.{RuleFinding, HostByRequest, Hostless, findings, in_link}
 use Rattle.lint_laws.specs.Browsers.{browsers_host, is_at_sign}
 
 -- ---- links
@@ -45,7 +45,7 @@ rule_on_row rules table row pairs =
 -- ---- what is found of a link's host
 
 -- the finding says that a request can set the host, or that a row may give none
-abbrev pub is_of_host : Finding → Bool
+abbrev pub is_of_host : RuleFinding → Bool
 is_of_host (HostByRequest at name) = true
 is_of_host (Hostless at) = true
 is_of_host other = false

@@ -14,7 +14,7 @@ use Rattle.kbart_rows.specs.Cells.{Holdings, Row, cell_in, defined}
 use Rattle.kbart_rows.specs.Identifiers.{identifier_columns, identifiers_in, ids_of, is_match, matching_rows, normalised}
 use Rattle.table_inspection.specs.Cells.{CellAt, bad_numbers, cell_faults, faults_in_row, has_no_identifier, is_numbered, of_cells, of_rows, row_faults}
 use Rattle.table_inspection.specs.Cells.{unidentified}
-use Rattle.table_inspection.specs.Findings.{NotNumbers, RowsWithoutIdentifier, have_warning, is_warning}
+use Rattle.table_inspection.specs.Findings.{NotNumbers, RowsWithoutIdentifier, have_table_warning, is_table_warning}
 use Rattle.table_inspection.specs.Identifiers.{is_number, most_rows, row_identifiers}
 use Rattle.table_inspection.specs.Inspection.{findings_in_identifiers}
 use Rattle.menu_laws.specs.OneKey.{by_issn}
@@ -41,11 +41,11 @@ nothing_joined {Y = Y} f (x ∷ xs) none = by_first (f x) refl none (nothing_joi
 
 -- ---- no warnings
 
-no_rows : (rows : List ℕ) → list_any is_warning (of_rows RowsWithoutIdentifier rows) ≡ false → rows ≡ []
+no_rows : (rows : List ℕ) → list_any is_table_warning (of_rows RowsWithoutIdentifier rows) ≡ false → rows ≡ []
 no_rows [] none = refl
 no_rows (row ∷ rows) none = absurd (false≢true (sym none))
 
-no_cells : (cells : List CellAt) → list_any is_warning (of_cells NotNumbers cells) ≡ false → cells ≡ []
+no_cells : (cells : List CellAt) → list_any is_table_warning (of_cells NotNumbers cells) ≡ false → cells ≡ []
 no_cells [] none = refl
 no_cells (cell ∷ cells) none = absurd (false≢true (sym none))
 
@@ -53,14 +53,14 @@ pub record IsClean (table : Holdings) : Type 0 where
   pub rows : row_faults (has_no_identifier table.header) table ≡ []
   pub cells : cell_faults is_numbered (identifier_columns table.header) table ≡ []
 
-is_clean : (table : Holdings) → have_warning (findings_in_identifiers table) ≡ false → IsClean table
-unfolding have_warning findings_in_identifiers unidentified bad_numbers
+is_clean : (table : Holdings) → have_table_warning (findings_in_identifiers table) ≡ false → IsClean table
+unfolding have_table_warning findings_in_identifiers unidentified bad_numbers
 is_clean table none =
     let first = unidentified table in
     let others = bad_numbers table ++ most_rows table in
-    let parts = or_parts (list_any is_warning first) (list_any is_warning others) (sym (list_any-append is_warning first others) ∙ none) in
-    let more = or_parts (list_any is_warning (bad_numbers table)) (list_any is_warning (most_rows table))
-    (sym (list_any-append is_warning (bad_numbers table) (most_rows table)) ∙ parts.1) in
+    let parts = or_parts (list_any is_table_warning first) (list_any is_table_warning others) (sym (list_any-append is_table_warning first others) ∙ none) in
+    let more = or_parts (list_any is_table_warning (bad_numbers table)) (list_any is_table_warning (most_rows table))
+    (sym (list_any-append is_table_warning (bad_numbers table) (most_rows table)) ∙ parts.1) in
     record {
       rows = no_rows (row_faults (has_no_identifier table.header) table) parts.0;
       cells = no_cells (cell_faults is_numbered (identifier_columns table.header) table) more.0;
@@ -116,7 +116,7 @@ kept_at {X = X} test (y ∷ xs) (suc k) x within at passes = by_test (test y) (k
     by_test true found = (suc found.0, omega (arith, found.1), found.2)
     by_test false found = found
 
-pub row_found : (table : Holdings) (row : ℕ) → have_warning (findings_in_identifiers table) ≡ false → row < length table.rows
+pub row_found : (table : Holdings) (row : ℕ) → have_table_warning (findings_in_identifiers table) ≡ false → row < length table.rows
     → (id : Text) × (is_number id ≡ true) × Contains (matching_rows table (ids_of (by_issn id))) row
 unfolding row_faults cell_faults
 row_found table row none within =

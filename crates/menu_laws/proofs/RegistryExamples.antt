@@ -21,7 +21,7 @@ use Rattle.registry.specs.Entries.{entry_of, menu_of}
 use Rattle.registry.specs.Targets.{TargetValue}
 use Rattle.http_request.specs.declared.route.Page.TheVariants as page
 use Rattle.http_exchange.specs.RouteReplies.{menu_reply}
-use Rattle.table_inspection.specs.Findings.{have_warning}
+use Rattle.table_inspection.specs.Findings.{have_table_warning}
 use Rattle.table_inspection.specs.Inspection.{findings_in_identifiers}
 use Rattle.table_inspection.proofs.OnLiterals.{on_literals}
 use Rattle.link_menu.specs.RowsByRound.{longest}
@@ -170,7 +170,7 @@ most_steps_of_two_runs = refl
 abbrev clean : Holdings
 clean = table ((codes "1234-5679" ∷ []) ∷ (codes "2049-363X" ∷ []) ∷ [])
 
-no_warning : have_warning (findings_in_identifiers clean) ≡ false
+no_warning : have_table_warning (findings_in_identifiers clean) ≡ false
 unfolding on_literals
 no_warning = refl
 

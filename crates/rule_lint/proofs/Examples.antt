@@ -13,7 +13,7 @@ use Rattle.rule_parser.specs.declared.rule.Guard.{Guard}
 use Rattle.rule_parser.specs.declared.rule.Guard.TheVariants as guard
 use Rattle.rule_parser.specs.declared.rule.Rule.{Rule}
 use Rattle.rule_parser.specs.Rules.{RuleSet}
-use Rattle.rule_lint.specs.Findings.{lint_text, has_warning}
+use Rattle.rule_lint.specs.Findings.{lint_text, has_rule_warning}
 
 -- ---- rules and tables
 
@@ -59,7 +59,7 @@ doubtful : (keys : Keys) → lint_text (rules_of [] (misspelt ∷ by_title_url �
 unfolding digits leading_number value_from
 doubtful keys = refl
 
-doubtful_warns : (keys : Keys) → has_warning (rules_of [] (misspelt ∷ by_title_url ∷ none ∷ [])) (without_address keys) ≡ true
+doubtful_warns : (keys : Keys) → has_rule_warning (rules_of [] (misspelt ∷ by_title_url ∷ none ∷ [])) (without_address keys) ≡ true
 unfolding digits
 doubtful_warns keys = refl
 
@@ -71,6 +71,6 @@ reordered : (keys : Keys) → lint_text (rules_of [] (misspelt ∷ none ∷ by_t
 unfolding digits
 reordered keys = refl
 
-reordered_warns : (keys : Keys) → has_warning (rules_of [] (misspelt ∷ none ∷ by_title_url ∷ [])) (with_addresses keys) ≡ true
+reordered_warns : (keys : Keys) → has_rule_warning (rules_of [] (misspelt ∷ none ∷ by_title_url ∷ [])) (with_addresses keys) ≡ true
 unfolding digits
 reordered_warns keys = refl

@@ -19,7 +19,7 @@ use Rattle.rule_lint.specs.WebLink.{is_never_web_link}
 use Rattle.rule_lint.specs.declared.host_state.HostState.TheVariants.{Outside, Slash, Opened, Inside, Past, Lost}
 use Rattle.rule_lint.specs.HostStates.{state_of}
 use Rattle.rule_lint.specs.Host.{host_of, host_names, may_be_hostless}
-use Rattle.rule_lint.specs.Findings.{has_warning, lint_text}
+use Rattle.rule_lint.specs.Findings.{has_rule_warning, lint_text}
 use Rattle.rule_lint.proofs.Examples.{variable, rule_of, rules_of, table_of}
 
 -- ---- rules and warnings
@@ -28,7 +28,7 @@ no_rules_warn : (keys : Keys) → lint_text (rules_of [] []) (table_of keys [] [
 unfolding digits
 no_rules_warn keys = refl
 
-warnings : (keys : Keys) → map (λ rules. has_warning (rules_of [] rules) (table_of keys [] [])) (
+warnings : (keys : Keys) → map (λ rules. has_rule_warning (rules_of [] rules) (table_of keys [] [])) (
     [] ∷ (rule_of [] (Literal (codes "none:") ∷ []) ∷ []) ∷ (rule_of (guard.Has (codes "a") ∷ []) (Literal (codes "none:") ∷ []) ∷ []) ∷ [])
     ≡ true ∷ false ∷ true ∷ []
 warnings keys = refl

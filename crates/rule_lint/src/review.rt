@@ -1,7 +1,7 @@
 //! All findings about a target's rules.
 
 ghost use Rattle.std.specs.Prelude.{◌≡◌, IfOk, string_bytes};
-ghost use Rattle.rule_lint.specs.Findings.{lint_text, has_warning};
+ghost use Rattle.rule_lint.specs.Findings.{lint_text, has_rule_warning};
 
 use crate::check::check_rules;
 use crate::columns::columns_of;
@@ -21,7 +21,7 @@ use std::alloc::{AllocError, Global};
 /// `AllocError` if an allocation failed.
 pub fn lint(alloc: Global, rules: &Rules, table: &Table) -> Result<Findings, AllocError>
     ensures text { IfOk result (λ findings. string_bytes findings.text ≡ lint_text rules.now table.now) }
-    ensures warned { IfOk result (λ findings. findings.warned ≡ has_warning rules.now table.now) }
+    ensures warned { IfOk result (λ findings. findings.warned ≡ has_rule_warning rules.now table.now) }
 {
     let template_columns = template_columns(alloc, table)?;
     let target = Target {

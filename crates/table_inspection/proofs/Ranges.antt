@@ -9,7 +9,7 @@ use Rattle.std.specs.List.{flat_map, range_with_len}
 use Rattle.text_model.proofs.Lists.{range_more}
 use Rattle.table_inspection.specs.Private.CountedCells.{AreRows, AreCells}
 use Rattle.table_inspection.specs.Cells.{CellAt, of_cells, of_rows}
-use Rattle.table_inspection.specs.Findings.{Finding}
+use Rattle.table_inspection.specs.Findings.{TableFinding}
 
 -- one more row
 pub filter_more : (test : ℕ → Bool) (n : ℕ) → filter test (range_with_len 0 (n + 1)) ≡ filter test (range_with_len 0 n) ++ (if test n then n ∷ [] else [])
@@ -89,22 +89,22 @@ at_most_one_more false count new_count is = omega (arith, is)
 
 -- ---- findings about them
 
-pub nothing_of_rows : (finding : ℕ → ℕ → Finding) (rows : List ℕ) (count first : ℕ) → AreRows rows count first → count ≡ 0 → of_rows finding rows ≡ []
+pub nothing_of_rows : (finding : ℕ → ℕ → TableFinding) (rows : List ℕ) (count first : ℕ) → AreRows rows count first → count ≡ 0 → of_rows finding rows ≡ []
 nothing_of_rows finding [] count first are none = refl
 nothing_of_rows finding (row ∷ rows) count first are none = absurd (omega (arith, are.counts, none))
 
-pub finding_of_rows : (finding : ℕ → ℕ → Finding) (rows : List ℕ) (count first : ℕ) → AreRows rows count first → (count ≡ 0 → ⊥)
+pub finding_of_rows : (finding : ℕ → ℕ → TableFinding) (rows : List ℕ) (count first : ℕ) → AreRows rows count first → (count ≡ 0 → ⊥)
     → of_rows finding rows ≡ finding count first ∷ []
 finding_of_rows finding [] count first are some = absurd (some are.counts)
 finding_of_rows finding (row ∷ rows) count first are some = sym
     (ap (λ n. finding n first ∷ []) are.counts ∙ ap (λ r. finding (length (row ∷ rows)) r ∷ []) are.starts)
 
-pub nothing_of_cells : (finding : ℕ → ℕ → List ℕ → Finding) (cells : List CellAt) (count first : ℕ) (text : List ℕ) → AreCells cells count first text
+pub nothing_of_cells : (finding : ℕ → ℕ → List ℕ → TableFinding) (cells : List CellAt) (count first : ℕ) (text : List ℕ) → AreCells cells count first text
     → count ≡ 0 → of_cells finding cells ≡ []
 nothing_of_cells finding [] count first text are none = refl
 nothing_of_cells finding (cell ∷ cells) count first text are none = absurd (omega (arith, are.counts, none))
 
-pub finding_of_cells : (finding : ℕ → ℕ → List ℕ → Finding) (cells : List CellAt) (count first : ℕ) (text : List ℕ) → AreCells cells count first text
+pub finding_of_cells : (finding : ℕ → ℕ → List ℕ → TableFinding) (cells : List CellAt) (count first : ℕ) (text : List ℕ) → AreCells cells count first text
     → (count ≡ 0 → ⊥)
     → of_cells finding cells ≡ finding count first text ∷ []
 finding_of_cells finding [] count first text are some = absurd (some are.counts)

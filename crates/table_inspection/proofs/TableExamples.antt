@@ -7,7 +7,7 @@ use Rattle.text_model.specs.Texts.{Text}
 use Rattle.kbart_rows.specs.Cells.{Row, Holdings}
 use Rattle.table_inspection.specs.Cells.{bad_numbers, bad_dates, bad_links, unidentified, unlinked, long_rows}
 use Rattle.table_inspection.specs.Columns.{missing_columns, unknown_columns, ignored_columns}
-use Rattle.table_inspection.specs.Findings.{MissingColumn, UnknownColumn, MisspelledColumn, IgnoredColumn, finding_line, is_warning}
+use Rattle.table_inspection.specs.Findings.{MissingColumn, UnknownColumn, MisspelledColumn, IgnoredColumn, finding_line, is_table_warning}
 use Rattle.table_inspection.specs.Findings.{RowsWithoutIdentifier, NotNumbers, RowsOfOneIdentifier, NotDates, NotWebLinks, RowsWithoutLink, LongRows}
 use Rattle.table_inspection.specs.Findings.{RowCount, IdentifierCount, lines_of}
 use Rattle.table_inspection.specs.Identifiers.{most_rows}
@@ -60,7 +60,7 @@ empty_text = refl
 
 -- ---- counts
 
-counts_of_no_rows : map is_warning (RowCount 0 ∷ RowCount 1 ∷ IdentifierCount 0 ∷ IdentifierCount 1 ∷ []) ≡ true ∷ false ∷ true ∷ false ∷ []
+counts_of_no_rows : map is_table_warning (RowCount 0 ∷ RowCount 1 ∷ IdentifierCount 0 ∷ IdentifierCount 1 ∷ []) ≡ true ∷ false ∷ true ∷ false ∷ []
 counts_of_no_rows = refl
 
 -- two forms of one identifier are one; a cell of hyphens has none, and neither has a cell past the header
@@ -182,7 +182,7 @@ more_counted_lines : lines_of (NotWebLinks 1 2 (codes "j") ∷ RowsWithoutLink 1
 unfolding on_literals
 more_counted_lines = refl
 
-warnings : map is_warning
+warnings : map is_table_warning
     (MissingColumn [] true ∷ MissingColumn [] false ∷ UnknownColumn [] ∷ MisspelledColumn [] [] ∷ IgnoredColumn [] ∷ RowsWithoutIdentifier 1 0
     ∷ NotNumbers 1 0 [] ∷ RowsOfOneIdentifier 1 [] ∷ NotDates [] 1 0 [] ∷ NotWebLinks 1 0 [] ∷ RowsWithoutLink 1 0 ∷ LongRows 1 0 ∷ [])
     ≡ true ∷ false ∷ false ∷ true ∷ true ∷ true ∷ true ∷ false ∷ true ∷ true ∷ false ∷ true ∷ []

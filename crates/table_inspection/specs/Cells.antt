@@ -8,7 +8,7 @@ use Rattle.kbart_rows.specs.Cells.{Row, Holdings, cell_in, cell_of, column_of}
 use Rattle.kbart_rows.specs.Identifiers.{identifier_columns, normalised}
 use Rattle.menu.specs.WebLink.{is_web_link}
 use Rattle.table_inspection.specs.Columns.{is_empty_text}
-use Rattle.table_inspection.specs.Findings.{Finding, RowsWithoutIdentifier, NotNumbers, NotDates, NotWebLinks, RowsWithoutLink, LongRows}
+use Rattle.table_inspection.specs.Findings.{TableFinding, RowsWithoutIdentifier, NotNumbers, NotDates, NotWebLinks, RowsWithoutLink, LongRows}
 use Rattle.table_inspection.specs.Identifiers.{is_number, row_identifiers}
 
 -- ---- dates (NISO RP-9-2014, after ISO 8601)
@@ -53,20 +53,20 @@ faults_in_row test columns table row = filter (λ cell. not (test cell.text)) (c
 unfoldable pub cell_faults : (Text → Bool) → List (Option ℕ) → Holdings → List CellAt
 cell_faults test columns table = flat_map (faults_in_row test columns table) (range_with_len 0 (length table.rows))
 
-abbrev pub of_cells : (ℕ → ℕ → Text → Finding) → List CellAt → List Finding
+abbrev pub of_cells : (ℕ → ℕ → Text → TableFinding) → List CellAt → List TableFinding
 of_cells finding [] = []
 of_cells finding (cell ∷ cells) = finding (length (cell ∷ cells)) cell.row cell.text ∷ []
 
 abbrev pub is_numbered : Text → Bool
 is_numbered text = is_number (normalised text)
 
-unfoldable pub bad_numbers : Holdings → List Finding
+unfoldable pub bad_numbers : Holdings → List TableFinding
 bad_numbers table = of_cells NotNumbers (cell_faults is_numbered (identifier_columns table.header) table)
 
-unfoldable pub bad_dates : Text → Holdings → List Finding
+unfoldable pub bad_dates : Text → Holdings → List TableFinding
 bad_dates column table = of_cells (NotDates column) (cell_faults is_date (column_of table.header column ∷ []) table)
 
-unfoldable pub bad_links : Holdings → List Finding
+unfoldable pub bad_links : Holdings → List TableFinding
 bad_links table = of_cells NotWebLinks (cell_faults is_web_link (column_of table.header (codes "title_url") ∷ []) table)
 
 -- ---- rows
@@ -75,20 +75,20 @@ bad_links table = of_cells NotWebLinks (cell_faults is_web_link (column_of table
 unfoldable pub row_faults : (Row → Bool) → Holdings → List ℕ
 row_faults test table = filter (λ row. test (get_or table.rows row [])) (range_with_len 0 (length table.rows))
 
-abbrev pub of_rows : (ℕ → ℕ → Finding) → List ℕ → List Finding
+abbrev pub of_rows : (ℕ → ℕ → TableFinding) → List ℕ → List TableFinding
 of_rows finding [] = []
 of_rows finding (row ∷ rows) = finding (length (row ∷ rows)) row ∷ []
 
 abbrev pub has_no_identifier : Row → Row → Bool
 has_no_identifier header cells = length (row_identifiers (identifier_columns header) cells) == 0
 
-unfoldable pub unidentified : Holdings → List Finding
+unfoldable pub unidentified : Holdings → List TableFinding
 unidentified table = of_rows RowsWithoutIdentifier (row_faults (has_no_identifier table.header) table)
 
 abbrev pub has_no_link : Row → Row → Bool
 has_no_link header cells = is_none (cell_of header cells (codes "title_url"))
 
-unfoldable pub unlinked : Holdings → List Finding
+unfoldable pub unlinked : Holdings → List TableFinding
 unlinked table =
     if is_some (column_of table.header (codes "title_url")) then of_rows RowsWithoutLink (row_faults (has_no_link table.header) table) else []
 
@@ -96,5 +96,5 @@ unlinked table =
 abbrev pub is_long : Row → Row → Bool
 is_long header cells = list_any (λ cell. not (is_empty_text cell)) (drop (length header) cells)
 
-unfoldable pub long_rows : Holdings → List Finding
+unfoldable pub long_rows : Holdings → List TableFinding
 long_rows table = of_rows LongRows (row_faults (is_long table.header) table)

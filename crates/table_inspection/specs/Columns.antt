@@ -6,7 +6,7 @@ use Rattle.std.specs.Str.{bytes_eq}
 use Rattle.text_model.specs.Texts.{Text}
 use Rattle.kbart_rows.specs.Cells.{Row, column_of, is_first}
 use Rattle.standard_names.specs.Columns.{known_columns}
-use Rattle.table_inspection.specs.Findings.{Finding, MissingColumn, UnknownColumn, MisspelledColumn, IgnoredColumn}
+use Rattle.table_inspection.specs.Findings.{TableFinding, MissingColumn, UnknownColumn, MisspelledColumn, IgnoredColumn}
 
 -- ---- the columns of identifiers
 
@@ -19,10 +19,10 @@ is_missing header name = is_none (column_of header name)
 abbrev pub are_both_missing : Row → Bool
 are_both_missing header = is_missing header (codes "print_identifier") && is_missing header (codes "online_identifier")
 
-abbrev pub missing_column : Row → Text → List Finding
+abbrev pub missing_column : Row → Text → List TableFinding
 missing_column header name = if is_missing header name then MissingColumn name (are_both_missing header) ∷ [] else []
 
-unfoldable pub missing_columns : Row → List Finding
+unfoldable pub missing_columns : Row → List TableFinding
 missing_columns header = flat_map (missing_column header) identifier_names
 
 -- ---- names that resemble each other
@@ -68,19 +68,19 @@ abbrev pub is_unknown : Row → ℕ → Bool
 is_unknown header column =
     not (is_empty_text (get_or header column [])) && (is_first header column && not (list_any (bytes_eq (get_or header column [])) known_columns))
 
-abbrev pub column_finding : Text → Option Text → Finding
+abbrev pub column_finding : Text → Option Text → TableFinding
 column_finding text None = UnknownColumn text
 column_finding text (Some name) = MisspelledColumn text name
 
-abbrev pub unknown_column : Row → ℕ → List Finding
+abbrev pub unknown_column : Row → ℕ → List TableFinding
 unknown_column header column =
     if is_unknown header column then column_finding (get_or header column []) (meant header (get_or header column [])) ∷ [] else []
 
-unfoldable pub unknown_columns : Row → List Finding
+unfoldable pub unknown_columns : Row → List TableFinding
 unknown_columns header = flat_map (unknown_column header) (range_with_len 0 (length header))
 
-abbrev pub ignored_column : Row → ℕ → List Finding
+abbrev pub ignored_column : Row → ℕ → List TableFinding
 ignored_column header column = if is_ignored header column then IgnoredColumn (get_or header column []) ∷ [] else []
 
-unfoldable pub ignored_columns : Row → List Finding
+unfoldable pub ignored_columns : Row → List TableFinding
 ignored_columns header = flat_map (ignored_column header) (range_with_len 0 (length header))

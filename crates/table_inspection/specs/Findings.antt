@@ -6,20 +6,20 @@ use Rattle.text_model.specs.Texts.{Text}
 use Rattle.printed_text.specs.Printed.{shortened}
 
 -- rows are counted from 0; `first` is the first of the rows (or the row of the first cell), and `text` is the text of the first cell
-pub data Finding : Type 0 where
-  RowCount : (rows : ℕ) → Finding
-  IdentifierCount : (identifiers : ℕ) → Finding
-  MissingColumn : (name : Text) (are_both : Bool) → Finding
-  UnknownColumn : (text : Text) → Finding
-  MisspelledColumn : (text name : Text) → Finding
-  IgnoredColumn : (text : Text) → Finding
-  RowsWithoutIdentifier : (rows first : ℕ) → Finding
-  NotNumbers : (cells first : ℕ) (text : Text) → Finding
-  RowsOfOneIdentifier : (rows : ℕ) (identifier : Text) → Finding
-  NotDates : (column : Text) (cells first : ℕ) (text : Text) → Finding
-  NotWebLinks : (cells first : ℕ) (text : Text) → Finding
-  RowsWithoutLink : (rows first : ℕ) → Finding
-  LongRows : (rows first : ℕ) → Finding
+pub data TableFinding : Type 0 where
+  RowCount : (rows : ℕ) → TableFinding
+  IdentifierCount : (identifiers : ℕ) → TableFinding
+  MissingColumn : (name : Text) (are_both : Bool) → TableFinding
+  UnknownColumn : (text : Text) → TableFinding
+  MisspelledColumn : (text name : Text) → TableFinding
+  IgnoredColumn : (text : Text) → TableFinding
+  RowsWithoutIdentifier : (rows first : ℕ) → TableFinding
+  NotNumbers : (cells first : ℕ) (text : Text) → TableFinding
+  RowsOfOneIdentifier : (rows : ℕ) (identifier : Text) → TableFinding
+  NotDates : (column : Text) (cells first : ℕ) (text : Text) → TableFinding
+  NotWebLinks : (cells first : ℕ) (text : Text) → TableFinding
+  RowsWithoutLink : (rows first : ℕ) → TableFinding
+  LongRows : (rows first : ℕ) → TableFinding
 
 -- ---- the parts of a line
 
@@ -38,7 +38,7 @@ named_text label text = label ++ (codes " " ++ shortened text)
 
 -- ---- the lines
 
-abbrev pub finding_text : Finding → Text
+abbrev pub finding_text : TableFinding → Text
 finding_text (RowCount rows) = counted (codes "rows") rows
 finding_text (IdentifierCount identifiers) = counted (codes "identifiers") identifiers
 finding_text (MissingColumn name are_both) = codes "no column " ++ name
@@ -53,31 +53,31 @@ finding_text (NotWebLinks cells first text) = counted_cells (codes "title_url no
 finding_text (RowsWithoutLink rows first) = counted_rows (codes "rows without title_url") rows first
 finding_text (LongRows rows first) = counted_rows (codes "rows longer than the header") rows first
 
-abbrev pub is_warning : Finding → Bool
-is_warning (RowCount rows) = rows == 0
-is_warning (IdentifierCount identifiers) = identifiers == 0
-is_warning (MissingColumn name are_both) = are_both
-is_warning (UnknownColumn text) = false
-is_warning (MisspelledColumn text name) = true
-is_warning (IgnoredColumn text) = true
-is_warning (RowsWithoutIdentifier rows first) = true
-is_warning (NotNumbers cells first text) = true
-is_warning (RowsOfOneIdentifier rows identifier) = false
-is_warning (NotDates column cells first text) = true
-is_warning (NotWebLinks cells first text) = true
-is_warning (RowsWithoutLink rows first) = false
-is_warning (LongRows rows first) = true
+abbrev pub is_table_warning : TableFinding → Bool
+is_table_warning (RowCount rows) = rows == 0
+is_table_warning (IdentifierCount identifiers) = identifiers == 0
+is_table_warning (MissingColumn name are_both) = are_both
+is_table_warning (UnknownColumn text) = false
+is_table_warning (MisspelledColumn text name) = true
+is_table_warning (IgnoredColumn text) = true
+is_table_warning (RowsWithoutIdentifier rows first) = true
+is_table_warning (NotNumbers cells first text) = true
+is_table_warning (RowsOfOneIdentifier rows identifier) = false
+is_table_warning (NotDates column cells first text) = true
+is_table_warning (NotWebLinks cells first text) = true
+is_table_warning (RowsWithoutLink rows first) = false
+is_table_warning (LongRows rows first) = true
 
 abbrev pub newline : Text
 newline = 10 ∷ []
 
-abbrev pub finding_line : Finding → Text
+abbrev pub finding_line : TableFinding → Text
 finding_line finding = finding_text finding ++ newline
 
 -- a line for each finding
-unfoldable pub lines_of : List Finding → Text
+unfoldable pub lines_of : List TableFinding → Text
 lines_of findings = flat_map finding_line findings
 
 -- one of them is a warning
-unfoldable pub have_warning : List Finding → Bool
-have_warning findings = list_any is_warning findings
+unfoldable pub have_table_warning : List TableFinding → Bool
+have_table_warning findings = list_any is_table_warning findings

@@ -6,7 +6,7 @@ use Rattle.std.specs.Str.{bytes_eq}
 use Rattle.text_model.specs.Texts.{Text}
 use Rattle.kbart_rows.specs.Cells.{Row, Holdings, defined}
 use Rattle.kbart_rows.specs.Identifiers.{identifier_columns, identifiers_in}
-use Rattle.table_inspection.specs.Findings.{Finding, RowsOfOneIdentifier}
+use Rattle.table_inspection.specs.Findings.{TableFinding, RowsOfOneIdentifier}
 
 -- ---- numbers, in normal form (ISO 3297 and ISO 2108; check digits are not computed)
 
@@ -48,12 +48,12 @@ rows_having columns rows id = count_by (λ cells. list_any (bytes_eq id) (row_id
 unfoldable pub first_of_most : (Text → ℕ) → List Text → Option Text
 first_of_most number texts = find (λ text. list_all (λ other. nat_le (number other) (number text)) texts) texts
 
-abbrev pub finding_of_most : (Text → ℕ) → Option Text → List Finding
+abbrev pub finding_of_most : (Text → ℕ) → Option Text → List TableFinding
 finding_of_most number None = []
 finding_of_most number (Some id) = RowsOfOneIdentifier (number id) id ∷ []
 
 -- the first of the identifiers that have the most rows
-unfoldable pub most_rows : Holdings → List Finding
+unfoldable pub most_rows : Holdings → List TableFinding
 most_rows table =
     finding_of_most (rows_having (identifier_columns table.header) table.rows)
     (first_of_most (rows_having (identifier_columns table.header) table.rows) (identifiers_of (identifier_columns table.header) table.rows))

@@ -3,7 +3,7 @@
 ghost use Rattle.std.specs.Prelude.{◌≡◌, ◌==◌, ◌&&◌, [], ◌<◌, ◌+◌, ℕ, List, OnOk, true, if◌then◌else◌};
 ghost use Rattle.text_model.specs.Texts.{Text};
 ghost use Rattle.table_inspection.specs.Cells.{CellAt, of_cells};
-ghost use Rattle.table_inspection.specs.Findings.{Finding, counted_cells, is_warning, finding_text};
+ghost use Rattle.table_inspection.specs.Findings.{TableFinding, counted_cells, is_table_warning, finding_text};
 ghost use Rattle.table_inspection.specs.Private.AddedLines.{Adds};
 ghost use Rattle.table_inspection.specs.Private.CountedCells.{AreCells};
 
@@ -49,11 +49,11 @@ impl<'a> Cells<'a> {
 
     /// Adds a warning of the cells, unless there are none.
     pub(crate) fn tell(self, findings: &mut Findings, label: &str) -> Result<(), AllocError>
-        ensures { OnOk result ((finding : ℕ → ℕ → Text → Finding) (cells : List CellAt)
+        ensures { OnOk result ((finding : ℕ → ℕ → Text → TableFinding) (cells : List CellAt)
             → AreCells cells self.entry.count self.entry.first self.entry.text.now
             → ((count first : ℕ) (text : Text)
             → finding_text (finding count first text) ≡ counted_cells label.now count first text)
-            → ((count first : ℕ) (text : Text) → is_warning (finding count first text) ≡ true)
+            → ((count first : ℕ) (text : Text) → is_table_warning (finding count first text) ≡ true)
             → Adds findings.old findings.new (of_cells finding cells)) }
     {
         if self.count == 0 {

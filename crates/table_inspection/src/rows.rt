@@ -2,7 +2,7 @@
 
 ghost use Rattle.std.specs.Prelude.{◌≡◌, ◌==◌, ◌&&◌, [], ◌<◌, ◌+◌, ℕ, List, OnOk, if◌then◌else◌};
 ghost use Rattle.table_inspection.specs.Cells.{of_rows};
-ghost use Rattle.table_inspection.specs.Findings.{Finding, counted_rows, is_warning, finding_text};
+ghost use Rattle.table_inspection.specs.Findings.{TableFinding, counted_rows, is_table_warning, finding_text};
 ghost use Rattle.table_inspection.specs.Private.AddedLines.{Adds};
 ghost use Rattle.table_inspection.specs.Private.CountedCells.{AreRows};
 
@@ -45,9 +45,9 @@ impl Rows {
         label: &str,
         warns: bool,
     ) -> Result<(), AllocError>
-        ensures { OnOk result ((finding : ℕ → ℕ → Finding) (rows : List ℕ) → AreRows rows self.count self.first
+        ensures { OnOk result ((finding : ℕ → ℕ → TableFinding) (rows : List ℕ) → AreRows rows self.count self.first
             → ((count first : ℕ) → finding_text (finding count first) ≡ counted_rows label.now count first)
-            → ((count first : ℕ) → is_warning (finding count first) ≡ warns)
+            → ((count first : ℕ) → is_table_warning (finding count first) ≡ warns)
             → Adds findings.old findings.new (of_rows finding rows)) }
     {
         if self.count == 0 {

@@ -3,7 +3,7 @@ use Rattle.std.specs.Prelude.{◌≡◌, ◌||◌, ◌++◌, Bool, List, string_
 use Rattle.text_model.specs.Texts.{Text}
 use Rattle.printed_text.specs.Adding.{AddsLines}
 use Rattle.printed_text.specs.declared.findings.Findings.{Findings}
-use Rattle.table_inspection.specs.Findings.{Finding, is_warning, newline, finding_line}
+use Rattle.table_inspection.specs.Findings.{TableFinding, is_table_warning, newline, finding_line}
 
 -- a line was added, and whether it is a warning
 pub record AddsLine (old new : Findings) (line : Text) (warns : Bool) : Type 0 where
@@ -11,5 +11,5 @@ pub record AddsLine (old new : Findings) (line : Text) (warns : Bool) : Type 0 w
   pub warned : new.warned ≡ (old.warned || warns)
 
 -- the lines of these findings were added
-abbrev pub Adds : Findings → Findings → List Finding → Type 0
-Adds = AddsLines finding_line is_warning
+abbrev pub Adds : Findings → Findings → List TableFinding → Type 0
+Adds = AddsLines finding_line is_table_warning

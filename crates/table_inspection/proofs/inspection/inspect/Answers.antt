@@ -1,6 +1,6 @@
 use Rattle.std.proofs.Common.{◌++◌, ap, ◌∙◌}
 use Rattle.printed_text.proofs.Adding.{adds_both}
-use Rattle.table_inspection.specs.Findings.{have_warning, lines_of}
+use Rattle.table_inspection.specs.Findings.{have_table_warning, lines_of}
 use Rattle.table_inspection.specs.Inspection.{findings_of, inspection_text, has_table_warning}
 use Rattle.table_inspection.proofs.inspection.inspect.Goals as goal
 
@@ -13,7 +13,7 @@ returns-clause-text c =
     all.text ∙ ap (λ (text : _). text ++ lines_of (findings_of c.args.table.now)) c.new-text.ensures.bytes
 
 pub returns-clause-warned : goal.returns-clause-warned
-unfolding findings_of has_table_warning have_warning
+unfolding findings_of has_table_warning have_table_warning
 returns-clause-warned c =
     let all = adds_both _ _ _ _ _ c.in_ok-add_counts.ensures
     (adds_both _ _ _ _ _ c.in_ok-add_columns.ensures (adds_both _ _ _ _ _ c.in_ok-add_identifiers.ensures
