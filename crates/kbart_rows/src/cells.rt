@@ -1,13 +1,12 @@
 //! A row's cells as one text, in which a tab follows each.
 
-ghost use Rattle.std.specs.Prelude.{◌≡◌, ◌==◌, ◌<◌, ◌∷◌, ◌++◌, [], IfSome, IfNone, count_by, drop, get_or, length};
-ghost use Rattle.std.specs.Prelude.{slice_index, take};
+ghost use Rattle.std.specs.Prelude.{◌≡◌, ◌<◌, ◌∷◌, ◌++◌, [], IfSome, IfNone, drop, get_or, length};
 ghost use Rattle.std.specs.Option.{option_copied};
 ghost use Rattle.kbart_rows.specs.Cells as spec;
 ghost use Rattle.kbart_rows.specs.Lines.{cells_in};
-ghost use Rattle.kbart_rows.specs.Private.Line.{HasNoTab, IsSplit};
+ghost use Rattle.kbart_rows.specs.Private.Line.{IsSplit};
 
-use memchr::memchr;
+use crate::tabs::{first_tab, tab_count};
 
 /// The first cell of a line, and the line of those after it.
 pub(crate) fn next_cell(line: &str) -> Option<(&str, &str)>
@@ -52,31 +51,15 @@ pub(crate) fn defined(cell: &str) -> Option<&str>
 }
 
 /// The cell of a line in a column, if there is such a column and the cell is defined.
-pub(crate) fn cell_in(line: &str, column: Option<usize>) -> Option<&str>
+pub fn cell_in(line: &str, column: Option<usize>) -> Option<&str>
     ensures { option_copied result ≡ spec.cell_in (cells_in line.now) column }
 {
     defined(cell_at(line, column?))
 }
 
 /// How many cells a line has.
-pub(crate) fn cell_count(line: &str) -> usize
+pub fn cell_count(line: &str) -> usize
     ensures { result ≡ length (cells_in line.now) }
 {
     tab_count(line.as_bytes())
-}
-
-fn tab_count(bytes: &[u8]) -> usize
-    ensures { result ≡ count_by (λ b. b == spec.tab) bytes.now }
-{
-    bytes.iter().filter(|byte| **byte == b'\t').count()
-}
-
-/// The place of the first tab.
-fn first_tab(line: &[u8]) -> Option<usize>
-    ensures within { IfSome result (λ at. at < length line.now) }
-    ensures tab { IfSome result (λ at. slice_index line.now at ≡ spec.tab) }
-    ensures lacks { IfSome result (λ at. HasNoTab (take at line.now)) }
-    ensures none { IfNone result (HasNoTab line.now) }
-{
-    memchr(b'\t', line)
 }

@@ -12,7 +12,7 @@ use std::alloc::{AllocError, Global};
 /// An identifier as it is compared: without hyphens and spaces, and with ASCII letters in upper case.
 ///
 /// Fails if an allocation failed.
-pub(crate) fn normalised(alloc: Global, text: &str) -> Result<String, AllocError>
+pub fn normalised(alloc: Global, text: &str) -> Result<String, AllocError>
     ensures { IfOk result (λ id. string_bytes id ≡ spec.normalised text.now) }
 {
     text.chars()

@@ -25,10 +25,13 @@ mod row_cursor;
 mod runs;
 mod sums;
 mod table;
+mod tabs;
 
+pub use cells::{cell_count, cell_in};
 pub use column_names::ColumnNames;
 pub use csv::Reader;
 pub use error::TableError;
+pub use identifier::normalised;
 pub use ids::Ids;
 pub use kev_read::Request;
 pub use key_source::{KeySource, NoKeys, SystemKeys};

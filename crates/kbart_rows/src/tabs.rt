@@ -1,6 +1,7 @@
 //! Tabs of a line, 16 bytes at a time.
 
-ghost use Rattle.std.specs.Prelude.{◌≡◌, ◌==◌, ◌+◌, ◌<◌, ◌≤◌, IfSome, IfNone, count_by, length, map, slice_index, take};
+ghost use Rattle.std.specs.Prelude.{◌≡◌, ◌≢◌, ℕ, ◌==◌, ◌+◌, ◌<◌, ◌≤◌, IfSome, IfNone, count_by, length, map};
+ghost use Rattle.std.specs.Prelude.{slice_index, take};
 ghost use Rattle.std.specs.Simd.Lanes.{chunk, mask_l};
 ghost use Rattle.kbart_rows.specs.Cells as spec;
 ghost use Rattle.kbart_rows.specs.Private.Line.{HasNoTab};
@@ -16,11 +17,11 @@ pub(crate) fn first_tab(line: &[u8]) -> Option<usize>
 {
     let mut at = 0;
     while line.len() - at >= 16 {
-        let tabs = tabs_of_16(line, at);
-        if tabs != 0 {
-            return Some(at + tabs.trailing_zeros() as usize);
+        let skipped = bytes_before_tab(line, at);
+        at += skipped;
+        if skipped < 16 {
+            return Some(at);
         }
-        at += 16;
     }
     while at < line.len() {
         if line[at] == b'\t' {
@@ -46,6 +47,22 @@ pub(crate) fn tab_count(line: &[u8]) -> usize
         at += 1;
     }
     count
+}
+
+/// How many of the 16 bytes at the place come before the first tab: all if none is a tab.
+#[inline(always)]
+fn bytes_before_tab(line: &[u8], place: usize) -> usize
+    requires { place + 16 ≤ length line.now }
+    ensures few { result ≤ 16 }
+    ensures lacks { (k : ℕ) → place ≤ k → k < place + result → slice_index line.now k ≢ spec.tab }
+    ensures tab { result < 16 → slice_index line.now (place + result) ≡ spec.tab }
+{
+    let tabs = tabs_of_16(line, place);
+    if tabs == 0 {
+        16
+    } else {
+        tabs.trailing_zeros() as usize
+    }
 }
 
 /// A bit for each of the 16 bytes at the place, which is set if the byte is a tab.
