@@ -1,31 +1,13 @@
 -- The cells of a line, from left to right.
-use Rattle.std.proofs.Common.{◌≡◌, ℕ, ◌+◌, ◌-◌, ◌&&◌, ◌||◌, ◌==◌, ◌≤◌, Bool, true, false, not, cond, count_by, zero, suc, List, [], ◌∷◌, length}
+use Rattle.std.proofs.Common.{◌≡◌, ℕ, ◌+◌, ◌-◌, ◌&&◌, ◌||◌, ◌==◌, ◌≤◌, Bool, true, false, not, zero, suc, List, [], ◌∷◌, length}
 use Rattle.std.proofs.Common.{None, Some, add-one, ap, arith, drop, drop_of_length-le, refl, sym, ◌∙◌}
-use Rattle.std.proofs.Common.{Bor, Option, get_or, if◌then◌else◌}
-use Rattle.std.specs.Option.{option_copied, unwrap_or}
-use Rattle.std.proofs.lemmas.Option.{get_or_from_slice_get, none-some}
 use Rattle.std.proofs.lemmas.Bool.{false≢true}
-use Rattle.std.proofs.lemmas.List.Sums.{sum_by-cons}
 use Rattle.std.specs.List.{list_any, slice_get}
 use Rattle.table_inspection.specs.Columns.{is_empty_text}
 use Rattle.table_inspection.proofs.Ranges.{not_none}
 use Rattle.text_model.specs.Texts.{Text}
 use Rattle.text_model.proofs.Lists.{drop_from, past_end as past_the_last}
-use Rattle.kbart_rows.specs.Cells.{Row, tab}
-use Rattle.kbart_rows.specs.Lines.{prepended, cells_in}
-use Rattle.kbart_rows.proofs.LineCells.{prepended_cells}
-
--- a tab makes a cell
-pub tab_count : (line : Text) → count_by (λ b. b == tab) line ≡ length (cells_in line)
-unfolding cells_in
-tab_count [] = refl
-tab_count (b ∷ line) =
-    let f : ℕ → ℕ = λ b. cond (b == tab) 1 0 in
-    sum_by-cons f b line
-    ∙ elim (b == tab) as (λ is. cond is 1 0 + count_by (λ b. b == tab) line ≡ length (if is then [] ∷ cells_in line else prepended b (cells_in line))) [
-      | true ↦ omega (arith, tab_count line)
-      | false ↦ omega (arith, tab_count line, prepended_cells b (cells_in line))
-    ]
+use Rattle.kbart_rows.specs.Cells.{Row}
 
 -- ---- cells past that many
 
@@ -46,6 +28,12 @@ past_continues (suc left) cell rest is =
     let one : left ≡ suc left - 1 = omega arith in
     ap (λ n. any_text (drop n rest)) one
 
+pub none_past : (width : ℕ) (cells : Row) → length cells ≤ width → any_text (drop width cells) ≡ false
+none_past zero [] le = refl
+none_past (suc width) [] le = refl
+none_past zero (cell ∷ cells) le = absurd (omega (arith, le))
+none_past (suc width) (cell ∷ cells) le = none_past width cells (omega (arith, le))
+
 -- the item at a place is the first of what is left
 pub left_at : {X : Type 0} (xs : List X) (place : ℕ) (x : X) → slice_get xs place ≡ Some x → drop place xs ≡ x ∷ drop (place + 1) xs
 left_at xs place x is = drop_from xs place x is ∙ ap (λ n. x ∷ drop n xs) (sym (add-one place))
@@ -56,22 +44,3 @@ none_left xs place is = drop_of_length-le xs (past_the_last xs place is)
 
 pub header_end : {X : Type 0} (xs : List X) (place : ℕ) → place ≤ length xs → slice_get xs place ≡ None → place ≡ length xs
 header_end xs place within is = omega (arith, within, past_the_last xs place is)
-
--- ---- the cell of a column
-
-pub past_end : {X : Type 0} (xs : List X) (place column : ℕ) (d : X) → slice_get xs place ≡ None → place ≤ column → get_or xs column d ≡ d
-past_end [] place column d none le = refl
-past_end (x ∷ xs) zero column d none le = absurd (none-some x (sym none))
-past_end (x ∷ xs) (suc place) zero d none le = absurd (omega (arith, le))
-past_end (x ∷ xs) (suc place) (suc column) d none le = past_end xs place column d none (omega (arith, le))
-
-pub cell_or_empty : (cells : Row) (column : ℕ) (found : Option (Bor Text)) (empty : Bor Text) → empty.now ≡ []
-    → option_copied found ≡ slice_get cells column → (unwrap_or found empty).now ≡ get_or cells column []
-cell_or_empty cells column None empty none is = none ∙ sym (past_end cells column column [] (sym is) (omega arith))
-cell_or_empty cells column (Some cell) empty none is = sym (get_or_from_slice_get cells column cell.now [] (sym is))
-
-pub none_past : (width : ℕ) (cells : Row) → length cells ≤ width → any_text (drop width cells) ≡ false
-none_past zero [] le = refl
-none_past (suc width) [] le = refl
-none_past zero (cell ∷ cells) le = absurd (omega (arith, le))
-none_past (suc width) (cell ∷ cells) le = none_past width cells (omega (arith, le))

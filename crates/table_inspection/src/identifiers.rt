@@ -11,9 +11,8 @@ ghost use Rattle.table_inspection.specs.Private.CountedCells.{AreCells, faults_a
 use crate::cells::Cells;
 use crate::number::{is_number, normal_form};
 use crate::row_counts::{RowCounts, count_row};
-use crate::row_line::cell_in;
 use crate::rows::Rows;
-use kbart_rows::Table;
+use kbart_rows::{Table, cell_in};
 use std::alloc::{AllocError, Global};
 use std::collections::HashMap;
 

@@ -14,8 +14,7 @@ ghost use Rattle.table_inspection.specs.Private.Counting.{IsMost, number_in};
 use crate::lines::add_most_rows;
 use crate::number::normal_form;
 use crate::row_counts::{RowCounts, count_of};
-use crate::row_line::cell_in;
-use kbart_rows::Table;
+use kbart_rows::{Table, cell_in};
 use printed_text::Findings;
 use std::alloc::{AllocError, Global};
 

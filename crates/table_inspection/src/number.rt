@@ -4,10 +4,10 @@ ghost use Rattle.std.specs.Prelude.{◌≡◌, ◌<◌, IfOk, string_bytes};
 ghost use Rattle.std.specs.List.{list_all};
 ghost use Rattle.std.specs.Char.{is_ascii_digit};
 ghost use Rattle.std.specs.Option.{option_copied};
-ghost use Rattle.kbart_rows.specs.Identifiers.{normalised};
 ghost use Rattle.table_inspection.specs.Identifiers as spec;
 ghost use Rattle.table_inspection.specs.Private.Forms.{normal_form};
 
+use kbart_rows::normalised;
 use std::alloc::{AllocError, Global};
 
 /// The identifier of a cell as it is compared, without hyphens and spaces and in capital letters; it is empty where the
@@ -19,15 +19,6 @@ pub(crate) fn normal_form(alloc: Global, cell: Option<&str>) -> Result<String, A
         Some(text) => normalised(alloc, text),
         None => Ok(String::new(alloc)),
     }
-}
-
-fn normalised(alloc: Global, text: &str) -> Result<String, AllocError>
-    ensures { IfOk result (λ id. string_bytes id ≡ normalised text.now) }
-{
-    text.chars()
-        .filter(|character| *character != '-' && *character != ' ')
-        .map(|character| character.to_ascii_uppercase())
-        .collect(alloc)
 }
 
 /// Whether an identifier in normal form is an ISSN or an ISBN, or the one that stands for any title. Check digits are

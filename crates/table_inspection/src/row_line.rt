@@ -1,58 +1,17 @@
-//! A row's line: the cell in a column, and whether it is longer than the header.
+//! Whether a row's line is longer than the header.
 
-ghost use Rattle.std.specs.Prelude.{◌≡◌, ◌==◌, ◌&&◌, [], count_by, drop, get_or, length, not};
+ghost use Rattle.std.specs.Prelude.{◌≡◌, ◌==◌, ◌&&◌, drop, not};
 ghost use Rattle.std.specs.List.{list_any};
-ghost use Rattle.std.specs.Option.{option_copied};
-ghost use Rattle.kbart_rows.specs.Cells as spec;
 ghost use Rattle.kbart_rows.specs.Lines.{cells_in};
 ghost use Rattle.table_inspection.specs.Columns.{is_empty_text};
 
-use kbart_rows::RowCursor;
-
-/// The defined cell of a line in a column, where there is such a column.
-pub(crate) fn cell_in(line: &str, column: Option<usize>) -> Option<&str>
-    ensures { option_copied result ≡ spec.cell_in (cells_in line.now) column }
-{
-    defined(cell_at(line, column?))
-}
-
-fn defined(cell: &str) -> Option<&str>
-    ensures { option_copied result ≡ spec.defined cell.now }
-{
-    if cell.is_empty() { None } else { Some(cell) }
-}
-
-/// The cell of a line in a column, the empty text where it has none.
-fn cell_at(line: &str, column: usize) -> &str
-    ensures { result.now ≡ get_or (cells_in line.now) column [] }
-{
-    let mut cells = RowCursor::new(line);
-    for _ in 0..column {
-        let Some(_) = cells.next_cell() else {
-            return "";
-        };
-    }
-    cells.next_cell().unwrap_or("")
-}
-
-/// How many cells a line has.
-pub(crate) fn width_of(line: &str) -> usize
-    ensures { result ≡ length (cells_in line.now) }
-{
-    tabs_in(line.as_bytes())
-}
-
-fn tabs_in(bytes: &[u8]) -> usize
-    ensures { result ≡ count_by (λ b. b == spec.tab) bytes.now }
-{
-    bytes.iter().filter(|b| **b == b'\t').count()
-}
+use kbart_rows::{RowCursor, cell_count};
 
 /// Whether a line has a cell past that many that is not empty.
 pub(crate) fn is_longer(line: &str, width: usize) -> bool
     ensures { result ≡ list_any (λ cell. not (is_empty_text cell)) (drop width (cells_in line.now)) }
 {
-    if width_of(line) <= width {
+    if cell_count(line) <= width {
         return false;
     }
     has_text_past(line, width)

@@ -10,9 +10,9 @@ ghost use Rattle.table_inspection.specs.Private.CountedCells.{AreCells, AreRows,
 
 use crate::cells::Cells;
 use crate::form::{Form, fits};
-use crate::row_line::{cell_in, is_longer, width_of};
+use crate::row_line::is_longer;
 use crate::rows::Rows;
-use kbart_rows::Table;
+use kbart_rows::{Table, cell_count, cell_in};
 use printed_text::Findings;
 use std::alloc::AllocError;
 
@@ -64,7 +64,7 @@ fn values_of(table: &Table) -> Values<'_>
     let first_column = table.column("date_first_issue_online");
     let last_column = table.column("date_last_issue_online");
     let link_column = table.column("title_url");
-    let width = width_of(table.header());
+    let width = cell_count(table.header());
     let mut values = Values {
         first_dates: Cells::none(),
         last_dates: Cells::none(),

@@ -42,7 +42,7 @@ loop-row-preserved c =
     ∙ ap (cell_in cells) c.column-last_column.ensures.first in
     let unlinked = undefined c.cell_in-link.result c.is_none.result c.is_none.ensures ∙ ap is_none link in
     let long = c.is_longer.ensures ∙ ap (λ (width : ℕ). any_text (drop width (cells_in c.line-line.result.now)))
-    (c.width_of-width.ensures ∙ ap length c.header.ensures.cells) ∙ ap (is_long table.header) c.line-line.ensures.cells in
+    (c.cell_count-width.ensures ∙ ap length c.header.ensures.cells) ∙ ap (is_long table.header) c.line-line.ensures.cells in
     record {
       first_dates = cells_step is_date (column_of table.header (codes "date_first_issue_online")) table row _ _ _ _ _ _ _ first
           record { added = c.add_cell.ensures.added; small = c.add_cell.ensures.small } inv.first_dates;
