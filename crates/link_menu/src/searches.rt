@@ -4,6 +4,7 @@ ghost use Rattle.std.specs.Prelude.{◌≡◌, ◌++◌, ◌∷◌, [], All, IfO
 ghost use Rattle.std.specs.Option.{option_map_or};
 ghost use Rattle.row_scope.specs.RequestValues.{IsApartFrom};
 ghost use Rattle.menu.specs.declared.entry.Resolution.TheVariants.{NoRow};
+ghost use Rattle.registry.specs.Targets.{AreAllNames, AreNamesOf};
 ghost use Rattle.link_menu.specs.Private.Held.{entries_with, has_row, held};
 ghost use Rattle.link_menu.specs.Private.Searches as spec;
 
@@ -11,7 +12,7 @@ use crate::citation::Citation;
 use crate::target_search::TargetSearch;
 use menu::{Menu, MenuEntry, Resolution};
 use registry::Target;
-use row_scope::{KnownValues, NameNumbers};
+use row_scope::{KnownValues, NameColumns, NameNumbers};
 use std::alloc::{AllocError, Global};
 
 /// The searches of the targets that have a row with the title.
@@ -24,16 +25,18 @@ pub(crate) struct Searches<'a> {
 }
 
 impl<'a> Searches<'a> {
-    /// Searches that have tried no row.
+    /// Searches that have tried no row, of targets with these names and their numbers.
     ///
     /// `AllocError` if an allocation failed.
     pub(crate) fn begin(
         alloc: Global,
         targets: &'a [Target],
-        numbers: &NameNumbers,
+        numbers: &'a NameNumbers,
+        names: &'a [NameColumns],
         citation: &'a Citation<'a>,
     ) -> Result<Searches<'a>, AllocError>
-        requires { All (λ target. IsApartFrom citation.now target.table.header) targets.now }
+        requires apart { All (λ target. IsApartFrom citation.now target.table.header) targets.now }
+        requires names { AreAllNames numbers.now targets.now names.now }
         ensures held { IfOk result (λ s. s.held.items ≡ map (has_row citation.now.pairs) targets.now) }
         ensures searches { IfOk result
             (λ s. s.searches.items ≡ map (spec.started citation.now) (held citation.now.pairs targets.now)) }
@@ -44,7 +47,8 @@ impl<'a> Searches<'a> {
             searches: Vec::new(alloc),
         };
         for target in targets {
-            all.add(alloc, target, citation, &mut known)?;
+            let names = &names[all.held.len()];
+            all.add(alloc, target, names, citation, &mut known)?;
         }
         Ok(all)
     }
@@ -53,11 +57,13 @@ impl<'a> Searches<'a> {
         &mut self,
         alloc: Global,
         target: &'a Target,
+        names: &'a NameColumns,
         citation: &'a Citation<'a>,
         known: &mut KnownValues<'a>,
     ) -> Result<(), AllocError>
         requires apart { IsApartFrom citation.now target.now.table.header }
-        requires known { known.old ≡ citation.now }
+        requires names { AreNamesOf known.old.numbers target.now names.now }
+        requires known { known.old.request ≡ citation.now }
         ensures held { OnOk result
             (self.new.held.items ≡ self.old.held.items ++ has_row citation.now.pairs target.now ∷ []) }
         ensures searches { OnOk result
@@ -69,7 +75,7 @@ impl<'a> Searches<'a> {
         let first = rows.next();
         self.held.push(first.is_some())?;
         if first.is_some() {
-            let search = TargetSearch::begin(alloc, target, known, first, rows)?;
+            let search = TargetSearch::begin(alloc, target, names, known, first, rows)?;
             self.searches.push(search)?;
         }
         Ok(())

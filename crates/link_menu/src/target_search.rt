@@ -2,6 +2,7 @@
 
 ghost use Rattle.std.specs.Prelude.{◌≡◌, IfOk, None, drop, if◌then◌else◌, slice_get};
 ghost use Rattle.registry.specs.Entries.{matching_rows_of};
+ghost use Rattle.registry.specs.Targets.{AreNamesOf};
 ghost use Rattle.menu.specs.Links as links;
 ghost use Rattle.row_scope.specs.RequestValues.{IsApartFrom};
 ghost use Rattle.interleaved_runs.specs.Fates.{fate_value};
@@ -13,7 +14,7 @@ use kbart_rows::Matches;
 use menu::Resolution;
 use registry::Target;
 use registry::laws::matching_rows_rise;
-use row_scope::{KnownValues, TargetRequest};
+use row_scope::{KnownValues, NameColumns, TargetRequest};
 use std::alloc::{AllocError, Global};
 use std::marker::Model;
 
@@ -52,20 +53,22 @@ impl<'a> TargetSearch<'a> {
     pub(crate) fn begin(
         alloc: Global,
         target: &'a Target,
+        names: &'a NameColumns,
         known: &mut KnownValues<'a>,
         next: Option<usize>,
         rows: Matches<'a>,
     ) -> Result<TargetSearch<'a>, AllocError>
-        requires apart { IsApartFrom known.old target.now.table.header }
-        requires next { next ≡ slice_get (matching_rows_of target.now known.old.pairs) 0 }
-        requires rows { rows ≡ drop 1 (matching_rows_of target.now known.old.pairs) }
-        ensures ok { IfOk result (λ search. search ≡ spec.started known.old target.now) }
+        requires names { AreNamesOf known.old.numbers target.now names.now }
+        requires apart { IsApartFrom known.old.request target.now.table.header }
+        requires next { next ≡ slice_get (matching_rows_of target.now known.old.request.pairs) 0 }
+        requires rows { rows ≡ drop 1 (matching_rows_of target.now known.old.request.pairs) }
+        ensures ok { IfOk result (λ search. search ≡ spec.started known.old.request target.now) }
         ensures same { known.new ≡ known.old }
     {
         matching_rows_rise();
         Ok(TargetSearch {
             target,
-            request: target.request(alloc, known)?,
+            request: target.request(alloc, names, known)?,
             rows,
             next,
             resolution: Resolution::NoRow,

@@ -7,6 +7,7 @@ use Rattle.std.proofs.lemmas.List.Folds.{list_any_at}
 use Rattle.std.proofs.lemmas.List.Quantifiers.{all_pairs_push}
 use Rattle.std.proofs.lemmas.Slice.Eq.{bytes_eq-Decides}
 use Rattle.std.specs.Prelude.{◌==◌}
+use Rattle.std.specs.List.{AllZip}
 use Rattle.std.specs.Str.{bytes_eq}
 use Rattle.machine_model.specs.Safe.{IsSafe}
 use Rattle.menu.specs.Contained.{IsTargetName}
@@ -14,7 +15,9 @@ use Rattle.text_model.specs.Texts.{Text}
 use Rattle.kbart_rows.specs.ColumnNames.{has}
 use Rattle.kbart_rows.specs.declared.column_names.ColumnNames.{ColumnNames}
 use Rattle.row_scope.specs.RequestValues.{AreAmong}
-use Rattle.registry.specs.Targets.{TargetValue, IsRegistry, AreAllAmong, has_name}
+use Rattle.row_scope.specs.NameNumbers.{Numbering, AreKept}
+use Rattle.row_scope.specs.declared.name_columns.NameColumns.{NameColumns}
+use Rattle.registry.specs.Targets.{TargetValue, IsRegistry, AreAllAmong, AreAllNames, AreNamesOf, has_name}
 use Rattle.registry.specs.Refusals.{MayBeAdded}
 
 -- none of the targets has a name that is new
@@ -45,7 +48,7 @@ after_adding targets target true now known safe may is = subst IsRegistry (sym i
 after_adding targets target false now known safe may is = subst IsRegistry (sym is) known
 
 -- the names of columns stay among those of all tables; the first target begins with an empty set
-all_stay : (targets : List TargetValue) (old new : ColumnNames) (is_first : Bool) → is_first ≡ (length targets == 0)
+pub all_stay : (targets : List TargetValue) (old new : ColumnNames) (is_first : Bool) → is_first ≡ (length targets == 0)
     → (is_first ≡ false → (name : Text) → has old name ≡ true → has new name ≡ true) → AreAllAmong old targets → AreAllAmong new targets
 all_stay [] old new is_first is kept among = All-nil (λ target. AreAmong new target.table.header)
 all_stay (t ∷ targets) old new is_first is kept among =
@@ -64,3 +67,39 @@ pub among_after_adding : (targets : List TargetValue) (target : TargetValue) (ad
     → AreAmong new target.table.header → now ≡ (if added then targets ++ target ∷ [] else targets) → AreAllAmong new now
 among_after_adding targets target added now old new is_first among is kept its =
     with_its_columns targets target added now new (all_stay targets old new is_first is kept among) its
+
+-- ---- the names of all targets
+
+zip_push : {A B : Type 0} (R : A → B → Type 0) (xs : List A) (ys : List B) (x : A) (y : B) → AllZip R xs ys → R x y → AllZip R (xs ++ x ∷ []) (ys ++ y ∷ [])
+zip_push R [] [] x y all one = (one, tt)
+zip_push R [] (b ∷ ys) x y all one = absurd all
+zip_push R (a ∷ xs) [] x y all one = absurd all
+zip_push R (a ∷ xs) (b ∷ ys) x y all one = (all.0, zip_push R xs ys x y all.1 one)
+
+names_kept : (old new : Numbering) → AreKept old new → (targets : List TargetValue) (all : List NameColumns) → AreAllNames old targets all
+    → AreAllNames new targets all
+names_kept old new kept [] [] are = tt
+names_kept old new kept [] (names ∷ all) are = absurd are
+names_kept old new kept (target ∷ targets) [] are = absurd are
+names_kept old new kept (target ∷ targets) (names ∷ all) are =
+    let its = are.0 in
+    let own = its.own in (
+      record { columns = its.columns; own = record { one_each = own.one_each; are = λ i number is. kept _ number (own.are i number is) } },
+      names_kept old new kept targets all are.1,
+    )
+
+-- the numbers stay; the first target begins with none
+pub names_stay : (targets : List TargetValue) (all : List NameColumns) (old new : Numbering) (is_first : Bool) → is_first ≡ (length targets == 0)
+    → (is_first ≡ false → AreKept old new) → AreAllNames old targets all → AreAllNames new targets all
+names_stay [] [] old new is_first is kept are = tt
+names_stay [] (names ∷ all) old new is_first is kept are = absurd are
+names_stay (target ∷ targets) all old new is_first is kept are = names_kept old new (kept (grind (arith, is))) (target ∷ targets) all are
+
+-- after a target was added, or was not
+pub names_after_adding : (targets : List TargetValue) (all : List NameColumns) (target : TargetValue) (names : NameColumns) (added : Bool)
+    (now : List TargetValue) (now_all : List NameColumns) (numbers : Numbering)
+    → AreAllNames numbers targets all → AreNamesOf numbers target names → now ≡ (if added then targets ++ target ∷ [] else targets)
+    → now_all ≡ (if added then all ++ names ∷ [] else all) → AreAllNames numbers now now_all
+names_after_adding targets all target names true now now_all numbers are its is all_is =
+    rw (is, all_is) (zip_push (AreNamesOf numbers) targets all target names are its)
+names_after_adding targets all target names false now now_all numbers are its is all_is = rw (is, all_is) are

@@ -42,12 +42,7 @@ impl AddError {
         ensures code { result.code ≡ target.code }
         ensures table { result.table ≡ target.table }
     {
-        let Target {
-            name,
-            code,
-            table,
-            ..
-        } = target;
+        let Target { name, code, table } = target;
         AddError {
             kind,
             name,

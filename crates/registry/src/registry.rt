@@ -1,13 +1,14 @@
 //! The registry of all targets.
 
 ghost use Rattle.std.specs.Prelude.{◌≡◌, ◌++◌, ◌∷◌, [], IfErr, IfOk, MatchOption, OnErr, OnOk, false, string_bytes};
-ghost use Rattle.std.specs.Prelude.{true};
+ghost use Rattle.std.specs.Prelude.{if◌then◌else◌, is_ok, true};
 ghost use Rattle.registry.specs.Targets as spec;
 ghost use Rattle.text_model.specs.Texts.{Text};
 ghost use Rattle.kbart_rows.specs.ColumnNames.{has};
+ghost use Rattle.row_scope.specs.NameNumbers.{AreKept, AreOwnNumbers};
 ghost use Rattle.row_scope.specs.NameColumns.{AreNameColumns};
 ghost use Rattle.row_scope.specs.RequestValues.{AreAmong};
-ghost use Rattle.registry.specs.Targets.{IsRegistry, AreAllAmong};
+ghost use Rattle.registry.specs.Targets.{IsRegistry, AreAllAmong, AreAllNames};
 ghost use Rattle.registry.specs.Refusals.{IsAddRefusal, MayBeAdded};
 
 use crate::error::{AddError, AddErrorKind};
@@ -32,18 +33,21 @@ pub struct Registry {
     // The numbers of the names of all codes.
     numbers: NameNumbers,
     targets: Vec<Target>,
+    // For each target, the columns and the numbers of the names of its code.
+    names: Vec<NameColumns>,
 }
 
 impl Model for Registry {
     ghost use Rattle.std.specs.Prelude.{List};
-    ghost use Rattle.registry.specs.Targets.{TargetValue, IsRegistry, AreAllAmong};
+    ghost use Rattle.registry.specs.Targets.{TargetValue, IsRegistry, AreAllAmong, AreAllNames};
 
     ghost Value = { List TargetValue };
 
     ghost view = { λ registry. registry.targets.items };
 
     ghost invariant = { λ registry. IsRegistry registry.targets.items
-        × AreAllAmong registry.columns registry.targets.items };
+        × AreAllAmong registry.columns registry.targets.items
+        × AreAllNames registry.numbers registry.targets.items registry.names.items };
 }
 
 impl Registry {
@@ -57,6 +61,7 @@ impl Registry {
             columns: ColumnNames::new(alloc, Keys::new(0, 0)),
             numbers: NameNumbers::new(alloc, Keys::new(0, 0)),
             targets: Vec::new(alloc),
+            names: Vec::new(alloc),
         }
     }
 
@@ -75,9 +80,12 @@ impl Registry {
         &self.columns
     }
 
-    /// The numbers of the names of all codes, and perhaps of codes that were rejected.
-    pub fn numbers(&self) -> &NameNumbers {
-        &self.numbers
+    /// The numbers of the names of all codes, and perhaps of codes that were rejected; and for each target, the columns
+    /// and the numbers of the names of its code.
+    pub fn names(&self) -> (&NameNumbers, &[NameColumns])
+        ensures { AreAllNames result.0.now self.now result.1.now }
+    {
+        (&self.numbers, &self.names)
     }
 
     /// Adds a target after the others.
@@ -117,10 +125,10 @@ impl Registry {
                 table,
             });
         };
-        let target = Target::new(name, code, table, names);
-        match self.targets.push(target) {
+        let target = Target::new(name, code, table);
+        match push_both(&mut self.targets, &mut self.names, target, names) {
             Ok(()) => Ok(()),
-            Err(failed) => Err(AddError::new(AddErrorKind::NoMemory, failed.value)),
+            Err(target) => Err(AddError::new(AddErrorKind::NoMemory, target)),
         }
     }
 
@@ -138,8 +146,8 @@ impl Registry {
     }
 }
 
-/// The columns of a table that have the names of a code. The names of all its columns are added to `columns`, which has
-/// the keys of the first table.
+/// The columns and the numbers of a code's names over a table. The names of all columns are added to `columns`, and
+/// those of the code to `numbers`; both have the keys of the first table.
 fn names_of(
     alloc: Global,
     columns: &mut ColumnNames,
@@ -149,8 +157,10 @@ fn names_of(
     table: &Table,
 ) -> Result<NameColumns, AllocError>
     ensures names { IfOk result (AreNameColumns code.now table.now.header) }
+    ensures own { IfOk result (λ names. AreOwnNumbers numbers.new code.now names.numbers.items) }
     ensures among { OnOk result (AreAmong columns.new table.now.header) }
     ensures kept { is_first ≡ false → (name : Text) → has columns.old name ≡ true → has columns.new name ≡ true }
+    ensures numbers { is_first ≡ false → AreKept numbers.old numbers.new }
 {
     if is_first {
         *columns = ColumnNames::new(alloc, table.keys());
@@ -158,6 +168,31 @@ fn names_of(
     }
     columns.add(alloc, table)?;
     NameColumns::new(alloc, code, table, numbers)
+}
+
+/// Adds a target and the names of its code after the others. If an allocation failed, the target is given back.
+fn push_both(
+    targets: &mut Vec<Target>,
+    all_names: &mut Vec<NameColumns>,
+    target: Target,
+    names: NameColumns,
+) -> Result<(), Target>
+    ensures targets { targets.new.items
+        ≡ (if is_ok result then targets.old.items ++ target ∷ [] else targets.old.items) }
+    ensures names { all_names.new.items
+        ≡ (if is_ok result then all_names.old.items ++ names ∷ [] else all_names.old.items) }
+    ensures back { IfErr result (λ given. given ≡ target) }
+{
+    if all_names.push(names).is_err() {
+        return Err(target);
+    }
+    match targets.push(target) {
+        Ok(()) => Ok(()),
+        Err(failed) => {
+            all_names.pop();
+            Err(failed.value)
+        }
+    }
 }
 
 /// Whether one of the targets has the name.

@@ -1,8 +1,8 @@
 //! Targets: content providers.
 
 ghost use Rattle.std.specs.Prelude.{◌≡◌, IfOk, string_bytes};
-ghost use Rattle.row_scope.specs.NameColumns.{AreNameColumns};
 ghost use Rattle.row_scope.specs.RequestValues.{IsApartFrom};
+ghost use Rattle.registry.specs.Targets.{AreNamesOf};
 
 use kbart_rows::Table;
 use row_scope::{KnownValues, NameColumns, TargetRequest};
@@ -16,32 +16,22 @@ pub struct Target {
     pub(crate) name: String,
     pub(crate) code: Verified,
     pub(crate) table: Table,
-    names: NameColumns,
 }
 
 impl Model for Target {
     ghost use Rattle.std.specs.Prelude.{string_bytes};
     ghost use Rattle.registry.specs.Targets.{TargetValue};
-    ghost use Rattle.row_scope.specs.NameColumns.{AreNameColumns};
 
     ghost Value = { TargetValue };
 
     ghost view = { λ target. record { name = string_bytes target.name; code = target.code; table = target.table } };
-
-    ghost invariant = { λ target. AreNameColumns target.code target.table.header target.names };
 }
 
 impl Target {
-    pub(crate) fn new(name: String, code: Verified, table: Table, names: NameColumns) -> Target
-        requires { AreNameColumns code table.header names }
+    pub(crate) fn new(name: String, code: Verified, table: Table) -> Target
         ensures { result ≡ record { name = string_bytes name; code = code; table = table } }
     {
-        Target {
-            name,
-            code,
-            table,
-            names,
-        }
+        Target { name, code, table }
     }
 
     /// The name, which is unique in a registry.
@@ -65,19 +55,21 @@ impl Target {
         &self.table
     }
 
-    /// A request as the code and the table of the target see it.
+    /// A request as the code and the table of the target see it. `names` are those that its registry has for it.
     ///
     /// `AllocError` if an allocation failed.
     pub fn request<'a>(
         &'a self,
         alloc: Global,
+        names: &'a NameColumns,
         known: &mut KnownValues<'a>,
     ) -> Result<TargetRequest<'a>, AllocError>
-        requires { IsApartFrom known.old self.now.table.header }
+        requires names { AreNamesOf known.old.numbers self.now names.now }
+        requires apart { IsApartFrom known.old.request self.now.table.header }
         ensures ok { IfOk result (λ t. (t.code ≡ self.now.code) × (t.table ≡ self.now.table)
-            × (t.request ≡ known.old)) }
+            × (t.request ≡ known.old.request)) }
         ensures same { known.new ≡ known.old }
     {
-        TargetRequest::new(alloc, self.code.code(), &self.table, &self.names, known)
+        TargetRequest::new(alloc, self.code.code(), &self.table, names, known)
     }
 }

@@ -10,3 +10,5 @@ mod HiddenLemmas
 mod SumLemmas
 mod CellLemmas
 mod OverLemmas
+mod NumberLemmas
+mod KnownLemmas

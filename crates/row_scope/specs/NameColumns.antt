@@ -43,4 +43,3 @@ pub record AreNameColumns (code : Code) (header : Row) (names : NameColumns) : T
   pub columns : AreColumns code header names.columns.items
   pub lists : AreOwnLists code names.lists.items
   pub marks : AreMarked code names.marks.items
-  pub numbers : length names.numbers.items ≡ length code.names

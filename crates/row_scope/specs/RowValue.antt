@@ -1,10 +1,16 @@
--- What callers see of a request at a target, and of a row over a request.
+-- What callers see of a request and its known names, of a request at a target, and of a row over a request.
 use Rattle.std.specs.Prelude.{List}
 use Rattle.text_model.specs.Texts.{Text}
 use Rattle.code_model.specs.Code.{Code}
 use Rattle.target_vars.specs.EnvValue.{EnvValue}
 use Rattle.kbart_rows.specs.Cells.{Holdings}
 use Rattle.row_scope.specs.RequestValues.{RequestValue}
+use Rattle.row_scope.specs.NameNumbers.{Numbering}
+
+-- a request, and the numbers by which its known names are found
+pub record KnownValue : Type 0 where
+  pub request : RequestValue
+  pub numbers : Numbering
 
 -- the code and the table of a target, and the request
 pub record TargetRequestValue : Type 0 where

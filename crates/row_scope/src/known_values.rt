@@ -5,6 +5,7 @@ ghost use Rattle.text_model.specs.Texts.{Text};
 ghost use Rattle.environment_model.specs.Lists as lists;
 ghost use Rattle.row_laws.specs.Shadowing.{requested};
 ghost use Rattle.row_scope.specs.Bindings.{IsBound, laid_in};
+ghost use Rattle.row_scope.specs.NameNumbers.{IsOwn};
 
 use crate::binding::Binding;
 use crate::name_numbers::NameNumbers;
@@ -12,31 +13,33 @@ use crate::request_values::RequestValues;
 use std::alloc::{AllocError, Global};
 use std::marker::Model;
 
-/// A name, read as a list or as a text, and what it is bound to in a request without a row.
+/// What a name, read as a list or as a text, is bound to in a request without a row.
 #[derive(Clone, Copy)]
-pub struct KnownName<'a> {
-    name: &'a str,
+pub struct KnownName {
     is_list: bool,
     binding: Binding,
 }
 
-/// A request, and what the names are bound to that were already looked up in it. Contracts see the request.
+/// A request, and what the names are bound to that were already looked up in it. Contracts see the request and the
+/// numbers of the names.
 #[derive(Drop)]
 pub struct KnownValues<'a> {
     request: &'a RequestValues<'a>,
-    // Indexed by the numbers of names. Names may share a number, so each is compared before it is used.
-    names: Vec<Option<KnownName<'a>>>,
+    numbers: &'a NameNumbers,
+    // Indexed by the numbers of names.
+    names: Vec<Option<KnownName>>,
 }
 
 impl<'a> Model for KnownValues<'a> {
-    ghost use Rattle.row_scope.specs.RequestValues.{RequestValue};
+    ghost use Rattle.row_scope.specs.RowValue.{KnownValue};
     ghost use Rattle.row_scope.specs.Private.Kept.{AreKnown};
 
-    ghost Value = { RequestValue };
+    ghost Value = { KnownValue };
 
-    ghost view = { λ known. known.request.now };
+    ghost view = { λ known. record { request = known.request.now; numbers = known.numbers.now } };
 
-    ghost invariant = { λ known. AreKnown known.request.now known.names.items };
+    ghost invariant = { λ known. AreKnown
+        (record { request = known.request.now; numbers = known.numbers.now }) known.names.items };
 }
 
 impl<'a> KnownValues<'a> {
@@ -46,41 +49,53 @@ impl<'a> KnownValues<'a> {
     pub fn new(
         alloc: Global,
         request: &'a RequestValues<'a>,
-        numbers: &NameNumbers,
+        numbers: &'a NameNumbers,
     ) -> Result<KnownValues<'a>, AllocError>
-        ensures { IfOk result (λ known. known ≡ request.now) }
+        ensures { IfOk result (λ known. (known.request ≡ request.now) × (known.numbers ≡ numbers.now)) }
     {
-        let names: Vec<Option<KnownName<'a>>> = vec![in alloc; None; numbers.len()]?;
-        Ok(KnownValues { request, names })
+        let names: Vec<Option<KnownName>> = vec![in alloc; None; numbers.len()]?;
+        Ok(KnownValues {
+            request,
+            numbers,
+            names,
+        })
     }
 
     /// The request.
     pub(crate) fn request(&self) -> &'a RequestValues<'a>
-        ensures { result.now ≡ self.now }
+        ensures { result.now ≡ self.now.request }
     {
         self.request
     }
 
-    /// What a name is bound to in the request without a row, as a list or as a text.
-    pub(crate) fn binding(&mut self, number: usize, name: &'a str, is_list: bool) -> Binding
+    /// What a name is bound to in the request without a row, as a list or as a text. A name without a number of its own
+    /// is looked up anew.
+    pub(crate) fn binding(&mut self, number: Option<usize>, name: &str, is_list: bool) -> Binding
+        requires { IsOwn self.old.numbers name.now number }
         ensures bound { (declared : List Text) → is_list ≡ lists.is_list declared name.now
-            → IsBound (laid_in self.old.values (requested declared self.old.pairs)) name.now result }
+            → IsBound (laid_in self.old.request.values (requested declared self.old.request.pairs)) name.now result }
         ensures same { self.new ≡ self.old }
     {
+        let Some(number) = number else {
+            return looked_up(self.request, name, is_list);
+        };
         if let Some(Some(known)) = self.names.get(number) {
-            if known.is_list == is_list && known.name == name {
+            if known.is_list == is_list {
                 return known.binding;
             }
         }
-        let (first, count) = self.request.values_of(name);
-        let binding = self.request.binding(first, count, is_list);
+        let binding = looked_up(self.request, name, is_list);
         if let Some(known) = self.names.get_mut(number) {
-            *known = Some(KnownName {
-                name,
-                is_list,
-                binding,
-            });
+            *known = Some(KnownName { is_list, binding });
         }
         binding
     }
+}
+
+fn looked_up(request: &RequestValues, name: &str, is_list: bool) -> Binding
+    ensures { (declared : List Text) → is_list ≡ lists.is_list declared name.now
+        → IsBound (laid_in request.now.values (requested declared request.now.pairs)) name.now result }
+{
+    let (first, count) = request.values_of(name);
+    request.binding(first, count, is_list)
 }

@@ -3,6 +3,7 @@
 ghost use Rattle.std.specs.Prelude.{◌≡◌, ◌<◌, All, IfOk, length};
 ghost use Rattle.environment_model.specs.Lists as spec;
 ghost use Rattle.row_scope.specs.RowEnvironments.{lists_of};
+ghost use Rattle.row_scope.specs.NameNumbers.{AreKept, AreOwnNumbers};
 ghost use Rattle.row_scope.specs.NameColumns.{AreColumns, AreMarked, AreNameColumns, AreOwnLists, names_at};
 
 use crate::name_numbers::NameNumbers;
@@ -28,19 +29,23 @@ pub struct NameColumns {
     pub(crate) lists: Vec<usize>,
     /// For each name of the code, whether it names a list.
     pub(crate) marks: Vec<bool>,
-    /// For each name of the code, its number among those of many codes.
-    pub(crate) numbers: Vec<usize>,
+    /// For each name of the code, its own number among those of many codes, if it has one.
+    pub(crate) numbers: Vec<Option<usize>>,
 }
 
 impl NameColumns {
-    /// The columns of a table that have names of a code. `AllocError` if an allocation failed.
+    /// The columns of a table that have names of a code. Names without a number get the next ones.
+    ///
+    /// `AllocError` if an allocation failed; some of the names may then have numbers already.
     pub fn new(
         alloc: Global,
         code: &Code,
         table: &Table,
         numbers: &mut NameNumbers,
     ) -> Result<NameColumns, AllocError>
-        ensures { IfOk result (AreNameColumns code.now table.now.header) }
+        ensures columns { IfOk result (AreNameColumns code.now table.now.header) }
+        ensures own { IfOk result (λ names. AreOwnNumbers numbers.new code.now names.numbers.items) }
+        ensures kept { AreKept numbers.old numbers.new }
     {
         Ok(NameColumns {
             columns: columns_of(alloc, code, table)?,

@@ -9,6 +9,7 @@ ghost use Rattle.row_laws.specs.Shadowing.{requested, hidden, row_of};
 ghost use Rattle.row_scope.specs.RowEnvironments.{environment_of_row, lists_of, names_of};
 ghost use Rattle.row_scope.specs.Bindings.{AreBound, laid_in, laid_over};
 ghost use Rattle.row_scope.specs.RequestValues.{IsApartFrom};
+ghost use Rattle.row_scope.specs.NameNumbers.{AreOwnNumbers};
 ghost use Rattle.row_scope.specs.NameColumns.{AreNameColumns, AreOwnLists, AreMarked};
 
 use crate::binding::Binding;
@@ -64,8 +65,9 @@ impl<'a> TargetRequest<'a> {
         known: &mut KnownValues<'a>,
     ) -> Result<TargetRequest<'a>, AllocError>
         requires names { AreNameColumns code.now table.now.header names.now }
-        requires columns { IsApartFrom known.old table.now.header }
-        ensures ok { IfOk result (λ t. (t.code ≡ code.now) × (t.table ≡ table.now) × (t.request ≡ known.old)) }
+        requires numbers { AreOwnNumbers known.old.numbers code.now names.now.numbers.items }
+        requires columns { IsApartFrom known.old.request table.now.header }
+        ensures ok { IfOk result (λ t. (t.code ≡ code.now) × (t.table ≡ table.now) × (t.request ≡ known.old.request)) }
         ensures same { known.new ≡ known.old }
     {
         let request = known.request();
@@ -177,16 +179,17 @@ impl<'a> TargetRequest<'a> {
 }
 
 /// What each name of a code is bound to in a request without a row.
-fn bindings_of<'a>(
+fn bindings_of(
     alloc: Global,
-    code: &'a Code,
+    code: &Code,
     names: &NameColumns,
-    known: &mut KnownValues<'a>,
+    known: &mut KnownValues,
 ) -> Result<SmallVec<Binding, FEW_NAMES>, AllocError>
     requires marks { AreMarked code.now names.now.marks.items }
-    requires numbers { length names.now.numbers.items ≡ length code.now.names }
+    requires numbers { AreOwnNumbers known.old.numbers code.now names.now.numbers.items }
     ensures ok { IfOk result
-        (λ bindings. AreBound (laid_in known.old.values (requested (lists_of code.now) known.old.pairs))
+        (λ bindings. AreBound
+        (laid_in known.old.request.values (requested (lists_of code.now) known.old.request.pairs))
         (names_of code.now) bindings.items) }
     ensures same { known.new ≡ known.old }
 {

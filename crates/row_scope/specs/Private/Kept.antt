@@ -1,5 +1,5 @@
 -- What is kept of a request, of a request at a target, and of a row.
-use Rattle.std.specs.Prelude.{◌≡◌, ℕ, ◌+◌, ◌≤◌, List, [], All, ◌&&◌, nat_lt, length, take, sum_by, get_or, Option, Some, None, IfSome, if◌then◌else◌}
+use Rattle.std.specs.Prelude.{◌≡◌, ℕ, ◌+◌, ◌<◌, ◌≤◌, List, [], ◌&&◌, nat_lt, length, take, sum_by, get_or, slice_get, Option, Some, None, if◌then◌else◌}
 use Rattle.std.specs.List.{filter_map, range_with_len}
 use Rattle.text_model.specs.Texts.{Text}
 use Rattle.environment_model.specs.Environment.{byte_count, member_count}
@@ -12,8 +12,9 @@ use Rattle.row_laws.specs.Shadowing.{requested, requested_bytes, requested_membe
 use Rattle.row_scope.specs.RowEnvironments.{lists_of, names_of}
 use Rattle.row_scope.specs.Bindings.{AreBound, IsBound, laid_in}
 use Rattle.row_scope.specs.RequestValues.{RequestValue, AreValues}
+use Rattle.row_scope.specs.NameNumbers.{Numbering, AreApart, own_number}
 use Rattle.row_scope.specs.NameColumns.{AreNameColumns}
-use Rattle.row_scope.specs.RowValue.{TargetRequestValue}
+use Rattle.row_scope.specs.RowValue.{KnownValue, TargetRequestValue}
 use Rattle.row_scope.specs.declared.binding.Binding.{Binding}
 use Rattle.row_scope.specs.declared.name_columns.NameColumns.{NameColumns}
 use Rattle.row_scope.specs.declared.hidden.HiddenKey.{HiddenKey}
@@ -32,14 +33,21 @@ pub record IsRequest (request : RequestValue) (ends : List ℕ) (bytes members :
   pub all_bytes : bytes ≡ byte_count (requested [] request.pairs)
   pub all_members : members ≡ member_count (requested [] request.pairs)
 
--- a name is bound to this in the request without a row, if it is read so
-abbrev pub IsKnown : RequestValue → KnownName → Type 0
-IsKnown request k =
-    (declared : List Text) → k.is_list ≡ is_list declared k.name.now
-    → IsBound (laid_in request.values (requested declared request.pairs)) k.name.now k.binding
+-- names with the first numbers, each with its own
+pub record IsNumbering (numbers : Numbering) : Type 0 where
+  pub apart : AreApart numbers
+  pub below : (name : Text) (n : ℕ) → own_number numbers name ≡ Some n → n < length numbers
 
-abbrev pub AreKnown : RequestValue → List (Option KnownName) → Type 0
-AreKnown request names = All (λ known. IfSome known (IsKnown request)) names
+-- the name with this number is bound to this in the request without a row, if it is read so
+abbrev pub IsKnown : KnownValue → ℕ → KnownName → Type 0
+IsKnown known number k =
+    (name : Text) (declared : List Text) → own_number known.numbers name ≡ Some number → k.is_list ≡ is_list declared name
+    → IsBound (laid_in known.request.values (requested declared known.request.pairs)) name k.binding
+
+-- names by their numbers
+pub record AreKnown (known : KnownValue) (names : List (Option KnownName)) : Type 0 where
+  pub apart : AreApart known.numbers
+  pub are : (number : ℕ) (k : KnownName) → slice_get names number ≡ Some (Some k) → IsKnown known number k
 
 -- ---- a request at a target
 

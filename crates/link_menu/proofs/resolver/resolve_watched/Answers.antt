@@ -4,7 +4,7 @@ use Rattle.std.specs.List.{list_any}
 use Rattle.interleaved_runs.specs.StepLists.{HasSeenAll, HasSeenSome}
 use Rattle.link_menu.specs.RowsByRound.{step_lists_in_all_rounds}
 use Rattle.registry.specs.Entries.{menu_of}
-use Rattle.registry.specs.Targets.{AreAllAmong}
+use Rattle.registry.specs.Targets.{AreAllAmong, AreAllNames}
 use Rattle.link_menu.specs.Private.Held.{has_row, held}
 use Rattle.link_menu.specs.Private.Searches.{ends_next, entry_so_far, is_open, started}
 use Rattle.link_menu.proofs.HeldLemmas.{same_step_lists, with_outcomes}
@@ -28,13 +28,16 @@ returns-in_err-begun-clause-err g c =
     let told = g.W.Watch.lists c.args.watch.now in
     on_err c.from_residual-in_err-begun.result (HasSeenSome lists told told) (nothing_seen lists told)
 
--- the columns of each target's table are among the registry's, and the citation is for those
+-- the columns of each target's table are among the registry's, and the citation is for those; the names are those of the targets
 pub begin-requires : goal.begin-requires
 begin-requires g c =
     let targets = c.targets-targets.result.now in
     let requested = c.in_ok-citation.citation in
     let among = subst (λ ts. AreAllAmong c.columns.result.now ts) (sym c.targets-targets.ensures.value) c.columns.ensures in
-    λ k d inside apart name has. c.in_ok-citation.ensures.apart apart name (among k d inside name has)
+    record {
+      apart = λ k d inside apart name has. c.in_ok-citation.ensures.apart apart name (among k d inside name has);
+      names = subst (λ ts. AreAllNames c.names.result.0.now ts c.names.result.1.now) (sym c.targets-targets.ensures.value) c.names.ensures;
+    }
 
 pub loop-searches-init : goal.loop-searches-init
 loop-searches-init g c =

@@ -10,8 +10,8 @@ use Rattle.code_model.specs.Code.{Name}
 use Rattle.machine_model.specs.Operands.{name_at, text_of_name}
 use Rattle.row_laws.specs.Shadowing.{requested}
 use Rattle.row_scope.specs.Bindings.{IsBound, laid_in}
-use Rattle.row_scope.specs.RequestValues.{RequestValue}
 use Rattle.row_scope.specs.RowEnvironments.{lists_of}
+use Rattle.row_scope.specs.RowValue.{KnownValue}
 use Rattle.row_scope.proofs.OverLemmas.{name_at_is}
 use Rattle.row_scope.proofs.target_request.bindings_of.Goals as goal
 
@@ -29,7 +29,7 @@ loop-name-preserved c =
     let code = c.args.code.now in
     let marks = c.args.names.now.marks.items in
     let lists = lists_of code in
-    let env = λ (request : RequestValue). laid_in request.values (requested lists request.pairs) in
+    let env = λ (known : KnownValue). laid_in known.request.values (requested lists known.request.pairs) in
     let known = c.args.known.now in
     let inv = c.loop-name.invariant in
     let so_far = c.loop-name.bindings.items in
@@ -45,7 +45,7 @@ loop-name-preserved c =
     let marked : c.in-Some.is_list.now ≡ is_list lists c.as_str.result.now = c.requires.marks.are n c.in-Some.is_list.now mark
     ∙ sym (ap (is_list lists) text) in
     let bound : IsBound (env known) c.as_str.result.now new =
-    subst (λ (request : RequestValue). IsBound (env request) c.as_str.result.now new) inv.same (c.binding.ensures.bound lists marked) in
+    subst (λ (known : KnownValue). IsBound (env known) c.as_str.result.now new) inv.same (c.binding.ensures.bound lists marked) in
     record {
       one_each = omega (
         arith,

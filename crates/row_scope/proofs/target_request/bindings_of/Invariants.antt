@@ -12,5 +12,5 @@ invariant-loop-name l = record {
   one_each : length l.bindings.items ≡ length l.yielded;
   same : l.known ≡ l.fn.known;
   bound : (i : ℕ) (name : Text) (b : Binding) → slice_get (names_of l.code) i ≡ Some name → slice_get l.bindings.items i ≡ Some b
-      → IsBound (laid_in l.fn.known.values (requested (lists_of l.code) l.fn.known.pairs)) name b;
+      → IsBound (laid_in l.fn.known.request.values (requested (lists_of l.code) l.fn.known.request.pairs)) name b;
 }
