@@ -1,8 +1,8 @@
 //! A text is written whole to an output that accepts one byte a call; an output that fails has a beginning of it.
 
+use files::write_text;
 use std::alloc::{AllocError, Global};
 use std::io::{self, ErrorKind, Write};
-use text_output::write_text;
 
 /// An output that accepts one byte a call, each after a call that a signal interrupts. With no room left it fails with
 /// an error of this kind, or else accepts nothing.

@@ -3,7 +3,7 @@ use Rattle.std.specs.Prelude.{◌≡◌, ℕ, List, codes, Option, Some, None, R
 use Rattle.std.specs.Borrow.{Bor}
 use Rattle.std.specs.Io.KnownBytes.{Appends}
 use Rattle.text_model.specs.Texts.{Text}
-use Rattle.text_output.specs.Writing.{IsWrittenInPart}
+use Rattle.files.specs.Writing.{IsWrittenInPart}
 use Rattle.answers.specs.Findings.{Report}
 use Rattle.commands.specs.declared.fault.Fault.{Fault}
 use Rattle.commands.specs.declared.fault.Fault.TheVariants.{Warning, Device}

@@ -5,9 +5,9 @@ ghost use Rattle.answers.specs.Results.{report_result, text_result};
 ghost use Rattle.commands.specs.Output.{Prints, Reports, end_of, output_of};
 
 use crate::fault::{Answer, Fault};
+use files::write_text;
 use printed_text::Findings;
 use std::io::Write;
-use text_output::write_text;
 
 /// Prints the text, if there is one.
 pub(crate) fn print<'a, O: Write>(output: &mut O, text: Answer<'a>) -> Result<(), Fault<'a>>

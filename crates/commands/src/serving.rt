@@ -9,7 +9,7 @@ use crate::fault::Fault;
 use crate::menus::open_registry;
 use crate::service::Service;
 use crate::world::{System, World};
-use files::Files;
+use files::{Files, write_text};
 use http_exchange::serve_on;
 use http_streams::Ports;
 use kbart_rows::KeySource;
@@ -17,7 +17,6 @@ use link_menu::RegistryMenus;
 use registry::Registry;
 use std::alloc::{AllocError, Global};
 use std::io::Write;
-use text_output::write_text;
 
 /// Loads the registry, binds a listener, prints the line that says where it listens, and serves the connections.
 pub(crate) fn serve<'a, F: Files, K: KeySource, P: Ports, O: Write>(

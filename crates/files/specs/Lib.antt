@@ -5,3 +5,4 @@ pub mod Failures
 pub mod Placing
 pub mod Errors
 pub mod Paths
+pub mod Writing

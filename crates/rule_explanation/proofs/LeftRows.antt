@@ -5,7 +5,7 @@ use Rattle.std.specs.List.{enumerate_from, flat_map, list_any}
 use Rattle.std.proofs.KnownBytes.{Appends-nil, Appends-trans}
 use Rattle.std.proofs.lemmas.List.{append-nil}
 use Rattle.text_model.specs.Texts.{Text}
-use Rattle.text_output.specs.Writing.{IsWrittenInPart}
+use Rattle.files.specs.Writing.{IsWrittenInPart}
 use Rattle.kbart_rows.specs.Identifiers.{first_from}
 use Rattle.rule_explanation.specs.Rows.{up_to_first}
 use Rattle.kbart_rows.proofs.RowOrder.{Rise, all_from_start, first_and_rest, none_from}

@@ -3,7 +3,7 @@
 ghost use Rattle.std.specs.Prelude.{◌≡◌, IfErr, IfOk, OnErr, OnOk};
 ghost use Rattle.std.specs.Io.KnownBytes.{Appends};
 ghost use Rattle.std.specs.List.{flat_map};
-ghost use Rattle.text_output.specs.Writing.{IsWrittenInPart};
+ghost use Rattle.files.specs.Writing.{IsWrittenInPart};
 ghost use Rattle.kbart_rows.specs.Identifiers.{ids_of};
 ghost use Rattle.rule_explanation.specs.Explanation.{explanation, tried_row_text};
 ghost use Rattle.rule_explanation.specs.Failing.{numbered};
@@ -13,12 +13,12 @@ ghost use Rattle.rule_explanation.specs.declared.error.ExplainError.TheVariants.
 use crate::error::ExplainError;
 use crate::rows::explain_row;
 use crate::rules_request::RulesRequest;
+use files::write_text;
 use kbart_rows::{Ids, Table};
 use kev_read::Request;
 use rule_parser::Rules;
 use std::alloc::Global;
 use std::io::Write;
-use text_output::write_text;
 
 /// The rules that fail are printed for at most this number of the rows that are tried, the first ones.
 pub const MAX_DETAILED: usize = 100;

@@ -2,7 +2,7 @@
 use Rattle.std.proofs.Common.{ap, sym, ◌∙◌, subst, OnOk, OnErr}
 use Rattle.std.specs.Io.KnownBytes.{Appends}
 use Rattle.text_model.specs.Texts.{Text}
-use Rattle.text_output.specs.Writing.{IsWrittenInPart}
+use Rattle.files.specs.Writing.{IsWrittenInPart}
 use Rattle.kbart_rows.specs.Identifiers.{first_from, matching_rows}
 use Rattle.rule_explanation.proofs.WholeText.{no_link, no_text, on_error, some_text}
 use Rattle.rule_explanation.proofs.explaining.explain.Goals as goal

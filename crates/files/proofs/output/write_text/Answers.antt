@@ -2,8 +2,8 @@ use Rattle.std.proofs.Common.{◌≡◌, ℕ, ◌-◌, List, [], ◌++◌, rules
 use Rattle.std.proofs.lemmas.List.{append-nil, take_rest}
 use Rattle.std.specs.Io.KnownBytes.{Appends}
 use Rattle.std.proofs.KnownBytes.{Appends-kept, Appends-trans}
-use Rattle.text_output.proofs.write_text.Goals as goal
-use Rattle.text_output.proofs.write_text.Goals.{in-Ok, in-Err}
+use Rattle.files.proofs.output.write_text.Goals as goal
+use Rattle.files.proofs.output.write_text.Goals.{in-Ok, in-Err}
 
 -- what a write takes goes from the rest to what was written
 moved : (whole done rest : List ℕ) (n : ℕ) → whole ≡ done ++ rest → whole ≡ (done ++ take n rest) ++ take (length rest - n) (drop n rest)

@@ -1,6 +1,6 @@
 use Rattle.std.proofs.Common.{◌≡◌, List, ℕ, ◌++◌}
 use Rattle.std.specs.Io.KnownBytes.{Appends}
-use Rattle.text_output.proofs.write_text.Given as goal
+use Rattle.files.proofs.output.write_text.Given as goal
 
 -- the text is what was written so far, followed by the rest
 abbrev pub invariant-loop : goal.invariant-loop

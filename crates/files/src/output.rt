@@ -1,10 +1,9 @@
 //! Writing a whole text to an output.
-#![tactic(auto)]
 
 ghost use Rattle.std.specs.Prelude.{◌≢◌, IfErr, OnErr, OnOk};
 ghost use Rattle.std.specs.Io.KnownBytes.{Appends};
 ghost use Rattle.std.specs.IoError.{error_kind};
-ghost use Rattle.text_output.specs.Writing.{IsWrittenInPart};
+ghost use Rattle.files.specs.Writing.{IsWrittenInPart};
 
 use std::io::{self, ErrorKind, Write};
 
