@@ -142,6 +142,23 @@ fn steps_on_its_words(rt: HostRuntime) -> Result<(), Fail> {
     Ok(())
 }
 
+/// Accepted code of each of these instructions.
+fn codes(alloc: Global, texts: &[&str]) -> Result<Vec<Verified>, Fail> {
+    let mut codes = Vec::new(alloc);
+    for text in texts {
+        codes.push(load(alloc, &file(alloc, b'1', text)?)?)?;
+    }
+    Ok(codes)
+}
+
+fn environments(alloc: Global, given: &[&[Entry]]) -> Result<Vec<Env>, Fail> {
+    let mut envs = Vec::new(alloc);
+    for entries in given {
+        envs.push(environment(alloc, entries)?)?;
+    }
+    Ok(envs)
+}
+
 /// Appends whether the run has ended after a turn of `n` steps, and its steps.
 fn push_turn(
     alloc: Global,
@@ -168,10 +185,13 @@ fn turns_of_both(
     Ok(text)
 }
 
-/// The same for runs of these codes on these environments, and how both end.
-fn both(alloc: Global, codes: (&Verified, &Verified), envs: (&Env, &Env)) -> Result<String, Fail> {
-    let mut first = prepare(alloc, codes.0, envs.0)?;
-    let mut second = prepare(alloc, codes.1, envs.1)?;
+/// The same for runs of two codes on two environments, and how both end.
+fn both(alloc: Global, codes: &[Verified], envs: &[Env]) -> Result<String, Fail> {
+    let ([code, other_code], [env, other_env]) = (codes, envs) else {
+        return Ok(String::new(alloc));
+    };
+    let mut first = prepare(alloc, code, env)?;
+    let mut second = prepare(alloc, other_code, other_env)?;
     let mut text = turns_of_both(alloc, &mut first, &mut second)?;
     push_outcome(alloc, &mut text, first.finish(), ", ")?;
     push_outcome(alloc, &mut text, second.finish(), "")?;
@@ -191,9 +211,9 @@ fn push_outcome(
 
 #[test]
 fn takes_turns_side_by_side(rt: HostRuntime) -> Result<(), Fail> {
-    let (list, colours) = code_and_env(rt.alloc(), LIST_CODE, COLOURS)?;
-    let (optional, letter) = code_and_env(rt.alloc(), OPTIONAL, &[(false, "x", "a", 1)])?;
-    let result = both(rt.alloc(), (&list, &optional), (&colours, &letter))?;
+    let codes = codes(rt.alloc(), &[LIST_CODE, OPTIONAL])?;
+    let envs = environments(rt.alloc(), &[COLOURS, &[(false, "x", "a", 1)]])?;
+    let result = both(rt.alloc(), &codes, &envs)?;
     same(
         &rt,
         result.as_str(),
