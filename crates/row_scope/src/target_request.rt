@@ -99,7 +99,8 @@ impl<'a> TargetRequest<'a> {
         sums_of_rows_over_requests();
         row_bytes_are_cell_bytes();
         let line = self.table.line(row);
-        let mut bindings = SmallVec::from_slice(alloc, self.bindings.as_slice())?;
+        let mut bindings = SmallVec::new(alloc);
+        bindings.extend_from_slice(self.bindings.as_slice())?;
         self.bind_cells(line, bindings.as_mut_slice());
         let (hidden_bytes, hidden_members) = self.hidden_by(line);
         let bytes = self.bytes + self.table.cell_bytes(row) - hidden_bytes;

@@ -73,8 +73,9 @@ new-requires c =
     let of_cells = c.row_bytes_are_cell_bytes.ensures.bytes t.table.header cells in
     let few_bytes = c.requests_are_small.ensures.bytes lists pairs in
     let few_members = c.requests_are_small.ensures.members lists pairs in
-    let items = c.in_ok-bindings.bindings.items in
-    let many : length items ≡ length (names_of t.code) = ap length c.in_ok-bindings.ensures.ok ∙ ap length c.as_slice.ensures ∙ kept.bound.one_each in
+    let items = c.extend_from_slice.new.self.items in
+    let copied = c.in_ok-extend_from_slice.ensures.ok ∙ ap (λ first. first ++ c.as_slice.result.now) c.new-bindings.ensures.items in
+    let many : length items ≡ length (names_of t.code) = ap length copied ∙ ap length c.as_slice.ensures ∙ kept.bound.one_each in
     let refilled = same_refilled items c.bind_cells.new.bindings (c.bind_cells.ensures.one_each ∙ sym many) in
     record {
       in_order = in_order_over t.request line (by_pairs.filled lists (row_of named) pairs) kept.values (omega (arith, c.line-line.ensures.short));
