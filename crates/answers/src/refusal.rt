@@ -9,6 +9,7 @@ use kbart_rows::TableError;
 use kev_read::KevError;
 use rule_parser::RuleError;
 use std::alloc::AllocError;
+use std::fmt;
 use thiserror::Error;
 use uri_grammar::TemplateError;
 use verifier::LoadError;
@@ -23,7 +24,7 @@ pub const REFUSED: u8 = 3;
 pub const FAILED: u8 = 4;
 
 /// Why there is no answer: the first error of the libraries, without the path of a file.
-#[derive(Debug, Drop, Error)]
+#[derive(Drop, Error)]
 pub enum Refusal {
     /// The template is not a URI Template (RFC 6570): its first error, and the byte at which it is.
     #[error("template: {0}")]
@@ -55,6 +56,13 @@ pub enum Refusal {
     /// An allocation failed.
     #[error("out of memory")]
     Memory,
+}
+
+/// The same text as by `Display`.
+impl fmt::Debug for Refusal {
+    fn fmt<W: fmt::Write>(&self, f: &mut fmt::Formatter<W>) -> fmt::Result {
+        write!(f, "{self}")
+    }
 }
 
 impl Refusal {
