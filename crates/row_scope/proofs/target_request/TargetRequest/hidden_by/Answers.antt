@@ -127,8 +127,8 @@ returns-clause-bytes c =
     let law = c.hidden_by_columns.ensures.bytes header (cells_in line) lists pairs in
     c.loop-key.invariant.bytes
     ∙ ap (sum_by (λ key. (hidden_of (cells_in line) key).0)) (take_all c.loop-key.key-index keys c.loop-key-test.false)
-    ∙ of_all (λ sums. sums.0) refl header line lists pairs (byte_count (hidden (row_of (named_cells header (cells_in line))) (requested lists pairs))) law keys
-    (c.deref-key-items.ensures.value ∙ c.self.invariant.keys)
+    ∙ of_all (λ sums. sums.0) refl header line lists pairs (byte_count (hidden (row_of (named_cells header (cells_in line))) (requested lists pairs))) law
+    keys (c.deref-key-items.ensures.value ∙ c.self.invariant.keys)
     ∙ ap (λ (t : TargetRequestValue). byte_count (hidden (row_of (named_cells t.table.header (cells_in line))) (requested (lists_of t.code) t.request.pairs)))
     c.self.view_is
 
@@ -143,7 +143,7 @@ returns-clause-members c =
     let law = c.hidden_by_columns.ensures.members header (cells_in line) lists pairs in
     c.loop-key.invariant.members
     ∙ ap (sum_by (λ key. (hidden_of (cells_in line) key).1)) (take_all c.loop-key.key-index keys c.loop-key-test.false)
-    ∙ of_all (λ sums. sums.1) refl header line lists pairs (member_count (hidden (row_of (named_cells header (cells_in line))) (requested lists pairs))) law keys
-    (c.deref-key-items.ensures.value ∙ c.self.invariant.keys)
+    ∙ of_all (λ sums. sums.1) refl header line lists pairs (member_count (hidden (row_of (named_cells header (cells_in line))) (requested lists pairs))) law
+    keys (c.deref-key-items.ensures.value ∙ c.self.invariant.keys)
     ∙ ap (λ (t : TargetRequestValue). member_count (hidden (row_of (named_cells t.table.header (cells_in line))) (requested (lists_of t.code) t.request.pairs)))
     c.self.view_is
