@@ -1,12 +1,11 @@
 -- Targets without a row of the title: they take part in no round, and their entries have no row.
-use Rattle.std.proofs.Common.{◌≡◌, ℕ, zero, suc, ◌+◌, List, [], ◌∷◌, ◌++◌, Option, Some, None, Bool, true, false, refl, sym, ap, ◌∙◌, arith}
-use Rattle.std.proofs.Common.{drop, filter, get_or, length, map}
+use Rattle.std.proofs.Common.{◌≡◌, ℕ, zero, suc, List, [], ◌∷◌, ◌++◌, Option, Bool, true, false, refl, sym, ap, ◌∙◌, arith}
+use Rattle.std.proofs.Common.{length, map}
 use Rattle.std.specs.Prelude.{if◌then◌else◌, is_some, max, option_and_then, slice_get}
-use Rattle.std.specs.List.{cons_option, filter_map}
+use Rattle.std.specs.List.{cons_option}
 use Rattle.std.proofs.lemmas.Bool.{false≢true}
 use Rattle.std.proofs.lemmas.Simd.{map-map}
 use Rattle.kev_read.specs.Pairs.{KeyValue}
-use Rattle.menu.specs.declared.entry.Resolution.{Resolution}
 use Rattle.menu.specs.declared.entry.Resolution.TheVariants.{NoRow}
 use Rattle.registry.specs.Targets.{TargetValue}
 use Rattle.registry.specs.Entries.{chosen, entry_of, matching_rows_of, menu_of, resolution_of, resolution_of_row}

@@ -1,6 +1,6 @@
 -- What holds after some rounds.
 
-use Rattle.std.proofs.Common.{◌≡◌, ℕ, suc, ◌+◌, ◌-◌, ◌<◌, ◌≤◌, List, ◌++◌, Option, true, false, refl, sym, ap, ◌∙◌, arith, map, append_assoc}
+use Rattle.std.proofs.Common.{◌≡◌, ℕ, suc, ◌-◌, ◌<◌, ◌≤◌, List, ◌++◌, Option, true, false, refl, sym, ap, ◌∙◌, arith, map, append_assoc}
 use Rattle.std.specs.List.{filter_map, list_any}
 use Rattle.kev_read.specs.Pairs.{KeyValue}
 use Rattle.row_scope.specs.RequestValues.{RequestValue}

@@ -47,9 +47,8 @@ impl<'t, 'a> Batch<'t, 'a> {
             ≡ map (λ row. row.names) self.old.rows.items ++ map names_of (filter_map code_next (search.now ∷ []))) }
     {
         if let Some(row) = search.next {
-            let row = search.request.row(alloc, row)?;
             self.codes.push(search.target.code())?;
-            self.rows.push(row)?;
+            self.rows.push(search.request.row(alloc, row)?)?;
         }
         Ok(())
     }

@@ -75,8 +75,9 @@ impl<'a> Searches<'a> {
         let first = rows.next();
         self.held.push(first.is_some())?;
         if first.is_some() {
-            let search = TargetSearch::begin(alloc, target, names, known, first, rows)?;
-            self.searches.push(search)?;
+            let request = target.request(alloc, names, known)?;
+            self.searches
+                .push(TargetSearch::new(target, request, first, rows))?;
         }
         Ok(())
     }

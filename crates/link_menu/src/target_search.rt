@@ -1,10 +1,8 @@
 //! The search for a target's link, row after row.
 
-ghost use Rattle.std.specs.Prelude.{◌≡◌, IfOk, None, drop, if◌then◌else◌, slice_get};
+ghost use Rattle.std.specs.Prelude.{◌≡◌, None, drop, if◌then◌else◌, slice_get};
 ghost use Rattle.registry.specs.Entries.{matching_rows_of};
-ghost use Rattle.registry.specs.Targets.{AreNamesOf};
 ghost use Rattle.menu.specs.Links as links;
-ghost use Rattle.row_scope.specs.RequestValues.{IsApartFrom};
 ghost use Rattle.interleaved_runs.specs.Fates.{fate_value};
 ghost use Rattle.link_menu.specs.Private.Searches as spec;
 
@@ -14,8 +12,7 @@ use kbart_rows::Matches;
 use menu::Resolution;
 use registry::Target;
 use registry::laws::matching_rows_rise;
-use row_scope::{KnownValues, NameColumns, TargetRequest};
-use std::alloc::{AllocError, Global};
+use row_scope::TargetRequest;
 use std::marker::Model;
 
 /// The search for a target's link. Contracts see the request, the target, the row to be tried next, and the resolution
@@ -48,31 +45,26 @@ impl<'a> Model for TargetSearch<'a> {
 
 impl<'a> TargetSearch<'a> {
     /// A search that has tried no row. `next` is the first matching row, and `rows` are those after it.
-    ///
-    /// `AllocError` if an allocation failed.
-    pub(crate) fn begin(
-        alloc: Global,
+    pub(crate) fn new(
         target: &'a Target,
-        names: &'a NameColumns,
-        known: &mut KnownValues<'a>,
+        request: TargetRequest<'a>,
         next: Option<usize>,
         rows: Matches<'a>,
-    ) -> Result<TargetSearch<'a>, AllocError>
-        requires names { AreNamesOf known.old.numbers target.now names.now }
-        requires apart { IsApartFrom known.old.request target.now.table.header }
-        requires next { next ≡ slice_get (matching_rows_of target.now known.old.request.pairs) 0 }
-        requires rows { rows ≡ drop 1 (matching_rows_of target.now known.old.request.pairs) }
-        ensures ok { IfOk result (λ search. search ≡ spec.started known.old.request target.now) }
-        ensures same { known.new ≡ known.old }
+    ) -> TargetSearch<'a>
+        requires code { request.code ≡ target.now.code }
+        requires table { request.table ≡ target.now.table }
+        requires next { next ≡ slice_get (matching_rows_of target.now request.request.pairs) 0 }
+        requires rows { rows ≡ drop 1 (matching_rows_of target.now request.request.pairs) }
+        ensures { result ≡ spec.started request.entry.request target.now }
     {
         matching_rows_rise();
-        Ok(TargetSearch {
+        TargetSearch {
             target,
-            request: target.request(alloc, names, known)?,
+            request,
             rows,
             next,
             resolution: Resolution::NoRow,
-        })
+        }
     }
 
     pub(crate) fn is_open(&self) -> bool

@@ -14,8 +14,8 @@ use Rattle.text_model.proofs.Lists.{range_more}
 use Rattle.environment_model.specs.Lists.{is_list}
 use Rattle.kev_read.specs.Pairs.{KeyValue, all_of}
 use Rattle.kbart_rows.specs.Cells.{Row, defined, is_first}
-use Rattle.row_laws.specs.Shadowing.{first_bytes, requested_bytes, requested_members, hidden_bytes_at, hidden_members_at}
-use Rattle.row_scope.specs.Private.Kept.{hidden_key, hidden_keys}
+use Rattle.row_laws.specs.Shadowing.{first_bytes, has_cell, requested_bytes, requested_members}
+use Rattle.row_scope.specs.Private.Kept.{hidden_key, hidden_keys, hidden_of}
 use Rattle.row_scope.specs.declared.hidden.HiddenKey.{HiddenKey}
 
 -- ---- one more column
@@ -77,16 +77,6 @@ module _ {X Y : Type 0} (f : X → Option Y) (g : Y → ℕ) (h : X → ℕ) (sa
   sum-filter_map (x ∷ xs) =
       omega (arith, sum-cons_option (f x) (h x) (filter_map f xs) (same x), sum_by-cons h x xs, sum-filter_map xs)
 
--- whether the row hides the key, and how many bytes and members of it
-abbrev pub hides : Row → HiddenKey → Bool
-hides cells key = is_some (defined (get_or cells key.column []))
-
-abbrev pub bytes_under : Row → HiddenKey → ℕ
-bytes_under cells key = if hides cells key then key.bytes else 0
-
-abbrev pub members_under : Row → HiddenKey → ℕ
-members_under cells key = if hides cells key then key.members else 0
-
 no_values : (values : List Text) → nat_lt 0 (length values) ≡ false → values ≡ []
 no_values [] none = refl
 no_values (v ∷ vs) none = absurd (omega (arith, ltb-false 0 (length (v ∷ vs)) none))
@@ -95,53 +85,45 @@ nothing_either_way : (b : Bool) → ◌≡◌ {A = ℕ} (if b then 0 else 0) 0
 nothing_either_way true = refl
 nothing_either_way false = refl
 
-module _ (header cells : Row) (lists : List Text) (pairs : List KeyValue) where
-  no_bytes : (key : Text) → nat_lt 0 (length (all_of pairs key)) ≡ false → requested_bytes lists pairs key ≡ 0
-  no_bytes key none =
-      ap (λ values. if is_list lists key then sum_by length values else first_bytes values) (no_values (all_of pairs key) none)
-      ∙ nothing_either_way (is_list lists key)
+no_sums : (lists : List Text) (pairs : List KeyValue) (key : Text) → nat_lt 0 (length (all_of pairs key)) ≡ false
+    → (requested_bytes lists pairs key ≡ 0) × (requested_members lists pairs key ≡ 0)
+no_sums lists pairs key none =
+    let is = no_values (all_of pairs key) none in (
+      ap (λ values. if is_list lists key then sum_by length values else first_bytes values) is ∙ nothing_either_way (is_list lists key),
+      ap (λ values. if is_list lists key then length values else 0) is ∙ nothing_either_way (is_list lists key),
+    )
 
-  no_members : (key : Text) → nat_lt 0 (length (all_of pairs key)) ≡ false → requested_members lists pairs key ≡ 0
-  no_members key none =
-      ap (λ values. if is_list lists key then length values else 0) (no_values (all_of pairs key) none) ∙ nothing_either_way (is_list lists key)
+-- `part` is the first of two sums, of bytes, or the second, of members
+module _ (part : ℕ × ℕ → ℕ) (nothing : part (0, 0) ≡ 0) (header cells : Row) (lists : List Text) (pairs : List KeyValue) where
+  abbrev pub hidden_at : ℕ → ℕ
+  hidden_at n =
+      let key = get_or header n [] in
+      if has_cell header cells n then part (requested_bytes lists pairs key, requested_members lists pairs key) else 0
 
-  abbrev kept : ℕ → ℕ → ℕ → HiddenKey
-  kept n bytes members = record { column = n; bytes = bytes; members = members }
+  abbrev key_of : ℕ → ℕ → ℕ → HiddenKey
+  key_of n x y = record { column = n; bytes = x; members = y }
 
-  bytes_of_column : (n : ℕ) → option_map_or (bytes_under cells) (hidden_key header lists pairs n) 0 ≡ hidden_bytes_at header cells lists pairs n
-  bytes_of_column n =
-      let name = get_or header n [] in
-      by_first (is_first header n) (nat_lt 0 (length (all_of pairs name))) (requested_bytes lists pairs name) (requested_members lists pairs name)
-      (no_bytes name)
+  part_hidden : (b : Bool) (x y : ℕ) → part (if b then (x, y) else (0, 0)) ≡ (if b then part (x, y) else 0)
+  part_hidden true x y = refl
+  part_hidden false x y = nothing
+
+  none_hidden : (b : Bool) (x y : ℕ) → (x ≡ 0) × (y ≡ 0) → (if b then part (x, y) else 0) ≡ 0
+  none_hidden true x y are = ap (λ n. part (n, y)) are.0 ∙ ap (λ n. part (0, n)) are.1 ∙ nothing
+  none_hidden false x y are = refl
+
+  of_column : (n : ℕ) → option_map_or (λ key. part (hidden_of cells key)) (hidden_key header lists pairs n) 0 ≡ hidden_at n
+  of_column n =
+      let key = get_or header n [] in
+      by_first (is_first header n) (nat_lt 0 (length (all_of pairs key))) (requested_bytes lists pairs key) (requested_members lists pairs key)
+      (no_sums lists pairs key)
     where
-      by_first : (first some : Bool) (bytes members : ℕ) → (some ≡ false → bytes ≡ 0)
-          → option_map_or (bytes_under cells) (if (first && some) then Some (kept n bytes members) else None) 0
-          ≡ (if first && is_some (defined (get_or cells n [])) then bytes else 0)
-      by_first false some bytes members none = refl
-      by_first true true bytes members none = refl
-      by_first true false bytes members none =
-          sym (ap (λ b. if is_some (defined (get_or cells n [])) then b else 0) (none refl) ∙ nothing_either_way (is_some (defined (get_or cells n []))))
+      by_first : (first some : Bool) (x y : ℕ) → (some ≡ false → (x ≡ 0) × (y ≡ 0))
+          → option_map_or (λ key. part (hidden_of cells key))
+          (if (first && some) then Some (key_of n x y) else None) 0
+          ≡ (if first && is_some (defined (get_or cells n [])) then part (x, y) else 0)
+      by_first false some x y none = refl
+      by_first true true x y none = part_hidden (is_some (defined (get_or cells n []))) x y
+      by_first true false x y none = sym (none_hidden (is_some (defined (get_or cells n []))) x y (none refl))
 
-  members_of_column : (n : ℕ) → option_map_or (members_under cells) (hidden_key header lists pairs n) 0 ≡ hidden_members_at header cells lists pairs n
-  members_of_column n =
-      let name = get_or header n [] in
-      by_first (is_first header n) (nat_lt 0 (length (all_of pairs name))) (requested_bytes lists pairs name) (requested_members lists pairs name)
-      (no_members name)
-    where
-      by_first : (first some : Bool) (bytes members : ℕ) → (some ≡ false → members ≡ 0)
-          → option_map_or (members_under cells) (if (first && some) then Some (kept n bytes members) else None) 0
-          ≡ (if first && is_some (defined (get_or cells n [])) then members else 0)
-      by_first false some bytes members none = refl
-      by_first true true bytes members none = refl
-      by_first true false bytes members none =
-          sym (ap (λ m. if is_some (defined (get_or cells n [])) then m else 0) (none refl) ∙ nothing_either_way (is_some (defined (get_or cells n []))))
-
-  pub bytes_of_keys : sum_by (bytes_under cells) (hidden_keys header lists pairs) ≡ sum_by (hidden_bytes_at header cells lists pairs)
-      (range_with_len 0 (length header))
-  bytes_of_keys = sum-filter_map (hidden_key header lists pairs) (bytes_under cells) (hidden_bytes_at header cells lists pairs) bytes_of_column
-      (range_with_len 0 (length header))
-
-  pub members_of_keys : sum_by (members_under cells) (hidden_keys header lists pairs) ≡ sum_by (hidden_members_at header cells lists pairs)
-      (range_with_len 0 (length header))
-  members_of_keys = sum-filter_map (hidden_key header lists pairs) (members_under cells) (hidden_members_at header cells lists pairs) members_of_column
-      (range_with_len 0 (length header))
+  pub sum_of_keys : sum_by (λ key. part (hidden_of cells key)) (hidden_keys header lists pairs) ≡ sum_by hidden_at (range_with_len 0 (length header))
+  sum_of_keys = sum-filter_map (hidden_key header lists pairs) (λ key. part (hidden_of cells key)) hidden_at of_column (range_with_len 0 (length header))

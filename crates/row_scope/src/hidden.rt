@@ -1,6 +1,7 @@
 //! Keys of a request that a row of a table may hide.
 
-ghost use Rattle.std.specs.Prelude.{◌≡◌, [], IfOk, get_or};
+ghost use Rattle.std.specs.Prelude.{◌≡◌, ◌≤◌, [], IfOk, get_or, length};
+ghost use Rattle.kbart_rows.specs.Lines.{cells_in};
 ghost use Rattle.row_scope.specs.RowEnvironments.{lists_of};
 ghost use Rattle.row_scope.specs.RequestValues.{IsApartFrom};
 ghost use Rattle.row_scope.specs.Private.Kept as spec;
@@ -18,6 +19,24 @@ pub struct HiddenKey {
     /// The bytes and the members that the key contributes.
     pub(crate) bytes: usize,
     pub(crate) members: usize,
+}
+
+impl HiddenKey {
+    /// The bytes and the members of the key that a row hides. The cursor moves to the key's column in the row's line.
+    pub(crate) fn hidden_in(&self, cells: &mut RowCursor) -> (usize, usize)
+        requires ahead { cells.old.column ≤ self.now.column }
+        requires short { length cells.old.line ≤ 65537 }
+        ensures sums { result ≡ spec.hidden_of (cells_in cells.old.line) self.now }
+        ensures line { cells.new.line ≡ cells.old.line }
+        ensures column { cells.new.column ≡ self.now.column }
+    {
+        let (_, len) = cells.seek(self.column);
+        if len > 0 {
+            (self.bytes, self.members)
+        } else {
+            (0, 0)
+        }
+    }
 }
 
 /// The keys that the columns of a table may hide, in the order of the columns.

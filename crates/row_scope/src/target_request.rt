@@ -1,6 +1,6 @@
 //! A request as the code and the table of a target see it.
 
-ghost use Rattle.std.specs.Prelude.{◌≡◌, ◌<◌, ◌≤◌, IfOk, length};
+ghost use Rattle.std.specs.Prelude.{◌≡◌, ◌<◌, ◌≤◌, [], IfOk, OnOk, length};
 ghost use Rattle.environment_model.specs.Environment.{byte_count, member_count};
 ghost use Rattle.kbart_rows.specs.Lines.{cells_in};
 ghost use Rattle.kbart_rows.specs.Cells.{named_cells};
@@ -72,7 +72,8 @@ impl<'a> TargetRequest<'a> {
     {
         let request = known.request();
         let _known = request.size();
-        let bindings = bindings_of(alloc, code, names, known)?;
+        let mut bindings = SmallVec::new(alloc);
+        bind_names(&mut bindings, code, names, known)?;
         let hidden = hidden_keys(alloc, code, table, request)?;
         let (bytes, members) = sums_with_lists(code, &names.lists, request);
         Ok(TargetRequest {
@@ -98,7 +99,9 @@ impl<'a> TargetRequest<'a> {
         sums_of_rows_over_requests();
         row_bytes_are_cell_bytes();
         let line = self.table.line(row);
-        let bindings = self.bindings_over(alloc, line)?;
+        let mut bindings = SmallVec::new(alloc);
+        bindings.extend_from_slice(self.bindings.as_slice())?;
+        self.bind_cells(line, bindings.as_mut_slice());
         let (hidden_bytes, hidden_members) = self.hidden_by(line);
         let bytes = self.bytes + self.table.cell_bytes(row) - hidden_bytes;
         let members = self.members - hidden_members;
@@ -109,24 +112,6 @@ impl<'a> TargetRequest<'a> {
         ensures { result.now ≡ self.now.request }
     {
         self.request
-    }
-
-    /// What the names are bound to in a row's line or, if it has no cell for them, in the request.
-    fn bindings_over(
-        &self,
-        alloc: Global,
-        line: &str,
-    ) -> Result<SmallVec<Binding, FEW_NAMES>, AllocError>
-        requires { length line.now ≤ 65537 }
-        ensures { IfOk result (λ bindings. AreBound
-            (laid_over self.now.request.values line.now
-            (by_pairs.filled (lists_of self.now.code) (row_of (named_cells self.now.table.header (cells_in line.now)))
-            self.now.request.pairs))
-            (names_of self.now.code) bindings.items) }
-    {
-        let mut bindings = SmallVec::from_slice(alloc, self.bindings.as_slice())?;
-        self.bind_cells(line, bindings.as_mut_slice());
-        Ok(bindings)
     }
 
     /// Binds the names for which a row's line has cells to these; all names are bound as in the request alone.
@@ -164,41 +149,39 @@ impl<'a> TargetRequest<'a> {
     {
         hidden_by_columns();
         requests_are_small();
-        let mut bytes = 0;
-        let mut members = 0;
+        let mut sums = (0, 0);
         let mut cells = RowCursor::new(line);
         for key in &self.hidden {
-            let (_, len) = cells.seek(key.column);
-            if len > 0 {
-                bytes += key.bytes;
-                members += key.members;
-            }
+            let (bytes, members) = key.hidden_in(&mut cells);
+            sums = (sums.0 + bytes, sums.1 + members);
         }
-        (bytes, members)
+        sums
     }
 }
 
-/// What each name of a code is bound to in a request without a row.
-fn bindings_of(
-    alloc: Global,
+/// Binds each name of a code to what it is in a request without a row. The bindings are filled where they are, since
+/// their type is large to move.
+fn bind_names(
+    bindings: &mut SmallVec<Binding, FEW_NAMES>,
     code: &Code,
     names: &NameColumns,
     known: &mut KnownValues,
-) -> Result<SmallVec<Binding, FEW_NAMES>, AllocError>
+) -> Result<(), AllocError>
+    requires none { bindings.old.items ≡ [] }
     requires marks { AreMarked code.now names.now.marks.items }
     requires numbers { AreOwnNumbers known.old.numbers code.now names.now.numbers.items }
-    ensures ok { IfOk result
-        (λ bindings. AreBound
+    ensures ok { OnOk result (AreBound
         (laid_in known.old.request.values (requested (lists_of code.now) known.old.request.pairs))
-        (names_of code.now) bindings.items) }
+        (names_of code.now) bindings.new.items) }
     ensures same { known.new ≡ known.old }
 {
-    let mut bindings = SmallVec::with_capacity(alloc, names.marks.len())?;
-    for (name, is_list) in code.names().iter().zip(names.marks.iter()) {
-        let number = names.numbers[bindings.len()];
-        bindings.push(known.binding(number, name.text.as_str(), *is_list))?;
+    let count = code.names().len();
+    bindings.reserve(count)?;
+    for i in 0..count {
+        let name = code.name(i).text.as_str();
+        bindings.push_reserved(known.binding(names.numbers[i], name, names.marks[i]));
     }
-    Ok(bindings)
+    Ok(())
 }
 
 /// E and M of a request in which the lists of a code are declared.

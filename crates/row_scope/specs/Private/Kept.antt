@@ -1,5 +1,6 @@
 -- What is kept of a request, of a request at a target, and of a row.
 use Rattle.std.specs.Prelude.{◌≡◌, ℕ, ◌+◌, ◌<◌, ◌≤◌, List, [], ◌&&◌, nat_lt, length, take, sum_by, get_or, slice_get, Option, Some, None, if◌then◌else◌}
+use Rattle.std.specs.Prelude.{is_some}
 use Rattle.std.specs.List.{filter_map, range_with_len}
 use Rattle.text_model.specs.Texts.{Text}
 use Rattle.environment_model.specs.Environment.{byte_count, member_count}
@@ -7,7 +8,7 @@ use Rattle.environment_model.specs.Lists.{is_list}
 use Rattle.target_vars.specs.EnvValue.{EnvValue, IsInOrder}
 use Rattle.target_vars.specs.declared.env.TheConstants.{MAX_BYTES, MAX_MEMBERS}
 use Rattle.kev_read.specs.Pairs.{KeyValue, all_of}
-use Rattle.kbart_rows.specs.Cells.{Row, is_first}
+use Rattle.kbart_rows.specs.Cells.{Row, defined, is_first}
 use Rattle.row_laws.specs.Shadowing.{requested, requested_bytes, requested_members}
 use Rattle.row_scope.specs.RowEnvironments.{lists_of, names_of}
 use Rattle.row_scope.specs.Bindings.{AreBound, IsBound, laid_in}
@@ -61,6 +62,10 @@ hidden_key header lists pairs column =
 
 abbrev pub hidden_keys : Row → List Text → List KeyValue → List HiddenKey
 hidden_keys header lists pairs = filter_map (hidden_key header lists pairs) (range_with_len 0 (length header))
+
+-- the bytes and the members of the key that a row of these cells hides
+abbrev pub hidden_of : Row → HiddenKey → ℕ × ℕ
+hidden_of cells key = if is_some (defined (get_or cells key.column [])) then (key.bytes, key.members) else (0, 0)
 
 pub record IsTargetRequest (t : TargetRequestValue) (names : NameColumns) (bindings : List Binding) (bytes members : ℕ) (hidden : List HiddenKey) : Type 0 where
   pub values : AreValues t.request

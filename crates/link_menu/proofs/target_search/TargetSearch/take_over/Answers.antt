@@ -1,7 +1,6 @@
-use Rattle.std.proofs.Common.{◌≡◌, ℕ, ◌+◌, Option, Some, None, sym, ap, ◌∙◌, subst, drop}
+use Rattle.std.proofs.Common.{◌≡◌, ◌+◌, None, sym, ap, ◌∙◌, subst, drop}
 use Rattle.std.specs.Prelude.{IfSome, if◌then◌else◌, slice_get}
 use Rattle.menu.specs.Links as links
-use Rattle.menu.specs.declared.entry.Resolution.{Resolution}
 use Rattle.kbart_rows.specs.Identifiers.{first_from}
 use Rattle.registry.specs.Entries.{matching_rows_of}
 use Rattle.interleaved_runs.specs.Fates.{fate_value}

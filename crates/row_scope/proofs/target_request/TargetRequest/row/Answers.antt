@@ -1,4 +1,6 @@
-use Rattle.std.proofs.Common.{◌≡◌, ◌≤◌, [], length, get_or, subst, ap, ◌∙◌, arith, inl, length-append}
+use Rattle.std.proofs.Common.{◌≡◌, ◌≤◌, List, [], ◌++◌, length, take, get_or, subst, sym, ap, ◌∙◌, arith, inl, length-append}
+use Rattle.std.specs.List.{refill}
+use Rattle.std.proofs.lemmas.List.{append-nil, drop_all, take_all}
 use Rattle.std.proofs.lemmas.List.Elements.{All-weaker}
 use Rattle.text_model.specs.Texts.{Text}
 use Rattle.environment_model.specs.Environment.{Environment, byte_count, member_count}
@@ -12,6 +14,7 @@ use Rattle.row_scope.specs.RequestValues.{AreValues, RequestValue}
 use Rattle.row_scope.specs.RowEnvironments.{lists_of, names_of}
 use Rattle.row_scope.specs.RowValue.{TargetRequestValue}
 use Rattle.row_scope.specs.Private.Kept.{IsTargetRequest}
+use Rattle.row_scope.specs.declared.binding.Binding.{Binding}
 use Rattle.row_scope.proofs.target_request.TargetRequest.row.Goals as goal
 
 -- a line after a request's values keeps them in order
@@ -27,6 +30,12 @@ in_order_over request line entries are short =
       inside = All-weaker (IsWithin values) (IsWithin (laid_over values line entries))
           (λ at within. record { inside = omega (arith, long, within.inside); one_side = inl within.inside }) values.spans are.inside;
     }
+
+same_refilled : (xs ws : List Binding) → length ws ≡ length xs → refill (length xs) xs ws ≡ ws
+same_refilled xs ws same =
+    ap (λ rest. take (length xs) (ws ++ rest)) (drop_all (length ws) xs (omega (arith, same)))
+    ∙ ap (take (length xs)) (append-nil ws)
+    ∙ take_all (length xs) ws (omega (arith, same))
 
 pub overflow_add-bytes : goal.overflow_add-bytes
 overflow_add-bytes c =
@@ -64,10 +73,14 @@ new-requires c =
     let of_cells = c.row_bytes_are_cell_bytes.ensures.bytes t.table.header cells in
     let few_bytes = c.requests_are_small.ensures.bytes lists pairs in
     let few_members = c.requests_are_small.ensures.members lists pairs in
+    let items = c.extend_from_slice.new.self.items in
+    let copied = c.in_ok-extend_from_slice.ensures.ok ∙ ap (λ first. first ++ c.as_slice.result.now) c.new-bindings.ensures.items in
+    let many : length items ≡ length (names_of t.code) = ap length copied ∙ ap length c.as_slice.ensures ∙ kept.bound.one_each in
+    let refilled = same_refilled items c.bind_cells.new.bindings (c.bind_cells.ensures.one_each ∙ sym many) in
     record {
       in_order = in_order_over t.request line (by_pairs.filled lists (row_of named) pairs) kept.values (omega (arith, c.line-line.ensures.short));
-      bound = subst (λ (r : Row). AreBound (laid_over t.request.values line (by_pairs.filled lists (row_of (named_cells t.table.header r)) pairs))
-          (names_of t.code) c.in_ok-bindings.bindings.items) same c.in_ok-bindings.ensures;
+      bound = rw refilled (subst (λ (r : Row). AreBound (laid_over t.request.values line (by_pairs.filled lists (row_of (named_cells t.table.header r)) pairs))
+          (names_of t.code) c.bind_cells.new.bindings) same c.bind_cells.ensures);
       all_bytes = omega (arith, kept.all_bytes, row_bytes, hidden_bytes, bytes, of_cells);
       few_bytes = omega (arith, kept.all_bytes, row_bytes, c.cell_bytes.ensures.small, few_bytes, kept.values.small);
       all_members = omega (arith, kept.all_members, hidden_members, members);
